@@ -1,0 +1,10 @@
+//! The cells of CWR 2.1 records: what the cell of a field may hold, and the tables of codes.
+#![tactic(auto)]
+
+mod cell_types;
+mod codes;
+mod tables;
+
+pub use cell_types::{CellFault, CellType, Word};
+pub use codes::{Role, TransactionType};
+pub use tables::Table;

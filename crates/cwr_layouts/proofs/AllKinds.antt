@@ -1,0 +1,150 @@
+-- Facts that hold of each kind, one by one.
+use Rattle.std.proofs.Common.{◌≡◌, ℕ, ◌≤◌, List, ◌++◌, length, refl, lit≤}
+use Rattle.std.specs.Prelude.{Some}
+use Rattle.cwr_fields.specs.Bytes.{trimmed}
+use Rattle.cwr_fields.proofs.LineFeeds.{NoLf}
+use Rattle.cwr_layouts.specs.declared.kinds.Kind.{Kind}
+use Rattle.cwr_layouts.specs.declared.kinds.Kind.TheVariants.{Hdr, Grh, Grt, Trl, Agr, Ter, Ipa, Nwr, Rev, Spu, Opu, Spt, Swr, Owr, Swt, Pwr, Alt, Ewt, Ver, Per, Rec, Orn, Com, Ack, Msg}
+use Rattle.cwr_layouts.specs.Kinds.{letters, kind_of}
+use Rattle.cwr_layouts.specs.Layouts.{line_width}
+use Rattle.cwr_layouts.proofs.Trimmed.{trimmed_three}
+
+-- three letters name one kind
+pub kind_of-letters : (kind : Kind) → kind_of (letters kind) ≡ Some kind
+kind_of-letters Hdr = refl
+kind_of-letters Grh = refl
+kind_of-letters Grt = refl
+kind_of-letters Trl = refl
+kind_of-letters Agr = refl
+kind_of-letters Ter = refl
+kind_of-letters Ipa = refl
+kind_of-letters Nwr = refl
+kind_of-letters Rev = refl
+kind_of-letters Spu = refl
+kind_of-letters Opu = refl
+kind_of-letters Spt = refl
+kind_of-letters Swr = refl
+kind_of-letters Owr = refl
+kind_of-letters Swt = refl
+kind_of-letters Pwr = refl
+kind_of-letters Alt = refl
+kind_of-letters Ewt = refl
+kind_of-letters Ver = refl
+kind_of-letters Per = refl
+kind_of-letters Rec = refl
+kind_of-letters Orn = refl
+kind_of-letters Com = refl
+kind_of-letters Ack = refl
+kind_of-letters Msg = refl
+
+-- each kind has three letters
+pub length-letters : (kind : Kind) → length (letters kind) ≡ 3
+length-letters Hdr = refl
+length-letters Grh = refl
+length-letters Grt = refl
+length-letters Trl = refl
+length-letters Agr = refl
+length-letters Ter = refl
+length-letters Ipa = refl
+length-letters Nwr = refl
+length-letters Rev = refl
+length-letters Spu = refl
+length-letters Opu = refl
+length-letters Spt = refl
+length-letters Swr = refl
+length-letters Owr = refl
+length-letters Swt = refl
+length-letters Pwr = refl
+length-letters Alt = refl
+length-letters Ewt = refl
+length-letters Ver = refl
+length-letters Per = refl
+length-letters Rec = refl
+length-letters Orn = refl
+length-letters Com = refl
+length-letters Ack = refl
+length-letters Msg = refl
+
+-- letters have no line feed
+pub NoLf-letters : (kind : Kind) → NoLf (letters kind)
+NoLf-letters Hdr = refl
+NoLf-letters Grh = refl
+NoLf-letters Grt = refl
+NoLf-letters Trl = refl
+NoLf-letters Agr = refl
+NoLf-letters Ter = refl
+NoLf-letters Ipa = refl
+NoLf-letters Nwr = refl
+NoLf-letters Rev = refl
+NoLf-letters Spu = refl
+NoLf-letters Opu = refl
+NoLf-letters Spt = refl
+NoLf-letters Swr = refl
+NoLf-letters Owr = refl
+NoLf-letters Swt = refl
+NoLf-letters Pwr = refl
+NoLf-letters Alt = refl
+NoLf-letters Ewt = refl
+NoLf-letters Ver = refl
+NoLf-letters Per = refl
+NoLf-letters Rec = refl
+NoLf-letters Orn = refl
+NoLf-letters Com = refl
+NoLf-letters Ack = refl
+NoLf-letters Msg = refl
+
+-- with CR and without LF a full line fits
+pub line_width_most : (kind : Kind) → line_width kind ≤ 1023
+line_width_most Hdr = lit≤ tt
+line_width_most Grh = lit≤ tt
+line_width_most Grt = lit≤ tt
+line_width_most Trl = lit≤ tt
+line_width_most Agr = lit≤ tt
+line_width_most Ter = lit≤ tt
+line_width_most Ipa = lit≤ tt
+line_width_most Nwr = lit≤ tt
+line_width_most Rev = lit≤ tt
+line_width_most Spu = lit≤ tt
+line_width_most Opu = lit≤ tt
+line_width_most Spt = lit≤ tt
+line_width_most Swr = lit≤ tt
+line_width_most Owr = lit≤ tt
+line_width_most Swt = lit≤ tt
+line_width_most Pwr = lit≤ tt
+line_width_most Alt = lit≤ tt
+line_width_most Ewt = lit≤ tt
+line_width_most Ver = lit≤ tt
+line_width_most Per = lit≤ tt
+line_width_most Rec = lit≤ tt
+line_width_most Orn = lit≤ tt
+line_width_most Com = lit≤ tt
+line_width_most Ack = lit≤ tt
+line_width_most Msg = lit≤ tt
+
+-- letters aren't trimmed
+pub trimmed-letters : (kind : Kind) (rest : List ℕ) → (ys : List ℕ) × (trimmed (letters kind ++ rest) ≡ letters kind ++ ys)
+trimmed-letters Hdr rest = trimmed_three _ _ _ rest refl
+trimmed-letters Grh rest = trimmed_three _ _ _ rest refl
+trimmed-letters Grt rest = trimmed_three _ _ _ rest refl
+trimmed-letters Trl rest = trimmed_three _ _ _ rest refl
+trimmed-letters Agr rest = trimmed_three _ _ _ rest refl
+trimmed-letters Ter rest = trimmed_three _ _ _ rest refl
+trimmed-letters Ipa rest = trimmed_three _ _ _ rest refl
+trimmed-letters Nwr rest = trimmed_three _ _ _ rest refl
+trimmed-letters Rev rest = trimmed_three _ _ _ rest refl
+trimmed-letters Spu rest = trimmed_three _ _ _ rest refl
+trimmed-letters Opu rest = trimmed_three _ _ _ rest refl
+trimmed-letters Spt rest = trimmed_three _ _ _ rest refl
+trimmed-letters Swr rest = trimmed_three _ _ _ rest refl
+trimmed-letters Owr rest = trimmed_three _ _ _ rest refl
+trimmed-letters Swt rest = trimmed_three _ _ _ rest refl
+trimmed-letters Pwr rest = trimmed_three _ _ _ rest refl
+trimmed-letters Alt rest = trimmed_three _ _ _ rest refl
+trimmed-letters Ewt rest = trimmed_three _ _ _ rest refl
+trimmed-letters Ver rest = trimmed_three _ _ _ rest refl
+trimmed-letters Per rest = trimmed_three _ _ _ rest refl
+trimmed-letters Rec rest = trimmed_three _ _ _ rest refl
+trimmed-letters Orn rest = trimmed_three _ _ _ rest refl
+trimmed-letters Com rest = trimmed_three _ _ _ rest refl
+trimmed-letters Ack rest = trimmed_three _ _ _ rest refl
+trimmed-letters Msg rest = trimmed_three _ _ _ rest refl

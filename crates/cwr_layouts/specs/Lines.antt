@@ -1,0 +1,68 @@
+-- The lines of a text, the row that a line stands for, and the cells that a line is cut into.
+use Rattle.std.specs.Prelude.{◌≡◌, ℕ, ◌-◌, ◌≤◌, Bool, false, not, ◌||◌, ◌==◌, nat_lt, IsFalse, List, [], ◌∷◌, ◌++◌, length, map, take, drop, Option, Some, None, if◌then◌else◌}
+use Rattle.std.specs.List.{list_any, slice_split}
+use Rattle.std.specs.Str.{bytes_eq}
+use Rattle.cwr_fields.specs.Bytes.{is_spaces, trimmed, filled}
+use Rattle.cwr_layouts.specs.declared.kinds.Kind.{Kind}
+use Rattle.cwr_layouts.specs.Kinds.{kind_of}
+use Rattle.cwr_layouts.specs.Layouts.{layout, line_width}
+use Rattle.cwr_layouts.specs.Records.{Row, full_line}
+
+-- a line feed is 10, and a carriage return 13
+abbrev pub is_lf : ℕ → Bool
+is_lf b = b == 10
+
+-- the bytes that a line may have before its line feed
+abbrev pub longest_line : ℕ
+longest_line = 1024
+
+-- without the carriage return that it ends with, if it does
+abbrev pub without_cr : List ℕ → List ℕ
+without_cr line = if bytes_eq (drop (length line - 1) line) (13 ∷ []) then take (length line - 1) line else line
+
+-- the line stands for the row: but for trailing spaces and one carriage return they are the same
+abbrev pub IsLineOf : Row → List ℕ → Type 0
+IsLineOf row line = IsFalse (list_any is_lf line) × (length line ≤ longest_line) × (trimmed (without_cr line) ≡ trimmed (full_line row))
+
+-- with a line feed added where the text isn't empty and doesn't end with one
+abbrev pub closed : List ℕ → List ℕ
+closed text = if bytes_eq (drop (length text - 1) text) (10 ∷ []) || (length text == 0) then text else text ++ 10 ∷ []
+
+-- what stands before each line feed
+abbrev pub raw_lines : List ℕ → List (List ℕ)
+raw_lines text = let parts = slice_split is_lf text in take (length parts - 1) parts
+
+-- the line is too long
+abbrev pub is_over : List ℕ → Bool
+is_over line = nat_lt longest_line (length line)
+
+-- the bytes of a line that are judged
+abbrev pub line_body : List ℕ → List ℕ
+line_body line = if is_over line then take longest_line line else without_cr line
+
+-- the text in pieces of these widths
+abbrev pub pieces : List ℕ → List ℕ → List (List ℕ)
+pieces [] text = []
+pieces (w ∷ widths) text = take w text ∷ pieces widths (drop w text)
+
+-- the kind that the line's first three bytes name
+abbrev pub line_kind : List ℕ → Option Kind
+line_kind line = kind_of (take 3 (filled 3 (line_body line)))
+
+-- the cells of a line of the kind, filled up with spaces
+abbrev pub cells_as : Option Kind → List ℕ → List (List ℕ)
+cells_as None body = take 3 (filled 3 body) ∷ []
+cells_as (Some kind) body = pieces (map (λ f. f.width) (layout kind)) (filled (line_width kind) body)
+
+-- the cells that a line is cut into
+abbrev pub line_cells : List ℕ → List (List ℕ)
+line_cells line = cells_as (line_kind line) (line_body line)
+
+-- what stands behind the last field isn't all spaces
+abbrev pub exceeds : Option Kind → List ℕ → Bool
+exceeds None body = false
+exceeds (Some kind) body = not (is_spaces (drop (line_width kind) body))
+
+-- the excess of the line is bad
+abbrev pub has_bad_excess : List ℕ → Bool
+has_bad_excess line = is_over line || exceeds (line_kind line) (line_body line)

@@ -1,0 +1,87 @@
+-- No whole transmission is a proper front of another: TRL comes once, at the end.
+use Rattle.std.proofs.Common.{◌≡◌, ℕ, zero, suc, ◌<◌, Bool, true, false, ◌&&◌, List, [], ◌∷◌, ◌++◌, length, refl, sym, ap, subst, ◌∙◌, inl, inr, arith, true≢false}
+use Rattle.std.specs.Prelude.{slice_index_or}
+use Rattle.std.specs.List.{list_all, AllByRecursion, flat_map}
+use Rattle.std.proofs.lemmas.List.Folds.{list_all-append}
+use Rattle.std.proofs.lemmas.Bool.{and_parts, and_from}
+use Rattle.cwr_fields.specs.declared.codes.TransactionType.{TransactionType}
+use Rattle.cwr_fields.specs.declared.codes.TransactionType.TheVariants.{Agreement, NewWork, RevisedWork, Acknowledgement}
+use Rattle.cwr_layouts.specs.declared.kinds.Kind.TheVariants as kinds
+use Rattle.cwr_shape.specs.declared.symbols.Symbol.{Symbol}
+use Rattle.cwr_shape.specs.declared.symbols.Symbol.TheVariants.{Plain}
+use Rattle.cwr_shape.specs.Shapes.{Pattern, one_of, ◌then◌, ◌or◌, ◌and◌, many, Matches, IsShape, pattern_of}
+use Rattle.cwr_shape.specs.Outlines.{GroupOutline, group_symbols, symbols_of, IsGroupOutline, IsOutline}
+
+-- each symbol that the pattern names passes a test
+unfoldable pub only : (Symbol → Bool) → Pattern → Bool
+only test (one_of ss) = list_all test ss
+only test (p then q) = only test p && only test q
+only test (p or q) = only test p && only test q
+only test (p and q) = only test p
+only test (many p) = only test p
+
+among_passes : (test : Symbol → Bool) (ss : List Symbol) (s : Symbol) (i : ℕ) → list_all test ss ≡ true → i < length ss → test (slice_index_or ss i s) ≡ true
+among_passes test [] s i h k = absurd (omega arith)
+among_passes test (x ∷ ss) s zero h k = (and_parts (test x) (list_all test ss) h).0
+among_passes test (x ∷ ss) s (suc i) h k = among_passes test ss s i (and_parts (test x) (list_all test ss) h).1 (omega arith)
+
+all-append : (test : Symbol → Bool) (xs ys : List Symbol) → list_all test xs ≡ true → list_all test ys ≡ true → list_all test (xs ++ ys) ≡ true
+all-append test xs ys h k = list_all-append test xs ys ∙ and_from (list_all test xs) (list_all test ys) h k
+
+all_parts : (test : Symbol → Bool) (P : List Symbol → Type 0) → ((xs : List Symbol) → P xs → list_all test xs ≡ true)
+    → (parts : List (List Symbol)) → AllByRecursion P parts → list_all test (flat_map (λ part. part) parts) ≡ true
+all_parts test P each [] h = refl
+all_parts test P each (x ∷ parts) h = all-append test x (flat_map (λ part. part) parts) (each x h.0) (all_parts test P each parts h.1)
+
+-- then each symbol of what matches it does
+pub matched_pass : (test : Symbol → Bool) (p : Pattern) → only test p ≡ true → (xs : List Symbol) → Matches p xs → list_all test xs ≡ true
+unfolding only
+matched_pass test (one_of ss) h xs m =
+    let here : test m.0 ≡ true = subst (λ (s : Symbol). test s ≡ true) (sym m.1.1.1) (among_passes test ss m.0 m.1.0 h m.1.1.0) in
+    subst (λ (ys : List Symbol). list_all test ys ≡ true) (sym m.2) (and_from (test m.0) true here refl)
+matched_pass test (p then q) h xs m =
+    let parts = and_parts (only test p) (only test q) h in
+    subst (λ (ys : List Symbol). list_all test ys ≡ true) (sym m.2) (all-append test m.0 m.1 (matched_pass test p parts.0 m.0 m.3) (matched_pass test q parts.1 m.1 m.4))
+matched_pass test (p or q) h xs (inl m) = matched_pass test p (and_parts (only test p) (only test q) h).0 xs m
+matched_pass test (p or q) h xs (inr m) = matched_pass test q (and_parts (only test p) (only test q) h).1 xs m
+matched_pass test (p and q) h xs m = matched_pass test p h xs m.0
+matched_pass test (many p) h xs m =
+    subst (λ (ys : List Symbol). list_all test ys ≡ true) (sym m.1) (all_parts test (Matches p) (matched_pass test p h) m.0 m.2)
+
+abbrev is_no_trl : Symbol → Bool
+is_no_trl (Plain kinds.Trl) = false
+is_no_trl s = true
+
+no_pattern_has_trl : (ty : TransactionType) → only is_no_trl (pattern_of ty) ≡ true
+unfolding only
+no_pattern_has_trl Agreement = refl
+no_pattern_has_trl NewWork = refl
+no_pattern_has_trl RevisedWork = refl
+no_pattern_has_trl Acknowledgement = refl
+
+group_has_no_trl : (g : GroupOutline) → IsGroupOutline g → list_all is_no_trl (group_symbols g) ≡ true
+group_has_no_trl g h =
+    all-append is_no_trl (flat_map (λ t. t) g.transactions) (Plain kinds.Grt ∷ []) (all_parts is_no_trl (IsShape g.ty) (matched_pass is_no_trl (pattern_of g.ty) (no_pattern_has_trl g.ty)) g.transactions h.1) refl
+
+groups_have_no_trl : (groups : List GroupOutline) → AllByRecursion IsGroupOutline groups → list_all is_no_trl (flat_map group_symbols groups) ≡ true
+groups_have_no_trl [] h = refl
+groups_have_no_trl (g ∷ groups) h = all-append is_no_trl (group_symbols g) (flat_map group_symbols groups) (group_has_no_trl g h.0) (groups_have_no_trl groups h.1)
+
+-- two lists that end with one symbol which stands nowhere else, of which one is a front of the other
+ends_once : (test : Symbol → Bool) (s : Symbol) → test s ≡ false → (xs ys rest : List Symbol) → list_all test xs ≡ true → list_all test ys ≡ true
+    → (xs ++ s ∷ []) ++ rest ≡ ys ++ s ∷ [] → rest ≡ []
+ends_once test s fails [] [] rest h k e = cc e
+ends_once test s fails [] (y ∷ ys) rest h k e =
+    let same : s ≡ y = cc e in
+    absurd (true≢false (sym (and_parts (test y) (list_all test ys) k).0 ∙ sym (ap test same) ∙ fails))
+ends_once test s fails (x ∷ xs) [] rest h k e =
+    let same : x ≡ s = cc e in
+    absurd (true≢false (sym (and_parts (test x) (list_all test xs) h).0 ∙ ap test same ∙ fails))
+ends_once test s fails (x ∷ xs) (y ∷ ys) rest h k e =
+    ends_once test s fails xs ys rest (and_parts (test x) (list_all test xs) h).1 (and_parts (test y) (list_all test ys) k).1 (cc e)
+
+-- no whole transmission goes on to another
+pub prefix_free : (groups others : List GroupOutline) (rest : List Symbol) → IsOutline groups → IsOutline others → symbols_of groups ++ rest ≡ symbols_of others → rest ≡ []
+prefix_free groups others rest h k e =
+    ends_once is_no_trl (Plain kinds.Trl) refl (Plain kinds.Hdr ∷ flat_map group_symbols groups) (Plain kinds.Hdr ∷ flat_map group_symbols others) rest
+    (groups_have_no_trl groups h.1) (groups_have_no_trl others k.1) e

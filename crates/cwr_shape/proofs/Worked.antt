@@ -1,0 +1,119 @@
+-- Worked stages, needs and levels.
+use Rattle.std.proofs.Common.{◌≡◌, ℕ, List, [], ◌∷◌, refl}
+use Rattle.std.specs.Prelude.{Some, None}
+use Rattle.cwr_fields.specs.declared.cell_types.CellFault.TheVariants.{Blank, NotADate, NotACode, OverShare, NotDigits}
+use Rattle.cwr_fields.specs.declared.codes.Role.TheVariants.{Assignor, Acquirer}
+use Rattle.cwr_fields.specs.declared.codes.TransactionType.{TransactionType}
+use Rattle.cwr_fields.specs.declared.codes.TransactionType.TheVariants.{Agreement, NewWork, Acknowledgement}
+use Rattle.cwr_layouts.specs.declared.kinds.Kind.{Kind}
+use Rattle.cwr_layouts.specs.declared.kinds.Kind.TheVariants as kinds
+use Rattle.cwr_shape.specs.declared.symbols.Symbol.{Symbol}
+use Rattle.cwr_shape.specs.declared.symbols.Symbol.TheVariants.{Plain, Ipa, Grh}
+use Rattle.cwr_shape.specs.declared.stages.Stage.TheVariants as stages
+use Rattle.cwr_shape.specs.declared.stages.Step.TheVariants as steps
+use Rattle.cwr_shape.specs.declared.stages.Needs.{Needs}
+use Rattle.cwr_shape.specs.declared.reasons.Reason.TheVariants as reasons
+use Rattle.cwr_shape.specs.declared.limits.LimitKind.TheVariants as limits
+use Rattle.cwr_shape.specs.declared.reasons.Level.TheVariants.{E, G, T, R, F}
+use Rattle.cwr_shape.specs.declared.tallies.Place.TheVariants as places
+use Rattle.cwr_shape.specs.Outlines.{GroupOutline, symbols_of}
+use Rattle.cwr_shape.specs.Stages.{stage_after, GoesOnBy}
+use Rattle.cwr_shape.specs.Levels.{level_of}
+
+-- shorter names
+
+abbrev p : Kind → Symbol
+p = Plain
+
+abbrev one_group : TransactionType → List Symbol → List GroupOutline
+one_group ty t = record { ty = ty; transactions = t ∷ [] } ∷ []
+
+abbrev needs : ℕ → ℕ → ℕ → Needs
+needs r g t = record { records = r; groups = g; transaction = t }
+
+abbrev after : TransactionType → List Symbol → List Symbol
+after ty t = p kinds.Hdr ∷ Grh ty ∷ t
+
+-- ---- how far symbols have come
+
+stages_seen : (stage_after [] ≡ stages.Start) × (stage_after (p kinds.Hdr ∷ []) ≡ stages.Opened)
+    × (stage_after (after Agreement []) ≡ stages.Within Agreement steps.InGroup)
+    × (stage_after (after Agreement (p kinds.Agr ∷ p kinds.Ter ∷ Ipa Assignor ∷ Ipa Assignor ∷ [])) ≡ stages.Within Agreement (steps.OneSide Assignor))
+    × (stage_after (after Agreement (p kinds.Agr ∷ p kinds.Ter ∷ Ipa Assignor ∷ Ipa Acquirer ∷ p kinds.Ter ∷ Ipa Acquirer ∷ [])) ≡ stages.Within Agreement (steps.OneSide Acquirer))
+    × (stage_after (after Agreement (p kinds.Agr ∷ p kinds.Ter ∷ Ipa Assignor ∷ Ipa Acquirer ∷ Ipa Acquirer ∷ [])) ≡ stages.Within Agreement steps.Both)
+    × (stage_after (after NewWork (p kinds.Nwr ∷ p kinds.Swr ∷ p kinds.Pwr ∷ p kinds.Owr ∷ p kinds.Pwr ∷ [])) ≡ stages.Within NewWork steps.OtherWriter)
+    × (stage_after (after NewWork (p kinds.Nwr ∷ p kinds.Owr ∷ p kinds.Swr ∷ p kinds.Pwr ∷ [])) ≡ stages.Within NewWork steps.Writer)
+    × (stage_after (after NewWork (p kinds.Nwr ∷ p kinds.Swr ∷ p kinds.Alt ∷ [])) ≡ stages.Within NewWork steps.Tail)
+    × (stage_after (after Acknowledgement (p kinds.Ack ∷ p kinds.Grt ∷ [])) ≡ stages.Closed)
+stages_seen = (refl, refl, refl, refl, refl, refl, refl, refl, refl, refl)
+
+-- ---- the shortest way on from each stage
+
+abbrev shortest_agreement : List Symbol
+shortest_agreement = p kinds.Agr ∷ p kinds.Ter ∷ Ipa Assignor ∷ Ipa Acquirer ∷ []
+
+start : GoesOnBy [] (one_group Acknowledgement (p kinds.Ack ∷ [])) (needs 5 1 1)
+start = record { begins = (_, refl); records = refl; groups_more = refl; transaction = refl }
+
+opened : GoesOnBy (p kinds.Hdr ∷ []) (one_group Acknowledgement (p kinds.Ack ∷ [])) (needs 4 1 1)
+opened = record { begins = (_, refl); records = refl; groups_more = refl; transaction = refl }
+
+in_agreements : GoesOnBy (after Agreement []) (one_group Agreement shortest_agreement) (needs 6 0 4)
+in_agreements = record { begins = (_, refl); records = refl; groups_more = refl; transaction = refl }
+
+in_works : GoesOnBy (after NewWork []) (one_group NewWork (p kinds.Nwr ∷ p kinds.Owr ∷ [])) (needs 4 0 2)
+in_works = record { begins = (_, refl); records = refl; groups_more = refl; transaction = refl }
+
+in_acknowledgements : GoesOnBy (after Acknowledgement []) (one_group Acknowledgement (p kinds.Ack ∷ [])) (needs 3 0 1)
+in_acknowledgements = record { begins = (_, refl); records = refl; groups_more = refl; transaction = refl }
+
+acked : GoesOnBy (after Acknowledgement (p kinds.Ack ∷ [])) (one_group Acknowledgement (p kinds.Ack ∷ [])) (needs 2 0 0)
+acked = record { begins = (_, refl); records = refl; groups_more = refl; transaction = refl }
+
+agreed : GoesOnBy (after Agreement (p kinds.Agr ∷ [])) (one_group Agreement shortest_agreement) (needs 5 0 3)
+agreed = record { begins = (_, refl); records = refl; groups_more = refl; transaction = refl }
+
+territories : GoesOnBy (after Agreement (p kinds.Agr ∷ p kinds.Ter ∷ [])) (one_group Agreement shortest_agreement) (needs 4 0 2)
+territories = record { begins = (_, refl); records = refl; groups_more = refl; transaction = refl }
+
+one_side : GoesOnBy (after Agreement (p kinds.Agr ∷ p kinds.Ter ∷ Ipa Assignor ∷ [])) (one_group Agreement shortest_agreement) (needs 3 0 1)
+one_side = record { begins = (_, refl); records = refl; groups_more = refl; transaction = refl }
+
+both : GoesOnBy (after Agreement shortest_agreement) (one_group Agreement shortest_agreement) (needs 2 0 0)
+both = record { begins = (_, refl); records = refl; groups_more = refl; transaction = refl }
+
+work : GoesOnBy (after NewWork (p kinds.Nwr ∷ [])) (one_group NewWork (p kinds.Nwr ∷ p kinds.Owr ∷ [])) (needs 3 0 1)
+work = record { begins = (_, refl); records = refl; groups_more = refl; transaction = refl }
+
+controlled : GoesOnBy (after NewWork (p kinds.Nwr ∷ p kinds.Spu ∷ p kinds.Spt ∷ [])) (one_group NewWork (p kinds.Nwr ∷ p kinds.Spu ∷ p kinds.Spt ∷ p kinds.Owr ∷ [])) (needs 3 0 1)
+controlled = record { begins = (_, refl); records = refl; groups_more = refl; transaction = refl }
+
+writer : GoesOnBy (after NewWork (p kinds.Nwr ∷ p kinds.Swr ∷ [])) (one_group NewWork (p kinds.Nwr ∷ p kinds.Swr ∷ [])) (needs 2 0 0)
+writer = record { begins = (_, refl); records = refl; groups_more = refl; transaction = refl }
+
+closed : GoesOnBy (after Acknowledgement (p kinds.Ack ∷ p kinds.Grt ∷ [])) (one_group Acknowledgement (p kinds.Ack ∷ [])) (needs 1 0 0)
+closed = record { begins = (_, refl); records = refl; groups_more = refl; transaction = refl }
+
+ended : GoesOnBy (symbols_of (one_group Acknowledgement (p kinds.Ack ∷ []))) (one_group Acknowledgement (p kinds.Ack ∷ [])) (needs 0 0 0)
+ended = record { begins = ([], refl); records = refl; groups_more = refl; transaction = refl }
+
+-- ---- levels
+
+levels_of_places : (level_of None 1 reasons.UnknownKind places.File ≡ E) × (level_of None 1 reasons.UnknownKind places.Group ≡ G) × (level_of None 1 reasons.UnknownKind places.Transaction ≡ T)
+    × (level_of (Some kinds.Hdr) 1 reasons.Misplaced places.File ≡ E) × (level_of (Some kinds.Rev) 1 reasons.Misplaced places.Group ≡ G) × (level_of (Some kinds.Grt) 1 reasons.Misplaced places.Transaction ≡ T)
+levels_of_places = (refl, refl, refl, refl, refl, refl)
+
+levels_of_limits : (level_of (Some kinds.Ack) 1 (reasons.Limit limits.Records) places.Transaction ≡ E) × (level_of (Some kinds.Grh) 1 (reasons.Limit limits.Groups) places.File ≡ E)
+    × (level_of (Some kinds.Grh) 2 (reasons.Limit limits.Transaction) places.File ≡ G) × (level_of (Some kinds.Msg) 1 (reasons.Limit limits.Transaction) places.Transaction ≡ T)
+levels_of_limits = (refl, refl, refl, refl)
+
+levels_of_frames : (level_of (Some kinds.Hdr) 8 (reasons.Cell NotADate) places.File ≡ E) × (level_of (Some kinds.Trl) 3 (reasons.Number 1) places.File ≡ E) × (level_of (Some kinds.Hdr) 10 reasons.Excess places.File ≡ E)
+    × (level_of (Some kinds.Grt) 4 (reasons.Number 3) places.Transaction ≡ G) × (level_of (Some kinds.Grh) 2 (reasons.Cell NotACode) places.File ≡ G)
+levels_of_frames = (refl, refl, refl, refl, refl)
+
+levels_inside : (level_of (Some kinds.Nwr) 10 (reasons.Cell NotACode) places.Transaction ≡ T) × (level_of (Some kinds.Ack) 14 reasons.Excess places.Transaction ≡ T)
+    × (level_of (Some kinds.Swr) 3 (reasons.Number 4) places.Transaction ≡ T) × (level_of (Some kinds.Swr) 2 (reasons.Cell NotDigits) places.Transaction ≡ T)
+    × (level_of (Some kinds.Swr) 24 reasons.Excess places.Transaction ≡ R) × (level_of (Some kinds.Swr) 5 (reasons.Cell Blank) places.Transaction ≡ R)
+    × (level_of (Some kinds.Ter) 5 (reasons.Cell Blank) places.Transaction ≡ R) × (level_of (Some kinds.Ipa) 4 (reasons.Cell NotACode) places.Transaction ≡ R)
+    × (level_of (Some kinds.Swr) 12 (reasons.Cell OverShare) places.Transaction ≡ F) × (level_of (Some kinds.Spu) 8 (reasons.Cell NotACode) places.Transaction ≡ F)
+levels_inside = (refl, refl, refl, refl, refl, refl, refl, refl, refl, refl)

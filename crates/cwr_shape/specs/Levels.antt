@@ -1,0 +1,73 @@
+-- How much each refusal rejects.
+use Rattle.std.specs.Prelude.{ℕ, Bool, true, false, nat_lt, Option, Some, None, if◌then◌else◌}
+use Rattle.cwr_fields.specs.declared.cell_types.CellType.{CellType}
+use Rattle.cwr_fields.specs.declared.cell_types.CellType.TheVariants as types
+use Rattle.cwr_layouts.specs.declared.kinds.Kind.{Kind}
+use Rattle.cwr_layouts.specs.declared.kinds.Kind.TheVariants.{Hdr, Grh, Grt, Trl, Agr, Nwr, Rev, Ack}
+use Rattle.cwr_layouts.specs.Layouts.{FieldLayout, field_at}
+use Rattle.cwr_shape.specs.declared.reasons.Reason.{Reason}
+use Rattle.cwr_shape.specs.declared.reasons.Reason.TheVariants as reasons
+use Rattle.cwr_shape.specs.declared.limits.LimitKind.TheVariants as limits
+use Rattle.cwr_shape.specs.declared.reasons.Level.{Level}
+use Rattle.cwr_shape.specs.declared.reasons.Level.TheVariants.{E, G, T, R, F}
+use Rattle.cwr_shape.specs.declared.tallies.Place.{Place}
+use Rattle.cwr_shape.specs.declared.tallies.Place.TheVariants as places
+
+-- where a record that may not come rejects what is open
+abbrev pub level_of_place : Place → Level
+level_of_place places.File = E
+level_of_place places.Group = G
+level_of_place places.Transaction = T
+
+-- a cell of these types can't be blank
+abbrev pub must_be_filled : CellType → Bool
+must_be_filled types.Required = true
+must_be_filled types.Number = true
+must_be_filled (types.Code table) = true
+must_be_filled ty = false
+
+-- a cell that must be filled rejects its record, and any other the field
+abbrev pub level_of_type : Option FieldLayout → Level
+level_of_type None = F
+level_of_type (Some f) = if must_be_filled f.ty then R else F
+
+-- of a cell, a number or an excess inside a transaction, behind its header
+abbrev pub level_inside : Kind → ℕ → Reason → Level
+level_inside kind field (reasons.Cell fault) = if nat_lt field 4 then T else level_of_type (field_at kind field)
+level_inside kind field (reasons.Number n) = T
+level_inside kind field reason = R
+
+-- of a cell, a number or an excess
+abbrev pub level_in : Kind → ℕ → Reason → Level
+level_in Hdr field reason = E
+level_in Trl field reason = E
+level_in Grh field reason = G
+level_in Grt field reason = G
+level_in Agr field reason = T
+level_in Nwr field reason = T
+level_in Rev field reason = T
+level_in Ack field reason = T
+level_in kind field reason = level_inside kind field reason
+
+-- a transaction that may become too long
+abbrev pub level_of_length : Option Kind → Level
+level_of_length (Some Grh) = G
+level_of_length kind = T
+
+-- the level of a refusal at a field of a line of the kind, where that place is open
+abbrev pub level_of : Option Kind → ℕ → Reason → Place → Level
+level_of kind field reasons.UnknownKind place = level_of_place place
+level_of kind field reasons.Misplaced place = level_of_place place
+level_of kind field (reasons.Limit limits.Transaction) place = level_of_length kind
+level_of kind field (reasons.Limit limit) place = E
+level_of (Some kind) field reason place = level_in kind field reason
+level_of None field reason place = level_of_place place
+
+-- what is open behind a record of the kind, or at the start
+abbrev pub place_behind : Option Kind → Place
+place_behind None = places.File
+place_behind (Some Hdr) = places.File
+place_behind (Some Grt) = places.File
+place_behind (Some Trl) = places.File
+place_behind (Some Grh) = places.Group
+place_behind (Some kind) = places.Transaction

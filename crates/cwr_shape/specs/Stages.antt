@@ -1,0 +1,121 @@
+-- How far symbols have come, and what must still follow them.
+use Rattle.std.specs.Prelude.{◌≡◌, ℕ, ◌+◌, ◌≤◌, Bool, true, false, not, ◌&&◌, ◌==◌, nat_lt, List, length, take, drop, slice_index, count_by, Option, Some, None, if◌then◌else◌}
+use Rattle.std.specs.List.{prefix_len, after_last, last_or, filter, list_any}
+use Rattle.cwr_fields.specs.declared.codes.Role.{Role}
+use Rattle.cwr_fields.specs.declared.codes.Role.TheVariants.{Assignor, Acquirer}
+use Rattle.cwr_fields.specs.declared.codes.TransactionType.{TransactionType}
+use Rattle.cwr_fields.specs.declared.codes.TransactionType.TheVariants.{Acknowledgement}
+use Rattle.cwr_layouts.specs.declared.kinds.Kind.TheVariants as kinds
+use Rattle.cwr_shape.specs.declared.symbols.Symbol.{Symbol}
+use Rattle.cwr_shape.specs.declared.symbols.Symbol.TheVariants.{Plain, Ipa, Grh}
+use Rattle.cwr_shape.specs.declared.stages.Stage.{Stage}
+use Rattle.cwr_shape.specs.declared.stages.Stage.TheVariants as stages
+use Rattle.cwr_shape.specs.declared.stages.Step.{Step}
+use Rattle.cwr_shape.specs.declared.stages.Step.TheVariants as steps
+use Rattle.cwr_shape.specs.declared.stages.Needs.{Needs}
+use Rattle.cwr_shape.specs.Outlines.{GroupOutline, IsOutline, symbols_of, BeginsWith}
+use Rattle.cwr_shape.specs.Numbers.{numbers_of, lengths_of}
+
+-- the symbol is a GRH
+abbrev pub is_grh : Symbol → Bool
+is_grh (Grh ty) = true
+is_grh s = false
+
+-- the symbol is an IPA
+abbrev pub is_ipa : Symbol → Bool
+is_ipa (Ipa role) = true
+is_ipa s = false
+
+-- the symbol is an IPA of the role
+abbrev pub is_ipa_of : Role → Symbol → Bool
+is_ipa_of Assignor (Ipa Assignor) = true
+is_ipa_of Acquirer (Ipa Acquirer) = true
+is_ipa_of role s = false
+
+-- a writer's own record
+abbrev pub is_writer : Symbol → Bool
+is_writer (Plain kinds.Swr) = true
+is_writer (Plain kinds.Owr) = true
+is_writer s = false
+
+-- the last symbol that passes the test
+abbrev pub latest : (Symbol → Bool) → List Symbol → Option Symbol
+latest test xs = last_or None (filter test xs)
+
+-- the other side
+abbrev pub other_role : Role → Role
+other_role Assignor = Acquirer
+other_role Acquirer = Assignor
+
+-- a PWR belongs to the writer before it
+abbrev pub pwr_step : Option Symbol → Step
+pwr_step (Some (Plain kinds.Owr)) = steps.OtherWriter
+pwr_step s = steps.Writer
+
+-- how far the transaction has come, by its last record
+abbrev pub step_after : Symbol → List Symbol → Step
+step_after (Ipa role) xs = if list_any (is_ipa_of (other_role role)) (after_last (λ s. not (is_ipa s)) xs) then steps.Both else steps.OneSide role
+step_after (Plain kinds.Ack) xs = steps.Acked
+step_after (Plain kinds.Msg) xs = steps.Acked
+step_after (Plain kinds.Agr) xs = steps.Agreed
+step_after (Plain kinds.Ter) xs = steps.Territories
+step_after (Plain kinds.Nwr) xs = steps.Work
+step_after (Plain kinds.Rev) xs = steps.Work
+step_after (Plain kinds.Spu) xs = steps.Controlled
+step_after (Plain kinds.Spt) xs = steps.Controlled
+step_after (Plain kinds.Opu) xs = steps.Other
+step_after (Plain kinds.Swr) xs = steps.Writer
+step_after (Plain kinds.Swt) xs = steps.Writer
+step_after (Plain kinds.Owr) xs = steps.OtherWriter
+step_after (Plain kinds.Pwr) xs = pwr_step (latest is_writer xs)
+step_after s xs = steps.Tail
+
+-- the type of the last group
+abbrev pub group_of : Option Symbol → TransactionType
+group_of (Some (Grh ty)) = ty
+group_of s = Acknowledgement
+
+-- how far symbols have come whose last is this
+abbrev pub stage_by : Option Symbol → List Symbol → Stage
+stage_by None xs = stages.Start
+stage_by (Some (Plain kinds.Hdr)) xs = stages.Opened
+stage_by (Some (Grh ty)) xs = stages.Within ty steps.InGroup
+stage_by (Some (Plain kinds.Grt)) xs = stages.Closed
+stage_by (Some (Plain kinds.Trl)) xs = stages.Ended
+stage_by (Some s) xs = stages.Within (group_of (latest is_grh xs)) (step_after s xs)
+
+-- how far the symbols have come, by the last of them
+abbrev pub stage_after : List Symbol → Stage
+stage_after xs = stage_by (last_or None xs) xs
+
+-- the numbers are those of a transaction's first record
+abbrev pub is_first_of_transaction : List ℕ → Bool
+is_first_of_transaction numbers = (length numbers == 2) && (slice_index numbers 1 == 0)
+
+-- the numbers are those of a later record of a transaction
+abbrev pub is_later_of_transaction : List ℕ → Bool
+is_later_of_transaction numbers = (length numbers == 2) && nat_lt 0 (slice_index numbers 1)
+
+-- the records of the first transaction among records with these numbers
+abbrev pub next_transaction : List (List ℕ) → ℕ
+next_transaction rest = let from = drop (prefix_len (λ ns. not (is_first_of_transaction ns)) rest) rest in
+    prefix_len (λ ns. length ns == 2) (take 1 from) + prefix_len is_later_of_transaction (drop 1 from)
+
+-- the further records of the open transaction, or where none is open the records of the next one
+abbrev pub transaction_to_come : Stage → List (List ℕ) → ℕ
+transaction_to_come (stages.Within ty steps.InGroup) rest = next_transaction rest
+transaction_to_come (stages.Within ty step) rest = prefix_len is_later_of_transaction rest
+transaction_to_come stage rest = next_transaction rest
+
+-- the transmission goes on from the symbols by these numbers of records, of groups, and of records of the transaction
+pub record GoesOnBy (xs : List Symbol) (groups : List GroupOutline) (needs : Needs) : Type 0 where
+  pub begins : BeginsWith xs groups
+  pub records : length xs + needs.records ≡ length (symbols_of groups)
+  pub groups_more : count_by is_grh xs + needs.groups ≡ length groups
+  pub transaction : needs.transaction ≡ transaction_to_come (stage_after xs) (drop (length xs) (numbers_of (lengths_of groups)))
+
+-- some transmission goes on by exactly these numbers, and none by fewer in any of them
+pub record AreNeeds (xs : List Symbol) (needs : Needs) : Type 0 where
+  pub met : (groups : List GroupOutline) × IsOutline groups × GoesOnBy xs groups needs
+  pub least : (groups : List GroupOutline) (more : Needs) → IsOutline groups → GoesOnBy xs groups more
+      → (needs.records ≤ more.records) × (needs.groups ≤ more.groups) × (needs.transaction ≤ more.transaction)

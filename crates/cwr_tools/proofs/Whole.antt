@@ -1,0 +1,127 @@
+-- The worked transmissions are transmissions, and what they spell is accepted.
+use Rattle.std.proofs.Common.{ℕ, List, [], ◌∷◌, ◌++◌, refl, lit<, lit≤}
+use Rattle.cwr_fields.specs.Bytes.{digits}
+use Rattle.cwr_fields.specs.declared.codes.TransactionType.TheVariants.{Acknowledgement}
+use Rattle.cwr_fields.proofs.Tests.{holds_test, number_test, day_test, time_test, share_test}
+use Rattle.cwr_layouts.specs.declared.kinds.Kind.TheVariants as kinds
+use Rattle.cwr_layouts.proofs.RecordTest.{record_sound}
+use Rattle.cwr_shape.specs.declared.symbols.Symbol.TheVariants.{Plain}
+use Rattle.cwr_shape.specs.declared.limits.Limits.{Limits}
+use Rattle.cwr_shape.specs.Shapes.{IsShape}
+use Rattle.cwr_values.specs.Values.{IsTransmission, FitsIn}
+use Rattle.cwr_values.specs.Rows.{canonical_text}
+use Rattle.cwr_decode.specs.Ends.{IsAccepted}
+use Rattle.cwr_decode.proofs.Accepted.{canonical_accepted}
+use Rattle.std.proofs.Common.{true, map, ◌≡◌}
+use Rattle.std.specs.List.{list_all}
+use Rattle.std.proofs.lemmas.Bool.{and_parts}
+use Rattle.cwr_fields.specs.declared.codes.TransactionType.{TransactionType}
+use Rattle.cwr_fields.specs.declared.codes.TransactionType.TheVariants.{Agreement, NewWork, RevisedWork}
+use Rattle.cwr_layouts.specs.Records.{RecordValue, IsRecord}
+use Rattle.cwr_layouts.proofs.RecordTest.{record_test}
+use Rattle.cwr_shape.specs.Shapes.{pattern_of}
+use Rattle.cwr_shape.proofs.Matcher.{accepts_sound, nullable, after, after_all}
+use Rattle.cwr_values.specs.Values.{IsTransaction, symbol_of}
+use Rattle.std.specs.List.{AllByRecursion}
+use Rattle.cwr_tools.proofs.Samples
+
+-- the largest limits
+abbrev pub largest : Limits
+largest = record { records = 99999999; groups = 99999; transaction = 999999 }
+
+bare_acknowledgement : IsShape Acknowledgement (Plain kinds.Ack ∷ [])
+bare_acknowledgement = (Plain kinds.Ack ∷ [], [], refl, (Plain kinds.Ack, (0, (lit< tt, refl)), refl), ([], refl, tt))
+
+pub row_1_whole : IsTransmission Samples.row_1
+unfolding digits holds_test number_test day_test time_test share_test
+row_1_whole = record {
+  opening = (refl, record_sound Samples.h refl);
+  some_group = lit< tt;
+  each = (
+    record {
+      head = (refl, record_sound (Samples.gr "ACK") refl);
+      some_transaction = lit< tt;
+      each = (((record_sound Samples.a1 refl, tt), bare_acknowledgement), tt);
+      foot = (refl, record_sound Samples.grt refl);
+    },
+    tt,
+  );
+}
+
+pub row_1_within : FitsIn largest Samples.row_1
+row_1_within = (lit≤ tt, lit≤ tt, ((lit≤ tt, tt), tt))
+
+row_1_accepted : (more : List ℕ) → IsAccepted largest (canonical_text Samples.row_1 ++ more) Samples.row_1 359
+unfolding digits
+row_1_accepted more = canonical_accepted largest Samples.row_1 more row_1_whole row_1_within
+
+records_sound : (rs : List RecordValue) → list_all record_test rs ≡ true → AllByRecursion IsRecord rs
+records_sound [] h = tt
+records_sound (r ∷ rs) h = let p = and_parts (record_test r) (list_all record_test rs) h in (record_sound r p.0, records_sound rs p.1)
+
+-- records that pass the tests are a transaction of the type
+transaction_sound : (ty : TransactionType) (rs : List RecordValue) → list_all record_test rs ≡ true → nullable (after_all (map symbol_of rs) (pattern_of ty)) ≡ true → IsTransaction ty rs
+transaction_sound ty rs h k = (records_sound rs h, accepts_sound (map symbol_of rs) (pattern_of ty) k)
+
+pub row_4_whole : IsTransmission Samples.row_4
+unfolding digits holds_test number_test day_test time_test share_test nullable after after_all
+row_4_whole = record {
+  opening = (refl, record_sound Samples.h refl);
+  some_group = lit< tt;
+  each = (
+    record {
+      head = (refl, record_sound (Samples.gr "NWR") refl);
+      some_transaction = lit< tt;
+      each = (transaction_sound NewWork Samples.work_4 refl refl, tt);
+      foot = (refl, record_sound Samples.grt refl);
+    },
+    tt,
+  );
+}
+
+pub row_5_whole : IsTransmission Samples.row_5
+unfolding digits holds_test number_test day_test time_test share_test nullable after after_all
+row_5_whole = record {
+  opening = (refl, record_sound Samples.h refl);
+  some_group = lit< tt;
+  each = (
+    record {
+      head = (refl, record_sound (Samples.gr "AGR") refl);
+      some_transaction = lit< tt;
+      each = (transaction_sound Agreement (Samples.ag1 ∷ Samples.te1 ∷ Samples.ipa_as ∷ Samples.ipa_ac ∷ Samples.te1 ∷ Samples.ipa_ac ∷ Samples.ipa_as ∷ []) refl refl, tt);
+      foot = (refl, record_sound Samples.grt refl);
+    },
+    tt,
+  );
+}
+
+pub row_6_whole : IsTransmission Samples.row_6
+unfolding digits holds_test number_test day_test time_test share_test nullable after after_all
+row_6_whole = record {
+  opening = (refl, record_sound Samples.h refl);
+  some_group = lit< tt;
+  each = (
+    record {
+      head = (refl, record_sound (Samples.gr "NWR") refl);
+      some_transaction = lit< tt;
+      each = (transaction_sound NewWork (Samples.w1 ∷ Samples.s1 ∷ []) refl refl, tt);
+      foot = (refl, record_sound Samples.grt refl);
+    },
+    (
+      record {
+        head = (refl, record_sound (Samples.gr "REV") refl);
+        some_transaction = lit< tt;
+        each = (transaction_sound RevisedWork (Samples.v1 ∷ Samples.s1 ∷ []) refl refl, (transaction_sound RevisedWork (Samples.v2 ∷ Samples.s1 ∷ []) refl refl, tt));
+        foot = (refl, record_sound Samples.grt refl);
+      },
+      tt,
+    ),
+  );
+}
+
+row_6_within : FitsIn (record { records = 12; groups = 2; transaction = 2 }) Samples.row_6
+row_6_within = (lit≤ tt, lit≤ tt, ((lit≤ tt, tt), ((lit≤ tt, (lit≤ tt, tt)), tt)))
+
+row_6_accepted : (more : List ℕ) → IsAccepted (record { records = 12; groups = 2; transaction = 2 }) (canonical_text Samples.row_6 ++ more) Samples.row_6 1599
+unfolding digits
+row_6_accepted more = canonical_accepted (record { records = 12; groups = 2; transaction = 2 }) Samples.row_6 more row_6_whole row_6_within

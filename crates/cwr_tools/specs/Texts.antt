@@ -1,0 +1,64 @@
+-- The texts that `check` and `show` write for the items and the end of a text.
+use Rattle.std.specs.Prelude.{ℕ, Bool, true, false, not, List, [], ◌∷◌, ◌++◌, codes, decimal, length, filter, take, zip, count_by, if◌then◌else◌, flat_map, sum_by}
+use Rattle.std.specs.List.{after_last, enumerate_from}
+use Rattle.cwr_fields.specs.Bytes.{is_spaces, trimmed}
+use Rattle.cwr_layouts.specs.Kinds.{letters}
+use Rattle.cwr_layouts.specs.Layouts.{FieldLayout, layout}
+use Rattle.cwr_layouts.specs.Records.{RecordValue}
+use Rattle.cwr_values.specs.Values.{TransmissionValue}
+use Rattle.cwr_values.specs.Rows.{trailer, rows}
+use Rattle.cwr_decode.specs.Items.{ItemValue, opened, group_opened, transaction, group_closed, ended}
+use Rattle.cwr_levels.specs.Findings.{findings}
+use Rattle.cwr_levels.specs.Lines.{refusal_line, truncated_line, good_line, finding_line}
+use Rattle.cwr_tools.specs.declared.verdicts.Verdict.{Verdict}
+use Rattle.cwr_tools.specs.declared.verdicts.Verdict.TheVariants.{Good, Refused, Truncated}
+
+-- the item is a GRH
+abbrev pub opens_group : ItemValue → Bool
+opens_group (group_opened r) = true
+opens_group item = false
+
+-- the item is a transaction
+abbrev pub is_transaction : ItemValue → Bool
+is_transaction (transaction t) = true
+is_transaction item = false
+
+-- the finding lines of an item, by the items before it: its group's ID, and its sequence in the group
+abbrev pub finding_lines : List ItemValue → ItemValue → List ℕ
+finding_lines before (transaction t) = flat_map (finding_line (count_by opens_group before) (count_by is_transaction (after_last opens_group before))) (findings t)
+finding_lines before item = []
+
+-- the line that tells how a text ended
+abbrev pub verdict_line : Verdict → List ℕ
+verdict_line (Good groups transactions records) = good_line groups transactions records
+verdict_line (Refused refusal) = refusal_line refusal
+verdict_line (Truncated records) = truncated_line records
+
+-- the verdict on an accepted text
+abbrev pub good_verdict : TransmissionValue → Verdict
+good_verdict v = Good (length v.groups) (sum_by (λ g. length g.transactions) v.groups) (length (rows v))
+
+-- what `check` writes
+abbrev pub check_text : List ItemValue → Verdict → List ℕ
+check_text items verdict = flat_map (λ p. finding_lines (take p.0 items) p.1) (enumerate_from 0 items) ++ verdict_line verdict
+
+-- the records of an item
+abbrev pub item_records : ItemValue → List RecordValue
+item_records (opened r) = r ∷ []
+item_records (group_opened r) = r ∷ []
+item_records (transaction t) = t
+item_records (group_closed r) = r ∷ []
+item_records ended = trailer ∷ []
+
+-- a carried cell under its field's number and name, unless it is blank
+abbrev pub cell_line : ℕ → FieldLayout → List ℕ → List ℕ
+cell_line j f cell = if is_spaces cell then [] else codes "  " ++ decimal j ++ codes " " ++ f.name ++ codes ": " ++ trimmed cell ++ 10 ∷ []
+
+-- record n, by its number and kind, and its cells
+abbrev pub record_lines : ℕ → RecordValue → List ℕ
+record_lines n r = decimal n ++ codes " " ++ letters r.kind ++ 10 ∷ []
+    ++ flat_map (λ p. cell_line p.0.0 p.0.1 p.1) (zip (filter (λ q. not q.1.derived) (enumerate_from 1 (layout r.kind))) r.cells)
+
+-- what `show` writes
+abbrev pub show_text : List ItemValue → Verdict → List ℕ
+show_text items verdict = flat_map (λ p. record_lines p.0 p.1) (enumerate_from 1 (flat_map item_records items)) ++ verdict_line verdict

@@ -1,0 +1,6 @@
+//! Whole runs over CWR 2.1 transmissions: check, show, split and join.
+#![tactic(auto)]
+
+mod verdicts;
+
+pub use verdicts::Verdict;

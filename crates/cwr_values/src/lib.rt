@@ -1,0 +1,6 @@
+//! Transactions, groups and transmissions as values.
+#![tactic(auto)]
+
+mod transmissions;
+
+pub use transmissions::ValueFault;
