@@ -1,6 +1,7 @@
 -- The items that rows give: transactions, and the records that stand around them.
-use Rattle.std.specs.Prelude.{Bool, true, false, not, ◌&&◌, nat_lt, List, [], ◌∷◌, ◌++◌, length, map, take_while, slice_index_or, if◌then◌else◌, replicate}
-use Rattle.std.specs.Str.{bytes_eq}
+use Rattle.std.specs.Prelude.{ℕ, ◌+◌, ◌-◌, Bool, true, false, not, ◌&&◌, ◌==◌, List, [], ◌∷◌, ◌++◌, length, map, drop, Option, Some, None, slice_index_or, if◌then◌else◌}
+use Rattle.std.specs.List.{last_or}
+use Rattle.cwr_fields.specs.Bytes.{number_of}
 use Rattle.cwr_layouts.specs.declared.kinds.Kind.{Kind}
 use Rattle.cwr_layouts.specs.declared.kinds.Kind.TheVariants.{Hdr, Grh, Grt, Trl}
 use Rattle.cwr_layouts.specs.Records.{RecordValue, Row, record_of}
@@ -21,28 +22,43 @@ is_in_transaction Grt = false
 is_in_transaction Trl = false
 is_in_transaction kind = true
 
--- the row's record sequence, its third cell, is zero
-abbrev pub is_first : Row → Bool
-is_first row = bytes_eq (slice_index_or row.cells 2 []) (replicate 8 48)
+-- the record sequence that a row inside a transaction carries in its third cell
+abbrev pub record_sequence : Row → ℕ
+record_sequence row = number_of (slice_index_or row.cells 2 [])
 
 -- the row belongs to the transaction of the row before it
-abbrev pub is_later : Row → Bool
-is_later row = is_in_transaction row.kind && not (is_first row)
+abbrev pub goes_on : Row → Bool
+goes_on row = is_in_transaction row.kind && not (record_sequence row == 0)
 
--- the transaction that the row begins, where a row follows it
-abbrev pub transaction_from : Row → List Row → List ItemValue
-transaction_from row rest = if is_first row && nat_lt (length (take_while is_later rest)) (length rest)
-    then transaction (map record_of (row ∷ take_while is_later rest)) ∷ [] else []
+-- a transaction ends with the last of the rows, where this row comes next
+abbrev pub ends_transaction : Option Row → Row → Bool
+ends_transaction None row = false
+ends_transaction (Some last) row = is_in_transaction last.kind && not (goes_on row)
 
--- the row's own item, or the transaction that it begins
-abbrev pub item_at : Kind → Row → List Row → List ItemValue
-item_at Hdr row rest = opened (record_of row) ∷ []
-item_at Grh row rest = group_opened (record_of row) ∷ []
-item_at Grt row rest = group_closed (record_of row) ∷ []
-item_at Trl row rest = ended ∷ []
-item_at kind row rest = transaction_from row rest
+-- the transaction that ends with the last of the rows: as many rows before that one belong to it as its record sequence says
+abbrev pub transaction_at_end : Option Row → List Row → List RecordValue
+transaction_at_end None before = []
+transaction_at_end (Some last) before = map record_of (drop (length before - (1 + record_sequence last)) before)
 
--- the items of rows: HDR, GRH, GRT and TRL, and each transaction that a row follows
+-- the row's own item
+abbrev pub own_item : Kind → Row → List ItemValue
+own_item Hdr row = opened (record_of row) ∷ []
+own_item Grh row = group_opened (record_of row) ∷ []
+own_item Grt row = group_closed (record_of row) ∷ []
+own_item Trl row = ended ∷ []
+own_item kind row = []
+
+-- the items that a row gives behind these rows: the transaction that ended with the row before it, and then its own
+abbrev pub items_at : List Row → Row → List ItemValue
+items_at before row =
+    (if ends_transaction (last_or None before) row then transaction (transaction_at_end (last_or None before) before) ∷ [] else [])
+    ++ own_item row.kind row
+
+-- the items that rows give behind others
+unfoldable pub items_behind : List Row → List Row → List ItemValue
+items_behind before [] = []
+items_behind before (row ∷ rest) = items_at before row ++ items_behind (before ++ row ∷ []) rest
+
+-- the items that rows give
 abbrev pub items : List Row → List ItemValue
-items [] = []
-items (row ∷ rest) = item_at row.kind row rest ++ items rest
+items rows = items_behind [] rows

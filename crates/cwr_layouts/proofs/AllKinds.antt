@@ -1,11 +1,14 @@
 -- Facts that hold of each kind, one by one.
-use Rattle.std.proofs.Common.{◌≡◌, ℕ, ◌≤◌, List, ◌++◌, length, refl, lit≤}
+use Rattle.std.proofs.Common.{◌≡◌, ℕ, ◌≤◌, Bool, false, cond, List, [], ◌∷◌, ◌++◌, length, refl, sym, ap, ◌∙◌, lit≤, find, None}
 use Rattle.std.specs.Prelude.{Some}
+use Rattle.std.specs.Str.{bytes_eq}
+use Rattle.std.proofs.lemmas.Bool.{false_from_ne_true}
+use Rattle.std.proofs.lemmas.Slice.Eq.{bytes_eq-Decides}
 use Rattle.cwr_fields.specs.Bytes.{trimmed}
 use Rattle.cwr_fields.proofs.LineFeeds.{NoLf}
 use Rattle.cwr_layouts.specs.declared.kinds.Kind.{Kind}
 use Rattle.cwr_layouts.specs.declared.kinds.Kind.TheVariants.{Hdr, Grh, Grt, Trl, Agr, Ter, Ipa, Nwr, Rev, Spu, Opu, Spt, Swr, Owr, Swt, Pwr, Alt, Ewt, Ver, Per, Rec, Orn, Com, Ack, Msg}
-use Rattle.cwr_layouts.specs.Kinds.{letters, kind_of}
+use Rattle.cwr_layouts.specs.Kinds.{all_kinds, letters, kind_of}
 use Rattle.cwr_layouts.specs.Layouts.{line_width}
 use Rattle.cwr_layouts.proofs.Trimmed.{trimmed_three}
 
@@ -148,3 +151,13 @@ trimmed-letters Orn rest = trimmed_three _ _ _ rest refl
 trimmed-letters Com rest = trimmed_three _ _ _ rest refl
 trimmed-letters Ack rest = trimmed_three _ _ _ rest refl
 trimmed-letters Msg rest = trimmed_three _ _ _ rest refl
+
+none_among : (kinds : List Kind) (text : List ℕ) → (length text ≡ 3 → ⊥) → find (λ kind. bytes_eq (letters kind) text) kinds ≡ None
+none_among [] text h = refl
+none_among (kind ∷ kinds) text h =
+    let other : bytes_eq (letters kind) text ≡ false = false_from_ne_true (bytes_eq (letters kind) text) (λ e. h (sym (ap length ((bytes_eq-Decides (letters kind) text).0 e)) ∙ length-letters kind)) in
+    rw other (none_among kinds text h)
+
+-- a text that isn't three bytes long names no kind
+pub kind_of-other_length : (text : List ℕ) → (length text ≡ 3 → ⊥) → kind_of text ≡ None
+kind_of-other_length text h = none_among all_kinds text h

@@ -1,7 +1,7 @@
 -- The record layouts of CWR 2.1: for each kind its fields in order, each with its name, its width, its type and
 -- whether it is derived, which is computed and in no value. A field starts where the one before it ends.
 use Prim.Native.String.{String}
-use Rattle.std.specs.Prelude.{ℕ, zero, suc, ◌-◌, Bool, true, false, List, [], ◌∷◌, codes, take, Option, None, slice_get, sum_by}
+use Rattle.std.specs.Prelude.{ℕ, zero, suc, ◌+◌, ◌-◌, ◌==◌, Bool, true, false, List, [], ◌∷◌, codes, Option, None, slice_get, sum_by, if◌then◌else◌}
 use Rattle.cwr_fields.specs.declared.cell_types.CellType.{CellType}
 use Rattle.cwr_fields.specs.declared.cell_types.CellType.TheVariants.{Text, Required, Number, OptNumber, Date, OptDate, Time, OptTime, OptDuration, Share, Flag, Code, OptCode, Constant}
 use Rattle.cwr_fields.specs.declared.tables.Table.TheVariants as tables
@@ -322,9 +322,14 @@ total_width fields = sum_by (λ f. f.width) fields
 abbrev pub line_width : Kind → ℕ
 line_width kind = total_width (layout kind)
 
--- the place where field j starts
-abbrev pub start_of : Kind → ℕ → ℕ
-start_of kind j = total_width (take (j - 1) (layout kind))
+-- each field with the place where it starts: where the one before it ends
+abbrev pub placed : ℕ → List FieldLayout → List (ℕ × FieldLayout)
+placed at [] = []
+placed at (f ∷ fields) = (at, f) ∷ placed (at + f.width) fields
+
+-- field j of a kind, from 1, with the place where it starts
+abbrev pub field_placed : Kind → ℕ → Option (ℕ × FieldLayout)
+field_placed kind j = if j == 0 then None else slice_get (placed 0 (layout kind)) (j - 1)
 
 -- field j, from 1
 abbrev pub field_at : Kind → ℕ → Option FieldLayout

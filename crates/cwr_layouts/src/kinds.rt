@@ -1,5 +1,8 @@
 //! The kinds of records.
 
+ghost use Rattle.std.specs.Prelude.{◌≡◌};
+ghost use Rattle.cwr_layouts.specs.Kinds.{kind_of};
+
 /// The kind of a record, by the three bytes that its line begins with.
 #[derive(Clone, Copy, Debug, PartialEq, Eq)]
 pub enum Kind {
@@ -53,4 +56,41 @@ pub enum Kind {
     Ack,
     /// A message of an acknowledgement.
     Msg,
+}
+
+impl Kind {
+    /// The kind that three bytes name, as CWR 2.1 spells it. `None` where they name none, and for a text that isn't
+    /// three bytes long.
+    pub fn of(text: &[u8]) -> Option<Kind>
+        ensures { result ≡ kind_of text.now }
+    {
+        match text {
+            b"HDR" => Some(Kind::Hdr),
+            b"GRH" => Some(Kind::Grh),
+            b"GRT" => Some(Kind::Grt),
+            b"TRL" => Some(Kind::Trl),
+            b"AGR" => Some(Kind::Agr),
+            b"TER" => Some(Kind::Ter),
+            b"IPA" => Some(Kind::Ipa),
+            b"NWR" => Some(Kind::Nwr),
+            b"REV" => Some(Kind::Rev),
+            b"SPU" => Some(Kind::Spu),
+            b"OPU" => Some(Kind::Opu),
+            b"SPT" => Some(Kind::Spt),
+            b"SWR" => Some(Kind::Swr),
+            b"OWR" => Some(Kind::Owr),
+            b"SWT" => Some(Kind::Swt),
+            b"PWR" => Some(Kind::Pwr),
+            b"ALT" => Some(Kind::Alt),
+            b"EWT" => Some(Kind::Ewt),
+            b"VER" => Some(Kind::Ver),
+            b"PER" => Some(Kind::Per),
+            b"REC" => Some(Kind::Rec),
+            b"ORN" => Some(Kind::Orn),
+            b"COM" => Some(Kind::Com),
+            b"ACK" => Some(Kind::Ack),
+            b"MSG" => Some(Kind::Msg),
+            _ => None,
+        }
+    }
 }

@@ -2,5 +2,9 @@
 #![tactic(auto)]
 
 mod kinds;
+mod layouts;
+mod lookups;
 
 pub use kinds::Kind;
+pub use layouts::Field;
+pub use lookups::{field, fields, width};

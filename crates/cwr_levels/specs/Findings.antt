@@ -144,5 +144,5 @@ abbrev pub findings_at : List RecordValue → ℕ → RecordValue → List Findi
 findings_at t k r = map (λ rule. record { rec = k; field = field_of_rule rule r.kind; rule = rule; level = level_of_rule rule }) (filter (λ rule. breaks rule t k r) all_rules)
 
 -- the findings of a transaction, by record and then by rule
-abbrev pub findings : List RecordValue → List Finding
+unfoldable pub findings : List RecordValue → List Finding
 findings t = flat_map (λ p. findings_at t p.0 p.1) (enumerate_from 0 t)

@@ -1,12 +1,14 @@
 //! The order of records in a CWR 2.1 transmission, its limits, and the levels of refusals.
 #![tactic(auto)]
 
+mod levels;
 mod limits;
 mod reasons;
 mod stages;
 mod symbols;
 mod tallies;
 
+pub use levels::level;
 pub use limits::{LimitKind, Limits, LimitsFault};
 pub use reasons::{Level, Reason};
 pub use stages::{Needs, Stage, Step};

@@ -62,6 +62,7 @@ bad_record r e h same =
 
 -- the first line of what is spelled
 first_spelled : (v : TransmissionValue) (line front rest : List ℕ) → IsTransmission v → NoLf line → Spells v front → line ++ 10 ∷ [] ≡ front ++ rest → IsLineOf (row_of [] v.opening) line
+unfolding rows
 first_spelled v line front rest h no_lf s e = by s.0 s.1 s.2
   where
     by : (lines : List (List ℕ)) → AllZip IsLineOf (rows v) lines → front ≡ text_of lines → IsLineOf (row_of [] v.opening) line
@@ -77,6 +78,7 @@ not_accepted v n a =
     bad_record v.opening a.whole.opening.0 a.whole.opening.1 (ap (take 8) (sym cut.cells))
 
 not_viable : ¬ Viable largest [] line_80 8
+unfolding rows
 not_viable w = by w.front w.lines w.split
   where
     by : (front : List Row) → AllZip IsLineOf front [] → rows w.value ≡ front ++ w.next ∷ w.rest → ⊥
@@ -86,7 +88,7 @@ not_viable w = by w.front w.lines w.split
         bad_record w.value.opening w.whole.opening.0 w.whole.opening.1 (ap (λ (r : Row). take 8 r.cells) first ∙ w.cells.0)
 
 viable_to : (k : ℕ) → take k (row_of [] Samples.h).cells ≡ take k (line_cells line_80) → k ≤ 9 → Viable largest [] line_80 k
-unfolding digits
+unfolding digits rows
 viable_to k e h = record {
   value = Samples.row_1;
   whole = row_1_whole;

@@ -9,7 +9,7 @@ use Rattle.cwr_shape.specs.declared.symbols.Symbol.TheVariants.{Plain}
 use Rattle.cwr_shape.specs.declared.limits.Limits.{Limits}
 use Rattle.cwr_shape.specs.Shapes.{IsShape}
 use Rattle.cwr_values.specs.Values.{IsTransmission, FitsIn}
-use Rattle.cwr_values.specs.Rows.{canonical_text}
+use Rattle.cwr_values.specs.Rows.{canonical_text, rows}
 use Rattle.cwr_decode.specs.Ends.{IsAccepted}
 use Rattle.cwr_decode.proofs.Accepted.{canonical_accepted}
 use Rattle.std.proofs.Common.{true, map, ◌≡◌}
@@ -52,7 +52,7 @@ pub row_1_within : FitsIn largest Samples.row_1
 row_1_within = (lit≤ tt, lit≤ tt, ((lit≤ tt, tt), tt))
 
 row_1_accepted : (more : List ℕ) → IsAccepted largest (canonical_text Samples.row_1 ++ more) Samples.row_1 359
-unfolding digits
+unfolding digits canonical_text rows
 row_1_accepted more = canonical_accepted largest Samples.row_1 more row_1_whole row_1_within
 
 records_sound : (rs : List RecordValue) → list_all record_test rs ≡ true → AllByRecursion IsRecord rs
@@ -123,5 +123,5 @@ row_6_within : FitsIn (record { records = 12; groups = 2; transaction = 2 }) Sam
 row_6_within = (lit≤ tt, lit≤ tt, ((lit≤ tt, tt), ((lit≤ tt, (lit≤ tt, tt)), tt)))
 
 row_6_accepted : (more : List ℕ) → IsAccepted (record { records = 12; groups = 2; transaction = 2 }) (canonical_text Samples.row_6 ++ more) Samples.row_6 1599
-unfolding digits
+unfolding digits canonical_text rows
 row_6_accepted more = canonical_accepted (record { records = 12; groups = 2; transaction = 2 }) Samples.row_6 more row_6_whole row_6_within

@@ -16,7 +16,7 @@ use Rattle.cwr_values.specs.declared.transmissions.ValueFault.TheVariants as val
 use Rattle.cwr_values.specs.Values.{TransmissionValue, outline_of}
 use Rattle.cwr_values.specs.Rows.{rows, records_of, canonical_text, lengths_of_value}
 use Rattle.cwr_values.specs.Fits.{value_fault}
-use Rattle.cwr_decode.specs.Items.{opened, group_opened, transaction, group_closed, ended, items}
+use Rattle.cwr_decode.specs.Items.{opened, group_opened, transaction, group_closed, ended, items, items_behind}
 use Rattle.cwr_shape.specs.declared.reasons.Level.{Level}
 use Rattle.cwr_shape.specs.declared.reasons.Level.TheVariants.{T, R, F}
 use Rattle.cwr_levels.specs.declared.rules.Rule.{Rule}
@@ -38,7 +38,7 @@ field_counts = refl
 -- ---- one acknowledgement
 
 row_1_length : length (canonical_text Samples.row_1) ≡ 359
-unfolding digits
+unfolding digits canonical_text rows
 row_1_length = refl
 
 -- its lines without trailing spaces, as they are written out
@@ -51,7 +51,7 @@ row_1_lines =
     ∷ codes "TRL000010000000100000005" ∷ []
 
 row_1_trimmed : map (λ row. trimmed (full_line row)) (rows Samples.row_1) ≡ row_1_lines
-unfolding digits trimmed
+unfolding digits trimmed rows
 row_1_trimmed = refl
 
 row_1_lengths : map length row_1_lines ≡ 86 ∷ 26 ∷ 159 ∷ 24 ∷ 24 ∷ []
@@ -59,7 +59,7 @@ row_1_lengths = refl
 
 -- the canonical text, byte by byte
 row_1_text : canonical_text Samples.row_1 ≡ flat_map (λ (p : ℕ × List ℕ). filled p.0 p.1 ++ 13 ∷ 10 ∷ []) ((101, slice_index_or row_1_lines 0 []) ∷ (28, slice_index_or row_1_lines 1 []) ∷ (159, slice_index_or row_1_lines 2 []) ∷ (37, slice_index_or row_1_lines 3 []) ∷ (24, slice_index_or row_1_lines 4 []) ∷ [])
-unfolding digits
+unfolding digits canonical_text rows
 row_1_text = refl
 
 -- without trailing spaces, with LF alone, and no line end after TRL
@@ -76,25 +76,25 @@ row_2_raw : raw_lines (closed row_2_text) ≡ row_1_lines
 row_2_raw = refl
 
 row_2_cut : map line_cells (raw_lines (closed row_2_text)) ≡ map (λ row. row.cells) (rows Samples.row_1)
-unfolding digits
+unfolding digits rows
 row_2_cut = refl
 
 -- the records of the rows are those of the value again
 row_1_records : map record_of (rows Samples.row_1) ≡ records_of Samples.row_1
-unfolding digits
+unfolding digits rows
 row_1_records = refl
 
 row_1_items : items (rows Samples.row_1) ≡ opened Samples.h ∷ group_opened (Samples.gr "ACK") ∷ transaction (Samples.a1 ∷ []) ∷ group_closed Samples.grt ∷ ended ∷ []
-unfolding digits
+unfolding digits rows items_behind
 row_1_items = refl
 
 -- no transaction is handed out before a row follows it
 row_1_three : items (take 3 (rows Samples.row_1)) ≡ opened Samples.h ∷ group_opened (Samples.gr "ACK") ∷ []
-unfolding digits
+unfolding digits rows items_behind
 row_1_three = refl
 
 row_1_check : check_text (items (rows Samples.row_1)) (good_verdict Samples.row_1) ≡ codes "GOOD groups 1 transactions 1 records 5\n"
-unfolding digits plain_digits
+unfolding digits plain_digits rows items_behind check_text findings
 row_1_check = refl
 
 row_1_show : show_text (items (rows Samples.row_1)) (good_verdict Samples.row_1) ≡
@@ -102,34 +102,35 @@ row_1_show : show_text (items (rows Samples.row_1)) (good_verdict Samples.row_1)
     ++ codes "2 GRH\n  2 transaction type: ACK\n  4 version: 02.10\n  5 batch request: 0000000001\n"
     ++ codes "3 ACK\n  4 creation date: 20240102\n  5 creation time: 101500\n  6 original group id: 00001\n  7 original transaction sequence: 00000000\n  8 original transaction type: NWR\n  9 creation title: BLUE RIVER\n  10 submitter creation number: W0001\n  12 processing date: 20240110\n  13 transaction status: AS\n"
     ++ codes "4 GRT\n5 TRL\nGOOD groups 1 transactions 1 records 5\n"
-unfolding digits trimmed plain_digits
+unfolding digits trimmed plain_digits rows items_behind show_text
 row_1_show = refl
 
 -- ---- one work with records of many kinds
 
 row_4_length : length (canonical_text Samples.row_4) ≡ 1893
-unfolding digits
+unfolding digits canonical_text rows
 row_4_length = refl
 
 row_4_ends : map (λ row. trimmed (full_line row)) (drop 13 (rows Samples.row_4)) ≡ codes "GRT000010000000100000013" ∷ codes "TRL000010000000100000015" ∷ []
-unfolding digits trimmed
+unfolding digits trimmed rows
 row_4_ends = refl
 
 row_4_findings : findings Samples.work_4 ≡ []
+unfolding findings
 row_4_findings = refl
 
 row_4_check : check_text (items (rows Samples.row_4)) (good_verdict Samples.row_4) ≡ codes "GOOD groups 1 transactions 1 records 15\n"
-unfolding digits plain_digits
+unfolding digits plain_digits rows items_behind check_text findings
 row_4_check = refl
 
 row_5_check : check_text (items (rows Samples.row_5)) (good_verdict Samples.row_5) ≡ codes "GOOD groups 1 transactions 1 records 11\n"
-unfolding digits plain_digits
+unfolding digits plain_digits rows items_behind check_text findings
 row_5_check = refl
 
 -- ---- two groups
 
 row_6_length : length (canonical_text Samples.row_6) ≡ 1599
-unfolding digits
+unfolding digits canonical_text rows
 row_6_length = refl
 
 row_6_numbers : numbers_of (lengths_of_value Samples.row_6) ≡
@@ -141,32 +142,32 @@ row_6_outline : lengths_of (outline_of Samples.row_6) ≡ lengths_of_value Sampl
 row_6_outline = refl
 
 row_6_check : check_text (items (rows Samples.row_6)) (good_verdict Samples.row_6) ≡ codes "GOOD groups 2 transactions 3 records 12\n"
-unfolding digits plain_digits
+unfolding digits plain_digits rows items_behind check_text findings
 row_6_check = refl
 
 limits : ℕ → ℕ → ℕ → Limits
 limits r g t = record { records = r; groups = g; transaction = t }
 
 row_6_fits : value_fault (limits 11 2 2) Samples.row_6 ≡ Some value_faults.Records
-unfolding limits
+unfolding limits rows
 row_6_fits = refl
 
 row_6_fits_groups : value_fault (limits 12 1 2) Samples.row_6 ≡ Some value_faults.Groups
-unfolding limits
+unfolding limits rows
 row_6_fits_groups = refl
 
 row_6_fits_transaction : value_fault (limits 12 2 1) Samples.row_6 ≡ Some (value_faults.Transaction 0 0)
-unfolding limits
+unfolding limits rows
 row_6_fits_transaction = refl
 
 row_6_fits_all : value_fault (limits 12 2 2) Samples.row_6 ≡ None
-unfolding limits
+unfolding limits rows
 row_6_fits_all = refl
 
 -- ---- split and join
 
 row_21_lengths : map (λ v. length (canonical_text v)) (split_of 2 Samples.row_6) ≡ 1155 ∷ 642 ∷ []
-unfolding digits
+unfolding digits canonical_text rows
 row_21_lengths = refl
 
 row_21_numbers : map (λ v. numbers_of (lengths_of_value v)) (split_of 2 Samples.row_6) ≡
@@ -175,14 +176,14 @@ row_21_numbers : map (λ v. numbers_of (lengths_of_value v)) (split_of 2 Samples
 row_21_numbers = refl
 
 split_in_ones : map (λ v. length (canonical_text v)) (split_of 1 Samples.row_6) ≡ 642 ∷ 642 ∷ 642 ∷ []
-unfolding digits
+unfolding digits canonical_text rows
 split_in_ones = refl
 
 split_in_threes : split_of 3 Samples.row_6 ≡ Samples.row_6 ∷ []
 split_in_threes = refl
 
 row_22_length : map (λ v. length (canonical_text v)) (map (λ parts. join_of (slice_index_or parts 0 Samples.row_1) (drop 1 parts)) (split_of 2 Samples.row_6 ∷ [])) ≡ 1668 ∷ []
-unfolding digits
+unfolding digits canonical_text rows
 row_22_length = refl
 
 -- ---- cut lines
@@ -217,54 +218,70 @@ abbrev spu_with : List (ℕ × String) → List (ℕ × String)
 spu_with last = (4, "01") ∷ (5, "P1") ∷ (6, "MUSIC HOUSE") ∷ (8, "E") ∷ (13, "02500") ∷ last
 
 wrong_writer : alone (Samples.w1 ∷ Samples.p1 ∷ Samples.pt1 ∷ Samples.o1 ∷ Samples.s2 ∷ Samples.with_cells kinds.Swt ((4, "W9") ∷ (5, "05000") ∷ (8, "I") ∷ (9, "2136") ∷ (11, "001") ∷ []) ∷ drop 6 Samples.work_4) ≡ finding 5 4 V2 R ∷ []
+unfolding findings
 wrong_writer = refl
 
 mechanical : alone (with_shares (spu_with ((15, "04993") ∷ (17, "05000") ∷ []))) ≡ finding 0 1 V4 T ∷ []
+unfolding findings
 mechanical = refl
 
 synchronisation : alone (with_shares (spu_with ((15, "05000") ∷ (17, "05007") ∷ []))) ≡ finding 0 1 V5 T ∷ []
+unfolding findings
 synchronisation = refl
 
 synchronisation_near : alone (with_shares (spu_with ((15, "05000") ∷ (17, "05006") ∷ []))) ≡ []
+unfolding findings
 synchronisation_near = refl
 
 no_author : alone (Samples.w1 ∷ Samples.with_cells kinds.Swr ((4, "W1") ∷ (5, "SMITH") ∷ (6, "ANNA") ∷ (8, "AR") ∷ []) ∷ []) ≡ finding 0 1 V6 T ∷ []
+unfolding findings
 no_author = refl
 
 wrong_publisher : alone (take 6 Samples.work_4 ++ Samples.with_cells kinds.Pwr ((4, "P9") ∷ (5, "MUSIC HOUSE") ∷ (8, "W1") ∷ []) ∷ drop 7 Samples.work_4) ≡ finding 6 4 V7 R ∷ []
+unfolding findings
 wrong_publisher = refl
 
 excerpt : alone (Samples.w1 ∷ Samples.s1 ∷ Samples.ew1 ∷ []) ≡ finding 2 1 V8 R ∷ []
+unfolding findings
 excerpt = refl
 
 components : alone (Samples.with_cells kinds.Nwr (Samples.w1_sets ++ (23, "001") ∷ []) ∷ Samples.s1 ∷ []) ≡ finding 0 23 V9 T ∷ []
+unfolding findings
 components = refl
 
 no_components : alone (Samples.with_cells kinds.Nwr (Samples.w1_sets ++ (23, "000") ∷ []) ∷ Samples.s1 ∷ []) ≡ []
+unfolding findings
 no_components = refl
 
 abbrev ipa_share : String → String → RecordValue
 ipa_share role amount = Samples.with_cells kinds.Ipa ((4, role) ∷ (8, "SMITH") ∷ (11, amount) ∷ [])
 
 block_over : alone (Samples.ag1 ∷ Samples.te1 ∷ ipa_share "AS" "06000" ∷ ipa_share "AS" "04007" ∷ Samples.ipa_ac ∷ []) ≡ finding 1 1 V11 T ∷ []
+unfolding findings
 block_over = refl
 
 iswc_and_author : alone (Samples.with_cells kinds.Nwr (Samples.w1_sets ++ (7, "T0345246802") ∷ []) ∷ Samples.with_cells kinds.Swr ((4, "W1") ∷ (5, "SMITH") ∷ (6, "ANNA") ∷ (8, "AR") ∷ []) ∷ []) ≡ finding 0 7 V1 F ∷ finding 0 1 V6 T ∷ []
+unfolding findings
 iswc_and_author = refl
 
 iswc_right : alone (Samples.with_cells kinds.Nwr (Samples.w1_sets ++ (7, "T0345246801") ∷ []) ∷ Samples.s1 ∷ []) ≡ []
+unfolding findings
 iswc_right = refl
 
 performing : alone (Samples.w1 ∷ Samples.with_cells kinds.Swr (Samples.s1_sets ++ (12, "09993") ∷ []) ∷ []) ≡ finding 0 1 V3 T ∷ []
+unfolding findings
 performing = refl
 
 performing_near : alone (Samples.w1 ∷ Samples.with_cells kinds.Swr (Samples.s1_sets ++ (12, "09994") ∷ []) ∷ []) ≡ []
+unfolding findings
 performing_near = refl
 
 end_first : alone (Samples.with_cells kinds.Agr (Samples.ag1_sets ++ (7, "20240101") ∷ (8, "20231231") ∷ []) ∷ []) ≡ finding 0 8 V10 F ∷ []
+unfolding findings
 end_first = refl
 
 bare_acknowledgement : alone (Samples.a1 ∷ Samples.ms1 ∷ []) ≡ []
+unfolding findings
 bare_acknowledgement = refl
 
 -- the finding's line, in the first transaction of the first group
@@ -272,5 +289,5 @@ abbrev row_23 : TransmissionValue
 row_23 = Samples.transmission (Samples.group_with "NWR" ((Samples.with_cells kinds.Nwr (Samples.w1_sets ++ (7, "T0345246802") ∷ []) ∷ Samples.s1 ∷ []) ∷ []) ∷ Samples.group_with "REV" ((Samples.v1 ∷ Samples.s1 ∷ []) ∷ (Samples.v2 ∷ Samples.s1 ∷ []) ∷ []) ∷ [])
 
 row_23_check : check_text (items (rows row_23)) (good_verdict row_23) ≡ codes "FINDING group 1 transaction 0 record 0 field 7 level F rule V1\nGOOD groups 2 transactions 3 records 12\n"
-unfolding digits plain_digits
+unfolding digits plain_digits rows items_behind check_text findings
 row_23_check = refl

@@ -39,7 +39,7 @@ abbrev pub good_verdict : TransmissionValue → Verdict
 good_verdict v = Good (length v.groups) (sum_by (λ g. length g.transactions) v.groups) (length (rows v))
 
 -- what `check` writes
-abbrev pub check_text : List ItemValue → Verdict → List ℕ
+unfoldable pub check_text : List ItemValue → Verdict → List ℕ
 check_text items verdict = flat_map (λ p. finding_lines (take p.0 items) p.1) (enumerate_from 0 items) ++ verdict_line verdict
 
 -- the records of an item
@@ -60,5 +60,5 @@ record_lines n r = decimal n ++ codes " " ++ letters r.kind ++ 10 ∷ []
     ++ flat_map (λ p. cell_line p.0.0 p.0.1 p.1) (zip (filter (λ q. not q.1.derived) (enumerate_from 1 (layout r.kind))) r.cells)
 
 -- what `show` writes
-abbrev pub show_text : List ItemValue → Verdict → List ℕ
+unfoldable pub show_text : List ItemValue → Verdict → List ℕ
 show_text items verdict = flat_map (λ p. record_lines p.0 p.1) (enumerate_from 1 (flat_map item_records items)) ++ verdict_line verdict

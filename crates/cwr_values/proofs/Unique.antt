@@ -148,6 +148,7 @@ rows_carry (n ∷ ns) (r ∷ rs) e h = ap₂ (λ (a : RecordValue) (xs : List Re
 
 -- the records can be read off the rows
 pub records-rows : (v : TransmissionValue) → IsTransmission v → map record_of (rows v) ≡ records_of v
+unfolding rows
 records-rows v h = rows_carry (numbers_of (lengths_of_value v)) (records_of v) (length-numbers_of (lengths_of_value v) ∙ sym (length-records_of v)) (records_in_order v h)
 
 rows_well : (ns : List (List ℕ)) (rs : List RecordValue) → AllByRecursion IsRecord rs → AllByRecursion IsRow (map (λ p. row_of p.0 p.1) (zip ns rs))
@@ -156,6 +157,7 @@ rows_well (n ∷ ns) [] h = tt
 rows_well (n ∷ ns) (r ∷ rs) h = (IsRow-row_of n r h.0, rows_well ns rs h.1)
 
 pub rows_are_rows : (v : TransmissionValue) → IsTransmission v → AllByRecursion IsRow (rows v)
+unfolding rows
 rows_are_rows v h = rows_well (numbers_of (lengths_of_value v)) (records_of v) (records_in_order v h)
 
 lines_without_lf : (rs : List Row) (ks : List (List ℕ)) → AllZip IsLineOf rs ks → AllByRecursion NoLf ks

@@ -24,7 +24,7 @@ abbrev pub lengths_of_value : TransmissionValue → List (List ℕ)
 lengths_of_value v = map (λ g. map length g.transactions) v.groups
 
 -- each record with its numbers
-abbrev pub rows : TransmissionValue → List Row
+unfoldable pub rows : TransmissionValue → List Row
 rows v = map (λ p. row_of p.0 p.1) (zip (numbers_of (lengths_of_value v)) (records_of v))
 
 -- the text is a line for each row, each followed by a line feed
@@ -36,5 +36,5 @@ abbrev pub canonical_line : Row → List ℕ
 canonical_line row = full_line row ++ 13 ∷ 10 ∷ []
 
 -- the one text that is written for a transmission
-abbrev pub canonical_text : TransmissionValue → List ℕ
+unfoldable pub canonical_text : TransmissionValue → List ℕ
 canonical_text v = flat_map canonical_line (rows v)

@@ -1,0 +1,12 @@
+use Rattle.std.proofs.Common.{◌≡◌, ◌-◌, false, List, slice_get, sym, ap, ◌∙◌, arith, ne_eqb, nat_eq}
+use Rattle.std.specs.Option.{option_copied}
+use Rattle.std.proofs.lemmas.Option.{slice_get-map, gets}
+use Rattle.std.proofs.lemmas.Grind.{common_steps}
+use Rattle.cwr_layouts.specs.Views.{field_view}
+use Rattle.cwr_layouts.proofs.lookups.field.Goals as goal
+
+pub returns : goal.returns
+returns c =
+    let found : option_copied c.get.result ≡ slice_get c.layout.result.now (c.args.j - 1) = grind (arith, common_steps, gets) in
+    let some : nat_eq c.args.j 0 ≡ false = ne_eqb c.args.j 0 c.if-j-eq0.false in
+    rw some (rw (c.copied.ensures, found, ← slice_get-map field_view c.layout.result.now (c.args.j - 1), c.layout.ensures))
