@@ -1,22 +1,22 @@
-//! Laws over the definitions.
-ghost use Rattle.cwr_decode.specs.Ends.{IsAccepted};
+//! Laws over the ends of texts, and those over transmissions that they stand on.
+
+ghost use Rattle.std.specs.Prelude.{List, length, ℕ, ◌++◌, ◌≡◌};
+ghost use Rattle.cwr_decode.specs.Ends.{IsAccepted, IsRefused, IsTruncated};
+ghost use Rattle.cwr_decode.specs.declared.refusals.Refusal.{Refusal};
 ghost use Rattle.cwr_shape.specs.declared.limits.Limits.{Limits};
 ghost use Rattle.cwr_values.specs.Rows.{canonical_text};
 ghost use Rattle.cwr_values.specs.Values.{FitsIn, IsTransmission, TransmissionValue};
-ghost use Rattle.cwr_layouts.specs.Layouts.{fields_after_type};
-ghost use Rattle.cwr_layouts.specs.Lines.{IsLineOf};
-ghost use Rattle.cwr_layouts.specs.Records.{IsRow, Row};
-ghost use Rattle.cwr_shape.specs.Numbers.{numbers_of};
-ghost use Rattle.cwr_shape.specs.Outlines.{IsWhole};
-ghost use Rattle.cwr_shape.specs.declared.symbols.Symbol.{Symbol};
-ghost use Rattle.cwr_values.specs.Rows.{Spells, lengths_of_value, records_of};
-ghost use Rattle.std.specs.List.{AllZip};
-ghost use Rattle.std.specs.Prelude.{List, [], filter, length, ℕ, ◌++◌, ◌≡◌, ◌<◌, ◌^◌};
 
-/// A text is accepted as one transmission at most, and by one number of its bytes.
+pub use cwr_shape::laws::no_transmission_goes_on;
+pub use cwr_values::laws::{
+    canonical_text_spells, line_has_one_row, numbers_fit_their_fields,
+    text_begins_with_one_spelling,
+};
+
+/// A text is accepted as one transmission at most, and with one number of its bytes.
 pub fn accepted_once()
-    ensures { (limits : Limits) (text : List ℕ) (v w : TransmissionValue) (m n : ℕ) → IsAccepted limits text v m → IsAccepted limits text w n
-        → (v ≡ w) × (m ≡ n) }
+    ensures { (limits : Limits) (text : List ℕ) (v w : TransmissionValue) (m n : ℕ) → IsAccepted limits text v m
+        → IsAccepted limits text w n → (v ≡ w) × (m ≡ n) }
 {}
 
 /// The canonical text of a transmission within the limits is accepted, whatever follows it.
@@ -25,25 +25,16 @@ pub fn canonical_text_is_accepted()
         → IsAccepted limits (canonical_text v ++ more) v (length (canonical_text v)) }
 {}
 
-/// A line is that of one row at most.
-pub fn one_row()
-    ensures { (r s : Row) (line : List ℕ) → IsRow r → IsRow s → IsLineOf r line → IsLineOf s line → r ≡ s }
-{}
-
-/// No whole transmission goes on to another.
-pub fn prefix_free()
-    ensures { (xs rest : List Symbol) → IsWhole xs → IsWhole (xs ++ rest) → rest ≡ [] }
-{}
-
-/// A text begins with one spelling of one transmission at most.
-pub fn spelled_once()
-    ensures { (v w : TransmissionValue) (f g x y : List ℕ) → IsTransmission v → IsTransmission w → Spells v f → Spells w g
-        → f ++ x ≡ g ++ y → (v ≡ w) × (f ≡ g) }
-{}
-
-/// Within limits in their ranges each number of a transmission fits its field.
-pub fn numbers_fit()
-    ensures { (limits : Limits) (v : TransmissionValue) → IsTransmission v → FitsIn limits v → limits.records < 10 ^ 8 → limits.groups < 10 ^ 5
-        → AllZip (λ numbers r. AllZip (λ f n. n < 10 ^ f.width) (filter (λ f. f.derived) (fields_after_type r.kind)) numbers)
-        (numbers_of (lengths_of_value v)) (records_of v) }
+/// A text has at most one of the three ends, and that in one way.
+pub fn one_end_at_most()
+    ensures accepted_or_refused { (limits : Limits) (text : List ℕ) (v : TransmissionValue) (n : ℕ) (refusal : Refusal)
+        → IsAccepted limits text v n → ¬ IsRefused limits text refusal }
+    ensures accepted_or_truncated { (limits : Limits) (text : List ℕ) (v : TransmissionValue) (n records : ℕ)
+        → IsAccepted limits text v n → ¬ IsTruncated limits text records }
+    ensures refused_or_truncated { (limits : Limits) (text : List ℕ) (refusal : Refusal) (records : ℕ)
+        → IsRefused limits text refusal → ¬ IsTruncated limits text records }
+    ensures refused_once { (limits : Limits) (text : List ℕ) (refusal other : Refusal)
+        → IsRefused limits text refusal → IsRefused limits text other → refusal ≡ other }
+    ensures truncated_once { (limits : Limits) (text : List ℕ) (records others : ℕ)
+        → IsTruncated limits text records → IsTruncated limits text others → records ≡ others }
 {}

@@ -4,6 +4,8 @@
 mod kinds;
 mod layouts;
 mod lookups;
+#[cfg(test)]
+mod tests;
 
 pub use kinds::Kind;
 pub use layouts::Field;

@@ -1,7 +1,5 @@
 -- Worked stages, needs and levels.
 use Rattle.std.proofs.Common.{◌≡◌, ℕ, List, [], ◌∷◌, refl}
-use Rattle.std.specs.Prelude.{Some, None}
-use Rattle.cwr_fields.specs.declared.cell_types.CellFault.TheVariants.{Blank, NotADate, NotACode, OverShare, NotDigits}
 use Rattle.cwr_fields.specs.declared.codes.Role.TheVariants.{Assignor, Acquirer}
 use Rattle.cwr_fields.specs.declared.codes.TransactionType.{TransactionType}
 use Rattle.cwr_fields.specs.declared.codes.TransactionType.TheVariants.{Agreement, NewWork, Acknowledgement}
@@ -12,13 +10,8 @@ use Rattle.cwr_shape.specs.declared.symbols.Symbol.TheVariants.{Plain, Ipa, Grh}
 use Rattle.cwr_shape.specs.declared.stages.Stage.TheVariants as stages
 use Rattle.cwr_shape.specs.declared.stages.Step.TheVariants as steps
 use Rattle.cwr_shape.specs.declared.stages.Needs.{Needs}
-use Rattle.cwr_shape.specs.declared.reasons.Reason.TheVariants as reasons
-use Rattle.cwr_shape.specs.declared.limits.LimitKind.TheVariants as limits
-use Rattle.cwr_shape.specs.declared.reasons.Level.TheVariants.{E, G, T, R, F}
-use Rattle.cwr_shape.specs.declared.tallies.Place.TheVariants as places
 use Rattle.cwr_shape.specs.Outlines.{GroupOutline, symbols_of}
 use Rattle.cwr_shape.specs.Stages.{stage_after, GoesOnBy}
-use Rattle.cwr_shape.specs.Levels.{level_of}
 
 -- shorter names
 
@@ -96,24 +89,3 @@ closed = record { begins = (_, refl); records = refl; groups_more = refl; transa
 
 ended : GoesOnBy (symbols_of (one_group Acknowledgement (p kinds.Ack ∷ []))) (one_group Acknowledgement (p kinds.Ack ∷ [])) (needs 0 0 0)
 ended = record { begins = ([], refl); records = refl; groups_more = refl; transaction = refl }
-
--- ---- levels
-
-levels_of_places : (level_of None 1 reasons.UnknownKind places.File ≡ E) × (level_of None 1 reasons.UnknownKind places.Group ≡ G) × (level_of None 1 reasons.UnknownKind places.Transaction ≡ T)
-    × (level_of (Some kinds.Hdr) 1 reasons.Misplaced places.File ≡ E) × (level_of (Some kinds.Rev) 1 reasons.Misplaced places.Group ≡ G) × (level_of (Some kinds.Grt) 1 reasons.Misplaced places.Transaction ≡ T)
-levels_of_places = (refl, refl, refl, refl, refl, refl)
-
-levels_of_limits : (level_of (Some kinds.Ack) 1 (reasons.Limit limits.Records) places.Transaction ≡ E) × (level_of (Some kinds.Grh) 1 (reasons.Limit limits.Groups) places.File ≡ E)
-    × (level_of (Some kinds.Grh) 2 (reasons.Limit limits.Transaction) places.File ≡ G) × (level_of (Some kinds.Msg) 1 (reasons.Limit limits.Transaction) places.Transaction ≡ T)
-levels_of_limits = (refl, refl, refl, refl)
-
-levels_of_frames : (level_of (Some kinds.Hdr) 8 (reasons.Cell NotADate) places.File ≡ E) × (level_of (Some kinds.Trl) 3 (reasons.Number 1) places.File ≡ E) × (level_of (Some kinds.Hdr) 10 reasons.Excess places.File ≡ E)
-    × (level_of (Some kinds.Grt) 4 (reasons.Number 3) places.Transaction ≡ G) × (level_of (Some kinds.Grh) 2 (reasons.Cell NotACode) places.File ≡ G)
-levels_of_frames = (refl, refl, refl, refl, refl)
-
-levels_inside : (level_of (Some kinds.Nwr) 10 (reasons.Cell NotACode) places.Transaction ≡ T) × (level_of (Some kinds.Ack) 14 reasons.Excess places.Transaction ≡ T)
-    × (level_of (Some kinds.Swr) 3 (reasons.Number 4) places.Transaction ≡ T) × (level_of (Some kinds.Swr) 2 (reasons.Cell NotDigits) places.Transaction ≡ T)
-    × (level_of (Some kinds.Swr) 24 reasons.Excess places.Transaction ≡ R) × (level_of (Some kinds.Swr) 5 (reasons.Cell Blank) places.Transaction ≡ R)
-    × (level_of (Some kinds.Ter) 5 (reasons.Cell Blank) places.Transaction ≡ R) × (level_of (Some kinds.Ipa) 4 (reasons.Cell NotACode) places.Transaction ≡ R)
-    × (level_of (Some kinds.Swr) 12 (reasons.Cell OverShare) places.Transaction ≡ F) × (level_of (Some kinds.Spu) 8 (reasons.Cell NotACode) places.Transaction ≡ F)
-levels_inside = (refl, refl, refl, refl, refl, refl, refl, refl, refl, refl)

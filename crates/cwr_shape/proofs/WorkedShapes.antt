@@ -1,12 +1,15 @@
 -- Symbols that are a transaction, and symbols that are none.
-use Rattle.std.proofs.Common.{List, [], ◌∷◌, ◌++◌, refl}
+use Rattle.std.proofs.Common.{◌≡◌, ◌<◌, List, [], ◌∷◌, ◌++◌, length, refl, sym, subst, ◌∙◌, append_assoc, arith}
+use Rattle.std.specs.List.{AllByRecursion, flat_map}
 use Rattle.cwr_fields.specs.declared.codes.Role.TheVariants.{Assignor, Acquirer}
+use Rattle.cwr_fields.specs.declared.codes.TransactionType.{TransactionType}
 use Rattle.cwr_fields.specs.declared.codes.TransactionType.TheVariants.{Agreement, NewWork, RevisedWork, Acknowledgement}
 use Rattle.cwr_layouts.specs.declared.kinds.Kind.{Kind}
-use Rattle.cwr_layouts.specs.declared.kinds.Kind.TheVariants.{Agr, Ter, Nwr, Rev, Spu, Opu, Spt, Swr, Owr, Swt, Pwr, Alt, Ewt, Per, Rec, Ack, Msg}
+use Rattle.cwr_layouts.specs.declared.kinds.Kind.TheVariants.{Hdr, Grt, Trl, Agr, Ter, Nwr, Rev, Spu, Opu, Spt, Swr, Owr, Swt, Pwr, Alt, Ewt, Per, Rec, Ack, Msg}
 use Rattle.cwr_shape.specs.declared.symbols.Symbol.{Symbol}
-use Rattle.cwr_shape.specs.declared.symbols.Symbol.TheVariants.{Plain, Ipa}
+use Rattle.cwr_shape.specs.declared.symbols.Symbol.TheVariants.{Plain, Ipa, Grh}
 use Rattle.cwr_shape.specs.Shapes.{IsShape, pattern_of, BeginsShape}
+use Rattle.cwr_shape.specs.Outlines.{GoesOn, group_symbols}
 use Rattle.cwr_shape.proofs.Matcher.{accepts_sound, no_match, no_begin, nullable, after, after_all, is_dead}
 
 abbrev p : Kind → Symbol
@@ -41,6 +44,10 @@ one_side_of_two : ¬ IsShape Agreement (p Agr ∷ p Ter ∷ Ipa Assignor ∷ Ipa
 unfolding nullable after after_all
 one_side_of_two = no_match _ (pattern_of Agreement) refl
 
+bare_work : ¬ IsShape NewWork (p Nwr ∷ [])
+unfolding nullable after after_all
+bare_work = no_match _ (pattern_of NewWork) refl
+
 no_writer : ¬ IsShape NewWork (p Nwr ∷ p Spu ∷ [])
 unfolding nullable after after_all
 no_writer = no_match _ (pattern_of NewWork) refl
@@ -69,3 +76,24 @@ no_begin_by_writer (Agreement, rest, m) = no_begin (p Swr ∷ []) rest (pattern_
 no_begin_by_writer (NewWork, rest, m) = no_begin (p Swr ∷ []) rest (pattern_of NewWork) refl m
 no_begin_by_writer (RevisedWork, rest, m) = no_begin (p Swr ∷ []) rest (pattern_of RevisedWork) refl m
 no_begin_by_writer (Acknowledgement, rest, m) = no_begin (p Swr ∷ []) rest (pattern_of Acknowledgement) refl m
+
+-- no transmission begins with two headers
+two_headers : ¬ GoesOn (λ groups. Unit {0}) (p Hdr ∷ p Hdr ∷ [])
+two_headers ([], w, q, b) = absurd (omega (arith, w.0))
+two_headers (g ∷ groups, w, q, b) = let second : Grh g.ty ≡ p Hdr = cc (b.1) in cc second
+
+-- nor does a group of new works with a revised one
+revised_among_new : ¬ GoesOn (λ groups. Unit {0}) (p Hdr ∷ Grh NewWork ∷ p Rev ∷ [])
+unfolding nullable after after_all is_dead
+revised_among_new ([], w, q, b) = absurd (omega (arith, w.0))
+revised_among_new (g ∷ groups, w, q, b) = by g.ty g.transactions w.1.0.0 w.1.0.1 (cc (b.1)) (cc (b.1))
+  where
+    inside : (ts : List (List Symbol)) (rest : List Symbol) (more : List Symbol) → 0 < length ts → AllByRecursion (IsShape NewWork) ts → (flat_map (λ t. t) ts ++ more) ≡ p Rev ∷ rest → ⊥
+    inside [] rest more h k e = absurd (omega arith)
+    inside ([] ∷ ts) rest more h k e = no_match [] (pattern_of NewWork) refl k.0
+    inside ((s ∷ t) ∷ ts) rest more h k e =
+        let same : s ≡ p Rev = cc e in
+        no_begin (p Rev ∷ []) t (pattern_of NewWork) refl (subst (λ (x : Symbol). IsShape NewWork (x ∷ t)) same k.0)
+
+    by : (ty : TransactionType) (ts : List (List Symbol)) → 0 < length ts → AllByRecursion (IsShape ty) ts → ty ≡ NewWork → (((flat_map (λ t. t) ts ++ p Grt ∷ []) ++ flat_map group_symbols groups) ++ p Trl ∷ []) ≡ p Rev ∷ b.0 → ⊥
+    by ty ts h k e f = inside ts b.0 (p Grt ∷ (flat_map group_symbols groups ++ p Trl ∷ [])) h (subst (λ (u : TransactionType). AllByRecursion (IsShape u) ts) e k) (sym (append_assoc (flat_map (λ t. t) ts ++ p Grt ∷ []) (flat_map group_symbols groups) (p Trl ∷ []) ∙ append_assoc (flat_map (λ t. t) ts) (p Grt ∷ []) (flat_map group_symbols groups ++ p Trl ∷ [])) ∙ f)

@@ -1,12 +1,15 @@
 //! The order of records in a CWR 2.1 transmission, its limits, and the levels of refusals.
 #![tactic(auto)]
 
+pub mod laws;
 mod levels;
 mod limits;
 mod reasons;
 mod stages;
 mod symbols;
 mod tallies;
+#[cfg(test)]
+mod tests;
 
 pub use levels::level;
 pub use limits::{LimitKind, Limits, LimitsFault};

@@ -23,7 +23,12 @@ use Rattle.cwr_levels.specs.declared.rules.Rule.{Rule}
 use Rattle.cwr_levels.specs.declared.rules.Rule.TheVariants.{V1, V2, V3, V4, V5, V6, V7, V8, V9, V10, V11}
 use Rattle.cwr_levels.specs.declared.rules.Finding.{Finding}
 use Rattle.cwr_levels.specs.Findings.{findings}
-use Rattle.cwr_tools.specs.Texts.{check_text, show_text, good_verdict}
+use Rattle.cwr_levels.specs.Lines.{refusal_line, truncated_line}
+use Rattle.cwr_tools.specs.Texts.{check_text, show_text, good_verdict, split_line, joined_line, limit_line, of_input}
+use Rattle.cwr_fields.specs.declared.cell_types.CellFault.TheVariants as cell_faults
+use Rattle.cwr_shape.specs.declared.limits.LimitKind.TheVariants as limit_kinds
+use Rattle.cwr_shape.specs.declared.reasons.Reason.{Reason}
+use Rattle.cwr_shape.specs.declared.reasons.Reason.TheVariants as reasons
 use Rattle.cwr_tools.specs.Splits.{split_of, join_of}
 use Rattle.cwr_tools.proofs.Samples
 
@@ -291,3 +296,32 @@ row_23 = Samples.transmission (Samples.group_with "NWR" ((Samples.with_cells kin
 row_23_check : check_text (items (rows row_23)) (good_verdict row_23) ≡ codes "FINDING group 1 transaction 0 record 0 field 7 level F rule V1\nGOOD groups 2 transactions 3 records 12\n"
 unfolding digits plain_digits rows items_behind check_text findings
 row_23_check = refl
+
+-- ---- lines
+
+split_in_two : split_line 2 3 ≡ codes "SPLIT outputs 2 transactions 3\n"
+unfolding plain_digits
+split_in_two = refl
+
+joined_from_two : joined_line 2 3 3 14 ≡ codes "JOINED inputs 2 groups 3 transactions 3 records 14\n"
+unfolding plain_digits
+joined_from_two = refl
+
+second_input : of_input 2 (limit_line limit_kinds.Records) ≡ codes "input 2: LIMIT records\n"
+unfolding plain_digits
+second_input = refl
+
+-- the words for each reason
+refused : ℕ → ℕ → Level → Reason → List ℕ
+refused r j level reason = refusal_line (record { rec = r; field = j; level = level; reason = reason })
+
+reason_words : map (λ reason. refused 3 1 T reason) (reasons.UnknownKind ∷ reasons.Misplaced ∷ reasons.Cell cell_faults.Blank ∷ reasons.Cell cell_faults.Control ∷ reasons.Cell cell_faults.NotDigits ∷ reasons.Cell cell_faults.NotADate ∷ reasons.Cell cell_faults.NotATime
+    ∷ reasons.Cell cell_faults.OverShare ∷ reasons.Cell cell_faults.NotACode ∷ reasons.Cell cell_faults.NotConstant ∷ reasons.Number 3 ∷ reasons.Limit limit_kinds.Records ∷ reasons.Limit limit_kinds.Groups ∷ reasons.Limit limit_kinds.Transaction ∷ reasons.Excess ∷ [])
+    ≡ map (λ words. codes "REFUSED record 3 field 1 level T " ++ words ++ 10 ∷ []) (codes "unknown kind" ∷ codes "misplaced" ∷ codes "cell blank" ∷ codes "cell control" ∷ codes "cell not digits" ∷ codes "cell not a date" ∷ codes "cell not a time"
+    ∷ codes "cell over share" ∷ codes "cell not a code" ∷ codes "cell not constant" ∷ codes "number expected 3" ∷ codes "limit records" ∷ codes "limit groups" ∷ codes "limit transaction" ∷ codes "excess" ∷ [])
+unfolding plain_digits refused
+reason_words = refl
+
+truncated_words : truncated_line 0 ≡ codes "TRUNCATED records 0\n"
+unfolding plain_digits
+truncated_words = refl

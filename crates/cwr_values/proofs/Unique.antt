@@ -1,6 +1,6 @@
 -- A text begins with the spelling of one transmission at most.
-use Rattle.std.proofs.Common.{◌≡◌, ℕ, ◌<◌, true, List, [], ◌∷◌, ◌++◌, length, map, refl, sym, ap, ap₂, subst, ◌∙◌, append_assoc, append-nil, arith, inl, inr}
-use Rattle.std.specs.Prelude.{◌⊎◌, ◌==◌}
+use Rattle.std.proofs.Common.{◌≡◌, ℕ, zero, suc, ◌<◌, true, List, [], ◌∷◌, ◌++◌, length, map, refl, sym, ap, ap₂, subst, ◌∙◌, append_assoc, append-nil, arith, inl, inr}
+use Rattle.std.specs.Prelude.{Contains, ◌⊎◌, ◌==◌, slice_index_or}
 use Rattle.std.specs.List.{AllZip, AllByRecursion, flat_map, zip, list_all}
 use Rattle.std.proofs.lemmas.List.{map-append, length-map}
 use Rattle.std.proofs.lemmas.Bool.{and_parts, eqb-true}
@@ -216,3 +216,16 @@ spelled_once v w f g x y h j s t e =
     by_lines (inr a) =
         let same = lines_same w v t.0 a.0 j h t.1 (subst (λ (ks : List (List ℕ)). AllZip IsLineOf (rows v) ks) a.1 s.1) in
         (sym same.0, s.2 ∙ ap text_of (a.1 ∙ ap (λ (m : List (List ℕ)). t.0 ++ m) same.1 ∙ append-nil t.0) ∙ sym t.2)
+
+-- what holds of each row holds of one that is among them
+of_one : (rs : List Row) (r : Row) → AllByRecursion IsRow rs → Contains rs r → IsRow r
+of_one rs r h k = subst IsRow k.2 (at k.0 rs h k.1)
+  where
+    at : (i : ℕ) (ss : List Row) → AllByRecursion IsRow ss → i < length ss → IsRow (slice_index_or ss i r)
+    at i [] a less = absurd (omega arith)
+    at zero (s ∷ ss) a less = a.0
+    at (suc i) (s ∷ ss) a less = at i ss a.1 (omega arith)
+
+-- a line is that of one row of transmissions at most
+pub one_row_of_values : (v w : TransmissionValue) (r s : Row) (line : List ℕ) → IsTransmission v → IsTransmission w → Contains (rows v) r → Contains (rows w) s → IsLineOf r line → IsLineOf s line → r ≡ s
+one_row_of_values v w r s line h j k l m n = one_row r s line (of_one (rows v) r (rows_are_rows v h) k) (of_one (rows w) s (rows_are_rows w j) l) m n

@@ -1,0 +1,85 @@
+-- Worked levels: each entry of the table of levels.
+use Rattle.std.proofs.Common.{◌≡◌, List, [], ◌∷◌, ◌++◌, map, replicate, refl, false}
+use Rattle.std.specs.Prelude.{Some, None}
+use Rattle.std.specs.List.{flat_map}
+use Rattle.cwr_fields.specs.declared.cell_types.CellType.{CellType}
+use Rattle.cwr_fields.specs.declared.cell_types.CellType.TheVariants as types
+use Rattle.cwr_fields.specs.declared.cell_types.CellFault.TheVariants.{Blank, Control, NotDigits, NotADate, NotATime, OverShare, NotACode, NotConstant}
+use Rattle.cwr_fields.specs.declared.tables.Table.TheVariants as tables
+use Rattle.cwr_layouts.specs.declared.kinds.Kind.{Kind}
+use Rattle.cwr_layouts.specs.declared.kinds.Kind.TheVariants as kinds
+use Rattle.cwr_layouts.specs.Kinds.{all_kinds}
+use Rattle.cwr_shape.specs.declared.reasons.Reason.{Reason}
+use Rattle.cwr_shape.specs.declared.reasons.Reason.TheVariants as reasons
+use Rattle.cwr_shape.specs.declared.limits.LimitKind.TheVariants as limits
+use Rattle.cwr_shape.specs.declared.reasons.Level.{Level}
+use Rattle.cwr_shape.specs.declared.reasons.Level.TheVariants.{E, G, T, R, F}
+use Rattle.cwr_shape.specs.declared.tallies.Place.{Place}
+use Rattle.cwr_shape.specs.declared.tallies.Place.TheVariants as places
+use Rattle.cwr_shape.specs.Levels.{level_of, level_of_type, place_behind}
+
+abbrev all_places : List Place
+all_places = places.File ∷ places.Group ∷ places.Transaction ∷ []
+
+-- a cell's fault, a number and an excess
+abbrev cell_reasons : List Reason
+cell_reasons = map reasons.Cell (Blank ∷ Control ∷ NotDigits ∷ NotADate ∷ NotATime ∷ OverShare ∷ NotACode ∷ NotConstant ∷ []) ++ reasons.Number 7 ∷ reasons.Excess ∷ []
+
+-- the kinds inside transactions that begin none
+abbrev inner_kinds : List Kind
+inner_kinds = kinds.Ter ∷ kinds.Ipa ∷ kinds.Spu ∷ kinds.Opu ∷ kinds.Spt ∷ kinds.Swr ∷ kinds.Owr ∷ kinds.Swt ∷ kinds.Pwr ∷ kinds.Alt ∷ kinds.Ewt ∷ kinds.Ver ∷ kinds.Per ∷ kinds.Rec ∷ kinds.Orn ∷ kinds.Com ∷ kinds.Msg ∷ []
+
+-- a record that may not come, by what is open
+unknown : map (level_of None 1 reasons.UnknownKind) all_places ≡ E ∷ G ∷ T ∷ []
+unknown = refl
+
+misplaced : map (λ place. map (λ kind. level_of (Some kind) 1 reasons.Misplaced place) all_kinds) all_places ≡ replicate 25 E ∷ replicate 25 G ∷ replicate 25 T ∷ []
+misplaced = refl
+
+-- what is open behind each kind
+places_behind : (place_behind None ≡ places.File)
+    × (map (λ kind. place_behind (Some kind)) (kinds.Hdr ∷ kinds.Grh ∷ kinds.Grt ∷ kinds.Trl ∷ []) ≡ places.File ∷ places.Group ∷ places.File ∷ places.File ∷ [])
+    × (map (λ kind. place_behind (Some kind)) (kinds.Agr ∷ kinds.Nwr ∷ kinds.Rev ∷ kinds.Ack ∷ inner_kinds) ≡ replicate 21 places.Transaction)
+places_behind = (refl, refl, refl)
+
+-- a limit
+too_many_records : flat_map (λ place. map (λ kind. level_of (Some kind) 1 (reasons.Limit limits.Records) place) all_kinds) all_places ≡ replicate 75 E
+too_many_records = refl
+
+too_many_groups : flat_map (λ place. map (λ kind. level_of (Some kind) 1 (reasons.Limit limits.Groups) place) all_kinds) all_places ≡ replicate 75 E
+too_many_groups = refl
+
+transaction_too_long : (level_of (Some kinds.Grh) 2 (reasons.Limit limits.Transaction) places.File ≡ G)
+    × (map (λ kind. level_of (Some kind) 1 (reasons.Limit limits.Transaction) places.Transaction) (kinds.Agr ∷ kinds.Nwr ∷ kinds.Rev ∷ kinds.Ack ∷ inner_kinds) ≡ replicate 21 T)
+transaction_too_long = (refl, refl)
+
+-- a cell, a number or an excess around transactions and in their headers
+in_file : flat_map (λ kind. map (λ reason. level_of (Some kind) 2 reason places.File) cell_reasons) (kinds.Hdr ∷ kinds.Trl ∷ []) ≡ replicate 20 E
+in_file = refl
+
+in_group : flat_map (λ kind. map (λ reason. level_of (Some kind) 2 reason places.File) cell_reasons) (kinds.Grh ∷ kinds.Grt ∷ []) ≡ replicate 20 G
+in_group = refl
+
+in_header : flat_map (λ kind. map (λ reason. level_of (Some kind) 6 reason places.Transaction) cell_reasons) (kinds.Agr ∷ kinds.Nwr ∷ kinds.Rev ∷ kinds.Ack ∷ []) ≡ replicate 40 T
+in_header = refl
+
+-- behind a header: the two sequences
+in_sequences : flat_map (λ kind. flat_map (λ j. map (λ reason. level_of (Some kind) j reason places.Transaction) (reasons.Cell Blank ∷ reasons.Cell NotDigits ∷ reasons.Number 7 ∷ [])) (2 ∷ 3 ∷ [])) inner_kinds ≡ replicate 102 T
+in_sequences = refl
+
+-- behind a header: the excess
+in_excess : map (λ kind. level_of (Some kind) 1 reasons.Excess places.Transaction) inner_kinds ≡ replicate 17 R
+in_excess = refl
+
+-- behind a header: a cell, by its type
+abbrev level_of_cells : CellType → Level
+level_of_cells ty = level_of_type (Some (record { name = []; width = 1; ty = ty; derived = false }))
+
+by_type : map level_of_cells (types.Required ∷ types.Number ∷ types.Code tables.Role ∷ []) ++ map level_of_cells (types.Text ∷ types.OptNumber ∷ types.OptDate ∷ types.OptTime ∷ types.OptDuration ∷ types.Share ∷ types.Flag ∷ types.OptCode tables.Sign ∷ [])
+    ≡ R ∷ R ∷ R ∷ F ∷ F ∷ F ∷ F ∷ F ∷ F ∷ F ∷ F ∷ []
+by_type = refl
+
+by_field : (level_of (Some kinds.Swr) 5 (reasons.Cell Blank) places.Transaction ≡ R) × (level_of (Some kinds.Ter) 5 (reasons.Cell NotDigits) places.Transaction ≡ R)
+    × (level_of (Some kinds.Ipa) 4 (reasons.Cell NotACode) places.Transaction ≡ R) × (level_of (Some kinds.Swr) 12 (reasons.Cell OverShare) places.Transaction ≡ F)
+    × (level_of (Some kinds.Spu) 8 (reasons.Cell NotACode) places.Transaction ≡ F) × (level_of (Some kinds.Rec) 4 (reasons.Cell NotADate) places.Transaction ≡ F)
+by_field = (refl, refl, refl, refl, refl, refl)
