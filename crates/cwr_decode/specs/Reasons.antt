@@ -21,7 +21,7 @@ use Rattle.cwr_decode.specs.Places.{last_place}
 abbrev pub seen : List (List ℕ) → List ℕ → ℕ → List (List Symbol)
 seen before line k = map (λ b. candidates (line_kind b) (line_cells b)) before ++ candidates (line_kind line) (take k (line_cells line)) ∷ []
 
--- field k of the line's kind, and the cell in it
+-- field k of the line's kind, where the kind is known and has one
 abbrev pub field_of : List ℕ → ℕ → Option FieldLayout
 field_of line k = option_and_then (λ kind. field_at kind k) (line_kind line)
 

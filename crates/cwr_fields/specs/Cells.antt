@@ -11,11 +11,11 @@ use Rattle.cwr_fields.specs.declared.tables.Table.TheVariants as tables
 use Rattle.cwr_fields.specs.Bytes.{is_spaces, is_plain, has_control, are_digits, digits, filled}
 use Rattle.cwr_fields.specs.Codes.{code_width, codes_of, word_text}
 
--- the cell spells a number, in as many digits as it is wide
+-- the cell spells a number, in as many digits as it is wide, at least one
 abbrev pub SpellsNumber : List ℕ → Type 0
 SpellsNumber cell = (n : ℕ) × (0 < length cell) × (n < 10 ^ length cell) × (cell ≡ digits (length cell) n)
 
--- YYYYMMDD: the cell spells a day of the Gregorian calendar, in a year from 1 to 9999
+-- YYYYMMDD: the cell spells a day of the proleptic Gregorian calendar, in a year from 1 to 9999
 abbrev pub SpellsDay : List ℕ → Type 0
 SpellsDay cell = (year : ℕ) × (month : ℕ) × (day : ℕ) × (0 < year) × IsDate (pos year) (pos month) (pos day)
     × (cell ≡ digits 4 year ++ digits 2 month ++ digits 2 day)

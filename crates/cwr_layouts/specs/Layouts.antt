@@ -28,7 +28,7 @@ number name width = record { name = codes name; width = width; ty = Number; deri
 abbrev pub record_type : FieldLayout
 record_type = record { name = codes "record type"; width = 3; ty = Required; derived = true }
 
--- a record inside a transaction begins with its place in the group and in the transaction
+-- behind the record type, a record inside a transaction carries its transaction's place in the group and its own place in the transaction
 abbrev pub in_transaction : List FieldLayout → List FieldLayout
 in_transaction fields = number "transaction sequence" 8 ∷ number "record sequence" 8 ∷ fields
 

@@ -12,15 +12,16 @@ use Rattle.cwr_layouts.specs.Records.{Row, full_line}
 abbrev pub is_lf : ℕ → Bool
 is_lf b = b == 10
 
--- the bytes that a line may have before its line feed
+-- the most bytes that a line may have before its line feed
 abbrev pub longest_line : ℕ
 longest_line = 1024
 
--- without the carriage return that it ends with, if it does
+-- without one carriage return, where the line ends with one
 abbrev pub without_cr : List ℕ → List ℕ
 without_cr line = if bytes_eq (drop (length line - 1) line) (13 ∷ []) then take (length line - 1) line else line
 
--- the line stands for the row: but for trailing spaces and one carriage return they are the same
+-- The line stands for the row: it has no line feed and isn't too long, and but for trailing spaces and one carriage
+-- return at its end it is the row's full line.
 abbrev pub IsLineOf : Row → List ℕ → Type 0
 IsLineOf row line = IsFalse (list_any is_lf line) × (length line ≤ longest_line) × (trimmed (without_cr line) ≡ trimmed (full_line row))
 
@@ -45,24 +46,28 @@ abbrev pub pieces : List ℕ → List ℕ → List (List ℕ)
 pieces [] text = []
 pieces (w ∷ widths) text = take w text ∷ pieces widths (drop w text)
 
--- the kind that the line's first three bytes name
-abbrev pub line_kind : List ℕ → Option Kind
-line_kind line = kind_of (take 3 (filled 3 (line_body line)))
+-- the kind that the first three bytes name
+abbrev pub body_kind : List ℕ → Option Kind
+body_kind body = kind_of (take 3 (filled 3 body))
 
--- the cells of a line of the kind, filled up with spaces
+-- the cells of a line of the kind, filled up with spaces; a line of unknown kind has one cell, its first three bytes
 abbrev pub cells_as : Option Kind → List ℕ → List (List ℕ)
 cells_as None body = take 3 (filled 3 body) ∷ []
 cells_as (Some kind) body = pieces (map (λ f. f.width) (layout kind)) (filled (line_width kind) body)
+
+-- what stands behind the last field is bad: it isn't all spaces, or the line is too long; a line of unknown kind has none
+abbrev pub excess_as : Option Kind → Bool → List ℕ → Bool
+excess_as None over body = false
+excess_as (Some kind) over body = over || not (is_spaces (drop (line_width kind) body))
+
+-- the kind of a line
+abbrev pub line_kind : List ℕ → Option Kind
+line_kind line = body_kind (line_body line)
 
 -- the cells that a line is cut into
 abbrev pub line_cells : List ℕ → List (List ℕ)
 line_cells line = cells_as (line_kind line) (line_body line)
 
--- what stands behind the last field isn't all spaces
-abbrev pub exceeds : Option Kind → List ℕ → Bool
-exceeds None body = false
-exceeds (Some kind) body = not (is_spaces (drop (line_width kind) body))
-
 -- the excess of the line is bad
 abbrev pub has_bad_excess : List ℕ → Bool
-has_bad_excess line = is_over line || exceeds (line_kind line) (line_body line)
+has_bad_excess line = excess_as (line_kind line) (is_over line) (line_body line)

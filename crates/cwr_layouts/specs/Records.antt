@@ -76,10 +76,10 @@ blank_cell ty width = replicate width 32
 abbrev pub blank_record : Kind → RecordValue
 blank_record kind = record { kind = kind; cells = map (λ f. blank_cell f.ty f.width) (carried_fields kind) }
 
--- the record's cell of that name, and nothing where it carries none
+-- the record's cell of that name, and the empty text where its kind carries none of that name
 abbrev pub named : String → RecordValue → List ℕ
 named name r = unwrap_or (option_map (λ p. p.1) (find (λ p. bytes_eq p.0.name (codes name)) (zip (carried_fields r.kind) r.cells))) []
 
--- the number of the field of that name
+-- the number of the field of that name, and 1 where the kind has none
 abbrev pub field_number : String → Kind → ℕ
 field_number name kind = 1 + unwrap_or (position (λ f. bytes_eq f.name (codes name)) (layout kind)) 0

@@ -63,7 +63,7 @@ has_number number (Some r) = bytes_eq number (named "interested party number" r)
 abbrev pub is_author : RecordValue → Bool
 is_author r = (is_a kinds.Swr r || is_a kinds.Owr r) && list_any (λ code. bytes_eq (filled 2 code) (named "designation" r)) (codes "A" ∷ codes "C" ∷ codes "CA" ∷ [])
 
--- a start or end date that is there, where the others are spaces or zeros
+-- the date is there: an optional date that fits is spaces, zeros or a day
 abbrev pub is_day : List ℕ → Bool
 is_day cell = not (is_spaces cell) && not (number_of cell == 0)
 
@@ -92,7 +92,7 @@ parties_behind after = take_while is_party (drop (prefix_len (is_a kinds.Ter) (i
 abbrev pub is_over_whole : Role → List RecordValue → String → Bool
 is_over_whole role parties right = nat_lt 10006 (sum_by (share right) (filter (λ r. bytes_eq (named "agreement role" r) (role_code role)) parties))
 
--- the same in one of the three rights
+-- the same in one or more of the three rights
 abbrev pub has_role_over_whole : Role → List RecordValue → Bool
 has_role_over_whole role parties = is_over_whole role parties "pr share" || is_over_whole role parties "mr share" || is_over_whole role parties "sr share"
 

@@ -1,5 +1,5 @@
 -- How much each refusal rejects.
-use Rattle.std.specs.Prelude.{ℕ, Bool, true, false, nat_lt, Option, Some, None, if◌then◌else◌}
+use Rattle.std.specs.Prelude.{ℕ, Bool, true, false, ◌||◌, ◌==◌, Option, Some, None, if◌then◌else◌}
 use Rattle.cwr_fields.specs.declared.cell_types.CellType.{CellType}
 use Rattle.cwr_fields.specs.declared.cell_types.CellType.TheVariants as types
 use Rattle.cwr_layouts.specs.declared.kinds.Kind.{Kind}
@@ -13,7 +13,7 @@ use Rattle.cwr_shape.specs.declared.reasons.Level.TheVariants.{E, G, T, R, F}
 use Rattle.cwr_shape.specs.declared.tallies.Place.{Place}
 use Rattle.cwr_shape.specs.declared.tallies.Place.TheVariants as places
 
--- where a record that may not come rejects what is open
+-- the level of a record that may not come: it rejects what is open
 abbrev pub level_of_place : Place → Level
 level_of_place places.File = E
 level_of_place places.Group = G
@@ -26,18 +26,18 @@ must_be_filled types.Number = true
 must_be_filled (types.Code table) = true
 must_be_filled ty = false
 
--- a cell that must be filled rejects its record, and any other the field
+-- the level of a cell: one that must be filled rejects its record, and any other the field
 abbrev pub level_of_type : Option FieldLayout → Level
 level_of_type None = F
 level_of_type (Some f) = if must_be_filled f.ty then R else F
 
--- of a cell, a number or an excess inside a transaction, behind its header
+-- the level of a cell, a number or an excess inside a transaction, behind its header; fields 2 and 3 are the sequences
 abbrev pub level_inside : Kind → ℕ → Reason → Level
-level_inside kind field (reasons.Cell fault) = if nat_lt field 4 then T else level_of_type (field_at kind field)
+level_inside kind field (reasons.Cell fault) = if (field == 2) || (field == 3) then T else level_of_type (field_at kind field)
 level_inside kind field (reasons.Number n) = T
 level_inside kind field reason = R
 
--- of a cell, a number or an excess
+-- the level of a cell, a number or an excess
 abbrev pub level_in : Kind → ℕ → Reason → Level
 level_in Hdr field reason = E
 level_in Trl field reason = E
@@ -49,7 +49,7 @@ level_in Rev field reason = T
 level_in Ack field reason = T
 level_in kind field reason = level_inside kind field reason
 
--- a transaction that may become too long
+-- the level of a transaction that would become too long
 abbrev pub level_of_length : Option Kind → Level
 level_of_length (Some Grh) = G
 level_of_length kind = T

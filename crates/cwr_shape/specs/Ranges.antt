@@ -22,7 +22,7 @@ pub record AreInRange (limits : LimitValues) : Type 0 where
   pub least_transaction : 1 ≤ limits.transaction
   pub most_transaction : limits.transaction ≤ 999999
 
--- from a least to a largest number
+-- the number is at least the one and at most the other
 abbrev pub is_from_to : ℕ → ℕ → ℕ → Bool
 is_from_to least most n = nat_le least n && nat_le n most
 

@@ -70,7 +70,7 @@ step_after (Plain kinds.Owr) xs = steps.OtherWriter
 step_after (Plain kinds.Pwr) xs = pwr_step (latest is_writer xs)
 step_after s xs = steps.Tail
 
--- the type of the last group
+-- the type of the last group; inside a transaction there is one
 abbrev pub group_of : Option Symbol → TransactionType
 group_of (Some (Grh ty)) = ty
 group_of s = Acknowledgement
@@ -96,7 +96,7 @@ is_first_of_transaction numbers = (length numbers == 2) && (slice_index numbers 
 abbrev pub is_later_of_transaction : List ℕ → Bool
 is_later_of_transaction numbers = (length numbers == 2) && nat_lt 0 (slice_index numbers 1)
 
--- the records of the first transaction among records with these numbers
+-- how many records the first transaction has among records with these numbers; a record inside a transaction carries two
 abbrev pub next_transaction : List (List ℕ) → ℕ
 next_transaction rest = let from = drop (prefix_len (λ ns. not (is_first_of_transaction ns)) rest) rest in
     prefix_len (λ ns. length ns == 2) (take 1 from) + prefix_len is_later_of_transaction (drop 1 from)

@@ -53,7 +53,7 @@ fn level_of_inner(kind: Kind, j: u8, reason: &Reason) -> Level
     ensures { result ≡ level_inside kind j reason.now }
 {
     match reason {
-        Reason::Cell(_) if j < 4 => Level::T,
+        Reason::Cell(_) if j == 2 || j == 3 => Level::T,
         Reason::Cell(_) => level_of_field(kind, j),
         Reason::Number { .. } => Level::T,
         _ => Level::R,

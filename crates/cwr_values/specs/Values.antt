@@ -29,11 +29,11 @@ pub record TransmissionValue : Type 0 where
 abbrev pub first_cell : RecordValue → List ℕ
 first_cell r = unwrap_or (slice_get r.cells 0) []
 
--- the type that a GRH record names
+-- the type that a GRH record names; one in order always names one
 abbrev pub type_of : RecordValue → TransactionType
 type_of r = unwrap_or (type_in (first_cell r)) Acknowledgement
 
--- what the order of records sees of a record of the kind
+-- what the order of records sees of a record of the kind; an IPA in order always names a role
 abbrev pub symbol_by : Kind → RecordValue → Symbol
 symbol_by kinds.Ipa r = Ipa (unwrap_or (role_in (first_cell r)) Assignor)
 symbol_by kinds.Grh r = Grh (type_of r)
