@@ -30,7 +30,7 @@ use Rattle.cwr_decode.specs.Places.{Viable, IsBadAt, IsFirstBad}
 use Rattle.cwr_decode.specs.Reasons.{Applies, rank}
 use Rattle.cwr_decode.specs.Ends.{IsAccepted, IsRefused}
 use Rattle.cwr_tools.proofs.Samples
-use Rattle.cwr_tools.proofs.Whole.{largest, row_1_whole, row_1_within}
+use Rattle.cwr_tools.proofs.Whole.{largest, one_acknowledgement_whole, one_acknowledgement_within}
 
 -- 80 bytes of HDR
 abbrev line_80 : List ℕ
@@ -90,12 +90,12 @@ not_viable w = by w.front w.lines w.split
 viable_to : (k : ℕ) → take k (row_of [] Samples.h).cells ≡ take k (line_cells line_80) → k ≤ 9 → Viable largest [] line_80 k
 unfolding digits rows
 viable_to k e h = record {
-  value = Samples.row_1;
-  whole = row_1_whole;
-  within = row_1_within;
+  value = Samples.one_acknowledgement;
+  whole = one_acknowledgement_whole;
+  within = one_acknowledgement_within;
   front = [];
   next = row_of [] Samples.h;
-  rest = drop 1 (rows Samples.row_1);
+  rest = drop 1 (rows Samples.one_acknowledgement);
   split = refl;
   lines = tt;
   cells = (e, λ lt. absurd (omega (arith, h, lt)));
@@ -143,7 +143,7 @@ reasons_after UnknownKind h = absurd (some_none h)
   where
     some_none : Some kinds.Hdr ≡ None → ⊥
     some_none e = cc e
-reasons_after Misplaced h = absurd (h (outline_of Samples.row_1, outline_whole Samples.row_1 row_1_whole, tt, (Plain kinds.Hdr ∷ [], _, refl, ((0, (lit< tt, refl)), tt))))
+reasons_after Misplaced h = absurd (h (outline_of Samples.one_acknowledgement, outline_whole Samples.one_acknowledgement one_acknowledgement_whole, tt, (Plain kinds.Hdr ∷ [], _, refl, ((0, (lit< tt, refl)), tt))))
 reasons_after (Cell f) h = lit≤ tt
 reasons_after (Number n) h = lit≤ tt
 reasons_after (Limit limit_kinds.Records) h = lit≤ tt

@@ -107,20 +107,20 @@ abbrev pub transmission : List GroupValue → TransmissionValue
 transmission groups = record { opening = h; groups = groups }
 
 -- one bare acknowledgement
-abbrev pub row_1 : TransmissionValue
-row_1 = transmission (group_with "ACK" ((a1 ∷ []) ∷ []) ∷ [])
+abbrev pub one_acknowledgement : TransmissionValue
+one_acknowledgement = transmission (group_with "ACK" ((a1 ∷ []) ∷ []) ∷ [])
 
 -- one work with records of many kinds
-abbrev pub work_4 : List RecordValue
-work_4 = w1 ∷ p1 ∷ pt1 ∷ o1 ∷ s2 ∷ st1 ∷ pw1 ∷ ow1 ∷ al1 ∷ pe1 ∷ re1 ∷ []
+abbrev pub long_work : List RecordValue
+long_work = w1 ∷ p1 ∷ pt1 ∷ o1 ∷ s2 ∷ st1 ∷ pw1 ∷ ow1 ∷ al1 ∷ pe1 ∷ re1 ∷ []
 
-abbrev pub row_4 : TransmissionValue
-row_4 = transmission (group_with "NWR" (work_4 ∷ []) ∷ [])
+abbrev pub one_work : TransmissionValue
+one_work = transmission (group_with "NWR" (long_work ∷ []) ∷ [])
 
 -- an agreement of two blocks
-abbrev pub row_5 : TransmissionValue
-row_5 = transmission (group_with "AGR" ((ag1 ∷ te1 ∷ ipa_as ∷ ipa_ac ∷ te1 ∷ ipa_ac ∷ ipa_as ∷ []) ∷ []) ∷ [])
+abbrev pub one_agreement : TransmissionValue
+one_agreement = transmission (group_with "AGR" ((ag1 ∷ te1 ∷ ipa_as ∷ ipa_ac ∷ te1 ∷ ipa_ac ∷ ipa_as ∷ []) ∷ []) ∷ [])
 
 -- a group of a new work, and one of two revised works
-abbrev pub row_6 : TransmissionValue
-row_6 = transmission (group_with "NWR" ((w1 ∷ s1 ∷ []) ∷ []) ∷ group_with "REV" ((v1 ∷ s1 ∷ []) ∷ (v2 ∷ s1 ∷ []) ∷ []) ∷ [])
+abbrev pub two_groups : TransmissionValue
+two_groups = transmission (group_with "NWR" ((w1 ∷ s1 ∷ []) ∷ []) ∷ group_with "REV" ((v1 ∷ s1 ∷ []) ∷ (v2 ∷ s1 ∷ []) ∷ []) ∷ [])

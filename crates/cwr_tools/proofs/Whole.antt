@@ -32,9 +32,9 @@ largest = record { records = 99999999; groups = 99999; transaction = 999999 }
 bare_acknowledgement : IsShape Acknowledgement (Plain kinds.Ack ∷ [])
 bare_acknowledgement = (Plain kinds.Ack ∷ [], [], refl, (Plain kinds.Ack, (0, (lit< tt, refl)), refl), ([], refl, tt))
 
-pub row_1_whole : IsTransmission Samples.row_1
+pub one_acknowledgement_whole : IsTransmission Samples.one_acknowledgement
 unfolding digits holds_test number_test day_test time_test share_test
-row_1_whole = record {
+one_acknowledgement_whole = record {
   opening = (refl, record_sound Samples.h refl);
   some_group = lit< tt;
   each = (
@@ -48,12 +48,12 @@ row_1_whole = record {
   );
 }
 
-pub row_1_within : FitsIn largest Samples.row_1
-row_1_within = (lit≤ tt, lit≤ tt, ((lit≤ tt, tt), tt))
+pub one_acknowledgement_within : FitsIn largest Samples.one_acknowledgement
+one_acknowledgement_within = (lit≤ tt, lit≤ tt, ((lit≤ tt, tt), tt))
 
-row_1_accepted : (more : List ℕ) → IsAccepted largest (canonical_text Samples.row_1 ++ more) Samples.row_1 359
+one_acknowledgement_accepted : (more : List ℕ) → IsAccepted largest (canonical_text Samples.one_acknowledgement ++ more) Samples.one_acknowledgement 359
 unfolding digits canonical_text rows
-row_1_accepted more = canonical_accepted largest Samples.row_1 more row_1_whole row_1_within
+one_acknowledgement_accepted more = canonical_accepted largest Samples.one_acknowledgement more one_acknowledgement_whole one_acknowledgement_within
 
 records_sound : (rs : List RecordValue) → list_all record_test rs ≡ true → AllByRecursion IsRecord rs
 records_sound [] h = tt
@@ -63,25 +63,25 @@ records_sound (r ∷ rs) h = let p = and_parts (record_test r) (list_all record_
 transaction_sound : (ty : TransactionType) (rs : List RecordValue) → list_all record_test rs ≡ true → nullable (after_all (map symbol_of rs) (pattern_of ty)) ≡ true → IsTransaction ty rs
 transaction_sound ty rs h k = (records_sound rs h, accepts_sound (map symbol_of rs) (pattern_of ty) k)
 
-pub row_4_whole : IsTransmission Samples.row_4
+pub one_work_whole : IsTransmission Samples.one_work
 unfolding digits holds_test number_test day_test time_test share_test nullable after after_all
-row_4_whole = record {
+one_work_whole = record {
   opening = (refl, record_sound Samples.h refl);
   some_group = lit< tt;
   each = (
     record {
       head = (refl, record_sound (Samples.gr "NWR") refl);
       some_transaction = lit< tt;
-      each = (transaction_sound NewWork Samples.work_4 refl refl, tt);
+      each = (transaction_sound NewWork Samples.long_work refl refl, tt);
       foot = (refl, record_sound Samples.grt refl);
     },
     tt,
   );
 }
 
-pub row_5_whole : IsTransmission Samples.row_5
+pub one_agreement_whole : IsTransmission Samples.one_agreement
 unfolding digits holds_test number_test day_test time_test share_test nullable after after_all
-row_5_whole = record {
+one_agreement_whole = record {
   opening = (refl, record_sound Samples.h refl);
   some_group = lit< tt;
   each = (
@@ -95,9 +95,9 @@ row_5_whole = record {
   );
 }
 
-pub row_6_whole : IsTransmission Samples.row_6
+pub two_groups_whole : IsTransmission Samples.two_groups
 unfolding digits holds_test number_test day_test time_test share_test nullable after after_all
-row_6_whole = record {
+two_groups_whole = record {
   opening = (refl, record_sound Samples.h refl);
   some_group = lit< tt;
   each = (
@@ -119,9 +119,9 @@ row_6_whole = record {
   );
 }
 
-row_6_within : FitsIn (record { records = 12; groups = 2; transaction = 2 }) Samples.row_6
-row_6_within = (lit≤ tt, lit≤ tt, ((lit≤ tt, tt), ((lit≤ tt, (lit≤ tt, tt)), tt)))
+two_groups_within : FitsIn (record { records = 12; groups = 2; transaction = 2 }) Samples.two_groups
+two_groups_within = (lit≤ tt, lit≤ tt, ((lit≤ tt, tt), ((lit≤ tt, (lit≤ tt, tt)), tt)))
 
-row_6_accepted : (more : List ℕ) → IsAccepted (record { records = 12; groups = 2; transaction = 2 }) (canonical_text Samples.row_6 ++ more) Samples.row_6 1599
+two_groups_accepted : (more : List ℕ) → IsAccepted (record { records = 12; groups = 2; transaction = 2 }) (canonical_text Samples.two_groups ++ more) Samples.two_groups 1599
 unfolding digits canonical_text rows
-row_6_accepted more = canonical_accepted (record { records = 12; groups = 2; transaction = 2 }) Samples.row_6 more row_6_whole row_6_within
+two_groups_accepted more = canonical_accepted (record { records = 12; groups = 2; transaction = 2 }) Samples.two_groups more two_groups_whole two_groups_within

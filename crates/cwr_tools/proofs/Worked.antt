@@ -42,166 +42,166 @@ field_counts = refl
 
 -- ---- one acknowledgement
 
-row_1_length : length (canonical_text Samples.row_1) ≡ 359
+one_acknowledgement_length : length (canonical_text Samples.one_acknowledgement) ≡ 359
 unfolding digits canonical_text rows
-row_1_length = refl
+one_acknowledgement_length = refl
 
 -- its lines without trailing spaces, as they are written out
-abbrev row_1_lines : List (List ℕ)
-row_1_lines =
+abbrev one_acknowledgement_lines : List (List ℕ)
+one_acknowledgement_lines =
     (codes "HDRPB123456789MUSIC HOUSE" ++ replicate 34 32 ++ codes "01.102024010210150020240103")
     ∷ codes "GRHACK0000102.100000000001"
     ∷ (codes "ACK0000000000000000202401021015000000100000000NWRBLUE RIVER" ++ replicate 50 32 ++ codes "W0001" ++ replicate 35 32 ++ codes "20240110AS")
     ∷ codes "GRT000010000000100000003"
     ∷ codes "TRL000010000000100000005" ∷ []
 
-row_1_trimmed : map (λ row. trimmed (full_line row)) (rows Samples.row_1) ≡ row_1_lines
+one_acknowledgement_trimmed : map (λ row. trimmed (full_line row)) (rows Samples.one_acknowledgement) ≡ one_acknowledgement_lines
 unfolding digits trimmed rows
-row_1_trimmed = refl
+one_acknowledgement_trimmed = refl
 
-row_1_lengths : map length row_1_lines ≡ 86 ∷ 26 ∷ 159 ∷ 24 ∷ 24 ∷ []
-row_1_lengths = refl
+one_acknowledgement_lengths : map length one_acknowledgement_lines ≡ 86 ∷ 26 ∷ 159 ∷ 24 ∷ 24 ∷ []
+one_acknowledgement_lengths = refl
 
 -- the canonical text, byte by byte
-row_1_text : canonical_text Samples.row_1 ≡ flat_map (λ (p : ℕ × List ℕ). filled p.0 p.1 ++ 13 ∷ 10 ∷ []) ((101, slice_index_or row_1_lines 0 []) ∷ (28, slice_index_or row_1_lines 1 []) ∷ (159, slice_index_or row_1_lines 2 []) ∷ (37, slice_index_or row_1_lines 3 []) ∷ (24, slice_index_or row_1_lines 4 []) ∷ [])
+one_acknowledgement_text : canonical_text Samples.one_acknowledgement ≡ flat_map (λ (p : ℕ × List ℕ). filled p.0 p.1 ++ 13 ∷ 10 ∷ []) ((101, slice_index_or one_acknowledgement_lines 0 []) ∷ (28, slice_index_or one_acknowledgement_lines 1 []) ∷ (159, slice_index_or one_acknowledgement_lines 2 []) ∷ (37, slice_index_or one_acknowledgement_lines 3 []) ∷ (24, slice_index_or one_acknowledgement_lines 4 []) ∷ [])
 unfolding digits canonical_text rows
-row_1_text = refl
+one_acknowledgement_text = refl
 
 -- without trailing spaces, with LF alone, and no line end after TRL
-abbrev row_2_text : List ℕ
-row_2_text = take 323 (flat_map (λ line. line ++ 10 ∷ []) row_1_lines)
+abbrev trimmed_acknowledgement_text : List ℕ
+trimmed_acknowledgement_text = take 323 (flat_map (λ line. line ++ 10 ∷ []) one_acknowledgement_lines)
 
-row_2_length : length row_2_text ≡ 323
-row_2_length = refl
+trimmed_acknowledgement_length : length trimmed_acknowledgement_text ≡ 323
+trimmed_acknowledgement_length = refl
 
-row_2_closed : length (closed row_2_text) ≡ 324
-row_2_closed = refl
+trimmed_acknowledgement_closed : length (closed trimmed_acknowledgement_text) ≡ 324
+trimmed_acknowledgement_closed = refl
 
-row_2_raw : raw_lines (closed row_2_text) ≡ row_1_lines
-row_2_raw = refl
+trimmed_acknowledgement_raw : raw_lines (closed trimmed_acknowledgement_text) ≡ one_acknowledgement_lines
+trimmed_acknowledgement_raw = refl
 
-row_2_cut : map line_cells (raw_lines (closed row_2_text)) ≡ map (λ row. row.cells) (rows Samples.row_1)
+trimmed_acknowledgement_cut : map line_cells (raw_lines (closed trimmed_acknowledgement_text)) ≡ map (λ row. row.cells) (rows Samples.one_acknowledgement)
 unfolding digits rows
-row_2_cut = refl
+trimmed_acknowledgement_cut = refl
 
 -- the records of the rows are those of the value again
-row_1_records : map record_of (rows Samples.row_1) ≡ records_of Samples.row_1
+one_acknowledgement_records : map record_of (rows Samples.one_acknowledgement) ≡ records_of Samples.one_acknowledgement
 unfolding digits rows
-row_1_records = refl
+one_acknowledgement_records = refl
 
-row_1_items : items (rows Samples.row_1) ≡ opened Samples.h ∷ group_opened (Samples.gr "ACK") ∷ transaction (Samples.a1 ∷ []) ∷ group_closed Samples.grt ∷ ended ∷ []
+one_acknowledgement_items : items (rows Samples.one_acknowledgement) ≡ opened Samples.h ∷ group_opened (Samples.gr "ACK") ∷ transaction (Samples.a1 ∷ []) ∷ group_closed Samples.grt ∷ ended ∷ []
 unfolding digits rows items_behind
-row_1_items = refl
+one_acknowledgement_items = refl
 
 -- no transaction is handed out before a row follows it
-row_1_three : items (take 3 (rows Samples.row_1)) ≡ opened Samples.h ∷ group_opened (Samples.gr "ACK") ∷ []
+one_acknowledgement_three : items (take 3 (rows Samples.one_acknowledgement)) ≡ opened Samples.h ∷ group_opened (Samples.gr "ACK") ∷ []
 unfolding digits rows items_behind
-row_1_three = refl
+one_acknowledgement_three = refl
 
-row_1_check : check_text (items (rows Samples.row_1)) (good_verdict Samples.row_1) ≡ codes "GOOD groups 1 transactions 1 records 5\n"
+one_acknowledgement_check : check_text (items (rows Samples.one_acknowledgement)) (good_verdict Samples.one_acknowledgement) ≡ codes "GOOD groups 1 transactions 1 records 5\n"
 unfolding digits plain_digits rows items_behind check_text findings
-row_1_check = refl
+one_acknowledgement_check = refl
 
-row_1_show : show_text (items (rows Samples.row_1)) (good_verdict Samples.row_1) ≡
+one_acknowledgement_show : show_text (items (rows Samples.one_acknowledgement)) (good_verdict Samples.one_acknowledgement) ≡
     codes "1 HDR\n  2 sender type: PB\n  3 sender id: 123456789\n  4 sender name: MUSIC HOUSE\n  5 edi standard version: 01.10\n  6 creation date: 20240102\n  7 creation time: 101500\n  8 transmission date: 20240103\n"
     ++ codes "2 GRH\n  2 transaction type: ACK\n  4 version: 02.10\n  5 batch request: 0000000001\n"
     ++ codes "3 ACK\n  4 creation date: 20240102\n  5 creation time: 101500\n  6 original group id: 00001\n  7 original transaction sequence: 00000000\n  8 original transaction type: NWR\n  9 creation title: BLUE RIVER\n  10 submitter creation number: W0001\n  12 processing date: 20240110\n  13 transaction status: AS\n"
     ++ codes "4 GRT\n5 TRL\nGOOD groups 1 transactions 1 records 5\n"
 unfolding digits trimmed plain_digits rows items_behind show_text
-row_1_show = refl
+one_acknowledgement_show = refl
 
 -- ---- one work with records of many kinds
 
-row_4_length : length (canonical_text Samples.row_4) ≡ 1893
+one_work_length : length (canonical_text Samples.one_work) ≡ 1893
 unfolding digits canonical_text rows
-row_4_length = refl
+one_work_length = refl
 
-row_4_ends : map (λ row. trimmed (full_line row)) (drop 13 (rows Samples.row_4)) ≡ codes "GRT000010000000100000013" ∷ codes "TRL000010000000100000015" ∷ []
+one_work_ends : map (λ row. trimmed (full_line row)) (drop 13 (rows Samples.one_work)) ≡ codes "GRT000010000000100000013" ∷ codes "TRL000010000000100000015" ∷ []
 unfolding digits trimmed rows
-row_4_ends = refl
+one_work_ends = refl
 
-row_4_findings : findings Samples.work_4 ≡ []
+one_work_findings : findings Samples.long_work ≡ []
 unfolding findings
-row_4_findings = refl
+one_work_findings = refl
 
-row_4_check : check_text (items (rows Samples.row_4)) (good_verdict Samples.row_4) ≡ codes "GOOD groups 1 transactions 1 records 15\n"
+one_work_check : check_text (items (rows Samples.one_work)) (good_verdict Samples.one_work) ≡ codes "GOOD groups 1 transactions 1 records 15\n"
 unfolding digits plain_digits rows items_behind check_text findings
-row_4_check = refl
+one_work_check = refl
 
-row_5_check : check_text (items (rows Samples.row_5)) (good_verdict Samples.row_5) ≡ codes "GOOD groups 1 transactions 1 records 11\n"
+one_agreement_check : check_text (items (rows Samples.one_agreement)) (good_verdict Samples.one_agreement) ≡ codes "GOOD groups 1 transactions 1 records 11\n"
 unfolding digits plain_digits rows items_behind check_text findings
-row_5_check = refl
+one_agreement_check = refl
 
 -- ---- two groups
 
-row_6_length : length (canonical_text Samples.row_6) ≡ 1599
+two_groups_length : length (canonical_text Samples.two_groups) ≡ 1599
 unfolding digits canonical_text rows
-row_6_length = refl
+two_groups_length = refl
 
-row_6_numbers : numbers_of (lengths_of_value Samples.row_6) ≡
+two_groups_numbers : numbers_of (lengths_of_value Samples.two_groups) ≡
     [] ∷ (1 ∷ []) ∷ (0 ∷ 0 ∷ []) ∷ (0 ∷ 1 ∷ []) ∷ (1 ∷ 1 ∷ 4 ∷ [])
     ∷ (2 ∷ []) ∷ (0 ∷ 0 ∷ []) ∷ (0 ∷ 1 ∷ []) ∷ (1 ∷ 0 ∷ []) ∷ (1 ∷ 1 ∷ []) ∷ (2 ∷ 2 ∷ 6 ∷ []) ∷ (2 ∷ 3 ∷ 12 ∷ []) ∷ []
-row_6_numbers = refl
+two_groups_numbers = refl
 
-row_6_outline : lengths_of (outline_of Samples.row_6) ≡ lengths_of_value Samples.row_6
-row_6_outline = refl
+two_groups_outline : lengths_of (outline_of Samples.two_groups) ≡ lengths_of_value Samples.two_groups
+two_groups_outline = refl
 
-row_6_check : check_text (items (rows Samples.row_6)) (good_verdict Samples.row_6) ≡ codes "GOOD groups 2 transactions 3 records 12\n"
+two_groups_check : check_text (items (rows Samples.two_groups)) (good_verdict Samples.two_groups) ≡ codes "GOOD groups 2 transactions 3 records 12\n"
 unfolding digits plain_digits rows items_behind check_text findings
-row_6_check = refl
+two_groups_check = refl
 
 limits : ℕ → ℕ → ℕ → Limits
 limits r g t = record { records = r; groups = g; transaction = t }
 
-row_6_fits : value_fault (limits 11 2 2) Samples.row_6 ≡ Some value_faults.Records
+two_groups_fits : value_fault (limits 11 2 2) Samples.two_groups ≡ Some value_faults.Records
 unfolding limits rows
-row_6_fits = refl
+two_groups_fits = refl
 
-row_6_fits_groups : value_fault (limits 12 1 2) Samples.row_6 ≡ Some value_faults.Groups
+two_groups_fits_groups : value_fault (limits 12 1 2) Samples.two_groups ≡ Some value_faults.Groups
 unfolding limits rows
-row_6_fits_groups = refl
+two_groups_fits_groups = refl
 
-row_6_fits_transaction : value_fault (limits 12 2 1) Samples.row_6 ≡ Some (value_faults.Transaction 0 0)
+two_groups_fits_transaction : value_fault (limits 12 2 1) Samples.two_groups ≡ Some (value_faults.Transaction 0 0)
 unfolding limits rows
-row_6_fits_transaction = refl
+two_groups_fits_transaction = refl
 
-row_6_fits_all : value_fault (limits 12 2 2) Samples.row_6 ≡ None
+two_groups_fits_all : value_fault (limits 12 2 2) Samples.two_groups ≡ None
 unfolding limits rows
-row_6_fits_all = refl
+two_groups_fits_all = refl
 
 -- ---- split and join
 
-row_21_lengths : map (λ v. length (canonical_text v)) (split_of 2 Samples.row_6) ≡ 1155 ∷ 642 ∷ []
+split_in_twos_lengths : map (λ v. length (canonical_text v)) (split_of 2 Samples.two_groups) ≡ 1155 ∷ 642 ∷ []
 unfolding digits canonical_text rows
-row_21_lengths = refl
+split_in_twos_lengths = refl
 
-row_21_numbers : map (λ v. numbers_of (lengths_of_value v)) (split_of 2 Samples.row_6) ≡
+split_in_twos_numbers : map (λ v. numbers_of (lengths_of_value v)) (split_of 2 Samples.two_groups) ≡
     ([] ∷ (1 ∷ []) ∷ (0 ∷ 0 ∷ []) ∷ (0 ∷ 1 ∷ []) ∷ (1 ∷ 1 ∷ 4 ∷ []) ∷ (2 ∷ []) ∷ (0 ∷ 0 ∷ []) ∷ (0 ∷ 1 ∷ []) ∷ (2 ∷ 1 ∷ 4 ∷ []) ∷ (2 ∷ 2 ∷ 10 ∷ []) ∷ [])
     ∷ ([] ∷ (1 ∷ []) ∷ (0 ∷ 0 ∷ []) ∷ (0 ∷ 1 ∷ []) ∷ (1 ∷ 1 ∷ 4 ∷ []) ∷ (1 ∷ 1 ∷ 6 ∷ []) ∷ []) ∷ []
-row_21_numbers = refl
+split_in_twos_numbers = refl
 
-split_in_ones : map (λ v. length (canonical_text v)) (split_of 1 Samples.row_6) ≡ 642 ∷ 642 ∷ 642 ∷ []
+split_in_ones : map (λ v. length (canonical_text v)) (split_of 1 Samples.two_groups) ≡ 642 ∷ 642 ∷ 642 ∷ []
 unfolding digits canonical_text rows
 split_in_ones = refl
 
-split_in_threes : split_of 3 Samples.row_6 ≡ Samples.row_6 ∷ []
+split_in_threes : split_of 3 Samples.two_groups ≡ Samples.two_groups ∷ []
 split_in_threes = refl
 
-row_22_length : map (λ v. length (canonical_text v)) (map (λ parts. join_of (slice_index_or parts 0 Samples.row_1) (drop 1 parts)) (split_of 2 Samples.row_6 ∷ [])) ≡ 1668 ∷ []
+joined_again_length : map (λ v. length (canonical_text v)) (map (λ parts. join_of (slice_index_or parts 0 Samples.one_acknowledgement) (drop 1 parts)) (split_of 2 Samples.two_groups ∷ [])) ≡ 1668 ∷ []
 unfolding digits canonical_text rows
-row_22_length = refl
+joined_again_length = refl
 
 -- ---- cut lines
 
 -- what stands behind the last field is bad where it isn't spaces, and on a line that is too long
-row_17_over : has_bad_excess (filled 1025 (slice_index_or row_1_lines 0 [])) ≡ true
-row_17_over = refl
+long_line_over : has_bad_excess (filled 1025 (slice_index_or one_acknowledgement_lines 0 [])) ≡ true
+long_line_over = refl
 
-row_17_fits : has_bad_excess (filled 1024 (slice_index_or row_1_lines 0 [])) ≡ false
-row_17_fits = refl
+long_line_fits : has_bad_excess (filled 1024 (slice_index_or one_acknowledgement_lines 0 [])) ≡ false
+long_line_fits = refl
 
-row_18_unknown : map line_kind ((239 ∷ 187 ∷ 191 ∷ slice_index_or row_1_lines 0 []) ∷ codes "hdr" ∷ [] ∷ []) ≡ None ∷ None ∷ None ∷ []
-row_18_unknown = refl
+unknown_kinds : map line_kind ((239 ∷ 187 ∷ 191 ∷ slice_index_or one_acknowledgement_lines 0 []) ∷ codes "hdr" ∷ [] ∷ []) ≡ None ∷ None ∷ None ∷ []
+unknown_kinds = refl
 
 -- the fields that rules name
 iswc_fields : map (field_number "iswc") (kinds.Nwr ∷ kinds.Rev ∷ kinds.Ewt ∷ kinds.Ver ∷ kinds.Com ∷ []) ≡ 7 ∷ 7 ∷ 5 ∷ 5 ∷ 5 ∷ []
@@ -222,7 +222,7 @@ with_shares sets = Samples.w1 ∷ Samples.with_cells kinds.Spu sets ∷ Samples.
 abbrev spu_with : List (ℕ × String) → List (ℕ × String)
 spu_with last = (4, "01") ∷ (5, "P1") ∷ (6, "MUSIC HOUSE") ∷ (8, "E") ∷ (13, "02500") ∷ last
 
-wrong_writer : alone (Samples.w1 ∷ Samples.p1 ∷ Samples.pt1 ∷ Samples.o1 ∷ Samples.s2 ∷ Samples.with_cells kinds.Swt ((4, "W9") ∷ (5, "05000") ∷ (8, "I") ∷ (9, "2136") ∷ (11, "001") ∷ []) ∷ drop 6 Samples.work_4) ≡ finding 5 4 V2 R ∷ []
+wrong_writer : alone (Samples.w1 ∷ Samples.p1 ∷ Samples.pt1 ∷ Samples.o1 ∷ Samples.s2 ∷ Samples.with_cells kinds.Swt ((4, "W9") ∷ (5, "05000") ∷ (8, "I") ∷ (9, "2136") ∷ (11, "001") ∷ []) ∷ drop 6 Samples.long_work) ≡ finding 5 4 V2 R ∷ []
 unfolding findings
 wrong_writer = refl
 
@@ -242,7 +242,7 @@ no_author : alone (Samples.w1 ∷ Samples.with_cells kinds.Swr ((4, "W1") ∷ (5
 unfolding findings
 no_author = refl
 
-wrong_publisher : alone (take 6 Samples.work_4 ++ Samples.with_cells kinds.Pwr ((4, "P9") ∷ (5, "MUSIC HOUSE") ∷ (8, "W1") ∷ []) ∷ drop 7 Samples.work_4) ≡ finding 6 4 V7 R ∷ []
+wrong_publisher : alone (take 6 Samples.long_work ++ Samples.with_cells kinds.Pwr ((4, "P9") ∷ (5, "MUSIC HOUSE") ∷ (8, "W1") ∷ []) ∷ drop 7 Samples.long_work) ≡ finding 6 4 V7 R ∷ []
 unfolding findings
 wrong_publisher = refl
 
@@ -290,12 +290,12 @@ unfolding findings
 bare_acknowledgement = refl
 
 -- the finding's line, in the first transaction of the first group
-abbrev row_23 : TransmissionValue
-row_23 = Samples.transmission (Samples.group_with "NWR" ((Samples.with_cells kinds.Nwr (Samples.w1_sets ++ (7, "T0345246802") ∷ []) ∷ Samples.s1 ∷ []) ∷ []) ∷ Samples.group_with "REV" ((Samples.v1 ∷ Samples.s1 ∷ []) ∷ (Samples.v2 ∷ Samples.s1 ∷ []) ∷ []) ∷ [])
+abbrev two_groups_with_finding : TransmissionValue
+two_groups_with_finding = Samples.transmission (Samples.group_with "NWR" ((Samples.with_cells kinds.Nwr (Samples.w1_sets ++ (7, "T0345246802") ∷ []) ∷ Samples.s1 ∷ []) ∷ []) ∷ Samples.group_with "REV" ((Samples.v1 ∷ Samples.s1 ∷ []) ∷ (Samples.v2 ∷ Samples.s1 ∷ []) ∷ []) ∷ [])
 
-row_23_check : check_text (items (rows row_23)) (good_verdict row_23) ≡ codes "FINDING group 1 transaction 0 record 0 field 7 level F rule V1\nGOOD groups 2 transactions 3 records 12\n"
+two_groups_with_finding_check : check_text (items (rows two_groups_with_finding)) (good_verdict two_groups_with_finding) ≡ codes "FINDING group 1 transaction 0 record 0 field 7 level F rule V1\nGOOD groups 2 transactions 3 records 12\n"
 unfolding digits plain_digits rows items_behind check_text findings
-row_23_check = refl
+two_groups_with_finding_check = refl
 
 -- ---- lines
 
