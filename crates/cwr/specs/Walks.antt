@@ -1,0 +1,77 @@
+-- How the program goes over the records of bare acknowledgements: what it counts, and which record may come.
+use Rattle.std.specs.Prelude.{◌≡◌, ℕ, ◌+◌, ◌≤◌, Bool, true, false, List, [], ◌∷◌}
+use Rattle.cwr_fields.specs.declared.codes.TransactionType.TheVariants.{Acknowledgement}
+use Rattle.cwr_layouts.specs.declared.kinds.Kind.{Kind}
+use Rattle.cwr_layouts.specs.declared.kinds.Kind.TheVariants as kinds
+use Rattle.cwr_layouts.specs.Records.{RecordValue, IsRecord, Row, row_of}
+use Rattle.cwr_shape.specs.declared.limits.Limits.{Limits}
+use Rattle.cwr_values.specs.Values.{type_of}
+use Rattle.cwr.specs.declared.progress.Position.{Position}
+use Rattle.cwr.specs.declared.progress.Position.TheVariants.{Start, Opened, InGroup, Acked, Closed, Ended}
+
+-- what was counted: the groups, the transactions of the open or last group, all transactions, and all records
+pub record Counts : Type 0 where
+  pub position : Position
+  pub groups : ℕ
+  pub in_group : ℕ
+  pub transactions : ℕ
+  pub records : ℕ
+
+-- nothing was read
+abbrev pub nothing : Counts
+nothing = record { position = Start; groups = 0; in_group = 0; transactions = 0; records = 0 }
+
+-- a record of the kind may follow
+abbrev pub may_follow : Position → Kind → Bool
+may_follow Start kinds.Hdr = true
+may_follow Opened kinds.Grh = true
+may_follow InGroup kinds.Ack = true
+may_follow Acked kinds.Ack = true
+may_follow Acked kinds.Grt = true
+may_follow Closed kinds.Grh = true
+may_follow Closed kinds.Trl = true
+may_follow position kind = false
+
+-- the numbers that the next record carries
+abbrev pub numbers_next : Counts → Kind → List ℕ
+numbers_next c kinds.Grh = (c.groups + 1) ∷ []
+numbers_next c kinds.Ack = c.in_group ∷ 0 ∷ []
+numbers_next c kinds.Grt = c.groups ∷ c.in_group ∷ (c.in_group + 2) ∷ []
+numbers_next c kinds.Trl = c.groups ∷ c.transactions ∷ (c.records + 1) ∷ []
+numbers_next c kind = []
+
+-- the counts after a record of the kind
+abbrev pub counted : Counts → Kind → Counts
+counted c kinds.Hdr = record c { position = Opened; records = c.records + 1 }
+counted c kinds.Grh = record c { position = InGroup; groups = c.groups + 1; in_group = 0; records = c.records + 1 }
+counted c kinds.Ack = record c { position = Acked; in_group = c.in_group + 1; transactions = c.transactions + 1; records = c.records + 1 }
+counted c kinds.Grt = record c { position = Closed; records = c.records + 1 }
+counted c kinds.Trl = record c { position = Ended; records = c.records + 1 }
+counted c kind = c
+
+-- one more record, and one more group where it is GRH, keep to the limits
+pub record HasRoom (limits : Limits) (c : Counts) (kind : Kind) : Type 0 where
+  pub records : c.records + 1 ≤ limits.records
+  pub groups : kind ≡ kinds.Grh → c.groups + 1 ≤ limits.groups
+
+-- the record may come next
+pub record MayCome (limits : Limits) (c : Counts) (r : RecordValue) : Type 0 where
+  pub follows : may_follow c.position r.kind ≡ true
+  pub room : HasRoom limits c r.kind
+  pub in_order : IsRecord r
+  pub acknowledges : r.kind ≡ kinds.Grh → type_of r ≡ Acknowledgement
+
+-- the counts after records
+abbrev pub counted_all : Counts → List RecordValue → Counts
+counted_all c [] = c
+counted_all c (r ∷ rs) = counted_all (counted c r.kind) rs
+
+-- the rows of records, behind those that were counted
+abbrev pub rows_from : Counts → List RecordValue → List Row
+rows_from c [] = []
+rows_from c (r ∷ rs) = row_of (numbers_next c r.kind) r ∷ rows_from (counted c r.kind) rs
+
+-- each record may come where it stands
+abbrev pub Walks : Limits → Counts → List RecordValue → Type 0
+Walks limits c [] = Unit {0}
+Walks limits c (r ∷ rs) = MayCome limits c r × Walks limits (counted c r.kind) rs
