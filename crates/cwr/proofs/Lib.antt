@@ -1,2 +1,3 @@
 mod Walking
 mod Building
+mod Standing

@@ -1,8 +1,10 @@
 -- How the program goes over the records of bare acknowledgements: what it counts, and which record may come.
-use Rattle.std.specs.Prelude.{◌≡◌, ℕ, ◌+◌, ◌≤◌, Bool, true, false, List, [], ◌∷◌}
+use Rattle.std.specs.Prelude.{◌≡◌, ℕ, ◌+◌, ◌≤◌, Bool, true, false, List, [], ◌∷◌, ◌++◌}
+use Rattle.std.specs.List.{AllZip, flat_map}
 use Rattle.cwr_fields.specs.declared.codes.TransactionType.TheVariants.{Acknowledgement}
 use Rattle.cwr_layouts.specs.declared.kinds.Kind.{Kind}
 use Rattle.cwr_layouts.specs.declared.kinds.Kind.TheVariants as kinds
+use Rattle.cwr_layouts.specs.Lines.{IsLineOf}
 use Rattle.cwr_layouts.specs.Records.{RecordValue, IsRecord, Row, row_of}
 use Rattle.cwr_shape.specs.declared.limits.Limits.{Limits}
 use Rattle.cwr_values.specs.Values.{type_of}
@@ -75,3 +77,22 @@ rows_from c (r ∷ rs) = row_of (numbers_next c r.kind) r ∷ rows_from (counted
 abbrev pub Walks : Limits → Counts → List RecordValue → Type 0
 Walks limits c [] = Unit {0}
 Walks limits c (r ∷ rs) = MayCome limits c r × Walks limits (counted c r.kind) rs
+
+-- the line is that of a record that may come next
+pub record IsNextLine (limits : Limits) (c : Counts) (line : List ℕ) : Type 0 where
+  pub value : RecordValue
+  pub may_come : MayCome limits c value
+  pub is_line : IsLineOf (row_of (numbers_next c value.kind) value) line
+
+-- the lines of a text
+abbrev pub text_of_lines : List (List ℕ) → List ℕ
+text_of_lines lines = flat_map (λ line. line ++ 10 ∷ []) lines
+
+-- the text is whole lines, each that of a record that may come where it stands, and this was counted
+pub record Stands (limits : Limits) (used : List ℕ) (c : Counts) : Type 0 where
+  pub lines : List (List ℕ)
+  pub records : List RecordValue
+  pub text : used ≡ text_of_lines lines
+  pub walks : Walks limits nothing records
+  pub counts : counted_all nothing records ≡ c
+  pub spelled : AllZip IsLineOf (rows_from nothing records) lines
