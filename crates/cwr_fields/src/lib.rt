@@ -1,10 +1,14 @@
 //! The cells of CWR 2.1 records: what the cell of a field may hold, and the tables of codes.
 #![tactic(auto)]
 
+mod byte_runs;
 mod cell_types;
+mod cells;
+mod code_lists;
 mod codes;
 mod tables;
 
 pub use cell_types::{CellFault, CellType, Word};
+pub use cells::{fits, width_of};
 pub use codes::{Role, TransactionType};
 pub use tables::Table;

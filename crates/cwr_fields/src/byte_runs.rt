@@ -1,0 +1,39 @@
+//! Runs of bytes: spaces, control bytes and digits.
+
+ghost use Rattle.std.specs.Prelude.{◌≡◌, ◌≤◌, ◌<◌, ◌^◌, IsTrue, length};
+ghost use Rattle.cwr_fields.specs.Bytes.{is_spaces, has_control, are_digits, number_of};
+
+/// Whether every byte is a space.
+pub(crate) fn is_spaces(cell: &[u8]) -> bool
+    ensures { result ≡ is_spaces cell.now }
+{
+    cell.iter().all(|b| *b == b' ')
+}
+
+/// Whether some byte is a control byte: one of 0 to 31, or 127.
+pub(crate) fn has_control(cell: &[u8]) -> bool
+    ensures { result ≡ has_control cell.now }
+{
+    cell.iter().any(|b| *b < 32 || *b == 127)
+}
+
+/// Whether every byte is a digit.
+pub(crate) fn are_digits(cell: &[u8]) -> bool
+    ensures { result ≡ are_digits cell.now }
+{
+    cell.iter().all(|b| 48 <= *b && *b <= 57)
+}
+
+/// The number that at most five digits write.
+pub(crate) fn number_of(digits: &[u8]) -> u32
+    requires few { length digits.now ≤ 5 }
+    requires digits { IsTrue (are_digits digits.now) }
+    ensures number { result ≡ number_of digits.now }
+    ensures bound { result < 10 ^ length digits.now }
+{
+    let mut number = 0;
+    for digit in digits {
+        number = 10 * number + u32::from(*digit - b'0');
+    }
+    number
+}
