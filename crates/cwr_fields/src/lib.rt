@@ -6,9 +6,13 @@ mod cell_types;
 mod cells;
 mod code_lists;
 mod codes;
+mod counted;
+mod devices;
 mod tables;
 
 pub use cell_types::{CellFault, CellType, Word};
 pub use cells::{fits, width_of};
 pub use codes::{Role, TransactionType};
+pub use counted::Counted;
+pub use devices::{DeviceFault, Source, Target};
 pub use tables::Table;
