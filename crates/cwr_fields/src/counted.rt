@@ -26,6 +26,8 @@ pub struct Counted<T> {
 }
 
 impl<T> Counted<T> {
+    ghost use Rattle.std.specs.Prelude.{◌+◌, ◌<◌};
+    ghost use Rattle.cwr_fields.specs.Failures.{most_failures};
     ghost use Rattle.cwr_fields.specs.Counted.{inner_of, ahead_of, shown_of, failures_of};
 
     /// A reader or a writer that hasn't failed.
@@ -50,6 +52,15 @@ impl<T> Counted<T> {
         ensures { result ≡ inner_of self }
     {
         self.inner
+    }
+
+    /// Counts a failure, and gives what tells it.
+    fn failed(&mut self) -> DeviceFault
+        requires { failures_of self.old < most_failures }
+        ensures { self.new ≡ record self.old { failures = self.old.failures + 1 } }
+    {
+        self.failures += 1;
+        DeviceFault
     }
 }
 
@@ -77,10 +88,7 @@ impl<B: BufRead> Counted<B> {
                     self.start = 0;
                     self.end = count;
                 }
-                Err(_) => {
-                    self.failures += 1;
-                    return Err(DeviceFault);
-                }
+                Err(_) => return Err(self.failed()),
             }
         }
         self.shown = self.end - self.start;
@@ -123,10 +131,7 @@ impl<W: Write> Target for Counted<W> {
         }
         match self.inner.write(text) {
             Ok(count) if count > 0 || text.is_empty() => Ok(count),
-            _ => {
-                self.failures += 1;
-                Err(DeviceFault)
-            }
+            _ => Err(self.failed()),
         }
     }
 
@@ -136,10 +141,7 @@ impl<W: Write> Target for Counted<W> {
         }
         match self.inner.flush() {
             Ok(()) => Ok(()),
-            Err(_) => {
-                self.failures += 1;
-                Err(DeviceFault)
-            }
+            Err(_) => Err(self.failed()),
         }
     }
 }
