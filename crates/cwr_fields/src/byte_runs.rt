@@ -1,7 +1,7 @@
 //! Runs of bytes: spaces, control bytes and digits.
 
-ghost use Rattle.std.specs.Prelude.{◌≡◌, ◌≤◌, ◌<◌, ◌^◌, IsTrue, length};
-ghost use Rattle.cwr_fields.specs.Bytes.{is_spaces, has_control, are_digits, number_of};
+ghost use Rattle.std.specs.Prelude.{◌≡◌, ◌≤◌, ◌<◌, ◌^◌, IsTrue, length, position};
+ghost use Rattle.cwr_fields.specs.Bytes.{is_spaces, is_control, has_control, are_digits, number_of, trimmed};
 
 /// Whether every byte is a space.
 pub(crate) fn is_spaces(cell: &[u8]) -> bool
@@ -36,4 +36,25 @@ pub(crate) fn number_of(digits: &[u8]) -> u32
         number = 10 * number + u32::from(*digit - b'0');
     }
     number
+}
+
+/// Where the first control byte stands: one of 0 to 31, or 127.
+pub fn first_control(text: &[u8]) -> Option<usize>
+    ensures { result ≡ position is_control text.now }
+{
+    text.iter().position(|b| *b < 32 || *b == 127)
+}
+
+/// The text without its trailing spaces.
+pub fn trimmed(text: &[u8]) -> &[u8]
+    ensures { result.now ≡ trimmed text.now }
+{
+    let mut rest = text;
+    while let [front @ .., last] = rest {
+        if *last != b' ' {
+            break;
+        }
+        rest = front;
+    }
+    rest
 }

@@ -8,11 +8,14 @@ mod code_lists;
 mod codes;
 mod counted;
 mod devices;
+mod iswc;
 mod tables;
 
+pub use byte_runs::{first_control, trimmed};
 pub use cell_types::{CellFault, CellType, Word};
 pub use cells::{fits, width_of};
 pub use codes::{Role, TransactionType};
 pub use counted::Counted;
 pub use devices::{DeviceFault, Source, Target};
+pub use iswc::iswc_ok;
 pub use tables::Table;
