@@ -19,3 +19,6 @@ pub use counted::Counted;
 pub use devices::{DeviceFault, Source, Target};
 pub use iswc::iswc_ok;
 pub use tables::Table;
+
+#[cfg(test)]
+mod examples;
