@@ -1,4 +1,4 @@
-//! Runs of bytes: spaces, control bytes and digits.
+//! What runs of bytes are made of: spaces, control bytes, digits.
 
 ghost use Rattle.std.specs.Prelude.{◌≡◌, ◌≤◌, ◌<◌, ◌^◌, IsTrue, length, position};
 ghost use Rattle.cwr_fields.specs.Bytes.{is_spaces, is_control, has_control, are_digits, number_of, trimmed};

@@ -21,6 +21,7 @@ fn is_plain(cell: &[u8]) -> bool
     !has_control(cell)
 }
 
+/// Whether the cell is digits, at least one.
 fn is_number(cell: &[u8]) -> bool
     ensures { IsTrue result ↔ SpellsNumber cell.now }
 {
@@ -37,6 +38,7 @@ fn is_date(year: u32, month: u32, day: u32) -> bool
     year != 0 && Date::new(year as i16, month as i8, day as i8).is_ok()
 }
 
+/// Whether the cell is `YYYYMMDD`, a day of the years 1 to 9999.
 fn is_day(cell: &[u8]) -> bool
     requires { length cell.now ≡ 8 }
     ensures { IsTrue result ↔ SpellsDay cell.now }
@@ -49,6 +51,7 @@ fn is_day(cell: &[u8]) -> bool
         )
 }
 
+/// Whether the cell is `HHMMSS`, with fewer hours than the bound.
 fn is_time(bound: u32, cell: &[u8]) -> bool
     requires bound { bound ≤ 100 }
     requires width { length cell.now ≡ 6 }
@@ -60,6 +63,7 @@ fn is_time(bound: u32, cell: &[u8]) -> bool
         && number_of(&cell[4..6]) < 60
 }
 
+/// Whether the cell is five digits, at most 10000.
 fn is_share(cell: &[u8]) -> bool
     requires { length cell.now ≡ 5 }
     ensures { IsTrue result ↔ SpellsShare cell.now }
@@ -67,6 +71,7 @@ fn is_share(cell: &[u8]) -> bool
     are_digits(cell) && number_of(cell) <= 10000
 }
 
+/// The texts of a flag.
 static FLAGS: [[u8; 1]; 4] = [*b"Y", *b"N", *b"U", *b" "];
 
 fn is_flag(cell: &[u8]) -> bool
@@ -173,7 +178,8 @@ fn fault_of(ty: CellType, cell: &[u8]) -> CellFault
     }
 }
 
-/// Judges a cell: `Ok` where it is one of the type, and else the first fault that the type names.
+/// Judges a cell by this profile's rules of CWR 2.1 for its type: `Ok` where it is one of the type,
+/// and else the first fault that the type names. The cell is as wide as `width_of` says.
 pub fn fits(ty: CellType, cell: &[u8]) -> Result<(), CellFault>
     requires { ForSome (type_width ty) (λ width. length cell.now ≡ width) }
     ensures ok { OnOk result (Holds ty cell.now) }

@@ -8,6 +8,7 @@ ghost use Rattle.cwr_fields.specs.Listed.{cells_of};
 use crate::byte_runs::are_digits;
 use crate::tables::Table;
 
+// Each code of a table stands here once, filled up with spaces.
 static SENDER: [[u8; 2]; 4] = [*b"PB", *b"SO", *b"AA", *b"WR"];
 
 static TRANSACTION_TYPE: [[u8; 3]; 4] = [*b"AGR", *b"NWR", *b"REV", *b"ACK"];

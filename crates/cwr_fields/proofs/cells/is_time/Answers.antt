@@ -1,4 +1,4 @@
-use Rattle.std.proofs.Common.{arith, rules}
+use Rattle.std.proofs.Common.{arith}
 use Rattle.std.proofs.lemmas.Grind.{common_steps}
 use Rattle.cwr_fields.proofs.Spellings.{time_spelled, tests_also}
 use Rattle.cwr_fields.proofs.cells.is_time.Goals as goal

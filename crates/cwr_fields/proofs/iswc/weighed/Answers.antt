@@ -1,5 +1,4 @@
-use Rattle.std.proofs.Common.{◌≡◌, ◌<◌, ◌≤◌, ◌-◌, ◌*◌, get_or, length, arith}
-use Rattle.cwr_fields.specs.Iswc.{factors}
+use Rattle.std.proofs.Common.{◌≡◌, ◌<◌, ◌-◌, get_or, length, arith}
 use Rattle.cwr_fields.proofs.Weights.{weight-more, weight_at_most}
 use Rattle.cwr_fields.proofs.iswc.weighed.Goals as goal
 

@@ -1,4 +1,4 @@
-use Rattle.std.proofs.Common.{◌≡◌, length, arith}
+use Rattle.std.proofs.Common.{arith}
 use Rattle.cwr_fields.proofs.Windows.{consumed}
 use Rattle.cwr_fields.proofs.counted.CountedSource.consume.Goals as goal
 
