@@ -44,6 +44,21 @@ pub enum Word {
     Group,
 }
 
+impl Word {
+    ghost use Rattle.std.specs.Prelude.{◌≡◌};
+    ghost use Rattle.cwr_fields.specs.Codes.{word_text};
+
+    /// The word's letters.
+    pub fn text(self) -> &'static [u8]
+        ensures { result.now ≡ word_text self }
+    {
+        match self {
+            Word::Edi => b"01.10",
+            Word::Group => b"02.10",
+        }
+    }
+}
+
 /// Why a cell isn't one of its type. Where two hold, the first in the list of its type is told.
 #[derive(Clone, Copy, Debug, PartialEq, Eq)]
 pub enum CellFault {

@@ -1,10 +1,24 @@
 //! The cells of CWR 2.1 records: what the cell of a field may hold, and the tables of codes.
 #![tactic(auto)]
 
+mod byte_runs;
 mod cell_types;
+mod cells;
+mod code_lists;
 mod codes;
+mod counted;
+mod devices;
+mod iswc;
 mod tables;
 
+pub use byte_runs::{first_control, trimmed};
 pub use cell_types::{CellFault, CellType, Word};
+pub use cells::{fits, width_of};
 pub use codes::{Role, TransactionType};
+pub use counted::Counted;
+pub use devices::{DeviceFault, Source, Target};
+pub use iswc::iswc_ok;
 pub use tables::Table;
+
+#[cfg(test)]
+mod examples;

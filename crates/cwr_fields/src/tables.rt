@@ -42,3 +42,35 @@ pub enum Table {
     /// REC's recording technique.
     Technique,
 }
+
+impl Table {
+    ghost use Rattle.std.specs.Prelude.{◌≡◌};
+    ghost use Rattle.cwr_fields.specs.Codes.{code_width};
+
+    /// The width of the table's cells in bytes.
+    pub fn width(self) -> usize
+        ensures { result ≡ code_width self }
+    {
+        match self {
+            Table::TransactionType
+            | Table::Category
+            | Table::Version
+            | Table::Composite
+            | Table::Excerpt => 3,
+            Table::Sender
+            | Table::AgreementType
+            | Table::Role
+            | Table::Publisher
+            | Table::Designation
+            | Table::Title
+            | Table::Status => 2,
+            Table::Prior
+            | Table::PostTerm
+            | Table::Sales
+            | Table::Sign
+            | Table::Message
+            | Table::Recording
+            | Table::Technique => 1,
+        }
+    }
+}

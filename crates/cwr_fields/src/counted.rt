@@ -1,0 +1,147 @@
+//! Sources and targets over std's readers and writers.
+
+ghost use Rattle.std.specs.Prelude.{◌≡◌, ◌+◌, ◌≤◌, [], IfOk, OnErr};
+ghost use Rattle.cwr_fields.specs.declared.counted.TheConstants.{AHEAD};
+
+use crate::devices::{DeviceFault, Source, Target};
+use std::io::{BufRead, Write};
+
+/// How many bytes are read ahead at most.
+const AHEAD: usize = 8192;
+
+/// One of std's readers or writers, with a count of its failures.
+///
+/// A reader is read ahead: what it gave and nobody consumed stays in here.
+#[derive(Drop)]
+pub struct Counted<T> {
+    inner: T,
+    // The bytes from `start` to `end` were read and not consumed. The last `fill` showed the first `shown` of them.
+    ahead: [u8; AHEAD],
+    start: usize,
+    end: usize,
+    shown: usize,
+    failures: u64,
+    ghost ordered: { start + shown ≤ end },
+    ghost within: { end ≤ AHEAD },
+}
+
+impl<T> Counted<T> {
+    ghost use Rattle.std.specs.Prelude.{◌+◌, ◌<◌};
+    ghost use Rattle.cwr_fields.specs.Failures.{most_failures};
+    ghost use Rattle.cwr_fields.specs.Counted.{inner_of, ahead_of, shown_of, failures_of};
+
+    /// A reader or a writer that hasn't failed.
+    pub fn new(inner: T) -> Counted<T>
+        ensures inner { inner_of result ≡ inner }
+        ensures ahead { ahead_of result ≡ [] }
+        ensures shown { shown_of result ≡ 0 }
+        ensures failures { failures_of result ≡ 0 }
+    {
+        Counted {
+            inner,
+            ahead: [0; AHEAD],
+            start: 0,
+            end: 0,
+            shown: 0,
+            failures: 0,
+        }
+    }
+
+    /// The reader or the writer itself. What was read ahead is lost.
+    pub fn into_inner(self) -> T
+        ensures { result ≡ inner_of self }
+    {
+        self.inner
+    }
+
+    /// Counts a failure, and gives what tells it.
+    fn failed(&mut self) -> DeviceFault
+        requires { failures_of self.old < most_failures }
+        ensures { self.new ≡ record self.old { failures = self.old.failures + 1 } }
+    {
+        self.failures += 1;
+        DeviceFault
+    }
+}
+
+impl<B: BufRead> Counted<B> {
+    ghost use Rattle.std.specs.Io.KnownBytes.{prepend_known, Keeps, IsAtEnd};
+    ghost use Rattle.cwr_fields.specs.Failures.{CountsFailure};
+    ghost use Rattle.cwr_fields.specs.Counted.{inner_of, ahead_of, shown_of, failures_of};
+
+    /// Reads where nothing is left of what was read ahead, and shows all of it.
+    fn load(&mut self) -> Result<(), DeviceFault>
+        ensures bytes { Keeps (prepend_known (ahead_of self.old) (B.remaining (inner_of self.old)))
+            (prepend_known (ahead_of self.new) (B.remaining (inner_of self.new))) }
+        ensures shown { IfOk result (λ _. self.new.start + self.new.shown ≡ self.new.end) }
+        ensures end { IfOk result (λ _. self.new.shown ≡ 0 → IsAtEnd (B.remaining (inner_of self.new))) }
+        ensures none { OnErr result (self.new.shown ≡ 0) }
+        ensures failures { CountsFailure result (failures_of self.old) (failures_of self.new) }
+    {
+        self.shown = 0;
+        if self.failures == u64::MAX {
+            return Err(DeviceFault);
+        }
+        if self.start == self.end {
+            match self.inner.read(&mut self.ahead[..]) {
+                Ok(count) => {
+                    self.start = 0;
+                    self.end = count;
+                }
+                Err(_) => return Err(self.failed()),
+            }
+        }
+        self.shown = self.end - self.start;
+        Ok(())
+    }
+}
+
+impl<B: BufRead> Source for Counted<B> {
+    ghost use Rattle.std.specs.Io.KnownBytes.{prepend_known};
+    ghost use Rattle.cwr_fields.specs.Counted.{inner_of, ahead_of, shown_of, failures_of};
+
+    ghost remaining = { λ counted. prepend_known (ahead_of counted) (B.remaining (inner_of counted)) };
+
+    ghost shown = { shown_of };
+
+    ghost failures = { failures_of };
+
+    fn fill(&mut self) -> Result<&[u8], DeviceFault> {
+        self.load()?;
+        let loaded = &*self;
+        Ok(&loaded.ahead[loaded.start..loaded.end])
+    }
+
+    fn consume(&mut self, count: usize) {
+        self.shown -= count;
+        self.start += count;
+    }
+}
+
+impl<W: Write> Target for Counted<W> {
+    ghost use Rattle.cwr_fields.specs.Counted.{inner_of, failures_of};
+
+    ghost contents = { λ counted. W.contents (inner_of counted) };
+
+    ghost failures = { failures_of };
+
+    fn write(&mut self, text: &[u8]) -> Result<usize, DeviceFault> {
+        if self.failures == u64::MAX {
+            return Err(DeviceFault);
+        }
+        match self.inner.write(text) {
+            Ok(count) if count > 0 || text.is_empty() => Ok(count),
+            _ => Err(self.failed()),
+        }
+    }
+
+    fn flush(&mut self) -> Result<(), DeviceFault> {
+        if self.failures == u64::MAX {
+            return Err(DeviceFault);
+        }
+        match self.inner.flush() {
+            Ok(()) => Ok(()),
+            Err(_) => Err(self.failed()),
+        }
+    }
+}
