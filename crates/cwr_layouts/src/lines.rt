@@ -34,7 +34,7 @@ pub enum LineEnd {
 }
 
 /// What a call of `take` did with its piece.
-#[derive(Clone, Copy, Debug)]
+#[derive(Clone, Copy, Debug, PartialEq, Eq)]
 pub struct Taken {
     /// How many bytes of the piece were used, from its start.
     pub used: usize,
@@ -63,7 +63,7 @@ fn drop_return(text: &mut ArrayVec<u8, LONGEST_LINE>) -> bool
 
 /// Fills the text up with spaces to a width in bytes.
 fn fill_up(text: &mut ArrayVec<u8, LONGEST_LINE>, width: usize)
-    requires { width ≤ 1024 }
+    requires { width ≤ LONGEST_LINE }
     ensures { text.new.items ≡ filled width text.old.items }
 {
     let missing = width.saturating_sub(text.len());
@@ -155,17 +155,10 @@ impl LineBuf {
         self.count + usize::from(self.has_return)
     }
 
-    /// How the line ended, if it did.
-    pub fn ended(&self) -> LineEnd
-        ensures { result ≡ self.now.ended }
-    {
-        self.ended
-    }
-
     /// Appends bytes to an open line.
     fn hold(&mut self, bytes: &[u8])
         requires open { self.old.ended ≡ LineEnd.Open }
-        requires fits { length self.old.bytes + length bytes.now ≤ 1024 }
+        requires fits { length self.old.bytes + length bytes.now ≤ LONGEST_LINE }
         requires no_lf { IsFalse (list_any is_lf bytes.now) }
         ensures { self.new ≡ record { bytes = self.old.bytes ++ bytes.now; ended = LineEnd.Open } }
     {
@@ -187,7 +180,7 @@ impl LineBuf {
     /// Ends an open line that is too long.
     fn close_over(&mut self)
         requires open { self.old.ended ≡ LineEnd.Open }
-        requires full { length self.old.bytes ≡ 1024 }
+        requires full { length self.old.bytes ≡ LONGEST_LINE }
         ensures { self.new ≡ record { bytes = self.old.bytes; ended = LineEnd.Over } }
     {
         self.kind = fill_by_kind(&mut self.text);
@@ -229,6 +222,7 @@ impl LineBuf {
             }
         }
     }
+
     /// The cells of a line that ended, borrowed from the buffer.
     pub fn cut(&self) -> CutLine<'_>
         requires { self.now.ended ≢ LineEnd.Open }
