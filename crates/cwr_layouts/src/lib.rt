@@ -2,11 +2,14 @@
 #![tactic(auto)]
 
 mod kinds;
+pub mod laws;
 mod layouts;
+mod lines;
 mod lookups;
 #[cfg(test)]
 mod tests;
 
 pub use kinds::Kind;
 pub use layouts::Field;
+pub use lines::{CutLine, LONGEST_LINE, LineBuf, LineEnd, Taken};
 pub use lookups::{field, fields, width};
