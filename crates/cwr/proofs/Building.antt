@@ -15,10 +15,11 @@ use Rattle.cwr_shape.specs.Shapes.{IsShape}
 use Rattle.cwr_values.specs.Values.{GroupValue, TransmissionValue, IsTransmission, IsGroup, IsTransaction, IsRecordOf, FitsIn, type_of, symbol_of, symbol_by, outline_of, outline_of_group}
 use Rattle.cwr_values.specs.Rows.{records_of, records_of_group, trailer}
 use Rattle.cwr_values.proofs.Unique.{symbols-outline}
+use Rattle.cwr.specs.declared.progress.Progress.{Progress}
 use Rattle.cwr.specs.declared.progress.Position.{Position}
 use Rattle.cwr.specs.declared.progress.Position.TheVariants.{Start, Opened, InGroup, Acked, Closed, Ended}
 use Rattle.cwr.specs.Bare.{IsBare, IsBareGroup}
-use Rattle.cwr.specs.Walks.{Counts, nothing, may_follow, counted, MayCome, counted_all, Walks}
+use Rattle.cwr.specs.Walks.{nothing, may_follow, counted, MayCome, counted_all, Walks}
 use Rattle.cwr.proofs.Walking.{AreCountsOf, counts-walk}
 
 -- groups, and then TRL
@@ -73,33 +74,38 @@ is_trailer : (r : RecordValue) → r.kind ≡ kinds.Trl → IsRecord r → r ≡
 is_trailer r e h = let cells = no_cells r.kind r.cells e h in λ i. record { kind = e i; cells = cells i }
 
 add_ack : (r : RecordValue) (rs : List RecordValue) → r.kind ≡ kinds.Ack → IsRecord r → AcksThen rs → (b : AcksThen (r ∷ rs)) × (0 < length b.acks)
-add_ack r rs e h a = (record {
-  acks = (r ∷ []) ∷ a.acks;
-  foot = a.foot;
-  rest = a.rest;
-  whole = ap (λ (xs : List RecordValue). r ∷ xs) a.whole;
-  each = (((h, tt), bare_shape r e), a.each);
-  ones = (refl, a.ones);
-  foot_is = a.foot_is;
-  then = a.then;
-}, omega arith)
+add_ack r rs e h a = (
+  record {
+    acks = (r ∷ []) ∷ a.acks;
+    foot = a.foot;
+    rest = a.rest;
+    whole = ap (λ (xs : List RecordValue). r ∷ xs) a.whole;
+    each = (((h, tt), bare_shape r e), a.each);
+    ones = (refl, a.ones);
+    foot_is = a.foot_is;
+    then = a.then;
+  },
+  omega arith,
+)
 
 add_group : (r : RecordValue) (rs : List RecordValue) → r.kind ≡ kinds.Grh → IsRecord r → type_of r ≡ Acknowledgement → (a : AcksThen rs) → 0 < length a.acks → (g : GroupsThen (r ∷ rs)) × (0 < length g.groups)
 add_group r rs e h ty a some =
     let g : GroupValue = record { head = r; transactions = a.acks; foot = a.foot } in
-    let gs : List GroupValue = a.then.groups in
-    (record {
-      groups = g ∷ gs;
-      whole =
-          ap (λ (xs : List RecordValue). r ∷ xs)
-          (a.whole ∙ ap (λ (xs : List RecordValue). flat_map (λ t. t) a.acks ++ (a.foot ∷ xs)) a.then.whole
-          ∙ sym (append_assoc (flat_map (λ t. t) a.acks) (a.foot ∷ []) (flat_map records_of_group gs ++ trailer ∷ [])))
-          ∙ sym (append_assoc (records_of_group g) (flat_map records_of_group gs) (trailer ∷ []));
-      each = (record { head = (e, h); some_transaction = some; each = subst (λ t. AllByRecursion (IsTransaction t) a.acks) (sym ty) a.each; foot = a.foot_is }, a.then.each);
-      bare = ((ty, a.ones), a.then.bare);
-    }, omega arith)
+    let gs : List GroupValue = a.then.groups in (
+      record {
+        groups = g ∷ gs;
+        whole =
+            ap (λ (xs : List RecordValue). r ∷ xs)
+            (a.whole ∙ ap (λ (xs : List RecordValue). flat_map (λ t. t) a.acks ++ (a.foot ∷ xs)) a.then.whole
+            ∙ sym (append_assoc (flat_map (λ t. t) a.acks) (a.foot ∷ []) (flat_map records_of_group gs ++ trailer ∷ [])))
+            ∙ sym (append_assoc (records_of_group g) (flat_map records_of_group gs) (trailer ∷ []));
+        each = (record { head = (e, h); some_transaction = some; each = subst (λ t. AllByRecursion (IsTransaction t) a.acks) (sym ty) a.each; foot = a.foot_is }, a.then.each);
+        bare = ((ty, a.ones), a.then.bare);
+      },
+      omega arith,
+    )
 
-step : (c : Counts) (r : RecordValue) (rs : List RecordValue) (p : Position) (k : Kind) → may_follow p k ≡ true → r.kind ≡ k → IsRecord r → (k ≡ kinds.Grh → type_of r ≡ Acknowledgement)
+step : (c : Progress) (r : RecordValue) (rs : List RecordValue) (p : Position) (k : Kind) → may_follow p k ≡ true → r.kind ≡ k → IsRecord r → (k ≡ kinds.Grh → type_of r ≡ Acknowledgement)
     → ((q : Position) → (counted c k).position ≡ q → Rest q rs) → Rest p (r ∷ rs)
 step c r rs Start kinds.Hdr f e h ty ih = let g = ih Opened refl in record { opening = r; rest = rs; whole = refl; opening_is = (e, h); then = g.0; some = g.1 }
 step c r rs Opened kinds.Grh f e h ty ih = let a = ih InGroup refl in add_group r rs e h (ty refl) a.0 a.1
@@ -110,7 +116,7 @@ step c r rs Closed kinds.Grh f e h ty ih = let a = ih InGroup refl in (add_group
 step c r rs Closed kinds.Trl f e h ty ih = record { groups = []; whole = ap₂ (λ (x : RecordValue) (xs : List RecordValue). x ∷ xs) (is_trailer r e h) (ih Ended refl); each = tt; bare = tt }
 step c r rs p k f e h ty ih = absurd (true≢false (sym f))
 
-rest_of : (limits : Limits) (c : Counts) (rs : List RecordValue) → Walks limits c rs → (counted_all c rs).position ≡ Ended → (p : Position) → c.position ≡ p → Rest p rs
+rest_of : (limits : Limits) (c : Progress) (rs : List RecordValue) → Walks limits c rs → (counted_all c rs).position ≡ Ended → (p : Position) → c.position ≡ p → Rest p rs
 rest_of limits c [] w end p e = subst (λ (q : Position). Rest q []) (sym end ∙ e) refl
 rest_of limits c (r ∷ rs) w end p e =
     step c r rs p r.kind (ap (λ (q : Position). may_follow q r.kind) (sym e) ∙ w.0.follows) refl w.0.in_order w.0.acknowledges (λ q d. rest_of limits (counted c r.kind) rs w.1 end q d)
@@ -135,11 +141,11 @@ built limits rs w end =
 -- ---- within the limits
 
 -- the counts of a walk keep to the limits
-pub record KeepsRoom (limits : Limits) (c : Counts) : Type 0 where
+pub record KeepsRoom (limits : Limits) (c : Progress) : Type 0 where
   pub records : c.records ≤ limits.records
   pub groups : c.groups ≤ limits.groups
 
-room_step : (limits : Limits) (c : Counts) (r : RecordValue) → MayCome limits c r → KeepsRoom limits c → KeepsRoom limits (counted c r.kind)
+room_step : (limits : Limits) (c : Progress) (r : RecordValue) → MayCome limits c r → KeepsRoom limits c → KeepsRoom limits (counted c r.kind)
 room_step limits c r m k = by r.kind m.room.records m.room.groups
   where
     by : (j : Kind) → c.records + 1 ≤ limits.records → (j ≡ kinds.Grh → c.groups + 1 ≤ limits.groups) → KeepsRoom limits (counted c j)
@@ -150,7 +156,7 @@ room_step limits c r m k = by r.kind m.room.records m.room.groups
     by kinds.Trl a b = record { records = a; groups = k.groups }
     by j a b = k
 
-pub keeps_room : (limits : Limits) (c : Counts) (rs : List RecordValue) → Walks limits c rs → KeepsRoom limits c → KeepsRoom limits (counted_all c rs)
+pub keeps_room : (limits : Limits) (c : Progress) (rs : List RecordValue) → Walks limits c rs → KeepsRoom limits c → KeepsRoom limits (counted_all c rs)
 keeps_room limits c [] w k = k
 keeps_room limits c (r ∷ rs) w k = keeps_room limits (counted c r.kind) rs w.1 (room_step limits c r w.0 k)
 

@@ -14,24 +14,25 @@ use Rattle.cwr_shape.specs.declared.limits.Limits.{Limits}
 use Rattle.cwr_values.specs.Values.{TransmissionValue, IsTransmission, FitsIn}
 use Rattle.cwr_values.specs.Rows.{records_of, rows, Spells}
 use Rattle.cwr_decode.specs.Ends.{IsAccepted}
+use Rattle.cwr.specs.declared.progress.Progress.{Progress}
 use Rattle.cwr.specs.declared.progress.Position.{Position}
 use Rattle.cwr.specs.declared.progress.Position.TheVariants.{Start, Opened, InGroup, Acked, Closed, Ended}
 use Rattle.cwr.specs.Bare.{IsBare}
-use Rattle.cwr.specs.Walks.{Counts, nothing, may_follow, numbers_next, counted, MayCome, counted_all, rows_from, Walks, IsNextLine, Stands, text_of_lines}
+use Rattle.cwr.specs.Walks.{nothing, may_follow, numbers_next, counted, MayCome, counted_all, rows_from, Walks, IsNextLine, Stands, text_of_lines}
 use Rattle.cwr.proofs.Walking.{AreCountsOf, rows-walk, counts-walk, walks}
 use Rattle.cwr.proofs.Building.{built, within}
 
 -- ---- one line more
 
-walks-snoc : (limits : Limits) (c : Counts) (rs : List RecordValue) (r : RecordValue) → Walks limits c rs → MayCome limits (counted_all c rs) r → Walks limits c (rs ++ r ∷ [])
+walks-snoc : (limits : Limits) (c : Progress) (rs : List RecordValue) (r : RecordValue) → Walks limits c rs → MayCome limits (counted_all c rs) r → Walks limits c (rs ++ r ∷ [])
 walks-snoc limits c [] r w m = (m, tt)
 walks-snoc limits c (s ∷ rs) r w m = (w.0, walks-snoc limits (counted c s.kind) rs r w.1 m)
 
-counts-snoc : (c : Counts) (rs : List RecordValue) (r : RecordValue) → counted_all c (rs ++ r ∷ []) ≡ counted (counted_all c rs) r.kind
+counts-snoc : (c : Progress) (rs : List RecordValue) (r : RecordValue) → counted_all c (rs ++ r ∷ []) ≡ counted (counted_all c rs) r.kind
 counts-snoc c [] r = refl
 counts-snoc c (s ∷ rs) r = counts-snoc (counted c s.kind) rs r
 
-rows-snoc : (c : Counts) (rs : List RecordValue) (r : RecordValue) (lines : List (List ℕ)) (line : List ℕ) → AllZip IsLineOf (rows_from c rs) lines
+rows-snoc : (c : Progress) (rs : List RecordValue) (r : RecordValue) (lines : List (List ℕ)) (line : List ℕ) → AllZip IsLineOf (rows_from c rs) lines
     → IsLineOf (row_of (numbers_next (counted_all c rs) r.kind) r) line → AllZip IsLineOf (rows_from c (rs ++ r ∷ [])) (lines ++ line ∷ [])
 rows-snoc c [] r [] line z l = (l, tt)
 rows-snoc c [] r (k ∷ lines) line z l = absurd z
@@ -47,31 +48,31 @@ pub stands_nothing : (limits : Limits) → Stands limits [] nothing
 stands_nothing limits = record { lines = []; records = []; text = refl; walks = tt; counts = refl; spelled = tt }
 
 -- with the line of a record that may come, it goes on
-pub stands_more : (limits : Limits) (used line : List ℕ) (c : Counts) (s : Stands limits used c) (n : IsNextLine limits c line) → Stands limits (used ++ (line ++ 10 ∷ [])) (counted c n.value.kind)
+pub stands_more : (limits : Limits) (used line : List ℕ) (c : Progress) (s : Stands limits used c) (n : IsNextLine limits c line) → Stands limits (used ++ (line ++ 10 ∷ [])) (counted c n.value.kind)
 stands_more limits used line c s n =
-    let here : MayCome limits (counted_all nothing s.records) n.value = subst (λ (d : Counts). MayCome limits d n.value) (sym s.counts) n.may_come in
-    let there : IsLineOf (row_of (numbers_next (counted_all nothing s.records) n.value.kind) n.value) line = subst (λ (d : Counts). IsLineOf (row_of (numbers_next d n.value.kind) n.value) line) (sym s.counts) n.is_line in
+    let here : MayCome limits (counted_all nothing s.records) n.value = subst (λ (d : Progress). MayCome limits d n.value) (sym s.counts) n.may_come in
+    let there : IsLineOf (row_of (numbers_next (counted_all nothing s.records) n.value.kind) n.value) line = subst (λ (d : Progress). IsLineOf (row_of (numbers_next d n.value.kind) n.value) line) (sym s.counts) n.is_line in
     record {
       lines = s.lines ++ line ∷ [];
       records = s.records ++ n.value ∷ [];
       text = ap (λ (x : List ℕ). x ++ (line ++ 10 ∷ [])) s.text ∙ sym (text-snoc s.lines line);
       walks = walks-snoc limits nothing s.records n.value s.walks here;
-      counts = counts-snoc nothing s.records n.value ∙ ap (λ (d : Counts). counted d n.value.kind) s.counts;
+      counts = counts-snoc nothing s.records n.value ∙ ap (λ (d : Progress). counted d n.value.kind) s.counts;
       spelled = rows-snoc nothing s.records n.value s.lines line s.spelled there;
     }
 
 -- ---- the end
 
 -- what the program tells of an accepted text: its transmission, and how much of the text it takes
-pub record IsGood (limits : Limits) (text : List ℕ) (c : Counts) (n : ℕ) : Type 0 where
+pub record IsGood (limits : Limits) (text : List ℕ) (c : Progress) (n : ℕ) : Type 0 where
   pub value : TransmissionValue
   pub accepted : IsAccepted limits text value n
   pub bare : IsBare value
   pub counts : AreCountsOf c value
 
-pub good_end : (limits : Limits) (text used rest : List ℕ) (c : Counts) (n : ℕ) → 1 ≤ limits.transaction → Stands limits used c → c.position ≡ Ended → closed text ≡ used ++ rest → n ≡ min (length used) (length text) → IsGood limits text c n
+pub good_end : (limits : Limits) (text used rest : List ℕ) (c : Progress) (n : ℕ) → 1 ≤ limits.transaction → Stands limits used c → c.position ≡ Ended → closed text ≡ used ++ rest → n ≡ min (length used) (length text) → IsGood limits text c n
 good_end limits text used rest c n one s e split m =
-    let b = built limits s.records s.walks (ap (λ (d : Counts). d.position) s.counts ∙ e) in
+    let b = built limits s.records s.walks (ap (λ (d : Progress). d.position) s.counts ∙ e) in
     let w : Walks limits nothing (records_of b.value) = subst (Walks limits nothing) (sym b.records) s.walks in
     let same : rows_from nothing s.records ≡ rows b.value = ap (rows_from nothing) (sym b.records) ∙ rows-walk b.value b.whole b.bare in
     record {
@@ -86,13 +87,13 @@ good_end limits text used rest c n one s e split m =
         taken = m;
       };
       bare = b.bare;
-      counts = subst (λ (d : Counts). AreCountsOf d b.value) (ap (counted_all nothing) b.records ∙ s.counts) (counts-walk b.value b.whole b.bare);
+      counts = subst (λ (d : Progress). AreCountsOf d b.value) (ap (counted_all nothing) b.records ∙ s.counts) (counts-walk b.value b.whole b.bare);
     }
 
 -- ---- an accepted text goes on
 
 -- the text goes on with the line of a record that may come
-pub record GoesOn (limits : Limits) (c : Counts) (tail : List ℕ) : Type 0 where
+pub record GoesOn (limits : Limits) (c : Progress) (tail : List ℕ) : Type 0 where
   pub line : List ℕ
   pub rest : List ℕ
   pub no_lf : NoLf line
@@ -102,7 +103,7 @@ pub record GoesOn (limits : Limits) (c : Counts) (tail : List ℕ) : Type 0 wher
 nothing_follows_end : (k : Kind) → may_follow Ended k ≡ true → ⊥
 nothing_follows_end k e = true≢false (sym e)
 
-goes_on_from : (limits : Limits) (c : Counts) (rs ss : List RecordValue) (lines ks : List (List ℕ)) (tail rest : List ℕ) → Walks limits c rs → Walks limits c ss
+goes_on_from : (limits : Limits) (c : Progress) (rs ss : List RecordValue) (lines ks : List (List ℕ)) (tail rest : List ℕ) → Walks limits c rs → Walks limits c ss
     → AllZip IsLineOf (rows_from c rs) lines → AllZip IsLineOf (rows_from c ss) ks → (counted_all c ss).position ≡ Ended → ((counted_all c rs).position ≡ Ended → ⊥)
     → text_of_lines lines ++ tail ≡ text_of_lines ks ++ rest → GoesOn limits (counted_all c rs) tail
 goes_on_from limits c [] [] lines ks tail rest w v y z end going e = absurd (going end)
@@ -121,11 +122,11 @@ goes_on_from limits c (r ∷ rs) (s ∷ ss) (l ∷ lines) (k ∷ ks) tail rest w
     let row : one ≡ two = one_row one two l (IsRow-row_of (numbers_next c r.kind) r w.0.in_order) (IsRow-row_of (numbers_next c s.kind) s v.0.in_order) y.0 other in
     let same : r ≡ s = sym (record_of-row_of (numbers_next c r.kind) r w.0.in_order) ∙ ap record_of row ∙ record_of-row_of (numbers_next c s.kind) s v.0.in_order in
     let after : counted c s.kind ≡ counted c r.kind = ap (λ (t : RecordValue). counted c t.kind) (sym same) in
-    goes_on_from limits (counted c r.kind) rs ss lines ks tail rest w.1 (subst (λ (d : Counts). Walks limits d ss) after v.1) y.1 (subst (λ (d : Counts). AllZip IsLineOf (rows_from d ss) ks) after z.1)
-    (ap (λ (d : Counts). (counted_all d ss).position) (sym after) ∙ end) going first.1
+    goes_on_from limits (counted c r.kind) rs ss lines ks tail rest w.1 (subst (λ (d : Progress). Walks limits d ss) after v.1) y.1 (subst (λ (d : Progress). AllZip IsLineOf (rows_from d ss) ks) after z.1)
+    (ap (λ (d : Progress). (counted_all d ss).position) (sym after) ∙ end) going first.1
 
 -- an accepted transmission of bare acknowledgements goes on from what stands before its end
-pub goes_on : (limits : Limits) (text used tail : List ℕ) (c : Counts) (v : TransmissionValue) (n : ℕ) → Stands limits used c → (c.position ≡ Ended → ⊥) → closed text ≡ used ++ tail
+pub goes_on : (limits : Limits) (text used tail : List ℕ) (c : Progress) (v : TransmissionValue) (n : ℕ) → Stands limits used c → (c.position ≡ Ended → ⊥) → closed text ≡ used ++ tail
     → IsAccepted limits text v n → IsBare v → GoesOn limits c tail
 goes_on limits text used tail c v n s going split a b =
     let same = rows-walk v a.whole b in
@@ -133,8 +134,8 @@ goes_on limits text used tail c v n s going split a b =
     let spelled : AllZip IsLineOf (rows_from nothing (records_of v)) a.spelled.0 = subst (λ (rs : List Row). AllZip IsLineOf rs a.spelled.0) (sym same) a.spelled.1 in
     let whole : text_of_lines s.lines ++ tail ≡ text_of_lines a.spelled.0 ++ a.rest =
     ap (λ (x : List ℕ). x ++ tail) (sym s.text) ∙ sym split ∙ a.split ∙ ap (λ (x : List ℕ). x ++ a.rest) a.spelled.2 in
-    let from = goes_on_from limits nothing s.records (records_of v) s.lines a.spelled.0 tail a.rest s.walks (walks limits v a.whole b a.within) s.spelled spelled counts.position (λ e. going (ap (λ (d : Counts). d.position) (sym s.counts) ∙ e)) whole in
-    subst (λ (d : Counts). GoesOn limits d tail) s.counts from
+    let from = goes_on_from limits nothing s.records (records_of v) s.lines a.spelled.0 tail a.rest s.walks (walks limits v a.whole b a.within) s.spelled spelled counts.position (λ e. going (ap (λ (d : Progress). d.position) (sym s.counts) ∙ e)) whole in
+    subst (λ (d : Progress). GoesOn limits d tail) s.counts from
 
 -- ---- closed texts
 

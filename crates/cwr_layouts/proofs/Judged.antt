@@ -16,21 +16,16 @@ use Rattle.cwr_fields.proofs.LineFeeds.{NoLf}
 use Rattle.cwr_layouts.specs.declared.kinds.Kind.{Kind}
 use Rattle.cwr_layouts.specs.Kinds.{all_kinds, letters, kind_of}
 use Rattle.cwr_layouts.specs.Layouts.{FieldLayout, layout, fields_after_type, total_width, line_width, record_type}
-use Rattle.cwr_layouts.specs.Records.{RecordValue, IsCellOf, IsRecord, Row, rest_if, row_cells, row_of, full_line}
+use Rattle.cwr_layouts.specs.Records.{RecordValue, IsCellOf, IsRecord, Row, rest_if, row_cells, row_of, full_line, IsGoodBy}
 use Rattle.cwr_layouts.proofs.RowLaws.{IsRow-row_of}
 use Rattle.cwr_layouts.proofs.CutLaws.{line_is_cut}
 use Rattle.cwr_layouts.specs.Lines.{IsLineOf, longest_line, without_cr, is_over, line_body, pieces, body_kind, line_kind, line_cells, cells_as, excess_as, has_bad_excess}
-
--- the cell is the number, written in full width, or one of the field's type
-abbrev pub good_by : Bool → FieldLayout → ℕ → List ℕ → Type 0
-good_by true f n cell = cell ≡ digits f.width n
-good_by false f n cell = Holds f.ty cell
 
 -- each cell is the next number, or one of its field's type
 abbrev pub AreGood : List FieldLayout → List ℕ → List (List ℕ) → Type 0
 AreGood [] ns cells = Unit {0}
 AreGood (f ∷ fields) ns [] = ⊥
-AreGood (f ∷ fields) ns (c ∷ cells) = good_by f.derived f (slice_index ns 0) c × AreGood fields (rest_if f.derived ns) cells
+AreGood (f ∷ fields) ns (c ∷ cells) = IsGoodBy f.derived f (slice_index ns 0) c × AreGood fields (rest_if f.derived ns) cells
 
 -- what is carried in cells, by their fields
 abbrev pub carried_in : List FieldLayout → List (List ℕ) → List (List ℕ)
@@ -42,7 +37,7 @@ Wide fields cells = AllZip (λ f text. length text ≡ f.width) fields cells
 abbrev Again : List FieldLayout → List ℕ → List (List ℕ) → Type 0
 Again fields ns cells = (row_cells fields ns (carried_in fields cells) ≡ cells) × AllZip IsCellOf (filter (λ g. not g.derived) fields) (carried_in fields cells)
 
-again_by : (b : Bool) (f : FieldLayout) (fields : List FieldLayout) (ns : List ℕ) (c : List ℕ) (cells : List (List ℕ)) → length c ≡ f.width → good_by b f (slice_index ns 0) c → Again fields (rest_if b ns) cells
+again_by : (b : Bool) (f : FieldLayout) (fields : List FieldLayout) (ns : List ℕ) (c : List ℕ) (cells : List (List ℕ)) → length c ≡ f.width → IsGoodBy b f (slice_index ns 0) c → Again fields (rest_if b ns) cells
     → let carried : List (List ℕ) = map (λ p. p.1) (cond (not b) ((f, c) ∷ filter (λ (p : FieldLayout × List ℕ). not p.0.derived) (zip fields cells)) (filter (λ (p : FieldLayout × List ℕ). not p.0.derived) (zip fields cells))) in
     ((if b then digits f.width (slice_index ns 0) else unwrap_or (slice_get carried 0) []) ∷ row_cells fields (rest_if b ns) (rest_if (not b) carried) ≡ c ∷ cells)
     × AllZip IsCellOf (cond (not b) (f ∷ filter (λ g. not g.derived) fields) (filter (λ g. not g.derived) fields)) carried
@@ -173,7 +168,7 @@ good_line numbers kind line no_lf k excess good =
 good_of_by : (b : Bool) (f : FieldLayout) (fields : List FieldLayout) (ns : List ℕ) (cells : List (List ℕ))
     → ((ns' : List ℕ) (cells' : List (List ℕ)) → AllZip IsCellOf (filter (λ g. not g.derived) fields) cells' → AreGood fields ns' (row_cells fields ns' cells'))
     → AllZip IsCellOf (cond (not b) (f ∷ filter (λ g. not g.derived) fields) (filter (λ g. not g.derived) fields)) cells
-    → good_by b f (slice_index ns 0) (if b then digits f.width (slice_index ns 0) else unwrap_or (slice_get cells 0) []) × AreGood fields (rest_if b ns) (row_cells fields (rest_if b ns) (rest_if (not b) cells))
+    → IsGoodBy b f (slice_index ns 0) (if b then digits f.width (slice_index ns 0) else unwrap_or (slice_get cells 0) []) × AreGood fields (rest_if b ns) (row_cells fields (rest_if b ns) (rest_if (not b) cells))
 good_of_by true f fields ns cells ih h = (refl, ih (drop 1 ns) cells h)
 good_of_by false f fields ns [] ih h = absurd h
 good_of_by false f fields ns (c ∷ cells) ih h = (h.0.1, ih ns cells h.1)

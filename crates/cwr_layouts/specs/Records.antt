@@ -26,6 +26,11 @@ carried_fields kind = filter (λ f. not f.derived) (layout kind)
 abbrev pub IsCellOf : FieldLayout → List ℕ → Type 0
 IsCellOf f text = (length text ≡ f.width) × Holds f.ty text
 
+-- a derived cell is the number, written in full width, and any other is one of the field's type
+abbrev pub IsGoodBy : Bool → FieldLayout → ℕ → List ℕ → Type 0
+IsGoodBy true f n cell = cell ≡ digits f.width n
+IsGoodBy false f n cell = Holds f.ty cell
+
 -- each carried cell is one of its field
 abbrev pub IsRecord : RecordValue → Type 0
 IsRecord r = AllZip IsCellOf (carried_fields r.kind) r.cells
