@@ -3,4 +3,4 @@
 
 mod verdicts;
 
-pub use verdicts::Verdict;
+pub use verdicts::{ToolFault, Verdict};

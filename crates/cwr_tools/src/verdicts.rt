@@ -1,6 +1,7 @@
 //! How a run over a text ended.
 
 use cwr_decode::Refusal;
+use cwr_shape::LimitKind;
 
 /// How a run over a text ended.
 #[derive(Clone, Copy, Debug, PartialEq, Eq)]
@@ -21,4 +22,29 @@ pub enum Verdict {
         /// The records that were read.
         records: u32,
     },
+}
+
+/// Why a run over texts stopped before its end.
+#[derive(Clone, Copy, Debug, PartialEq, Eq)]
+pub enum ToolFault {
+    /// The reader failed.
+    Reader,
+    /// The writer failed.
+    Writer {
+        /// The bytes that were written before. It stays at `u64::MAX`; the text is then at least that long.
+        written: u64,
+    },
+    /// There was no memory.
+    Memory,
+    /// An input was refused.
+    Refused(Refusal),
+    /// An input ended before its transmission did.
+    Truncated {
+        /// The records that were read.
+        records: u32,
+    },
+    /// An output couldn't be made or finished.
+    Output,
+    /// The result doesn't keep to a limit.
+    Limit(LimitKind),
 }
