@@ -1,3 +1,5 @@
 mod Walking
 mod Building
 mod Standing
+mod Goodness
+mod CellFacts

@@ -130,3 +130,11 @@ pub record IsGoodLine (limits : Limits) (c : Progress) (h : HeldLine) (kind : Ki
   pub room : HasRoom limits c kind
   pub cells : (j : ℕ) → 2 ≤ j → j ≤ length (layout kind) → IsGoodAt c h kind j
   pub excess : held_excess h ≡ false
+
+-- a record of the line's kind follows nowhere
+abbrev pub NeverFollows : HeldLine → Type 0
+NeverFollows h = (kind : Kind) (position : Position) → held_kind h ≡ Some kind → may_follow position kind ≡ false
+
+-- the line isn't a good one of any kind
+abbrev pub IsBadLine : Limits → Progress → HeldLine → Type 0
+IsBadLine limits c h = (kind : Kind) → ¬ IsGoodLine limits c h kind

@@ -21,7 +21,7 @@ trimmed-other [] b h = let e : eqb b 32 ≡ false = ne_eqb b 32 h in rw e
 trimmed-other (c ∷ text) b h = ap (before_trimmed c) (trimmed-other text b h) ∙ longer c b text
 
 -- a text that isn't empty is its front and its last byte
-ends_in : (text : List ℕ) → 1 ≤ length text → text ≡ take (length text - 1) text ++ get_or text (length text - 1) 0 ∷ []
+pub ends_in : (text : List ℕ) → 1 ≤ length text → text ≡ take (length text - 1) text ++ get_or text (length text - 1) 0 ∷ []
 ends_in text some =
     let there : length text - 1 < length text = omega arith in
     let whole : length text - 1 + 1 ≡ length text = omega arith in

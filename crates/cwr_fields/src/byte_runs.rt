@@ -1,7 +1,7 @@
 //! What runs of bytes are made of: spaces, control bytes, digits.
 
-ghost use Rattle.std.specs.Prelude.{◌≡◌, ◌≤◌, ◌<◌, ◌^◌, IsTrue, length, position};
-ghost use Rattle.cwr_fields.specs.Bytes.{is_spaces, is_control, has_control, are_digits, number_of, trimmed};
+ghost use Rattle.std.specs.Prelude.{◌≡◌, ◌↔◌, ◌≤◌, ◌<◌, ◌^◌, IsTrue, length, position};
+ghost use Rattle.cwr_fields.specs.Bytes.{is_spaces, is_control, has_control, are_digits, number_of, trimmed, digits};
 
 /// Whether every byte is a space.
 pub(crate) fn is_spaces(cell: &[u8]) -> bool
@@ -57,4 +57,20 @@ pub fn trimmed(text: &[u8]) -> &[u8]
         rest = front;
     }
     rest
+}
+
+/// Whether the cell is the number's last decimal digits, as many as it is wide, with leading zeros.
+pub fn spells(cell: &[u8], number: u64) -> bool
+    ensures { IsTrue result ↔ (cell.now ≡ digits (length cell.now) number) }
+{
+    let mut rest = number;
+    let mut text = cell;
+    while let [front @ .., last] = text {
+        if *last != b'0' + (rest % 10) as u8 {
+            return false;
+        }
+        rest /= 10;
+        text = front;
+    }
+    true
 }

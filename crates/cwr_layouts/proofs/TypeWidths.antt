@@ -1,0 +1,52 @@
+-- Where a type has a width, each field of the type has that width.
+use Rattle.std.proofs.Common.{◌≡◌, ℕ, zero, suc, Bool, true, List, [], ◌∷◌, refl, sym, ap, ◌∙◌}
+use Rattle.std.specs.Prelude.{Option, Some, None, option_map, unwrap_or, slice_get, ◌==◌}
+use Rattle.std.specs.List.{list_all}
+use Rattle.std.proofs.lemmas.Bool.{and_parts, eqb-true}
+use Rattle.cwr_fields.specs.Cells.{type_width}
+use Rattle.cwr_layouts.specs.declared.kinds.Kind.{Kind}
+use Rattle.cwr_layouts.specs.declared.kinds.Kind.TheVariants.{Hdr, Grh, Grt, Trl, Agr, Ter, Ipa, Nwr, Rev, Spu, Opu, Spt, Swr, Owr, Swt, Pwr, Alt, Ewt, Ver, Per, Rec, Orn, Com, Ack, Msg}
+use Rattle.cwr_layouts.specs.Layouts.{FieldLayout, layout, field_at}
+
+-- the field has the width of its type
+abbrev is_wide : FieldLayout → Bool
+is_wide f = unwrap_or (option_map (λ w. w == f.width) (type_width f.ty)) true
+
+all_wide : (kind : Kind) → list_all is_wide (layout kind) ≡ true
+all_wide Hdr = refl
+all_wide Grh = refl
+all_wide Grt = refl
+all_wide Trl = refl
+all_wide Agr = refl
+all_wide Ter = refl
+all_wide Ipa = refl
+all_wide Nwr = refl
+all_wide Rev = refl
+all_wide Spu = refl
+all_wide Opu = refl
+all_wide Spt = refl
+all_wide Swr = refl
+all_wide Owr = refl
+all_wide Swt = refl
+all_wide Pwr = refl
+all_wide Alt = refl
+all_wide Ewt = refl
+all_wide Ver = refl
+all_wide Per = refl
+all_wide Rec = refl
+all_wide Orn = refl
+all_wide Com = refl
+all_wide Ack = refl
+all_wide Msg = refl
+
+wide_one : (fields : List FieldLayout) (i : ℕ) (f : FieldLayout) → list_all is_wide fields ≡ true → slice_get fields i ≡ Some f → is_wide f ≡ true
+wide_one [] i f h e = absurd (cc e)
+wide_one (g ∷ fields) zero f h e = let same : g ≡ f = cc e in ap is_wide (sym same) ∙ (and_parts (is_wide g) (list_all is_wide fields) h).0
+wide_one (g ∷ fields) (suc i) f h e = wide_one fields i f (and_parts (is_wide g) (list_all is_wide fields) h).1 e
+
+-- a field of a type that has a width has that width
+pub type_width-field : (kind : Kind) (j : ℕ) (f : FieldLayout) (w : ℕ) → field_at kind j ≡ Some f → type_width f.ty ≡ Some w → f.width ≡ w
+type_width-field kind zero f w e h = absurd (cc e)
+type_width-field kind (suc i) f w e h =
+    let wide : is_wide f ≡ true = wide_one (layout kind) i f (all_wide kind) e in
+    sym (eqb-true w f.width (ap (λ (o : Option ℕ). unwrap_or (option_map (λ v. v == f.width) o) true) (sym h) ∙ wide))
