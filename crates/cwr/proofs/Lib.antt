@@ -3,3 +3,4 @@ mod Building
 mod Standing
 mod Goodness
 mod CellFacts
+mod Checked

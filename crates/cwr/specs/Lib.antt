@@ -1,3 +1,4 @@
 pub mod Bare
 pub mod Walks
 pub mod Reads
+pub mod Told

@@ -1,10 +1,10 @@
 -- How the program goes over the records of bare acknowledgements: what it counts, and which record may come.
-use Rattle.std.specs.Prelude.{◌≡◌, ℕ, ◌+◌, ◌-◌, ◌≤◌, ◌==◌, Bool, true, false, List, [], ◌∷◌, ◌++◌, length, codes, Option, Some, None, slice_index_or, if◌then◌else◌}
+use Rattle.std.specs.Prelude.{◌≡◌, ℕ, ◌+◌, ◌-◌, ◌≤◌, ◌==◌, Bool, true, false, List, [], ◌∷◌, ◌++◌, length, codes, Option, Some, None, IfSome, slice_index_or, ◌⊎◌, if◌then◌else◌}
 use Rattle.std.specs.List.{AllZip, flat_map}
 use Rattle.cwr_fields.specs.declared.codes.TransactionType.TheVariants.{Acknowledgement}
 use Rattle.cwr_layouts.specs.declared.kinds.Kind.{Kind}
 use Rattle.cwr_layouts.specs.declared.kinds.Kind.TheVariants as kinds
-use Rattle.cwr_layouts.specs.Lines.{IsLineOf}
+use Rattle.cwr_layouts.specs.Lines.{IsLineOf, closed}
 use Rattle.cwr_layouts.specs.Layouts.{FieldLayout, layout, field_at}
 use Rattle.cwr_layouts.specs.Held.{HeldLine, held_kind, held_cells, held_excess}
 use Rattle.cwr_layouts.specs.Records.{RecordValue, IsRecord, IsGoodBy, Row, row_of}
@@ -138,3 +138,19 @@ NeverFollows h = (kind : Kind) (position : Position) → held_kind h ≡ Some ki
 -- the line isn't a good one of any kind
 abbrev pub IsBadLine : Limits → Progress → HeldLine → Type 0
 IsBadLine limits c h = (kind : Kind) → ¬ IsGoodLine limits c h kind
+
+-- ---- how far a source was read
+
+-- what was used of the text and what is left are the text, or it was used whole and closed by a line feed
+abbrev pub IsUsed : List ℕ → List ℕ → List ℕ → Type 0
+IsUsed text used left = (text ≡ used ++ left) ⊎ ((left ≡ []) × (used ≡ text ++ 10 ∷ []) × (closed text ≡ used))
+
+-- of the text so much was read, and what was read stands
+pub record IsRead (limits : Limits) (text left : List ℕ) (c : Progress) : Type 0 where
+  pub used : List ℕ
+  pub split : IsUsed text used left
+  pub stands : Stands limits used c
+
+-- the same of a source, where its bytes are known
+abbrev pub HasRead : Limits → Option (List ℕ) → Option (List ℕ) → Progress → Type 0
+HasRead limits before now c = IfSome before (λ text. (left : List ℕ) × (now ≡ Some left) × IsRead limits text left c)

@@ -6,6 +6,7 @@ ghost use Rattle.cwr_fields.specs.Bytes.{digits};
 ghost use Rattle.cwr_fields.specs.Cells.{Holds, type_width};
 ghost use Rattle.cwr_layouts.specs.Layouts.{layout as layout_of};
 ghost use Rattle.cwr_layouts.specs.Held.{held_kind};
+ghost use Rattle.cwr_shape.specs.Ranges.{AreInRange};
 ghost use Rattle.cwr.specs.Walks.{may_follow, HasRoom, IsBadLine, IsCounted, IsGoodAt, IsGoodLine, NeverFollows};
 
 use crate::progress::Progress;
@@ -98,6 +99,7 @@ fn judge_kind(limits: &Limits, progress: &Progress, kind: Kind) -> Result<(), Re
     requires { IsCounted progress.now }
     ensures follows { OnOk result (may_follow progress.now.position kind ≡ true) }
     ensures room { OnOk result (HasRoom limits.now progress.now kind) }
+    ensures in_range { OnOk result (AreInRange limits.now) }
     ensures err { OnErr result (may_follow progress.now.position kind ≡ true → ¬ HasRoom limits.now progress.now kind) }
 {
     if !progress.may_follow(kind) {
@@ -116,6 +118,7 @@ fn judge_kind(limits: &Limits, progress: &Progress, kind: Kind) -> Result<(), Re
 pub fn judge(limits: &Limits, progress: &Progress, line: &CutLine<'_>) -> Result<Kind, LineFault>
     requires { IsCounted progress.now }
     ensures ok { IfOk result (IsGoodLine limits.now progress.now line.now) }
+    ensures in_range { OnOk result (AreInRange limits.now) }
     ensures err { OnErr result (IsBadLine limits.now progress.now line.now) }
 {
     let Some(kind) = known_kind(line) else {

@@ -75,8 +75,7 @@ impl Limits {
     /// The most records of a transmission, HDR and TRL counted.
     pub fn records(&self) -> u32
         ensures value { result ≡ self.now.records }
-        ensures least { 5 ≤ result }
-        ensures most { result ≤ 99999999 }
+        ensures in_range { AreInRange self.now }
     {
         self.records
     }
@@ -84,8 +83,7 @@ impl Limits {
     /// The most groups of a transmission.
     pub fn groups(&self) -> u32
         ensures value { result ≡ self.now.groups }
-        ensures least { 1 ≤ result }
-        ensures most { result ≤ 99999 }
+        ensures in_range { AreInRange self.now }
     {
         self.groups
     }
@@ -93,8 +91,7 @@ impl Limits {
     /// The most records of one transaction.
     pub fn transaction(&self) -> u32
         ensures value { result ≡ self.now.transaction }
-        ensures least { 1 ≤ result }
-        ensures most { result ≤ 999999 }
+        ensures in_range { AreInRange self.now }
     {
         self.transaction
     }

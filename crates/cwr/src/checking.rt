@@ -1,0 +1,141 @@
+//! Checking a transmission of bare acknowledgements.
+
+ghost use Rattle.std.specs.Prelude.{◌≡◌, ◌≢◌, ◌≤◌, IfOk, Some, string_bytes};
+ghost use Rattle.cwr_fields.specs.Failures.{CountsFailure, one_more_failure};
+ghost use Rattle.cwr_layouts.specs.declared.kinds.Kind.{Kind};
+ghost use Rattle.cwr_levels.specs.Lines.{fault_text, level_text, reason_text};
+ghost use Rattle.cwr_tools.specs.Texts.{verdict_line};
+ghost use Rattle.cwr.specs.Told.{TellsAccepted, TellsCanonical, TellsOf};
+ghost use Rattle.cwr.specs.Walks.{IsCounted};
+
+use crate::judging::{LineFault, judge};
+use crate::progress::{Position, Progress};
+use crate::reading::read_line;
+use cwr_decode::Refusal;
+use cwr_fields::{CellFault, DeviceFault, Source, Target};
+use cwr_layouts::{Kind, LineBuf};
+use cwr_shape::{Level, LimitKind, Limits, Place, Reason, level};
+use cwr_tools::{ToolFault, Verdict};
+use std::alloc::{AllocError, Global};
+
+/// What is open.
+fn place(progress: &Progress) -> Place {
+    match progress.position {
+        Position::InGroup => Place::Group,
+        Position::Acked => Place::Transaction,
+        _ => Place::File,
+    }
+}
+
+/// The refusal of a line of the kind, behind what was counted.
+fn refusal(progress: &Progress, kind: Option<Kind>, fault: LineFault) -> Refusal
+    requires { progress.now.records ≤ 99999999 }
+{
+    Refusal {
+        rec: progress.records + 1,
+        field: fault.field,
+        level: level(kind, fault.field, &fault.reason, place(progress)),
+        reason: fault.reason,
+    }
+}
+
+/// Reads a transmission of bare acknowledgements line by line, up to TRL or the first line that is refused.
+fn read_verdict<R: Source>(limits: &Limits, reader: &mut R) -> Result<Verdict, DeviceFault>
+    ensures told { IfOk result (λ verdict. TellsOf limits.now (R.remaining reader.old) verdict (R.remaining reader.new)) }
+    ensures failures { CountsFailure result (R.failures reader.old) (R.failures reader.new) }
+{
+    let mut line = LineBuf::new();
+    let mut progress = Progress::new();
+    'lines: loop {
+        if !read_line(reader, &mut line)? {
+            return Ok(Verdict::Truncated {
+                records: progress.records,
+            });
+        }
+        let cut = line.cut();
+        match judge(limits, &progress, &cut) {
+            Err(fault) => return Ok(Verdict::Refused(refusal(&progress, cut.kind(), fault))),
+            Ok(kind) => progress.count(kind),
+        }
+        if let Position::Ended = progress.position {
+            return Ok(Verdict::Good {
+                groups: progress.groups,
+                transactions: progress.transactions,
+                records: progress.records,
+            });
+        }
+    }
+}
+
+/// The words for a reason.
+fn reason_text(alloc: Global, reason: &Reason) -> Result<String, AllocError>
+    ensures { IfOk result (λ text. string_bytes text ≡ reason_text reason.now) }
+{
+    match reason {
+        Reason::UnknownKind => "unknown kind".to_string(alloc),
+        Reason::Misplaced => "misplaced".to_string(alloc),
+        Reason::Cell(fault) => fault_text(fault).to_string(alloc),
+        Reason::Number { expected } => format!(in alloc; "number expected {expected}"),
+        Reason::Limit(LimitKind::Records) => "limit records".to_string(alloc),
+        Reason::Limit(LimitKind::Groups) => "limit groups".to_string(alloc),
+        Reason::Limit(LimitKind::Transaction) => "limit transaction".to_string(alloc),
+        Reason::Excess => "excess".to_string(alloc),
+    }
+}
+
+/// The words for a cell's fault.
+fn fault_text(fault: &CellFault) -> &'static str
+    ensures { result.now ≡ fault_text fault.now }
+{
+    match fault {
+        CellFault::Blank => "cell blank",
+        CellFault::Control => "cell control",
+        CellFault::NotDigits => "cell not digits",
+        CellFault::NotADate => "cell not a date",
+        CellFault::NotATime => "cell not a time",
+        CellFault::OverShare => "cell over share",
+        CellFault::NotACode => "cell not a code",
+        CellFault::NotConstant => "cell not constant",
+    }
+}
+
+/// The letter of a level.
+fn level_text(level: Level) -> &'static str
+    ensures { result.now ≡ level_text level }
+{
+    match level {
+        Level::E => "E",
+        Level::G => "G",
+        Level::T => "T",
+        Level::R => "R",
+        Level::F => "F",
+    }
+}
+
+/// The line that tells how a text ended.
+fn verdict_line(alloc: Global, verdict: &Verdict) -> Result<String, AllocError>
+    ensures { IfOk result (λ line. string_bytes line ≡ verdict_line verdict.now) }
+{
+    match verdict {
+        Verdict::Good {
+            groups,
+            transactions,
+            records,
+        } => format!(in alloc;
+            "GOOD groups {groups} transactions {transactions} records {records}\n"
+        ),
+        Verdict::Refused(
+            Refusal {
+                rec,
+                field,
+                level,
+                reason,
+            },
+        ) => {
+            let letter = level_text(*level);
+            let words = reason_text(alloc, reason)?;
+            format!(in alloc; "REFUSED record {rec} field {field} level {letter} {words}\n")
+        }
+        Verdict::Truncated { records } => format!(in alloc; "TRUNCATED records {records}\n"),
+    }
+}
