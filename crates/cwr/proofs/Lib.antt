@@ -4,3 +4,4 @@ mod Standing
 mod Goodness
 mod CellFacts
 mod Checked
+mod LineTexts

@@ -1,9 +1,9 @@
 //! Checking a transmission of bare acknowledgements.
 
-ghost use Rattle.std.specs.Prelude.{◌≡◌, ◌≢◌, ◌≤◌, IfOk, Some, string_bytes};
+ghost use Rattle.std.specs.Prelude.{codes, decimal, ◌≡◌, ◌≤◌, ◌++◌, ◌∷◌, [], IfOk, string_bytes};
 ghost use Rattle.cwr_fields.specs.Failures.{CountsFailure, one_more_failure};
 ghost use Rattle.cwr_layouts.specs.declared.kinds.Kind.{Kind};
-ghost use Rattle.cwr_levels.specs.Lines.{fault_text, level_text, reason_text};
+ghost use Rattle.cwr_levels.specs.Lines.{fault_text, good_line, level_text, reason_text, refusal_line, truncated_line};
 ghost use Rattle.cwr_tools.specs.Texts.{verdict_line};
 ghost use Rattle.cwr.specs.Told.{TellsAccepted, TellsCanonical, TellsOf};
 ghost use Rattle.cwr.specs.Walks.{IsCounted};
@@ -112,6 +112,52 @@ fn level_text(level: Level) -> &'static str
     }
 }
 
+/// The line on an accepted text.
+fn good_line(
+    alloc: Global,
+    groups: u32,
+    transactions: u32,
+    records: u32,
+) -> Result<String, AllocError>
+    ensures { IfOk result (λ line. string_bytes line ≡ good_line groups transactions records) }
+{
+    format!(in alloc; "GOOD groups {groups} transactions {transactions} records {records}\n")
+}
+
+/// The line on a text that is refused at the field of the record, with words for the level and the reason.
+fn refused_line(
+    alloc: Global,
+    rec: u32,
+    field: u8,
+    level: &str,
+    reason: &str,
+) -> Result<String, AllocError>
+    ensures { IfOk result (λ line. string_bytes line ≡ codes "REFUSED record " ++ decimal rec ++ codes " field " ++ decimal field ++ codes " level " ++ level.now ++ codes " " ++ reason.now ++ 10 ∷ []) }
+{
+    format!(in alloc; "REFUSED record {rec} field {field} level {level} {reason}\n")
+}
+
+/// The line on a text that is refused.
+fn refusal_line(alloc: Global, refusal: &Refusal) -> Result<String, AllocError>
+    ensures { IfOk result (λ line. string_bytes line ≡ refusal_line refusal.now) }
+{
+    let words = reason_text(alloc, &refusal.reason)?;
+    refused_line(
+        alloc,
+        refusal.rec,
+        refusal.field,
+        level_text(refusal.level),
+        words.as_str(),
+    )
+}
+
+/// The line on a text that ends too early.
+fn truncated_line(alloc: Global, records: u32) -> Result<String, AllocError>
+    ensures { IfOk result (λ line. string_bytes line ≡ truncated_line records) }
+{
+    format!(in alloc; "TRUNCATED records {records}\n")
+}
+
 /// The line that tells how a text ended.
 fn verdict_line(alloc: Global, verdict: &Verdict) -> Result<String, AllocError>
     ensures { IfOk result (λ line. string_bytes line ≡ verdict_line verdict.now) }
@@ -121,21 +167,8 @@ fn verdict_line(alloc: Global, verdict: &Verdict) -> Result<String, AllocError>
             groups,
             transactions,
             records,
-        } => format!(in alloc;
-            "GOOD groups {groups} transactions {transactions} records {records}\n"
-        ),
-        Verdict::Refused(
-            Refusal {
-                rec,
-                field,
-                level,
-                reason,
-            },
-        ) => {
-            let letter = level_text(*level);
-            let words = reason_text(alloc, reason)?;
-            format!(in alloc; "REFUSED record {rec} field {field} level {letter} {words}\n")
-        }
-        Verdict::Truncated { records } => format!(in alloc; "TRUNCATED records {records}\n"),
+        } => good_line(alloc, *groups, *transactions, *records),
+        Verdict::Refused(refusal) => refusal_line(alloc, refusal),
+        Verdict::Truncated { records } => truncated_line(alloc, *records),
     }
 }
