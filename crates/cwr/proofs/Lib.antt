@@ -5,3 +5,4 @@ mod Goodness
 mod CellFacts
 mod Checked
 mod LineTexts
+mod Moves

@@ -1,11 +1,12 @@
 //! Checking a transmission of bare acknowledgements.
 
-ghost use Rattle.std.specs.Prelude.{codes, decimal, ◌≡◌, ◌≤◌, ◌++◌, ◌∷◌, [], IfOk, string_bytes};
+ghost use Rattle.std.specs.Prelude.{codes, decimal, ◌≡◌, ◌⊎◌, ◌≤◌, ◌++◌, ◌∷◌, [], Err, IfErr, IfOk, OnOk, length, string_bytes, take};
+ghost use Rattle.std.specs.Io.KnownBytes.{Appends};
 ghost use Rattle.cwr_fields.specs.Failures.{CountsFailure, one_more_failure};
 ghost use Rattle.cwr_layouts.specs.declared.kinds.Kind.{Kind};
 ghost use Rattle.cwr_levels.specs.Lines.{fault_text, good_line, level_text, reason_text, refusal_line, truncated_line};
 ghost use Rattle.cwr_tools.specs.Texts.{verdict_line};
-ghost use Rattle.cwr.specs.Told.{TellsAccepted, TellsCanonical, TellsOf};
+ghost use Rattle.cwr.specs.Told.{IsCheckFault, TellsAccepted, TellsCanonical, TellsOf, WritesPart};
 ghost use Rattle.cwr.specs.Walks.{IsCounted};
 
 use crate::judging::{LineFault, judge};
@@ -171,4 +172,64 @@ fn verdict_line(alloc: Global, verdict: &Verdict) -> Result<String, AllocError>
         Verdict::Refused(refusal) => refusal_line(alloc, refusal),
         Verdict::Truncated { records } => truncated_line(alloc, *records),
     }
+}
+
+/// Writes a text and hands it on, or tells how many of its bytes were written before the writer failed.
+fn write_text<W: Target>(writer: &mut W, text: &[u8]) -> Result<(), usize>
+    ensures whole { OnOk result (Appends (W.contents writer.old) (W.contents writer.new) text.now) }
+    ensures part { IfErr result (λ written. (written ≤ length text.now) × Appends (W.contents writer.old) (W.contents writer.new) (take written text.now)) }
+    ensures failures { CountsFailure result (W.failures writer.old) (W.failures writer.new) }
+{
+    let mut written = 0;
+    while written < text.len() {
+        match writer.write(&text[written..]) {
+            Ok(count) => written += count,
+            Err(_) => return Err(written),
+        }
+    }
+    match writer.flush() {
+        Ok(()) => Ok(()),
+        Err(_) => Err(written),
+    }
+}
+
+/// Checks a transmission of bare acknowledgements: reads it up to TRL or the first line that is refused, and writes the
+/// line of the verdict. The writer comes back.
+///
+/// It is good exactly where the reader's bytes begin with a spelling of such a transmission within the limits. Then
+/// just that front is consumed, and the verdict has the transmission's numbers. It answers `ToolFault::Reader` or
+/// `ToolFault::Writer` where that device failed, and `ToolFault::Memory` where there was none for the line.
+pub fn check<R: Source, W: Target + Drop>(
+    alloc: Global,
+    limits: Limits,
+    reader: &mut R,
+    writer: W,
+) -> (W, Result<Verdict, ToolFault>)
+    ensures told { IfOk result.1 (λ verdict. TellsOf limits (R.remaining reader.old) verdict (R.remaining reader.new)) }
+    ensures accepted { IfOk result.1 (λ verdict. TellsAccepted limits (R.remaining reader.old) verdict (R.remaining reader.new)) }
+    ensures canonical { IfOk result.1 (TellsCanonical limits (R.remaining reader.old)) }
+    ensures written { IfOk result.1 (λ verdict. Appends (W.contents writer) (W.contents result.0) (verdict_line verdict)) }
+
+    ensures reader_failed { result.1 ≡ Err ToolFault.Reader → R.failures reader.new ≡ one_more_failure (R.failures reader.old) }
+    ensures unwritten { (result.1 ≡ Err ToolFault.Reader) ⊎ (result.1 ≡ Err ToolFault.Memory) → result.0 ≡ writer }
+    ensures writer_failed { IfErr result.1 (λ fault. IsCheckFault fault (λ _. W.failures result.0 ≡ one_more_failure (W.failures writer))) }
+    ensures part { IfErr result.1 (λ fault. IsCheckFault fault
+        (WritesPart limits (R.remaining reader.old) (R.remaining reader.new) (W.contents writer) (W.contents result.0))) }
+{
+    let mut writer = writer;
+    let verdict = match read_verdict(&limits, reader) {
+        Ok(verdict) => verdict,
+        Err(_) => return (writer, Err(ToolFault::Reader)),
+    };
+    let line = match verdict_line(alloc, &verdict) {
+        Ok(line) => line,
+        Err(_) => return (writer, Err(ToolFault::Memory)),
+    };
+    let told = match write_text(&mut writer, line.as_bytes()) {
+        Ok(()) => Ok(verdict),
+        Err(written) => Err(ToolFault::Writer {
+            written: written as u64,
+        }),
+    };
+    (writer, told)
 }

@@ -1,0 +1,26 @@
+-- A text that is written in parts.
+use Rattle.std.proofs.Common.{◌≡◌, ◌+◌, ℕ, List, [], ◌++◌, take, drop, length, Option, Some, None, sym, ap, subst, ◌∙◌, append_assoc, append-nil}
+use Rattle.std.proofs.Math.Seq.{take-add}
+use Rattle.std.specs.Io.KnownBytes.{Appends, Keeps}
+
+appends_both : (a b c : Option (List ℕ)) (xs ys : List ℕ) → Appends a b xs → Appends b c ys → Appends a c (xs ++ ys)
+appends_both None b c xs ys h k = tt
+appends_both (Some x) None c xs ys h k = absurd h
+appends_both (Some x) (Some y) None xs ys h k = absurd k
+appends_both (Some x) (Some y) (Some z) xs ys h k = k ∙ ap (λ l. l ++ ys) h ∙ append_assoc x xs ys
+
+-- some bytes more of the text
+pub writes_on : (a b c : Option (List ℕ)) (text : List ℕ) (i n : ℕ) → Appends a b (take i text) → Appends b c (take n (drop i text)) → Appends a c (take (i + n) text)
+writes_on a b c text i n h k = subst (Appends a c) (sym (take-add i n text)) (appends_both a b c (take i text) (take n (drop i text)) h k)
+
+-- nothing yet
+pub writes_none : (a : Option (List ℕ)) (text : List ℕ) → Appends a a (take 0 text)
+writes_none None text = tt
+writes_none (Some x) text = sym (append-nil x)
+
+-- what keeps its bytes adds none
+pub appends_kept : (a b c : Option (List ℕ)) (xs : List ℕ) → Appends a b xs → Keeps b c → Appends a c xs
+appends_kept None b c xs h k = tt
+appends_kept (Some x) None c xs h k = absurd h
+appends_kept (Some x) (Some y) None xs h k = absurd k
+appends_kept (Some x) (Some y) (Some z) xs h k = k ∙ h
