@@ -3,10 +3,12 @@
 
 mod kinds;
 mod layouts;
+mod lines;
 mod lookups;
 #[cfg(test)]
 mod tests;
 
 pub use kinds::Kind;
 pub use layouts::Field;
+pub use lines::{CutLine, LONGEST_LINE, LineBuf, LineEnd, Taken};
 pub use lookups::{field, fields, width};

@@ -1,0 +1,293 @@
+//! Lines of a text: each is taken piece by piece, and cut into cells where it stands.
+
+ghost use Rattle.std.specs.Prelude.{◌≡◌, ◌≢◌, ◌≤◌, ◌<◌, ◌+◌, ◌++◌, ◌∷◌, [], true, false, not, length, take, drop, slice_index, IsFalse, MatchOption, option_map};
+ghost use Rattle.std.specs.List.{list_any};
+ghost use Rattle.cwr_fields.specs.Bytes.{filled, is_spaces};
+ghost use Rattle.cwr_layouts.specs.Lines.{is_lf, without_cr, body_kind};
+ghost use Rattle.cwr_layouts.specs.Held.{HeldLine, Takes, IsHeld, empty_line, held_kind, held_cell, held_excess, filled_as, return_if};
+
+use crate::kinds::Kind;
+use crate::layouts::Field;
+use crate::lookups::{field, width};
+use arrayvec::ArrayVec;
+use memchr::memchr;
+use std::marker::Model;
+
+/// The most bytes that a line may have before its line feed, a carriage return counted.
+pub const LONGEST_LINE: usize = 1024;
+
+const LF: u8 = b'\n';
+
+const CR: u8 = b'\r';
+
+static SPACES: [u8; LONGEST_LINE] = [b' '; LONGEST_LINE];
+
+/// How a line ended, if it did.
+#[derive(Clone, Copy, Debug, PartialEq, Eq)]
+pub enum LineEnd {
+    /// More bytes may follow.
+    Open,
+    /// The line ended by its line feed, or was closed without one.
+    Line,
+    /// The line has more than 1,024 bytes before its line feed. It is judged by the first 1,024.
+    Over,
+}
+
+/// What a call of `take` did with its piece.
+#[derive(Clone, Copy, Debug)]
+pub struct Taken {
+    /// How many bytes of the piece were used, from its start.
+    pub used: usize,
+    /// How the line ended, if it did.
+    pub ended: LineEnd,
+}
+
+/// The place of the first line feed.
+fn line_feed(piece: &[u8]) -> Option<usize>
+    ensures { MatchOption result (IsFalse (list_any is_lf piece.now)) (λ at. (at < length piece.now) × IsFalse (list_any is_lf (take at piece.now)) × (slice_index piece.now at ≡ 10)) }
+{
+    memchr(LF, piece)
+}
+
+/// Drops one carriage return at the end of the text, and answers whether there was one.
+fn drop_return(text: &mut ArrayVec<u8, LONGEST_LINE>) -> bool
+    ensures body { text.new.items ≡ without_cr text.old.items }
+    ensures returned { text.old.items ≡ text.new.items ++ return_if result }
+{
+    let ends = text.as_slice().last().copied() == Some(CR);
+    if ends {
+        text.pop();
+    }
+    ends
+}
+
+/// Fills the text up with spaces to a width in bytes.
+fn fill_up(text: &mut ArrayVec<u8, LONGEST_LINE>, width: usize)
+    requires { width ≤ 1024 }
+    ensures { text.new.items ≡ filled width text.old.items }
+{
+    let missing = width.saturating_sub(text.len());
+    let _fits = text.try_extend_from_slice(&SPACES[..missing]);
+}
+
+/// Fills the text up with spaces to the width of its kind, or to three bytes where they name none.
+fn fill_by_kind(text: &mut ArrayVec<u8, LONGEST_LINE>) -> Option<Kind>
+    ensures kind { result ≡ body_kind text.old.items }
+    ensures filled { text.new.items ≡ filled_as result text.old.items }
+{
+    fill_up(text, 3);
+    let kind = Kind::of(&text.as_slice()[..3])?;
+    fill_up(text, width(kind));
+    Some(kind)
+}
+
+/// Whether each byte is a space.
+fn is_spaces(bytes: &[u8]) -> bool
+    ensures { result ≡ is_spaces bytes.now }
+{
+    bytes.iter().all(|byte| *byte == b' ')
+}
+
+/// The part of a text that a field takes.
+fn part(text: &[u8], place: Field) -> &[u8]
+    requires { place.start + place.width ≤ length text.now }
+    ensures { result.now ≡ take place.width (drop place.start text.now) }
+{
+    &text[place.start..][..place.width]
+}
+
+/// One line of a text, taken piece by piece. It holds 1,024 bytes at most, and takes no memory.
+///
+/// A line that ended is kept filled up with spaces to the width of its kind, so that each of its cells is a part of
+/// what is kept.
+#[derive(Drop)]
+pub struct LineBuf {
+    /// The bytes that were taken. Once the line ended: without the carriage return of its end, and filled up.
+    text: ArrayVec<u8, LONGEST_LINE>,
+    /// How many bytes of the text were taken.
+    count: usize,
+    /// Whether a carriage return was dropped behind them.
+    has_return: bool,
+    /// The kind of a line that ended.
+    kind: Option<Kind>,
+    ended: LineEnd,
+}
+
+impl Model for LineBuf {
+    ghost use Rattle.cwr_layouts.specs.Held.{HeldLine, line_kept, IsKept};
+
+    ghost Value = { HeldLine };
+
+    ghost view = { λ l. line_kept l.text.items l.count l.has_return l.ended };
+
+    ghost invariant = { λ l. IsKept l.text.items l.count l.has_return l.kind l.ended };
+}
+
+impl LineBuf {
+    /// The empty open line.
+    pub fn new() -> Self
+        ensures { result ≡ empty_line }
+    {
+        LineBuf {
+            text: ArrayVec::new(),
+            count: 0,
+            has_return: false,
+            kind: None,
+            ended: LineEnd::Open,
+        }
+    }
+
+    /// Begins a new line: the buffer is the empty open line again.
+    pub fn clear(&mut self)
+        ensures { self.new ≡ empty_line }
+    {
+        self.text.clear();
+        self.count = 0;
+        self.has_return = false;
+        self.ended = LineEnd::Open;
+    }
+
+    /// How many bytes were taken before the line feed, a carriage return counted; at most 1,024.
+    pub fn len(&self) -> usize
+        ensures len { result ≡ length self.now.bytes }
+        ensures held { IsHeld self.now }
+    {
+        self.count + usize::from(self.has_return)
+    }
+
+    /// How the line ended, if it did.
+    pub fn ended(&self) -> LineEnd
+        ensures { result ≡ self.now.ended }
+    {
+        self.ended
+    }
+
+    /// Appends bytes to an open line.
+    fn hold(&mut self, bytes: &[u8])
+        requires open { self.old.ended ≡ LineEnd.Open }
+        requires fits { length self.old.bytes + length bytes.now ≤ 1024 }
+        requires no_lf { IsFalse (list_any is_lf bytes.now) }
+        ensures { self.new ≡ record { bytes = self.old.bytes ++ bytes.now; ended = LineEnd.Open } }
+    {
+        let _fits = self.text.try_extend_from_slice(bytes);
+        self.count = self.text.len();
+    }
+
+    /// Ends an open line by its line feed, or without one.
+    pub fn close(&mut self)
+        requires { self.old.ended ≡ LineEnd.Open }
+        ensures { self.new ≡ record { bytes = self.old.bytes; ended = LineEnd.Line } }
+    {
+        self.has_return = drop_return(&mut self.text);
+        self.count = self.text.len();
+        self.kind = fill_by_kind(&mut self.text);
+        self.ended = LineEnd::Line;
+    }
+
+    /// Ends an open line that is too long.
+    fn close_over(&mut self)
+        requires open { self.old.ended ≡ LineEnd.Open }
+        requires full { length self.old.bytes ≡ 1024 }
+        ensures { self.new ≡ record { bytes = self.old.bytes; ended = LineEnd.Over } }
+    {
+        self.kind = fill_by_kind(&mut self.text);
+        self.ended = LineEnd::Over;
+    }
+
+    /// Takes the line's next bytes from a piece: up to its line feed, that included, or the whole piece, or as many
+    /// as may stand before the line's 1,025th byte where that is no line feed. The line must be open.
+    pub fn take(&mut self, piece: &[u8]) -> Taken
+        requires { self.old.ended ≡ LineEnd.Open }
+        ensures takes { Takes self.old piece.now result.used self.new }
+        ensures ended { result.ended ≡ self.new.ended }
+        ensures held { IsHeld self.new }
+    {
+        let room = LONGEST_LINE - self.len();
+        match line_feed(&piece[..piece.len().min(room + 1)]) {
+            Some(at) => {
+                self.hold(&piece[..at]);
+                self.close();
+                Taken {
+                    used: at + 1,
+                    ended: LineEnd::Line,
+                }
+            }
+            None if piece.len() <= room => {
+                self.hold(piece);
+                Taken {
+                    used: piece.len(),
+                    ended: LineEnd::Open,
+                }
+            }
+            None => {
+                self.hold(&piece[..room]);
+                self.close_over();
+                Taken {
+                    used: room,
+                    ended: LineEnd::Over,
+                }
+            }
+        }
+    }
+    /// The cells of a line that ended, borrowed from the buffer.
+    pub fn cut(&self) -> CutLine<'_>
+        requires { self.now.ended ≢ LineEnd.Open }
+        ensures { result ≡ self.now }
+    {
+        CutLine { line: self }
+    }
+}
+
+/// A line that ended, cut into the cells of its kind. A line that is too short for its kind stands for the line
+/// filled up with spaces.
+#[derive(Drop)]
+pub struct CutLine<'a> {
+    line: &'a LineBuf,
+}
+
+impl<'a> Model for CutLine<'a> {
+    ghost use Rattle.std.specs.Prelude.{◌≢◌};
+    ghost use Rattle.cwr_layouts.specs.Held.{HeldLine};
+
+    ghost Value = { HeldLine };
+
+    ghost use Rattle.cwr_layouts.specs.declared.lines.LineEnd.TheVariants.{Open};
+
+    ghost view = { λ c. c.line.now };
+
+    ghost invariant = { λ c. c.line.now.ended ≢ Open };
+}
+
+impl<'a> CutLine<'a> {
+    /// The kind that the line's first three bytes name.
+    pub fn kind(&self) -> Option<Kind>
+        ensures { result ≡ held_kind self.now }
+    {
+        let line = self.line;
+        line.kind
+    }
+
+    /// Cell `j` of the line, from 1, in its field's full width. `None` where the kind is unknown or has no field `j`.
+    pub fn cell(&self, j: u8) -> Option<&'a [u8]>
+        ensures { option_map (λ cell. cell.now) result ≡ held_cell self.now j }
+    {
+        let line = self.line;
+        let place = field(line.kind?, j)?;
+        Some(part(line.text.as_slice(), place))
+    }
+
+    /// Whether what stands behind the last field is bad: it isn't all spaces, or the line is too long. A line of
+    /// unknown kind has nothing behind its last field.
+    pub fn excess(&self) -> bool
+        ensures { result ≡ held_excess self.now }
+    {
+        let line = self.line;
+        let Some(kind) = line.kind else {
+            return false;
+        };
+        if let LineEnd::Over = line.ended {
+            return true;
+        }
+        !is_spaces(&line.text.as_slice()[width(kind)..])
+    }
+}
