@@ -1,12 +1,12 @@
 -- A line as far as it was taken, and what it is cut into.
-use Rattle.std.specs.Prelude.{◌≡◌, ◌≢◌, ℕ, ◌+◌, ◌-◌, ◌<◌, ◌≤◌, Bool, true, false, ◌==◌, IsFalse, List, [], ◌∷◌, ◌++◌, length, take, Option, Some, None, slice_get, slice_index, if◌then◌else◌}
+use Rattle.std.specs.Prelude.{◌≡◌, ◌≢◌, ℕ, ◌-◌, ◌<◌, ◌≤◌, Bool, true, false, ◌==◌, IsFalse, List, [], ◌∷◌, ◌++◌, length, take, Option, Some, None, slice_get, slice_index, if◌then◌else◌}
 use Rattle.std.specs.List.{list_any}
 use Rattle.cwr_fields.specs.Bytes.{filled}
 use Rattle.cwr_layouts.specs.declared.kinds.Kind.{Kind}
 use Rattle.cwr_layouts.specs.declared.lines.LineEnd.{LineEnd}
 use Rattle.cwr_layouts.specs.declared.lines.LineEnd.TheVariants.{Open, Line, Over}
 use Rattle.cwr_layouts.specs.Layouts.{line_width}
-use Rattle.cwr_layouts.specs.Lines.{is_lf, longest_line, without_cr, body_kind, cells_as, excess_as}
+use Rattle.cwr_layouts.specs.Lines.{is_lf, longest_line, without_cr, body_kind, cells_as, excess_as, line_kind, line_cells, has_bad_excess}
 
 -- the bytes of a line before its line feed, and how it ended
 pub record HeldLine : Type 0 where
@@ -85,6 +85,21 @@ pub record Takes (old : HeldLine) (piece : List ℕ) (used : ℕ) (new : HeldLin
   pub within : used ≤ length piece
   pub text : held_text new ≡ old.bytes ++ take used piece
   pub stops : Stops new.ended piece used
+
+-- what was taken is the line, or where that is too long its first bytes
+abbrev pub HoldsBy : LineEnd → List ℕ → List ℕ → Type 0
+HoldsBy Open bytes line = ⊥
+HoldsBy Line bytes line = bytes ≡ line
+HoldsBy Over bytes line = (longest_line < length line) × (bytes ≡ take longest_line line)
+
+abbrev pub HoldsLine : HeldLine → List ℕ → Type 0
+HoldsLine h line = HoldsBy h.ended h.bytes line
+
+-- what was taken is cut as the line is
+pub record IsCutAs (h : HeldLine) (line : List ℕ) : Type 0 where
+  pub kind : held_kind h ≡ line_kind line
+  pub cells : held_cells h ≡ line_cells line
+  pub excess : held_excess h ≡ has_bad_excess line
 
 -- ---- how a line is kept
 

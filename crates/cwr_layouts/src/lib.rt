@@ -2,6 +2,7 @@
 #![tactic(auto)]
 
 mod kinds;
+pub mod laws;
 mod layouts;
 mod lines;
 mod lookups;

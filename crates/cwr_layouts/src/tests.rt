@@ -1,6 +1,8 @@
 //! Tests of what no clause says: that the calls answer as the written tables of CWR 2.1 have it.
 
-use crate::{Kind, field, fields, width};
+ghost use Rattle.std.specs.Prelude.{◌≢◌};
+
+use crate::{Kind, LineBuf, LineEnd, field, fields, width};
 use cwr_fields::{CellType, Table, Word};
 use std::test::Fail;
 
@@ -65,4 +67,122 @@ fn fields_by_their_numbers(rt: HostRuntime) -> Result<(), Fail> {
     assert!(rt; field(Kind::Ack, 0).is_none());
     assert!(rt; field(Kind::Ack, 14).is_none());
     Ok(())
+}
+
+#[test]
+fn takes_by_pieces(rt: HostRuntime) {
+    let long = [b'A'; 1024];
+    let table: [(&[u8], &[u8], usize, LineEnd, usize); 5] = [
+        (b"", b"", 0, LineEnd::Open, 0),
+        (b"", b"AB\nC", 3, LineEnd::Line, 2),
+        (&long, b"x", 0, LineEnd::Over, 1024),
+        (&long, b"\n", 1, LineEnd::Line, 1024),
+        (b"A\r", b"\n", 1, LineEnd::Line, 2),
+    ];
+    for (first, second, used, ended, len) in table {
+        let mut line = LineBuf::new();
+        let begun = line.take(first);
+        assert_eq!(rt; begun.used, first.len());
+        assert_eq!(rt; begun.ended, LineEnd::Open);
+        if begun.ended == LineEnd::Open {
+            let taken = line.take(second);
+            assert_eq!(rt; taken.used, used);
+            assert_eq!(rt; taken.ended, ended);
+            assert_eq!(rt; line.len(), len);
+        }
+    }
+}
+
+/// The line that a text begins with.
+fn line_of(text: &[u8]) -> LineBuf
+    ensures { result.ended ≢ LineEnd.Open }
+{
+    let mut line = LineBuf::new();
+    let taken = line.take(text);
+    if taken.ended == LineEnd::Open {
+        line.close();
+    }
+    line
+}
+
+#[test]
+fn cells_of_known_kinds(rt: HostRuntime) {
+    let blank = b"        ";
+    let table: [(&[u8], [&[u8]; 4], bool); 6] = [
+        (
+            b"TRL000010000000100000005\r\n",
+            [b"TRL", b"00001", b"00000001", b"00000005"],
+            false,
+        ),
+        (
+            b"TRL000010000000100000005   ",
+            [b"TRL", b"00001", b"00000001", b"00000005"],
+            false,
+        ),
+        (
+            b"TRL000010000000100000005X\n",
+            [b"TRL", b"00001", b"00000001", b"00000005"],
+            true,
+        ),
+        (
+            b"TRL000010000000100000005\r\r\n",
+            [b"TRL", b"00001", b"00000001", b"00000005"],
+            true,
+        ),
+        (b"TRL00002\r\nTRL", [b"TRL", b"00002", blank, blank], false),
+        (
+            b"TRL00003   9\n",
+            [b"TRL", b"00003", b"   9    ", blank],
+            false,
+        ),
+    ];
+    for (text, cells, excess) in table {
+        let line = line_of(text);
+        let cut = line.cut();
+        assert_eq!(rt; cut.kind(), Some(Kind::Trl));
+        assert!(rt; cut.cell(0).is_none());
+        assert_eq!(rt; cut.cell(1), Some(cells[0]));
+        assert_eq!(rt; cut.cell(2), Some(cells[1]));
+        assert_eq!(rt; cut.cell(3), Some(cells[2]));
+        assert_eq!(rt; cut.cell(4), Some(cells[3]));
+        assert!(rt; cut.cell(5).is_none());
+        assert_eq!(rt; cut.excess(), excess);
+    }
+}
+
+#[test]
+fn unknown_kinds_have_no_cells(rt: HostRuntime) {
+    let texts: [&[u8]; 5] = [b"", b"\r\n", b"HD\n", b"hdr\n", b"OPT000000000000000X\n"];
+    for text in texts {
+        let line = line_of(text);
+        let cut = line.cut();
+        assert!(rt; cut.kind().is_none());
+        assert!(rt; cut.cell(1).is_none());
+        assert!(rt; !cut.excess());
+    }
+}
+
+#[test]
+fn lines_that_are_too_long(rt: HostRuntime) {
+    let mut text = [b' '; 1025];
+    text[..3].copy_from_slice(b"TRL");
+    text[1023] = b'\r';
+    let line = line_of(&text);
+    assert_eq!(rt; line.len(), 1024);
+    let cut = line.cut();
+    assert_eq!(rt; cut.kind(), Some(Kind::Trl));
+    assert_eq!(rt; cut.cell(2), Some(&b"     "[..]));
+    assert!(rt; cut.excess());
+}
+
+#[test]
+fn cleared_lines_are_new(rt: HostRuntime) {
+    let mut line = line_of(b"TRL000010000000100000005\r\n");
+    assert_eq!(rt; line.len(), 25);
+    line.clear();
+    assert_eq!(rt; line.len(), 0);
+    let taken = line.take(b"GRH");
+    assert_eq!(rt; taken.used, 3);
+    assert_eq!(rt; taken.ended, LineEnd::Open);
+    assert_eq!(rt; line.len(), 3);
 }
