@@ -67,7 +67,14 @@ held_cell_there h kind j p e g =
       width = length-part text p (omega (arith, field_within kind j p g, length-filled (line_width kind) (held_body h)));
     }
 
--- a cell has its field's width
+-- a cell has its field's width, also where the field is known with its start
+pub length-placed_cell : (h : HeldLine) (kind : Kind) (j : ℕ) (p : ℕ × FieldLayout) (cell : List ℕ) → held_kind h ≡ Some kind → field_placed kind j ≡ Some p → held_cell h j ≡ Some cell → length cell ≡ p.1.width
+length-placed_cell h kind j p cell e at there =
+    let c = held_cell_there h kind j p e at in
+    let one : Some c.cell ≡ Some cell = sym c.found ∙ there in
+    let equal : c.cell ≡ cell = cc one in
+    sym (ap length equal) ∙ c.width
+
 pub length-held_cell : (h : HeldLine) (kind : Kind) (j : ℕ) (f : FieldLayout) (cell : List ℕ) → held_kind h ≡ Some kind → field_at kind j ≡ Some f → held_cell h j ≡ Some cell → length cell ≡ f.width
 length-held_cell h kind j f cell e g there = by_place (field_placed kind j) refl
   where
@@ -76,10 +83,7 @@ length-held_cell h kind j f cell e g there = by_place (field_placed kind j) refl
     by_place (Some p) at =
         let same : Some p.1 ≡ Some f = ap (option_map (λ (q : ℕ × FieldLayout). q.1)) (sym at) ∙ field_at-placed kind j ∙ g in
         let field : p.1 ≡ f = cc same in
-        let c = held_cell_there h kind j p e at in
-        let one : Some c.cell ≡ Some cell = sym c.found ∙ there in
-        let equal : c.cell ≡ cell = cc one in
-        sym (ap length equal) ∙ c.width ∙ ap (λ (q : FieldLayout). q.width) field
+        length-placed_cell h kind j p cell e at there ∙ ap (λ (q : FieldLayout). q.width) field
 
 length-pieces : (widths : List ℕ) (text : List ℕ) → length (pieces widths text) ≡ length widths
 length-pieces [] text = refl
