@@ -1,17 +1,16 @@
 -- The cells of a line are parts of the line filled up to its kind's width.
-use Rattle.std.proofs.Common.{◌≡◌, ◌≢◌, ℕ, zero, suc, ◌+◌, ◌-◌, ◌≤◌, Bool, true, false, cond, List, [], ◌∷◌, ◌++◌, length, map, take, drop, option_map, slice_get, refl, sym, subst, ap, ap₂, ◌∙◌, arith}
+use Rattle.std.proofs.Common.{◌≡◌, ◌≢◌, ℕ, zero, suc, ◌+◌, ◌-◌, ◌≤◌, Bool, true, false, cond, List, [], ◌∷◌, length, map, take, drop, option_map, slice_get, refl, sym, subst, ap, ◌∙◌, arith}
 use Rattle.std.specs.Prelude.{◌==◌, Option, Some, None}
-use Rattle.std.proofs.lemmas.List.{drop-drop, length-take, length-drop}
+use Rattle.std.proofs.lemmas.List.{drop-drop}
 use Rattle.std.proofs.lemmas.List.Sums.{sum_by-cons}
 use Rattle.cwr_fields.specs.Bytes.{filled}
 use Rattle.cwr_layouts.specs.declared.kinds.Kind.{Kind}
 use Rattle.cwr_layouts.specs.declared.lines.LineEnd.{LineEnd}
 use Rattle.cwr_layouts.specs.declared.lines.LineEnd.TheVariants.{Open, Line, Over}
-use Rattle.cwr_layouts.specs.Layouts.{FieldLayout, layout, placed, field_placed, field_at, total_width, line_width}
+use Rattle.cwr_layouts.specs.Layouts.{FieldLayout, layout, placed, field_placed, total_width, line_width}
 use Rattle.cwr_layouts.specs.Lines.{pieces, cells_as}
-use Rattle.cwr_layouts.specs.Held.{HeldLine, held_body, held_kind, held_cells, held_cell, cell_as, filled_as, IsFilled, IsKept, line_kept}
+use Rattle.cwr_layouts.specs.Held.{HeldLine, held_body, held_kind, held_cell, cell_as, IsFilled, IsKept, line_kept}
 use Rattle.cwr_layouts.proofs.Filling.{length-filled}
-use Rattle.cwr_layouts.proofs.Placed.{field_at-placed}
 
 -- the part of a text that a field takes
 abbrev pub part : List ℕ → ℕ × FieldLayout → List ℕ

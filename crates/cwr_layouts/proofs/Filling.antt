@@ -1,14 +1,13 @@
 -- Texts that are filled up with spaces.
-use Rattle.std.proofs.Common.{◌≡◌, ℕ, ◌+◌, ◌-◌, ◌≤◌, ◌<◌, List, [], ◌∷◌, ◌++◌, length, take, drop, replicate, refl, sym, ap, ◌∙◌, append_assoc, arith}
-use Rattle.std.specs.Prelude.{Option, Some, None, Result, Ok, Err}
+use Rattle.std.proofs.Common.{◌≡◌, ℕ, ◌+◌, ◌-◌, ◌≤◌, List, ◌++◌, length, take, replicate, ap, ◌∙◌, append_assoc, arith}
+use Rattle.std.specs.Prelude.{Result, Ok, Err}
 use Rattle.std.specs.Result.{IsOk, OnOk}
 use Rattle.std.proofs.lemmas.Bool.{false≢true}
-use Rattle.std.proofs.lemmas.List.{length-append, length-replicate, replicate-append-replicate, take-append-le, drop-append-le, drop_all, take_all, append-nil, take-replicate}
+use Rattle.std.proofs.lemmas.List.{length-append, length-replicate, replicate-append-replicate, take-append-le, take-replicate}
 use Rattle.std.proofs.lemmas.List.Sums.{sum_by-cons}
 use Rattle.cwr_fields.specs.Bytes.{filled}
 use Rattle.cwr_layouts.specs.declared.kinds.Kind.{Kind}
-use Rattle.cwr_layouts.specs.Layouts.{FieldLayout, record_type, fields_after_type, total_width, line_width}
-use Rattle.cwr_layouts.specs.Held.{filled_as}
+use Rattle.cwr_layouts.specs.Layouts.{FieldLayout, record_type, fields_after_type, line_width}
 
 pub length-filled : (width : ℕ) (text : List ℕ) → length (filled width text) ≡ length text + (width - length text)
 length-filled width text = length-append text (replicate (width - length text) 32) ∙ ap (λ (n : ℕ). length text + n) (length-replicate (width - length text) 32)

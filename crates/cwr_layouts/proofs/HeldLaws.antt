@@ -1,5 +1,5 @@
 -- What was taken of a line is cut as the line is, and each cell has its field's width.
-use Rattle.std.proofs.Common.{◌≡◌, ◌≢◌, ℕ, zero, suc, ◌+◌, ◌-◌, ◌≤◌, ◌<◌, Bool, true, false, List, [], ◌∷◌, ◌++◌, length, map, take, drop, option_map, slice_get, refl, sym, subst, ap, ap₂, ◌∙◌, arith, nat_eq, ne_eqb}
+use Rattle.std.proofs.Common.{◌≡◌, ℕ, suc, ◌+◌, ◌-◌, ◌≤◌, ◌<◌, Bool, true, false, List, [], ◌∷◌, ◌++◌, length, map, take, drop, option_map, slice_get, refl, sym, subst, ap, ap₂, ◌∙◌, arith, nat_eq, ne_eqb}
 use Rattle.std.specs.Prelude.{Option, Some, None}
 use Rattle.std.proofs.lemmas.Bool.{lt-ltb}
 use Rattle.std.proofs.lemmas.List.{length-take, length-drop, length-append, length-map, take_at}
@@ -8,8 +8,8 @@ use Rattle.cwr_layouts.specs.declared.kinds.Kind.{Kind}
 use Rattle.cwr_layouts.specs.declared.lines.LineEnd.{LineEnd}
 use Rattle.cwr_layouts.specs.declared.lines.LineEnd.TheVariants.{Open, Line, Over}
 use Rattle.cwr_layouts.specs.Layouts.{FieldLayout, layout, field_placed, field_at, line_width}
-use Rattle.cwr_layouts.specs.Lines.{longest_line, without_cr, is_over, line_body, body_kind, pieces, cells_as, excess_as}
-use Rattle.cwr_layouts.specs.Held.{HeldLine, IsHeld, IsFull, HoldsBy, HoldsLine, IsCutAs, held_body, held_kind, held_cells, held_cell, cell_as, ended_over}
+use Rattle.cwr_layouts.specs.Lines.{longest_line, is_over, line_body, body_kind, pieces, cells_as, excess_as}
+use Rattle.cwr_layouts.specs.Held.{HeldLine, IsHeld, HoldsBy, HoldsLine, IsCutAs, held_body, held_kind, held_cells, held_cell, cell_as, ended_over}
 use Rattle.cwr_layouts.proofs.CutLaws.{not_over, body_of}
 use Rattle.cwr_layouts.proofs.Filling.{length-filled}
 use Rattle.cwr_layouts.proofs.Placed.{field_at-placed}
@@ -67,7 +67,14 @@ held_cell_there h kind j p e g =
       width = length-part text p (omega (arith, field_within kind j p g, length-filled (line_width kind) (held_body h)));
     }
 
--- a cell has its field's width
+-- a cell has its field's width, also where the field is known with its start
+pub length-placed_cell : (h : HeldLine) (kind : Kind) (j : ℕ) (p : ℕ × FieldLayout) (cell : List ℕ) → held_kind h ≡ Some kind → field_placed kind j ≡ Some p → held_cell h j ≡ Some cell → length cell ≡ p.1.width
+length-placed_cell h kind j p cell e at there =
+    let c = held_cell_there h kind j p e at in
+    let one : Some c.cell ≡ Some cell = sym c.found ∙ there in
+    let equal : c.cell ≡ cell = cc one in
+    sym (ap length equal) ∙ c.width
+
 pub length-held_cell : (h : HeldLine) (kind : Kind) (j : ℕ) (f : FieldLayout) (cell : List ℕ) → held_kind h ≡ Some kind → field_at kind j ≡ Some f → held_cell h j ≡ Some cell → length cell ≡ f.width
 length-held_cell h kind j f cell e g there = by_place (field_placed kind j) refl
   where
@@ -76,10 +83,7 @@ length-held_cell h kind j f cell e g there = by_place (field_placed kind j) refl
     by_place (Some p) at =
         let same : Some p.1 ≡ Some f = ap (option_map (λ (q : ℕ × FieldLayout). q.1)) (sym at) ∙ field_at-placed kind j ∙ g in
         let field : p.1 ≡ f = cc same in
-        let c = held_cell_there h kind j p e at in
-        let one : Some c.cell ≡ Some cell = sym c.found ∙ there in
-        let equal : c.cell ≡ cell = cc one in
-        sym (ap length equal) ∙ c.width ∙ ap (λ (q : FieldLayout). q.width) field
+        length-placed_cell h kind j p cell e at there ∙ ap (λ (q : FieldLayout). q.width) field
 
 length-pieces : (widths : List ℕ) (text : List ℕ) → length (pieces widths text) ≡ length widths
 length-pieces [] text = refl

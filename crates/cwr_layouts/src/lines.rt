@@ -1,6 +1,8 @@
-//! Lines of a text: each is taken piece by piece, and cut into cells where it stands.
+//! Lines of a text: each is taken piece by piece, and cut into cells where it stands. A line ends by its line feed, and
+//! one carriage return directly before that belongs to the line end. The most bytes of a line, and that spaces may be
+//! left out or added at its end, are rules of this profile.
 
-ghost use Rattle.std.specs.Prelude.{◌≡◌, ◌≢◌, ◌≤◌, ◌<◌, ◌+◌, ◌++◌, ◌∷◌, [], true, false, not, length, take, drop, slice_index, IsFalse, MatchOption, option_map};
+ghost use Rattle.std.specs.Prelude.{◌≡◌, ◌≢◌, ◌≤◌, ◌<◌, ◌+◌, ◌++◌, length, take, drop, slice_index, IsFalse, MatchOption, option_map};
 ghost use Rattle.std.specs.List.{list_any};
 ghost use Rattle.cwr_fields.specs.Bytes.{filled, is_spaces};
 ghost use Rattle.cwr_layouts.specs.Lines.{is_lf, without_cr, body_kind};
@@ -13,7 +15,7 @@ use arrayvec::ArrayVec;
 use memchr::memchr;
 use std::marker::Model;
 
-/// The most bytes that a line may have before its line feed, a carriage return counted.
+/// The most bytes that a line may have before its line feed, a carriage return counted, by this profile.
 pub const LONGEST_LINE: usize = 1024;
 
 const LF: u8 = b'\n';
@@ -166,7 +168,7 @@ impl LineBuf {
         self.count = self.text.len();
     }
 
-    /// Ends an open line by its line feed, or without one.
+    /// Ends an open line without a line feed, as if one stood there.
     pub fn close(&mut self)
         requires { self.old.ended ≡ LineEnd.Open }
         ensures { self.new ≡ record { bytes = self.old.bytes; ended = LineEnd.Line } }
@@ -232,8 +234,8 @@ impl LineBuf {
     }
 }
 
-/// A line that ended, cut into the cells of its kind. A line that is too short for its kind stands for the line
-/// filled up with spaces.
+/// A line that ended, cut into the cells of its kind by the layouts of CWR 2.1. A line that is too short for its kind
+/// stands for the line filled up with spaces, and one that is too long is judged by its first 1,024 bytes.
 #[derive(Drop)]
 pub struct CutLine<'a> {
     line: &'a LineBuf,
@@ -253,7 +255,7 @@ impl<'a> Model for CutLine<'a> {
 }
 
 impl<'a> CutLine<'a> {
-    /// The kind that the line's first three bytes name.
+    /// The kind that the line's first three bytes name. `None` where they name none.
     pub fn kind(&self) -> Option<Kind>
         ensures { result ≡ held_kind self.now }
     {
@@ -261,7 +263,8 @@ impl<'a> CutLine<'a> {
         line.kind
     }
 
-    /// Cell `j` of the line, from 1, in its field's full width. `None` where the kind is unknown or has no field `j`.
+    /// Cell `j` of the line, from 1: a part of the line, in its field's full width. `None` where the kind is unknown or
+    /// has no field `j`.
     pub fn cell(&self, j: u8) -> Option<&'a [u8]>
         ensures { option_map (λ cell. cell.now) result ≡ held_cell self.now j }
     {

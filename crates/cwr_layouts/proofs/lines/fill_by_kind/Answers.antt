@@ -1,6 +1,4 @@
-use Rattle.std.proofs.Common.{◌∙◌, ap}
 use Rattle.cwr_layouts.specs.Layouts.{line_width}
-use Rattle.cwr_fields.specs.Bytes.{filled}
 use Rattle.cwr_layouts.proofs.Filling.{filled-filled, line_width_least}
 use Rattle.cwr_layouts.proofs.lines.fill_by_kind.Goals as goal
 

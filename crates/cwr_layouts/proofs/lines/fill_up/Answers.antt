@@ -1,4 +1,4 @@
-use Rattle.std.proofs.Common.{◌≤◌, ◌-◌, ◌≡◌, length, sym, ap, ◌∙◌, arith}
+use Rattle.std.proofs.Common.{◌≤◌, ◌-◌, ◌≡◌, length, arith}
 use Rattle.cwr_layouts.proofs.Filling.{filled_by_extending}
 use Rattle.cwr_layouts.proofs.lines.fill_up.Goals as goal
 

@@ -1,5 +1,5 @@
-use Rattle.std.proofs.Common.{◌≡◌, ◌∙◌, Some, None, List, ℕ, option_map, sym, ap, arith}
-use Rattle.cwr_layouts.specs.Held.{HeldLine, IsFilled}
+use Rattle.std.proofs.Common.{◌≡◌, ◌∙◌, Some, None, option_map, sym, ap}
+use Rattle.cwr_layouts.specs.Held.{IsFilled}
 use Rattle.cwr_layouts.specs.Layouts.{field_placed}
 use Rattle.cwr_layouts.specs.Views.{field_view}
 use Rattle.cwr_layouts.proofs.CellParts.{filled_now, part_within, cell_found, no_cell_found}
