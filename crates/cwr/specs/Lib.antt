@@ -1,4 +1,5 @@
 pub mod Bare
+pub mod Endings
 pub mod Walks
 pub mod Reads
 pub mod Told

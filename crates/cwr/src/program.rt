@@ -1,0 +1,131 @@
+//! The program between its words and its devices.
+
+ghost use Rattle.std.specs.Prelude.{◌≡◌, ◌≢◌, ◌↔◌, ◌≤◌, IsOkAnd};
+ghost use Rattle.clap.specs.Values.{kind_of};
+ghost use Rattle.cwr.specs.Endings.{IsGood};
+
+use crate::checking::check;
+use crate::faults::Fault;
+use crate::words::{Task, task_of};
+use clap::error::ErrorKind;
+use cwr_fields::Counted;
+use cwr_shape::Limits;
+use cwr_tools::{ToolFault, Verdict};
+use std::alloc::Global;
+use std::convert::AsStr;
+use std::fs::File;
+use std::io;
+use std::io::{BufReader, Read, Write};
+use std::rt::Files;
+
+/// How a run ended, as its exit status.
+#[derive(Clone, Copy, Debug, PartialEq, Eq)]
+pub enum Status {
+    /// The input is good.
+    Good = 0,
+    /// The input is refused, or ends too early, or the result would pass a limit.
+    Refused = 1,
+    /// The words don't ask for what the program does, or they ask for help.
+    CommandLine = 2,
+    /// A file, a device or memory failed.
+    Fault = 3,
+}
+
+/// Runs what the words ask for, the program's name first. The answer is the exit status.
+pub fn run<R: Files + AllocGlobal, S: AsStr, I: Read + Drop, O: Write + Drop, E: Write + Drop>(
+    rt: &R,
+    words: &[S],
+    input: I,
+    output: O,
+    error: E,
+) -> u8
+    ensures { result ≤ 3 }
+{
+    let status = match task_of(rt.alloc(), words) {
+        Ok(task) => match perform(rt, task, input, output) {
+            Ok(status) => status,
+            Err(fault) => tell(error, fault),
+        },
+        Err(answer) => answer_words(error, &answer),
+    };
+    status as u8
+}
+
+/// The exit status where the system couldn't hand out the words.
+pub fn refuse_words<E: Write + Drop>(fault: &io::Error, mut error: E) -> u8
+    ensures { result ≤ 3 }
+{
+    let status = if fault.kind() == io::ErrorKind::OutOfMemory {
+        tell(error, Fault::Memory)
+    } else {
+        let _ = error.write_all(b"error: a word of the command line is not UTF-8\n");
+        Status::CommandLine
+    };
+    status as u8
+}
+
+/// Writes what `clap` answers in place of a task, help included.
+fn answer_words<E: Write + Drop>(mut error: E, answer: &clap::Error) -> Status
+    ensures memory { kind_of answer.now ≡ ErrorKind.OutOfMemory → result ≡ Status.Fault }
+    ensures words { kind_of answer.now ≢ ErrorKind.OutOfMemory → result ≡ Status.CommandLine }
+{
+    if matches!(answer.kind(), ErrorKind::OutOfMemory) {
+        return tell(error, Fault::Memory);
+    }
+    // What standard error doesn't take is lost.
+    let _ = write!(error, "{answer}");
+    Status::CommandLine
+}
+
+/// Writes the line of a fault.
+fn tell<E: Write + Drop>(mut error: E, fault: Fault<'_>) -> Status
+    ensures { result ≡ Status.Fault }
+{
+    // What standard error doesn't take is lost.
+    let _ = writeln!(error, "cwr: {fault}");
+    Status::Fault
+}
+
+fn perform<'a, R: Files + AllocGlobal, I: Read + Drop, O: Write + Drop>(
+    rt: &R,
+    task: Task<'a>,
+    input: I,
+    output: O,
+) -> Result<Status, Fault<'a>> {
+    match task {
+        Task::Check(None) => check_one(rt.alloc(), input, output),
+        Task::Check(Some(name)) => match File::open(rt, name) {
+            Ok(file) => check_one(rt.alloc(), file, output),
+            Err(_) => Err(Fault::Open(name)),
+        },
+    }
+}
+
+fn check_one<'a, I: Read + Drop, O: Write + Drop>(
+    alloc: Global,
+    input: I,
+    output: O,
+) -> Result<Status, Fault<'a>> {
+    let limits = Limits::new(99_999_999, 99_999, 999_999).unwrap();
+    // `Counted` has the one buffer. A `BufReader` of none hands each read on, and takes no memory.
+    let mut reader = Counted::new(BufReader::with_capacity(alloc, 0, input).unwrap());
+    let (_output, outcome) = check(alloc, limits, &mut reader, Counted::new(output));
+    ending(outcome)
+}
+
+/// What a run over texts means for the program.
+fn ending<'a>(outcome: Result<Verdict, ToolFault>) -> Result<Status, Fault<'a>>
+    ensures { (result ≡ Ok Status.Good) ↔ IsOkAnd outcome IsGood }
+{
+    match outcome {
+        Ok(Verdict::Good { .. }) => Ok(Status::Good),
+        Ok(Verdict::Refused(_) | Verdict::Truncated { .. }) => Ok(Status::Refused),
+        Err(ToolFault::Reader) => Err(Fault::Read),
+        Err(ToolFault::Writer { .. }) => Err(Fault::Write),
+        Err(ToolFault::Memory) => Err(Fault::Memory),
+        Err(ToolFault::Output) => Err(Fault::Output),
+        Err(ToolFault::Refused(_) | ToolFault::Truncated { .. } | ToolFault::Limit(_)) => {
+            Ok(Status::Refused)
+        }
+    }
+}
