@@ -190,7 +190,7 @@ fn long_lines(rt: HostRuntime) -> Result<(), Fail> {
         line.as_slice(),
         b"REFUSED record 1 field 10 level E excess\n".as_slice()
     );
-    assert_eq!(rt; over.len() - 1024, left);
+    assert_eq!(rt; over.len(), left + 1024);
     let mut version = Vec::new(alloc);
     put_line(
         &mut version,

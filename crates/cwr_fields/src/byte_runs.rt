@@ -4,7 +4,7 @@ ghost use Rattle.std.specs.Prelude.{◌≡◌, ◌↔◌, ◌≤◌, ◌<◌, �
 ghost use Rattle.cwr_fields.specs.Bytes.{is_spaces, is_control, has_control, are_digits, number_of, trimmed, digits};
 
 /// Whether every byte is a space.
-pub(crate) fn is_spaces(cell: &[u8]) -> bool
+pub fn is_spaces(cell: &[u8]) -> bool
     ensures { result ≡ is_spaces cell.now }
 {
     cell.iter().all(|b| *b == b' ')

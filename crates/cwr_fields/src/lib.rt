@@ -11,7 +11,7 @@ mod devices;
 mod iswc;
 mod tables;
 
-pub use byte_runs::{first_control, spells, trimmed};
+pub use byte_runs::{first_control, is_spaces, spells, trimmed};
 pub use cell_types::{CellFault, CellType, Word};
 pub use cells::{fits, width_of};
 pub use codes::{Role, TransactionType};

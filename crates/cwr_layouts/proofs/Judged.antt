@@ -108,12 +108,14 @@ front_filled w body h = by (ltb w (length body)) refl
     short s =
         let whole : length (filled w body) ≡ w = omega (arith, length-append body (replicate (w - length body) 32), length-replicate {A = ℕ} (w - length body) 32) in
         ap trimmed (take_all w (filled w body) (omega arith)) ∙ trimmed-append-spaces body (w - length body)
+
     long : w ≤ length body → trimmed (take w (filled w body)) ≡ trimmed body
     long s =
         let none : w - length body ≡ 0 = omega arith in
         let front : take w (filled w body) ≡ take w body = take-append-le w body (replicate (w - length body) 32) s in
         let whole : body ≡ take w body ++ replicate (length (drop w body)) 32 = sym (take-append-drop w body) ∙ ap (λ (x : List ℕ). take w body ++ x) (spaces_are (drop w body) h) in
         ap trimmed front ∙ sym (ap trimmed whole ∙ trimmed-append-spaces (take w body) (length (drop w body)))
+
     by : (b : Bool) → ltb w (length body) ≡ b → trimmed (take w (filled w body)) ≡ trimmed body
     by true e = let less : w < length body = ltb-true w (length body) e in long (omega arith)
     by false e = short (ltb-false w (length body) e)

@@ -4,7 +4,7 @@
 
 ghost use Rattle.std.specs.Prelude.{◌≡◌, ◌≢◌, ◌≤◌, ◌<◌, ◌+◌, ◌++◌, length, take, drop, slice_index, IsFalse, MatchOption, option_map};
 ghost use Rattle.std.specs.List.{list_any};
-ghost use Rattle.cwr_fields.specs.Bytes.{filled, is_spaces};
+ghost use Rattle.cwr_fields.specs.Bytes.{filled};
 ghost use Rattle.cwr_layouts.specs.Lines.{is_lf, without_cr, body_kind};
 ghost use Rattle.cwr_layouts.specs.Held.{HeldLine, Takes, IsHeld, empty_line, held_kind, held_cell, held_excess, filled_as, return_if};
 
@@ -12,6 +12,7 @@ use crate::kinds::Kind;
 use crate::layouts::Field;
 use crate::lookups::{field, width};
 use arrayvec::ArrayVec;
+use cwr_fields::is_spaces;
 use memchr::memchr;
 use std::marker::Model;
 
@@ -81,13 +82,6 @@ fn fill_by_kind(text: &mut ArrayVec<u8, LONGEST_LINE>) -> Option<Kind>
     let kind = Kind::of(&text.as_slice()[..3])?;
     fill_up(text, width(kind));
     Some(kind)
-}
-
-/// Whether each byte is a space.
-fn is_spaces(bytes: &[u8]) -> bool
-    ensures { result ≡ is_spaces bytes.now }
-{
-    bytes.iter().all(|byte| *byte == b' ')
 }
 
 /// The part of a text that a field takes.

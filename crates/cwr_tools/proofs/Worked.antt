@@ -24,7 +24,7 @@ use Rattle.cwr_levels.specs.declared.rules.Rule.TheVariants.{V1, V2, V3, V4, V5,
 use Rattle.cwr_levels.specs.declared.rules.Finding.{Finding}
 use Rattle.cwr_levels.specs.Findings.{findings}
 use Rattle.cwr_levels.specs.Lines.{refusal_line, truncated_line}
-use Rattle.cwr_tools.specs.Texts.{check_text, show_text, good_verdict, split_line, joined_line, limit_line, of_input}
+use Rattle.cwr_tools.specs.Texts.{check_text, check_lines, show_text, show_lines, good_verdict, split_line, joined_line, limit_line, of_input}
 use Rattle.cwr_fields.specs.declared.cell_types.CellFault.TheVariants as cell_faults
 use Rattle.cwr_shape.specs.declared.limits.LimitKind.TheVariants as limit_kinds
 use Rattle.cwr_shape.specs.declared.reasons.Reason.{Reason}
@@ -99,7 +99,7 @@ unfolding digits rows items_behind
 one_acknowledgement_three = refl
 
 one_acknowledgement_check : check_text (items (rows Samples.one_acknowledgement)) (good_verdict Samples.one_acknowledgement) ≡ codes "GOOD groups 1 transactions 1 records 5\n"
-unfolding digits plain_digits rows items_behind check_text findings
+unfolding digits plain_digits rows items_behind check_lines findings
 one_acknowledgement_check = refl
 
 one_acknowledgement_show : show_text (items (rows Samples.one_acknowledgement)) (good_verdict Samples.one_acknowledgement) ≡
@@ -107,7 +107,7 @@ one_acknowledgement_show : show_text (items (rows Samples.one_acknowledgement)) 
     ++ codes "2 GRH\n  2 transaction type: ACK\n  4 version: 02.10\n  5 batch request: 0000000001\n"
     ++ codes "3 ACK\n  4 creation date: 20240102\n  5 creation time: 101500\n  6 original group id: 00001\n  7 original transaction sequence: 00000000\n  8 original transaction type: NWR\n  9 creation title: BLUE RIVER\n  10 submitter creation number: W0001\n  12 processing date: 20240110\n  13 transaction status: AS\n"
     ++ codes "4 GRT\n5 TRL\nGOOD groups 1 transactions 1 records 5\n"
-unfolding digits trimmed plain_digits rows items_behind show_text
+unfolding digits trimmed plain_digits rows items_behind show_lines
 one_acknowledgement_show = refl
 
 -- ---- one work with records of many kinds
@@ -125,11 +125,11 @@ unfolding findings
 one_work_findings = refl
 
 one_work_check : check_text (items (rows Samples.one_work)) (good_verdict Samples.one_work) ≡ codes "GOOD groups 1 transactions 1 records 15\n"
-unfolding digits plain_digits rows items_behind check_text findings
+unfolding digits plain_digits rows items_behind check_lines findings
 one_work_check = refl
 
 one_agreement_check : check_text (items (rows Samples.one_agreement)) (good_verdict Samples.one_agreement) ≡ codes "GOOD groups 1 transactions 1 records 11\n"
-unfolding digits plain_digits rows items_behind check_text findings
+unfolding digits plain_digits rows items_behind check_lines findings
 one_agreement_check = refl
 
 -- ---- two groups
@@ -147,7 +147,7 @@ two_groups_outline : lengths_of (outline_of Samples.two_groups) ≡ lengths_of_v
 two_groups_outline = refl
 
 two_groups_check : check_text (items (rows Samples.two_groups)) (good_verdict Samples.two_groups) ≡ codes "GOOD groups 2 transactions 3 records 12\n"
-unfolding digits plain_digits rows items_behind check_text findings
+unfolding digits plain_digits rows items_behind check_lines findings
 two_groups_check = refl
 
 limits : ℕ → ℕ → ℕ → Limits
@@ -294,7 +294,7 @@ abbrev two_groups_with_finding : TransmissionValue
 two_groups_with_finding = Samples.transmission (Samples.group_with "NWR" ((Samples.with_cells kinds.Nwr (Samples.w1_sets ++ (7, "T0345246802") ∷ []) ∷ Samples.s1 ∷ []) ∷ []) ∷ Samples.group_with "REV" ((Samples.v1 ∷ Samples.s1 ∷ []) ∷ (Samples.v2 ∷ Samples.s1 ∷ []) ∷ []) ∷ [])
 
 two_groups_with_finding_check : check_text (items (rows two_groups_with_finding)) (good_verdict two_groups_with_finding) ≡ codes "FINDING group 1 transaction 0 record 0 field 7 level F rule V1\nGOOD groups 2 transactions 3 records 12\n"
-unfolding digits plain_digits rows items_behind check_text findings
+unfolding digits plain_digits rows items_behind check_lines findings
 two_groups_with_finding_check = refl
 
 -- ---- lines

@@ -39,9 +39,13 @@ verdict_line (Truncated records) = truncated_line records
 abbrev pub good_verdict : TransmissionValue → Verdict
 good_verdict v = Good (length v.groups) (sum_by (λ g. length g.transactions) v.groups) (length (rows v))
 
+-- what `check` writes for items
+unfoldable pub check_lines : List ItemValue → List ℕ
+check_lines items = flat_map (λ p. finding_lines (take p.0 items) p.1) (enumerate_from 0 items)
+
 -- what `check` writes
-unfoldable pub check_text : List ItemValue → Verdict → List ℕ
-check_text items verdict = flat_map (λ p. finding_lines (take p.0 items) p.1) (enumerate_from 0 items) ++ verdict_line verdict
+abbrev pub check_text : List ItemValue → Verdict → List ℕ
+check_text items verdict = check_lines items ++ verdict_line verdict
 
 -- the records of an item
 abbrev pub item_records : ItemValue → List RecordValue
@@ -60,9 +64,13 @@ abbrev pub record_lines : ℕ → RecordValue → List ℕ
 record_lines n r = decimal n ++ codes " " ++ letters r.kind ++ 10 ∷ []
     ++ flat_map (λ p. cell_line p.0.0 p.0.1 p.1) (zip (filter (λ q. not q.1.derived) (enumerate_from 1 (layout r.kind))) r.cells)
 
+-- what `show` writes for items
+unfoldable pub show_lines : List ItemValue → List ℕ
+show_lines items = flat_map (λ p. record_lines p.0 p.1) (enumerate_from 1 (flat_map item_records items))
+
 -- what `show` writes
-unfoldable pub show_text : List ItemValue → Verdict → List ℕ
-show_text items verdict = flat_map (λ p. record_lines p.0 p.1) (enumerate_from 1 (flat_map item_records items)) ++ verdict_line verdict
+abbrev pub show_text : List ItemValue → Verdict → List ℕ
+show_text items verdict = show_lines items ++ verdict_line verdict
 
 -- ---- the lines of split and join
 

@@ -1,6 +1,6 @@
 use Rattle.std.specs.Prelude.{codes, decimal, string_bytes, ◌∷◌, []}
 use Rattle.cwr.proofs.LineTexts.{if_ok, seven}
-use Rattle.cwr.proofs.checking.good_line.Goals as goal
+use Rattle.cwr.proofs.texts.good_line.Goals as goal
 
 pub returns : goal.returns
 returns c =

@@ -1,7 +1,7 @@
 use Rattle.std.proofs.Common.{ℕ, ◌∙◌, arith}
 use Rattle.std.proofs.lemmas.List.{take_rest, length-take, length-drop}
 use Rattle.cwr.proofs.Moves.{writes_on}
-use Rattle.cwr.proofs.checking.write_text.Goals as goal
+use Rattle.cwr.proofs.writing.write_text.Goals as goal
 
 pub loop-written-preserved : goal.loop-written-preserved
 loop-written-preserved g c =
