@@ -1,6 +1,5 @@
 -- Records that walk to the end are those of a transmission of bare acknowledgements.
-use Rattle.std.proofs.Common.{◌≡◌, ℕ, ◌+◌, ◌<◌, ◌≤◌, Bool, true, false, List, [], ◌∷◌, ◌++◌, length, map, refl, sym, ap, ap₂, subst, ◌∙◌, arith, append_assoc, true≢false, lit<}
-use Rattle.std.specs.Prelude.{sum_by}
+use Rattle.std.proofs.Common.{◌≡◌, ℕ, ◌+◌, ◌<◌, ◌≤◌, true, List, [], ◌∷◌, ◌++◌, length, map, refl, sym, ap, ap₂, subst, ◌∙◌, arith, append_assoc, true≢false, lit<}
 use Rattle.std.specs.List.{AllByRecursion, AllZip, flat_map}
 use Rattle.std.proofs.lemmas.List.{length-map}
 use Rattle.cwr_fields.specs.declared.codes.TransactionType.TheVariants.{Acknowledgement}
@@ -20,7 +19,7 @@ use Rattle.cwr.specs.declared.progress.Position.{Position}
 use Rattle.cwr.specs.declared.progress.Position.TheVariants.{Start, Opened, InGroup, Acked, Closed, Ended}
 use Rattle.cwr.specs.Bare.{IsBare, IsBareGroup}
 use Rattle.cwr.specs.Walks.{nothing, may_follow, counted, MayCome, counted_all, Walks}
-use Rattle.cwr.proofs.Walking.{AreCountsOf, counts-walk}
+use Rattle.cwr.proofs.Walking.{counts-walk}
 
 -- groups, and then TRL
 record GroupsThen (rs : List RecordValue) : Type 0 where

@@ -1,7 +1,6 @@
 -- Line by line, what was read goes on standing, until the text is good, refused or at its end.
-use Rattle.std.proofs.Common.{◌≡◌, ◌≢◌, ℕ, suc, ◌+◌, ◌<◌, ◌≤◌, min, Bool, true, false, cond, ◌||◌, List, [], ◌∷◌, ◌++◌, length, map, take, drop, refl, sym, ap, ap₂, subst, ◌∙◌, arith, append_assoc, append-nil, true≢false, inl, inr}
-use Rattle.std.specs.Prelude.{Option, Some, None, IfSome, ◌==◌, ◌⊎◌, slice_index, sum_by}
-use Rattle.std.specs.List.{AllByRecursion}
+use Rattle.std.proofs.Common.{◌≡◌, ◌≢◌, ℕ, ◌+◌, ◌<◌, ◌≤◌, min, Bool, true, false, cond, List, [], ◌∷◌, ◌++◌, length, map, take, drop, refl, sym, ap, ap₂, subst, ◌∙◌, arith, append_assoc, append-nil, true≢false, inl, inr}
+use Rattle.std.specs.Prelude.{Option, Some, None, ◌==◌, ◌⊎◌, sum_by}
 use Rattle.std.proofs.lemmas.Bool.{or_parts, or_from, ne_eqb}
 use Rattle.std.proofs.lemmas.List.{length-append, length-map, take_at}
 use Rattle.std.proofs.lemmas.List.Sums.{sum_by-cons}
@@ -12,11 +11,11 @@ use Rattle.cwr_layouts.specs.declared.kinds.Kind.TheVariants as kinds
 use Rattle.cwr_layouts.specs.declared.lines.LineEnd.{LineEnd}
 use Rattle.cwr_layouts.specs.declared.lines.LineEnd.TheVariants.{Open, Line, Over}
 use Rattle.cwr_layouts.specs.Lines.{closed, longest_line, excess_as}
-use Rattle.cwr_layouts.specs.Held.{HeldLine, IsHeld, IsFull, HoldsBy, HoldsLine, ended_over, held_body, held_kind, held_excess}
+use Rattle.cwr_layouts.specs.Held.{HeldLine, IsHeld, IsFull, HoldsBy, HoldsLine, ended_over, held_body}
 use Rattle.cwr_layouts.proofs.LineLaws.{first_line}
 use Rattle.cwr_shape.specs.declared.limits.Limits.{Limits}
-use Rattle.cwr_values.specs.Values.{GroupValue, TransmissionValue, IsTransmission, FitsIn}
-use Rattle.cwr_values.specs.Rows.{rows, records_of, lengths_of_value, canonical_text}
+use Rattle.cwr_values.specs.Values.{GroupValue, TransmissionValue}
+use Rattle.cwr_values.specs.Rows.{canonical_text}
 use Rattle.cwr_values.proofs.Spelling.{length-rows}
 use Rattle.cwr_decode.specs.declared.refusals.Refusal.{Refusal}
 use Rattle.cwr_decode.specs.Ends.{IsAccepted}
@@ -29,9 +28,8 @@ use Rattle.cwr.specs.declared.progress.Position.{Position}
 use Rattle.cwr.specs.declared.progress.Position.TheVariants.{Start, Opened, InGroup, Acked, Closed, Ended}
 use Rattle.cwr.specs.Bare.{IsBare}
 use Rattle.cwr.specs.Reads.{EndsBy, GoesOver, Reads}
-use Rattle.cwr.specs.Told.{AcceptsBare, AcceptsNone, IsToldOf, TellsOf, TellsAccepted, TellsCanonical}
-use Rattle.cwr.specs.Walks.{nothing, counted, may_follow, IsNextLine, IsGoodLine, IsBadLine, Stands, IsUsed, IsRead, HasRead, text_of_lines}
-use Rattle.cwr.proofs.Walking.{AreCountsOf}
+use Rattle.cwr.specs.Told.{AcceptsNone, IsToldOf, TellsOf, TellsAccepted, TellsCanonical}
+use Rattle.cwr.specs.Walks.{nothing, counted, may_follow, IsGoodLine, IsBadLine, Stands, IsUsed, IsRead, HasRead}
 use Rattle.cwr.proofs.Standing.{IsGood, GoesOn, stands_nothing, stands_more, good_end, goes_on, closed-line, closed-last, closed-lines}
 use Rattle.cwr.proofs.Goodness.{next_is_good, good_is_next, IsNextOf}
 

@@ -1,9 +1,8 @@
 -- A line that was cut is good exactly where it is the line of a record that may come next.
-use Rattle.std.proofs.Common.{◌≡◌, ℕ, zero, suc, ◌+◌, ◌-◌, ◌<◌, ◌≤◌, Bool, true, false, List, [], ◌∷◌, length, drop, refl, sym, ap, subst, ◌∙◌, arith, lit≤}
+use Rattle.std.proofs.Common.{◌≡◌, ℕ, zero, suc, ◌-◌, ◌<◌, ◌≤◌, Bool, true, false, List, [], ◌∷◌, length, drop, refl, sym, ap, subst, ◌∙◌, arith, lit≤}
 use Rattle.std.proofs.lemmas.List.{length-drop}
-use Rattle.std.specs.Prelude.{Option, Some, None, codes, slice_get, slice_index, slice_index_or, unwrap_or}
-use Rattle.std.specs.List.{AllZip, IsAmong}
-use Rattle.cwr_fields.specs.declared.codes.TransactionType.{TransactionType}
+use Rattle.std.specs.Prelude.{codes, slice_get, slice_index, slice_index_or, unwrap_or}
+use Rattle.std.specs.List.{AllZip}
 use Rattle.cwr_fields.specs.declared.codes.TransactionType.TheVariants.{Agreement, NewWork, RevisedWork, Acknowledgement}
 use Rattle.cwr_fields.specs.declared.tables.Table.TheVariants as tables
 use Rattle.cwr_fields.specs.Bytes.{digits, filled}
@@ -24,7 +23,7 @@ use Rattle.cwr_shape.specs.declared.limits.Limits.{Limits}
 use Rattle.cwr_shape.specs.Candidates.{type_in}
 use Rattle.cwr_values.specs.Values.{type_of, first_cell}
 use Rattle.cwr.specs.declared.progress.Progress.{Progress}
-use Rattle.cwr.specs.Walks.{HasRoom, may_follow, number_at, numbers_next, MayCome, IsNextLine, IsGoodCell, IsGoodAt, IsGoodLine, cell_at}
+use Rattle.cwr.specs.Walks.{HasRoom, may_follow, number_at, numbers_next, IsNextLine, IsGoodCell, IsGoodAt, IsGoodLine, cell_at}
 
 -- ---- numbers by their fields
 

@@ -1,7 +1,6 @@
 -- Texts that are put together from the right are those that are put together from the left.
-use Rattle.std.proofs.Common.{◌≡◌, ℕ, List, [], ◌∷◌, ◌++◌, append_assoc}
-use Rattle.std.specs.Prelude.{Result, Ok, Err, IfOk, codes, decimal}
-use Rattle.cwr_levels.specs.Lines.{good_line}
+use Rattle.std.proofs.Common.{◌≡◌, ℕ, List, ◌++◌, append_assoc}
+use Rattle.std.specs.Prelude.{Result, Ok, Err, IfOk}
 
 -- a fact of what a call answered, from another one
 pub if_ok : {A E : Type 0} {P Q : A → Type 0} (r : Result A E) → ((x : A) → P x → Q x) → IfOk r P → IfOk r Q

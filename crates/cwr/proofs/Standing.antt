@@ -1,7 +1,7 @@
 -- What stands goes on line by line, ends as an accepted transmission, and goes on with each text that is accepted.
-use Rattle.std.proofs.Common.{◌≡◌, ℕ, suc, ◌+◌, ◌-◌, ◌<◌, ◌≤◌, min, Bool, true, false, cond, ◌&&◌, ◌||◌, List, [], ◌∷◌, ◌++◌, length, drop, refl, sym, ap, ap₂, subst, ◌∙◌, arith, append_assoc, append-nil, true≢false}
+use Rattle.std.proofs.Common.{◌≡◌, ℕ, ◌-◌, ◌≤◌, min, Bool, true, false, cond, ◌&&◌, ◌||◌, List, [], ◌∷◌, ◌++◌, length, drop, refl, sym, ap, ap₂, subst, ◌∙◌, arith, append_assoc, append-nil, true≢false}
 use Rattle.std.specs.Prelude.{◌==◌}
-use Rattle.std.specs.List.{AllByRecursion, AllZip, flat_map}
+use Rattle.std.specs.List.{AllZip}
 use Rattle.std.specs.Str.{bytes_eq}
 use Rattle.std.proofs.lemmas.Bool.{or_parts, ne_eqb}
 use Rattle.cwr_fields.proofs.LineFeeds.{NoLf, has_lf}
@@ -9,14 +9,14 @@ use Rattle.cwr_layouts.specs.declared.kinds.Kind.{Kind}
 use Rattle.cwr_layouts.specs.Records.{RecordValue, Row, row_of, record_of}
 use Rattle.cwr_layouts.specs.Lines.{IsLineOf, closed}
 use Rattle.cwr_layouts.proofs.RowLaws.{IsRow-row_of, record_of-row_of, one_row}
-use Rattle.cwr_layouts.proofs.LineLaws.{first_line, text_of, text_of-cons}
+use Rattle.cwr_layouts.proofs.LineLaws.{first_line, text_of-cons}
 use Rattle.cwr_shape.specs.declared.limits.Limits.{Limits}
-use Rattle.cwr_values.specs.Values.{TransmissionValue, IsTransmission, FitsIn}
-use Rattle.cwr_values.specs.Rows.{records_of, rows, Spells}
+use Rattle.cwr_values.specs.Values.{TransmissionValue}
+use Rattle.cwr_values.specs.Rows.{records_of, rows}
 use Rattle.cwr_decode.specs.Ends.{IsAccepted}
 use Rattle.cwr.specs.declared.progress.Progress.{Progress}
 use Rattle.cwr.specs.declared.progress.Position.{Position}
-use Rattle.cwr.specs.declared.progress.Position.TheVariants.{Start, Opened, InGroup, Acked, Closed, Ended}
+use Rattle.cwr.specs.declared.progress.Position.TheVariants.{Ended}
 use Rattle.cwr.specs.Bare.{IsBare}
 use Rattle.cwr.specs.Walks.{nothing, may_follow, numbers_next, counted, MayCome, counted_all, rows_from, Walks, IsNextLine, Stands, text_of_lines}
 use Rattle.cwr.proofs.Walking.{AreCountsOf, rows-walk, counts-walk, walks}

@@ -1,29 +1,27 @@
 -- Each transmission of bare acknowledgements within the limits walks, and its rows are those that the walk expects.
-use Rattle.std.proofs.Common.{◌≡◌, ℕ, zero, suc, ◌+◌, ◌<◌, ◌≤◌, Bool, true, false, List, [], ◌∷◌, ◌++◌, length, map, refl, sym, ap, ap₂, subst, ◌∙◌, arith, append_assoc}
+use Rattle.std.proofs.Common.{◌≡◌, ℕ, ◌+◌, ◌<◌, ◌≤◌, true, List, [], ◌∷◌, ◌++◌, length, map, refl, sym, ap, subst, ◌∙◌, arith, append_assoc}
 use Rattle.std.specs.Prelude.{sum, sum_by}
-use Rattle.std.specs.List.{AllByRecursion, flat_map, IsAmong}
+use Rattle.std.specs.List.{AllByRecursion, flat_map}
 use Rattle.std.proofs.lemmas.List.{length-map}
 use Rattle.std.proofs.lemmas.List.Sums.{sum_by-cons}
 use Rattle.cwr_fields.specs.declared.codes.TransactionType.TheVariants.{Acknowledgement}
 use Rattle.cwr_layouts.specs.declared.kinds.Kind.{Kind}
 use Rattle.cwr_layouts.specs.declared.kinds.Kind.TheVariants as kinds
 use Rattle.cwr_layouts.specs.Records.{RecordValue, IsRecord, Row, row_of}
-use Rattle.cwr_shape.specs.declared.symbols.Symbol.{Symbol}
-use Rattle.cwr_shape.specs.declared.symbols.Symbol.TheVariants.{Plain, Ipa, Grh}
 use Rattle.cwr_shape.specs.declared.limits.Limits.{Limits}
 use Rattle.cwr_shape.specs.Numbers.{group_records, all_records}
 use Rattle.cwr_shape.specs.Outlines.{symbols_of}
-use Rattle.cwr_shape.proofs.HeadFirst.{part, HeadFirst, head_first}
+use Rattle.cwr_shape.proofs.HeadFirst.{part, head_first}
 use Rattle.cwr_values.specs.Values.{GroupValue, TransmissionValue, IsTransmission, IsGroup, IsTransaction, FitsIn, type_of, symbol_of, symbol_by, outline_of, outline_of_group}
 use Rattle.cwr_values.specs.Rows.{records_of, records_of_group, trailer, lengths_of_value, rows}
-use Rattle.cwr_values.proofs.Structure.{rows_of_transactions, rows_of_group, rows_of_groups, rows_inside, foot_row, trailer_row, rows-parts}
+use Rattle.cwr_values.proofs.Structure.{rows_of_transactions, rows_of_group, rows_of_groups, rows_inside, foot_row, rows-parts}
 use Rattle.cwr_values.proofs.Spelling.{length-records_of}
 use Rattle.cwr_values.proofs.Unique.{symbols-outline}
 use Rattle.cwr.specs.declared.progress.Progress.{Progress}
 use Rattle.cwr.specs.declared.progress.Position.{Position}
-use Rattle.cwr.specs.declared.progress.Position.TheVariants.{Start, Opened, InGroup, Acked, Closed, Ended}
+use Rattle.cwr.specs.declared.progress.Position.TheVariants.{Acked, Closed, Ended}
 use Rattle.cwr.specs.Bare.{IsBare, IsBareGroup}
-use Rattle.cwr.specs.Walks.{nothing, may_follow, numbers_next, counted, HasRoom, MayCome, counted_all, rows_from, Walks}
+use Rattle.cwr.specs.Walks.{nothing, may_follow, numbers_next, counted, HasRoom, counted_all, rows_from, Walks}
 
 -- ---- one step at a known kind
 

@@ -1,5 +1,5 @@
 -- Worked codes: the cells of each table as they are written out, and a text for each that is no code of it.
-use Rattle.std.proofs.Common.{◌≡◌, ℕ, zero, suc, ◌+◌, ◌/◌, ◌%◌, ◌<◌, Bool, true, false, ◌||◌, List, [], ◌∷◌, ◌++◌, length, refl, sym, ap, ◌∙◌, arith, true≢false, inl, inr, lit<}
+use Rattle.std.proofs.Common.{◌≡◌, ℕ, zero, suc, ◌+◌, ◌%◌, ◌<◌, true, false, List, [], ◌∷◌, length, refl, sym, ap, ◌∙◌, arith, true≢false, inl, inr, lit<}
 use Rattle.std.specs.Prelude.{codes, map, slice_index, slice_index_or}
 use Rattle.std.specs.List.{list_all, list_any}
 use Rattle.std.specs.Str.{bytes_eq}
@@ -12,7 +12,7 @@ use Rattle.cwr_fields.specs.declared.tables.Table.TheVariants as tables
 use Rattle.cwr_fields.specs.Bytes.{digits, filled}
 use Rattle.cwr_fields.specs.Codes.{codes_of, code_width}
 use Rattle.cwr_fields.specs.Cells.{Holds, HasFault, IsCodeOf, SpellsCode}
-use Rattle.cwr_fields.proofs.Tests.{code_test, holds_test}
+use Rattle.cwr_fields.proofs.Tests.{holds_test}
 
 -- the cells of each table
 abbrev cells_of : Table → List (List ℕ)

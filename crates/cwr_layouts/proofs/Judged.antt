@@ -1,25 +1,24 @@
 -- A line whose cells are good, one by one, is that of a record's row.
-use Rattle.std.proofs.Common.{◌≡◌, ℕ, zero, suc, ◌+◌, ◌-◌, ◌<◌, ◌≤◌, Bool, true, false, not, cond, ltb, ◌||◌, List, [], ◌∷◌, ◌++◌, length, map, take, drop, filter, replicate, refl, sym, ap, ap₂, subst, ◌∙◌, arith, append_assoc, inl, inr}
-use Rattle.std.specs.Prelude.{Option, Some, None, find, slice_get, slice_index, unwrap_or, if◌then◌else◌, ◌⊎◌, ◌==◌}
+use Rattle.std.proofs.Common.{◌≡◌, ℕ, zero, suc, ◌+◌, ◌-◌, ◌<◌, ◌≤◌, Bool, true, false, not, cond, ltb, List, [], ◌∷◌, ◌++◌, length, map, take, drop, filter, replicate, refl, sym, ap, ap₂, subst, ◌∙◌, arith, append_assoc}
+use Rattle.std.specs.Prelude.{Option, Some, find, slice_get, slice_index, unwrap_or, if◌then◌else◌, ◌==◌}
 use Rattle.std.specs.List.{AllZip, concat, zip}
 use Rattle.std.specs.Str.{bytes_eq}
 use Rattle.std.proofs.lemmas.Bool.{and_parts, eqb-true, or_parts, ltb-true, ltb-false, not-false}
 use Rattle.std.proofs.lemmas.List.{length-append, length-replicate, length-drop, length-take-le, replicate-append-replicate}
 use Rattle.std.proofs.lemmas.List.Sums.{sum_by-cons}
 use Rattle.std.proofs.lemmas.List.{take-append-le, take-append-drop}
-use Rattle.std.proofs.Math.Seq.{take-add, take-append_seam}
+use Rattle.std.proofs.Math.Seq.{take-add}
 use Rattle.std.proofs.lemmas.List.{take_all}
 use Rattle.std.proofs.lemmas.Slice.Eq.{bytes_eq-Decides}
 use Rattle.cwr_fields.specs.Bytes.{digits, trimmed, before_trimmed, filled, is_spaces}
-use Rattle.cwr_fields.specs.Cells.{Holds}
 use Rattle.cwr_fields.proofs.LineFeeds.{NoLf}
 use Rattle.cwr_layouts.specs.declared.kinds.Kind.{Kind}
 use Rattle.cwr_layouts.specs.Kinds.{all_kinds, letters, kind_of}
 use Rattle.cwr_layouts.specs.Layouts.{FieldLayout, layout, fields_after_type, total_width, line_width, record_type}
-use Rattle.cwr_layouts.specs.Records.{RecordValue, IsCellOf, IsRecord, Row, rest_if, row_cells, row_of, full_line, IsGoodBy}
+use Rattle.cwr_layouts.specs.Records.{RecordValue, IsCellOf, IsRecord, rest_if, row_cells, row_of, IsGoodBy}
 use Rattle.cwr_layouts.proofs.RowLaws.{IsRow-row_of}
 use Rattle.cwr_layouts.proofs.CutLaws.{line_is_cut}
-use Rattle.cwr_layouts.specs.Lines.{IsLineOf, longest_line, without_cr, is_over, line_body, pieces, body_kind, line_kind, line_cells, cells_as, excess_as, has_bad_excess}
+use Rattle.cwr_layouts.specs.Lines.{IsLineOf, longest_line, without_cr, is_over, line_body, pieces, line_kind, line_cells, cells_as, excess_as, has_bad_excess}
 
 -- each cell is the next number, or one of its field's type
 abbrev pub AreGood : List FieldLayout → List ℕ → List (List ℕ) → Type 0

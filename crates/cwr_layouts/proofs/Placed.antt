@@ -1,5 +1,5 @@
 -- A field is found in the layout where it is found among the fields with their starts.
-use Rattle.std.proofs.Common.{◌≡◌, ℕ, zero, suc, ◌+◌, ◌-◌, List, [], ◌∷◌, slice_get, option_map, None, refl, sym, ap, ◌∙◌, cond, Bool, true, false, nat_eq, arith, ne_eqb}
+use Rattle.std.proofs.Common.{◌≡◌, ℕ, zero, suc, ◌+◌, ◌-◌, List, [], ◌∷◌, slice_get, option_map, refl, false, nat_eq, arith, ne_eqb}
 use Rattle.cwr_layouts.specs.declared.kinds.Kind.{Kind}
 use Rattle.cwr_layouts.specs.Layouts.{FieldLayout, layout, placed, field_placed, field_at}
 

@@ -1,6 +1,6 @@
 -- Where a type has a width, each field of the type has that width.
 use Rattle.std.proofs.Common.{◌≡◌, ℕ, zero, suc, Bool, true, List, [], ◌∷◌, refl, sym, ap, ◌∙◌}
-use Rattle.std.specs.Prelude.{Option, Some, None, option_map, unwrap_or, slice_get, ◌==◌}
+use Rattle.std.specs.Prelude.{Option, Some, option_map, unwrap_or, slice_get, ◌==◌}
 use Rattle.std.specs.List.{list_all}
 use Rattle.std.proofs.lemmas.Bool.{and_parts, eqb-true}
 use Rattle.cwr_fields.specs.Cells.{type_width}

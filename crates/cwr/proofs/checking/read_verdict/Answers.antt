@@ -1,9 +1,9 @@
-use Rattle.std.proofs.Common.{◌≡◌, ℕ, ◌+◌, refl, sym, ap, subst, ◌∙◌, arith}
+use Rattle.std.proofs.Common.{◌≡◌, ◌+◌, refl, sym, ap, subst, ◌∙◌, arith}
 use Rattle.cwr_layouts.specs.Held.{HeldLine}
 use Rattle.cwr.specs.declared.progress.Progress.{Progress}
 use Rattle.cwr.specs.declared.progress.Position.{Position}
 use Rattle.cwr.specs.declared.progress.Position.TheVariants.{Start, Ended}
-use Rattle.cwr.specs.Walks.{HasRead, IsGoodLine, IsBadLine, counted, nothing}
+use Rattle.cwr.specs.Walks.{HasRead, IsGoodLine, IsBadLine, counted}
 use Rattle.cwr.proofs.Checked.{counted-records, has_nothing, has_more, tells_refused, tells_truncated, tells_good}
 use Rattle.cwr.proofs.checking.read_verdict.Goals as goal
 

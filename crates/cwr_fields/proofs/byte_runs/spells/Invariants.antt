@@ -1,4 +1,4 @@
-use Rattle.std.proofs.Common.{◌≡◌, length}
+use Rattle.std.proofs.Common.{length}
 use Rattle.std.specs.Prelude.{◌↔◌}
 use Rattle.cwr_fields.proofs.Spelled.{Spells}
 use Rattle.cwr_fields.proofs.byte_runs.spells.Given as goal

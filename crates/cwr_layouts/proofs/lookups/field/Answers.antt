@@ -1,4 +1,4 @@
-use Rattle.std.proofs.Common.{◌≡◌, ◌-◌, false, List, slice_get, sym, ap, ◌∙◌, arith, ne_eqb, nat_eq}
+use Rattle.std.proofs.Common.{◌≡◌, ◌-◌, false, slice_get, arith, ne_eqb, nat_eq}
 use Rattle.std.specs.Option.{option_copied}
 use Rattle.std.proofs.lemmas.Option.{slice_get-map, gets}
 use Rattle.std.proofs.lemmas.Grind.{common_steps}
