@@ -1,10 +1,11 @@
 -- The items that rows give: transactions, and the records that stand around them.
 use Rattle.std.specs.Prelude.{ℕ, ◌+◌, ◌-◌, Bool, true, false, not, ◌&&◌, ◌==◌, List, [], ◌∷◌, ◌++◌, length, map, drop, Option, Some, None, slice_index_or, if◌then◌else◌}
-use Rattle.std.specs.List.{last_or}
+use Rattle.std.specs.List.{last_or, flat_map}
 use Rattle.cwr_fields.specs.Bytes.{number_of}
 use Rattle.cwr_layouts.specs.declared.kinds.Kind.{Kind}
 use Rattle.cwr_layouts.specs.declared.kinds.Kind.TheVariants.{Hdr, Grh, Grt, Trl}
 use Rattle.cwr_layouts.specs.Records.{RecordValue, Row, record_of}
+use Rattle.cwr_values.specs.Values.{GroupValue, TransmissionValue}
 
 -- what is handed out
 pub data ItemValue : Type 0 where
@@ -62,3 +63,13 @@ items_behind before (row ∷ rest) = items_at before row ++ items_behind (before
 -- the items that rows give
 abbrev pub items : List Row → List ItemValue
 items rows = items_behind [] rows
+
+-- ---- the same of a transmission, by its parts
+
+-- a group's items: it opens, each of its transactions, it closes
+abbrev pub group_items : GroupValue → List ItemValue
+group_items g = group_opened g.head ∷ map transaction g.transactions ++ group_closed g.foot ∷ []
+
+-- a transmission's items: it opens, each of its groups, it ends
+abbrev pub value_items : TransmissionValue → List ItemValue
+value_items v = opened v.opening ∷ flat_map group_items v.groups ++ ended ∷ []

@@ -1,10 +1,11 @@
 //! Laws over the ends of texts, and those over transmissions that they stand on.
 
-ghost use Rattle.std.specs.Prelude.{List, length, ℕ, ◌++◌, ◌≡◌};
+ghost use Rattle.std.specs.Prelude.{List, length, ℕ, ◌++◌, ◌≡◌, ◌≤◌};
 ghost use Rattle.cwr_decode.specs.Ends.{IsAccepted, IsRefused, IsTruncated};
+ghost use Rattle.cwr_decode.specs.Items.{items, value_items};
 ghost use Rattle.cwr_decode.specs.declared.refusals.Refusal.{Refusal};
 ghost use Rattle.cwr_shape.specs.declared.limits.Limits.{Limits};
-ghost use Rattle.cwr_values.specs.Rows.{canonical_text};
+ghost use Rattle.cwr_values.specs.Rows.{canonical_text, rows};
 ghost use Rattle.cwr_values.specs.Values.{FitsIn, IsTransmission, TransmissionValue};
 
 pub use cwr_shape::laws::no_transmission_goes_on;
@@ -23,6 +24,13 @@ pub fn accepted_once()
 pub fn canonical_text_is_accepted()
     ensures { (limits : Limits) (v : TransmissionValue) (more : List ℕ) → IsTransmission v → FitsIn limits v
         → IsAccepted limits (canonical_text v ++ more) v (length (canonical_text v)) }
+{}
+
+/// The items that a transmission's rows give are it, opened, each of its groups with each of its transactions, and
+/// its end: no record is handed out with another transaction's.
+pub fn items_are_its_parts()
+    ensures { (limits : Limits) (v : TransmissionValue) → IsTransmission v → FitsIn limits v
+        → limits.records ≤ 99999999 → items (rows v) ≡ value_items v }
 {}
 
 /// A text has at most one of the three ends, and that in one way.
