@@ -190,7 +190,8 @@ fn long_lines(rt: HostRuntime) -> Result<(), Fail> {
         line.as_slice(),
         b"REFUSED record 1 field 10 level E excess\n".as_slice()
     );
-    assert_eq!(rt; over.len(), left + 1024);
+    assert_eq!(rt; over.len(), 1027);
+    assert_eq!(rt; left, 3);
     let mut version = Vec::new(alloc);
     put_line(
         &mut version,
