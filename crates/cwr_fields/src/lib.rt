@@ -10,6 +10,7 @@ mod counted;
 mod devices;
 mod iswc;
 mod tables;
+mod typed_cells;
 
 pub use byte_runs::{first_control, is_spaces, spells, trimmed};
 pub use cell_types::{CellFault, CellType, Word};
@@ -19,6 +20,7 @@ pub use counted::Counted;
 pub use devices::{DeviceFault, Source, Target};
 pub use iswc::iswc_ok;
 pub use tables::Table;
+pub use typed_cells::Cell;
 
 #[cfg(test)]
 mod examples;
