@@ -3,17 +3,8 @@ use Rattle.std.proofs.Common.{◌≡◌, ◌≢◌, ℕ, suc, ◌+◌, ◌-◌, 
 use Rattle.std.specs.Prelude.{◌↔◌}
 use Rattle.std.proofs.lemmas.List.{length-append}
 use Rattle.cwr_fields.specs.Bytes.{digits}
+use Rattle.cwr_fields.specs.NumberLaws.{snoc_equal}
 use Rattle.cwr_fields.proofs.Trims.{ends_in}
-
--- two texts with one more byte are the same where both parts are
-pub snoc_equal : (xs ys : List ℕ) (x y : ℕ) → xs ++ x ∷ [] ≡ ys ++ y ∷ [] → (xs ≡ ys) × (x ≡ y)
-snoc_equal [] [] x y e = (refl, cc e)
-snoc_equal [] (b ∷ ys) x y e = absurd (omega (arith, ap length e, length-append ys (y ∷ [])))
-snoc_equal (a ∷ xs) [] x y e = absurd (omega (arith, ap length e, length-append xs (x ∷ [])))
-snoc_equal (a ∷ xs) (b ∷ ys) x y e =
-    let rest = snoc_equal xs ys x y (cc e) in
-    let first : a ≡ b = cc e in
-    (ap₂ (λ (c : ℕ) (cs : List ℕ). c ∷ cs) first rest.0, rest.1)
 
 -- the cell is the digits of the number
 abbrev pub Spells : List ℕ → ℕ → Type 0

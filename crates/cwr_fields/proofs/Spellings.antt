@@ -9,7 +9,7 @@ use Rattle.cwr_fields.specs.Bytes.{digits, number_of, is_digit, are_digits}
 use Rattle.jiff.specs.Words.{IsDate}
 use Rattle.cwr_fields.specs.Cells.{SpellsNumber, SpellsDay, SpellsTime, SpellsShare}
 use Rattle.cwr_fields.proofs.Digits.{number_of-digits}
-use Rattle.cwr_fields.proofs.Dates.{year_part, month_part, day_part, day_of_parts, time_of_parts}
+use Rattle.cwr_fields.proofs.Parts.{year_part, month_part, day_part, day_of_parts, time_of_parts}
 
 -- a digit is 48 to 57
 pub digit_bounds : (b : ℕ) → is_digit b ≡ true → (48 ≤ b) × (b ≤ 57)
@@ -81,7 +81,7 @@ number_spelled cell = (
 abbrev pub part : ℕ → ℕ → List ℕ → List ℕ
 part start width cell = take width (drop start cell)
 
-are_digits-split : (n : ℕ) (cell : List ℕ) → are_digits cell ≡ true → (are_digits (take n cell) ≡ true) × (are_digits (drop n cell) ≡ true)
+pub are_digits-split : (n : ℕ) (cell : List ℕ) → are_digits cell ≡ true → (are_digits (take n cell) ≡ true) × (are_digits (drop n cell) ≡ true)
 are_digits-split n cell h =
     and_parts (are_digits (take n cell)) (are_digits (drop n cell)) (sym (list_all-append is_digit (take n cell) (drop n cell)) ∙ ap are_digits (take-append-drop n cell) ∙ h)
 
@@ -89,7 +89,7 @@ pub are_digits-part : (start width : ℕ) (cell : List ℕ) → are_digits cell 
 are_digits-part start width cell h = (are_digits-split width (drop start cell) (are_digits-split start cell h).1).0
 
 -- a part of digits is the digits of the number that it writes
-part_spelled : (start width : ℕ) (cell : List ℕ) → start + width ≤ length cell → are_digits cell ≡ true
+pub part_spelled : (start width : ℕ) (cell : List ℕ) → start + width ≤ length cell → are_digits cell ≡ true
     → (digits width (number_of (part start width cell)) ≡ part start width cell) × (number_of (part start width cell) < 10 ^ width)
 part_spelled start width cell room h =
     let wide : length (part start width cell) ≡ width = length-take-le width (drop start cell) (omega (arith, length-drop start cell)) in
@@ -99,7 +99,7 @@ part_spelled start width cell room h =
     )
 
 -- three parts that make up a cell
-parts_joined : (a b c : ℕ) (cell : List ℕ) → length cell ≡ a + b + c → take a cell ++ part a b cell ++ part (a + b) c cell ≡ cell
+pub parts_joined : (a b c : ℕ) (cell : List ℕ) → length cell ≡ a + b + c → take a cell ++ part a b cell ++ part (a + b) c cell ≡ cell
 parts_joined a b c cell wide =
     let last : part (a + b) c cell ≡ drop (a + b) cell = take_all c (drop (a + b) cell) (omega (arith, length-drop (a + b) cell)) in
     let back : drop b (drop a cell) ≡ drop (a + b) cell = drop-drop b a cell in
@@ -108,7 +108,7 @@ parts_joined a b c cell wide =
     ∙ ap (λ l. take a cell ++ l) (take-append-drop b (drop a cell))
     ∙ take-append-drop a cell
 
-same_parts : (x x' y y' z z' cell : List ℕ) → x' ≡ x → y' ≡ y → z' ≡ z → x ++ y ++ z ≡ cell → cell ≡ x' ++ y' ++ z'
+pub same_parts : (x x' y y' z z' cell : List ℕ) → x' ≡ x → y' ≡ y → z' ≡ z → x ++ y ++ z ≡ cell → cell ≡ x' ++ y' ++ z'
 same_parts x x' y y' z z' cell p q r h = sym (rw (p, q, r) h)
 
 -- a day is spelled by eight digits, whose parts are a date

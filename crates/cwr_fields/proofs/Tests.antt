@@ -14,7 +14,7 @@ use Rattle.cwr_fields.specs.declared.tables.Table.TheVariants as tables
 use Rattle.cwr_fields.specs.Bytes.{is_plain, is_spaces, digits, number_of, filled}
 use Rattle.cwr_fields.specs.Codes.{codes_of, code_width, word_text}
 use Rattle.cwr_fields.specs.Cells.{Holds, SpellsNumber, SpellsDay, SpellsTime, SpellsShare, SpellsCode, flag_texts}
-use Rattle.cwr_fields.proofs.Dates.{year_part, month_part, day_part}
+use Rattle.cwr_fields.proofs.Parts.{year_part, month_part, day_part}
 
 same : (xs ys : List ℕ) → bytes_eq xs ys ≡ true → xs ≡ ys
 same xs ys h = (bytes_eq-Decides xs ys).0 h

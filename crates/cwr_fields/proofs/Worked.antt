@@ -8,7 +8,7 @@ use Rattle.cwr_fields.specs.Bytes.{digits, number_of}
 use Rattle.cwr_fields.specs.Cells.{Holds, HasFault}
 use Rattle.cwr_fields.specs.Iswc.{is_iswc}
 use Rattle.cwr_fields.proofs.Digits.{number_of-digits}
-use Rattle.cwr_fields.proofs.Dates.{day_of_parts, time_of_parts}
+use Rattle.cwr_fields.proofs.Parts.{day_of_parts, time_of_parts}
 
 -- two texts that differ at a place
 apart : (k : ℕ) (xs ys : List ℕ) → (slice_index xs k < slice_index ys k) ⊎ (slice_index ys k < slice_index xs k) → xs ≡ ys → ⊥

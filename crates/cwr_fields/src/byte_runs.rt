@@ -1,6 +1,6 @@
 //! What runs of bytes are made of: spaces, control bytes, digits.
 
-ghost use Rattle.std.specs.Prelude.{◌≡◌, ◌↔◌, ◌≤◌, ◌<◌, ◌^◌, IsTrue, length, position};
+ghost use Rattle.std.specs.Prelude.{◌≡◌, ◌↔◌, ◌≤◌, ◌<◌, ◌^◌, IsSome, IfSome, IsTrue, length, position, take, drop, ◌+◌, ◌++◌};
 ghost use Rattle.cwr_fields.specs.Bytes.{is_spaces, is_control, has_control, are_digits, number_of, trimmed, digits};
 
 /// Whether every byte is a space.
@@ -24,18 +24,61 @@ pub(crate) fn are_digits(cell: &[u8]) -> bool
     cell.iter().all(|b| 48 <= *b && *b <= 57)
 }
 
-/// The number that at most five digits write.
-pub(crate) fn number_of(digits: &[u8]) -> u32
-    requires few { length digits.now ≤ 5 }
-    requires digits { IsTrue (are_digits digits.now) }
-    ensures number { result ≡ number_of digits.now }
-    ensures bound { result < 10 ^ length digits.now }
+/// The number that at most ten digits write. `None` where some byte is no digit.
+pub(crate) fn number_in(cell: &[u8]) -> Option<u64>
+    requires { length cell.now ≤ 10 }
+    ensures some { IsSome result ↔ IsTrue (are_digits cell.now) }
+    ensures value { IfSome result (λ n. (n ≡ number_of cell.now) × (n < 10 ^ length cell.now)) }
 {
     let mut number = 0;
-    for digit in digits {
-        number = 10 * number + u32::from(*digit - b'0');
+    for byte in cell {
+        if !byte.is_ascii_digit() {
+            return None;
+        }
+        number = 10 * number + u64::from(*byte - b'0');
     }
-    number
+    Some(number)
+}
+
+/// The three numbers that digits write, the first in so many digits and the others in two each. `None` where some byte
+/// is no digit.
+pub(crate) fn three_numbers(first: usize, cell: &[u8]) -> Option<(u64, u64, u64)>
+    requires few { first ≤ 4 }
+    requires width { length cell.now ≡ first + 4 }
+    ensures some { IsSome result ↔ IsTrue (are_digits cell.now) }
+    ensures first { IfSome result (λ x. (x.0 ≡ number_of (take first cell.now)) × (x.0 < 10 ^ first)) }
+    ensures second { IfSome result (λ x. (x.1 ≡ number_of (take 2 (drop first cell.now))) × (x.1 < 100)) }
+    ensures third { IfSome result (λ x. (x.2 ≡ number_of (take 2 (drop (first + 2) cell.now))) × (x.2 < 100)) }
+{
+    let number = number_in(&cell[..first])?;
+    let second = number_in(&cell[first..first + 2])?;
+    let third = number_in(&cell[first + 2..])?;
+    Some((number, second, third))
+}
+
+/// Writes the number's last decimal digits, as many as the cell is wide, with leading zeros.
+pub(crate) fn write_digits(cell: &mut [u8], number: u64)
+    ensures { cell.new ≡ digits (length cell.old) number }
+{
+    let mut rest = number;
+    let mut at = cell.len();
+    while at > 0 {
+        at -= 1;
+        cell[at] = b'0' + (rest % 10) as u8;
+        rest /= 10;
+    }
+}
+
+/// Writes three numbers, the first in so many digits and the others in two each.
+pub(crate) fn write_three(cell: &mut [u8], first: usize, numbers: (u64, u64, u64))
+    requires { length cell.old ≡ first + 4 }
+    ensures { cell.new ≡ digits first numbers.0 ++ digits 2 numbers.1 ++ digits 2 numbers.2 }
+{
+    let (head, rest) = cell.split_at_mut(first);
+    let (middle, last) = rest.split_at_mut(2);
+    write_digits(head, numbers.0);
+    write_digits(middle, numbers.1);
+    write_digits(last, numbers.2);
 }
 
 /// Where the first control byte stands: one of 0 to 31, or 127.

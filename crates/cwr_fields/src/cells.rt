@@ -1,18 +1,19 @@
-//! Whether a cell is one of its type.
+//! Whether a cell is one of its type, and the fault of one that isn't.
 
-ghost use Rattle.std.specs.Prelude.{◌≡◌, ◌↔◌, ◌+◌, ◌≤◌, ◌<◌, ◌^◌, IsTrue, OnOk, IfErr, length, pos, replicate, if◌then◌else◌, ◌⊎◌};
+ghost use Rattle.std.specs.Prelude.{◌≡◌, ◌↔◌, IsTrue, IsFalse, OnOk, IfErr, length, if◌then◌else◌};
 ghost use Rattle.std.specs.Option.{ForSome};
-ghost use Rattle.jiff.specs.Words.{IsDate};
 ghost use Rattle.cwr_fields.specs.Bytes.{is_spaces, is_plain};
-ghost use Rattle.cwr_fields.specs.Cells.{Holds, HasFault, SpellsNumber, SpellsDay, SpellsTime, SpellsShare, fault_of, flag_texts, type_width};
+ghost use Rattle.cwr_fields.specs.Cells.{Holds, HasFault, SpellsNumber, type_width};
 ghost use Rattle.cwr_fields.specs.Codes.{code_width};
-ghost use Rattle.std.specs.List.{IsAmong};
 
-use crate::byte_runs::{are_digits, has_control, is_spaces, number_of};
+use crate::byte_runs::{are_digits, has_control, is_spaces, number_in};
 use crate::cell_types::{CellFault, CellType};
-use crate::code_lists::{is_among, is_code};
+use crate::code_lists::is_code;
+use crate::dates::{CivilDate, DateCell};
+use crate::flags::Flag;
 use crate::tables::Table;
-use jiff::civil::Date;
+use crate::times::{DurationCell, TimeOfDay};
+use crate::typed_cells::is_cell;
 
 /// Whether no byte is a control byte.
 fn is_plain(cell: &[u8]) -> bool
@@ -28,91 +29,17 @@ fn is_number(cell: &[u8]) -> bool
     !cell.is_empty() && are_digits(cell)
 }
 
-/// Whether they name a day of the Gregorian calendar, in a year from 1 on.
-fn is_date(year: u32, month: u32, day: u32) -> bool
-    requires year { year < 10 ^ 4 }
-    requires month { month < 10 ^ 2 }
-    requires day { day < 10 ^ 2 }
-    ensures { IsTrue result ↔ ((0 < year) × IsDate (pos year) (pos month) (pos day)) }
-{
-    year != 0 && Date::new(year as i16, month as i8, day as i8).is_ok()
-}
-
-/// Whether the cell is `YYYYMMDD`, a day of the years 1 to 9999.
-fn is_day(cell: &[u8]) -> bool
-    requires { length cell.now ≡ 8 }
-    ensures { IsTrue result ↔ SpellsDay cell.now }
-{
-    are_digits(cell)
-        && is_date(
-            number_of(&cell[..4]),
-            number_of(&cell[4..6]),
-            number_of(&cell[6..8]),
-        )
-}
-
-/// Whether the cell is `HHMMSS`, with fewer hours than the bound.
-fn is_time(bound: u32, cell: &[u8]) -> bool
-    requires bound { bound ≤ 100 }
-    requires width { length cell.now ≡ 6 }
-    ensures { IsTrue result ↔ SpellsTime bound cell.now }
-{
-    are_digits(cell)
-        && number_of(&cell[..2]) < bound
-        && number_of(&cell[2..4]) < 60
-        && number_of(&cell[4..6]) < 60
-}
-
-/// Whether the cell is five digits, at most 10000.
-fn is_share(cell: &[u8]) -> bool
-    requires { length cell.now ≡ 5 }
-    ensures { IsTrue result ↔ SpellsShare cell.now }
-{
-    are_digits(cell) && number_of(cell) <= 10000
-}
-
-/// The texts of a flag.
-static FLAGS: [[u8; 1]; 4] = [*b"Y", *b"N", *b"U", *b" "];
-
-fn is_flag(cell: &[u8]) -> bool
-    requires { length cell.now ≡ 1 }
-    ensures { IsTrue result ↔ IsAmong flag_texts cell.now }
-{
-    is_among(&FLAGS, cell)
-}
-
-fn is_required(cell: &[u8]) -> bool
-    ensures { IsTrue result ↔ Holds CellType.Required cell.now }
-{
-    is_plain(cell) && !is_spaces(cell)
-}
-
 fn is_opt_number(cell: &[u8]) -> bool
     ensures { IsTrue result ↔ Holds CellType.OptNumber cell.now }
 {
     is_spaces(cell) || is_number(cell)
 }
 
-fn is_opt_day(cell: &[u8]) -> bool
-    requires { length cell.now ≡ 8 }
-    ensures { IsTrue result ↔ Holds CellType.OptDate cell.now }
+fn is_opt_time(cell: &[u8]) -> bool
+    requires { length cell.now ≡ 6 }
+    ensures { IsTrue result ↔ Holds CellType.OptTime cell.now }
 {
-    is_spaces(cell) || (cell == b"00000000".as_slice() || is_day(cell))
-}
-
-fn is_opt_time(bound: u32, cell: &[u8]) -> bool
-    requires bound { bound ≤ 100 }
-    requires width { length cell.now ≡ 6 }
-    ensures { IsTrue result ↔ ((cell.now ≡ replicate 6 32) ⊎ SpellsTime bound cell.now) }
-{
-    is_spaces(cell) || is_time(bound, cell)
-}
-
-fn is_opt_share(cell: &[u8]) -> bool
-    requires { length cell.now ≡ 5 }
-    ensures { IsTrue result ↔ Holds CellType.Share cell.now }
-{
-    is_spaces(cell) || is_share(cell)
+    is_spaces(cell) || is_cell::<TimeOfDay>(cell)
 }
 
 fn is_opt_code(table: Table, cell: &[u8]) -> bool
@@ -122,27 +49,12 @@ fn is_opt_code(table: Table, cell: &[u8]) -> bool
     is_spaces(cell) || is_code(table, cell)
 }
 
-/// Whether the cell is one of the type.
-fn holds(ty: CellType, cell: &[u8]) -> bool
-    requires { ForSome (type_width ty) (λ width. length cell.now ≡ width) }
-    ensures { IsTrue result ↔ Holds ty cell.now }
+/// `Ok` where the cell was found to be one of its type, and else the fault.
+fn told(is_one: bool, fault: CellFault) -> Result<(), CellFault>
+    ensures ok { OnOk result (IsTrue is_one) }
+    ensures err { IfErr result (λ f. IsFalse is_one × (f ≡ fault)) }
 {
-    match ty {
-        CellType::Text => is_plain(cell),
-        CellType::Required => is_required(cell),
-        CellType::Number => is_number(cell),
-        CellType::OptNumber => is_opt_number(cell),
-        CellType::Date => is_day(cell),
-        CellType::OptDate => is_opt_day(cell),
-        CellType::Time => is_time(24, cell),
-        CellType::OptTime => is_opt_time(24, cell),
-        CellType::OptDuration => is_opt_time(100, cell),
-        CellType::Share => is_opt_share(cell),
-        CellType::Flag => is_flag(cell),
-        CellType::Code(table) => is_code(table, cell),
-        CellType::OptCode(table) => is_opt_code(table, cell),
-        CellType::Constant(word) => cell == word.text(),
-    }
+    if is_one { Ok(()) } else { Err(fault) }
 }
 
 /// The fault of a cell that must hold something: that it is blank, or another one.
@@ -156,25 +68,28 @@ fn blank_or(other: CellFault, cell: &[u8]) -> CellFault
     }
 }
 
-/// What is told of a cell that isn't one of the type.
-fn fault_of(ty: CellType, cell: &[u8]) -> CellFault
-    ensures { result ≡ fault_of ty cell.now }
+fn required(cell: &[u8]) -> Result<(), CellFault>
+    ensures ok { OnOk result (Holds CellType.Required cell.now) }
+    ensures err { IfErr result (λ fault. HasFault CellType.Required cell.now fault) }
 {
-    match ty {
-        CellType::Text => CellFault::Control,
-        CellType::Required if has_control(cell) => CellFault::Control,
-        CellType::Required => CellFault::Blank,
-        CellType::Number => blank_or(CellFault::NotDigits, cell),
-        CellType::OptNumber => CellFault::NotDigits,
-        CellType::Date => blank_or(CellFault::NotADate, cell),
-        CellType::OptDate => CellFault::NotADate,
-        CellType::Time => blank_or(CellFault::NotATime, cell),
-        CellType::OptTime | CellType::OptDuration => CellFault::NotATime,
-        CellType::Share if are_digits(cell) => CellFault::OverShare,
-        CellType::Share => CellFault::NotDigits,
-        CellType::Code(_) => blank_or(CellFault::NotACode, cell),
-        CellType::Flag | CellType::OptCode(_) => CellFault::NotACode,
-        CellType::Constant(_) => CellFault::NotConstant,
+    if has_control(cell) {
+        Err(CellFault::Control)
+    } else {
+        told(!is_spaces(cell), CellFault::Blank)
+    }
+}
+
+fn share(cell: &[u8]) -> Result<(), CellFault>
+    requires { length cell.now ≡ 5 }
+    ensures ok { OnOk result (Holds CellType.Share cell.now) }
+    ensures err { IfErr result (λ fault. HasFault CellType.Share cell.now fault) }
+{
+    if is_spaces(cell) {
+        return Ok(());
+    }
+    match number_in(cell) {
+        None => Err(CellFault::NotDigits),
+        Some(hundredths) => told(hundredths <= 10000, CellFault::OverShare),
     }
 }
 
@@ -185,10 +100,27 @@ pub fn fits(ty: CellType, cell: &[u8]) -> Result<(), CellFault>
     ensures ok { OnOk result (Holds ty cell.now) }
     ensures err { IfErr result (λ fault. HasFault ty cell.now fault) }
 {
-    if holds(ty, cell) {
-        Ok(())
-    } else {
-        Err(fault_of(ty, cell))
+    match ty {
+        CellType::Text => told(is_plain(cell), CellFault::Control),
+        CellType::Required => required(cell),
+        CellType::Number => told(is_number(cell), blank_or(CellFault::NotDigits, cell)),
+        CellType::OptNumber => told(is_opt_number(cell), CellFault::NotDigits),
+        CellType::Date => told(
+            is_cell::<CivilDate>(cell),
+            blank_or(CellFault::NotADate, cell),
+        ),
+        CellType::OptDate => told(is_cell::<DateCell>(cell), CellFault::NotADate),
+        CellType::Time => told(
+            is_cell::<TimeOfDay>(cell),
+            blank_or(CellFault::NotATime, cell),
+        ),
+        CellType::OptTime => told(is_opt_time(cell), CellFault::NotATime),
+        CellType::OptDuration => told(is_cell::<DurationCell>(cell), CellFault::NotATime),
+        CellType::Share => share(cell),
+        CellType::Flag => told(is_cell::<Flag>(cell), CellFault::NotACode),
+        CellType::Code(table) => told(is_code(table, cell), blank_or(CellFault::NotACode, cell)),
+        CellType::OptCode(table) => told(is_opt_code(table, cell), CellFault::NotACode),
+        CellType::Constant(word) => told(cell == word.text(), CellFault::NotConstant),
     }
 }
 

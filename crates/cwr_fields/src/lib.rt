@@ -7,9 +7,13 @@ mod cells;
 mod code_lists;
 mod codes;
 mod counted;
+mod dates;
 mod devices;
+mod flags;
 mod iswc;
+mod numbers;
 mod tables;
+mod times;
 mod typed_cells;
 
 pub use byte_runs::{first_control, is_spaces, spells, trimmed};
@@ -17,9 +21,13 @@ pub use cell_types::{CellFault, CellType, Word};
 pub use cells::{fits, width_of};
 pub use codes::{Role, TransactionType};
 pub use counted::Counted;
+pub use dates::{CivilDate, DateCell};
 pub use devices::{DeviceFault, Source, Target};
+pub use flags::Flag;
 pub use iswc::iswc_ok;
+pub use numbers::{Number, Share};
 pub use tables::Table;
+pub use times::{DurationCell, PlayingTime, TimeOfDay};
 pub use typed_cells::Cell;
 
 #[cfg(test)]

@@ -7,7 +7,7 @@ use Rattle.cwr_fields.specs.declared.cell_types.CellType.TheVariants.{Date}
 use Rattle.cwr_fields.specs.declared.cell_types.CellFault.TheVariants.{NotADate}
 use Rattle.cwr_fields.specs.Bytes.{digits}
 use Rattle.cwr_fields.specs.Cells.{Holds}
-use Rattle.cwr_fields.proofs.Dates.{day_of_parts}
+use Rattle.cwr_fields.proofs.Parts.{day_of_parts}
 use Rattle.cwr_fields.proofs.LineFeeds.{NoLf}
 use Rattle.cwr_layouts.specs.declared.kinds.Kind.{Kind}
 use Rattle.cwr_layouts.specs.declared.kinds.Kind.TheVariants as kinds
