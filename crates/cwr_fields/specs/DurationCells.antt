@@ -3,9 +3,9 @@ use Rattle.std.proofs.Common.{◌≡◌, refl, sym, ap, length, ℕ, ◌<◌, Li
 use mathlib.Core.HLevel.{is_prop→PathP}
 use Rattle.std.specs.Coded.{le_prop}
 use Rattle.cwr_fields.specs.declared.cell_types.CellType.TheVariants as types
-use Rattle.cwr_fields.specs.declared.times.PlayingTime.{PlayingTime}
-use Rattle.cwr_fields.specs.declared.times.DurationCell.{DurationCell}
-use Rattle.cwr_fields.specs.declared.times.DurationCell.TheVariants.{Blank, Lasting}
+use Rattle.cwr_fields.specs.declared.durations.PlayingTime.{PlayingTime}
+use Rattle.cwr_fields.specs.declared.durations.DurationCell.{DurationCell}
+use Rattle.cwr_fields.specs.declared.durations.DurationCell.TheVariants.{Blank, Lasting}
 use Rattle.cwr_fields.specs.Bytes.{digits}
 use Rattle.cwr_fields.specs.Cells.{Holds}
 use Rattle.cwr_fields.specs.NumberLaws.{not_spaces_behind}

@@ -10,9 +10,10 @@ use crate::byte_runs::{are_digits, has_control, is_spaces, number_in};
 use crate::cell_types::{CellFault, CellType};
 use crate::code_lists::is_code;
 use crate::dates::{CivilDate, DateCell};
+use crate::durations::DurationCell;
 use crate::flags::Flag;
 use crate::tables::Table;
-use crate::times::{DurationCell, TimeOfDay};
+use crate::times::TimeOfDay;
 use crate::typed_cells::is_cell;
 
 /// Whether no byte is a control byte.

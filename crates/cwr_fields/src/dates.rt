@@ -22,7 +22,7 @@ pub struct CivilDate {
 fn is_date(year: u16, month: u8, day: u8) -> bool
     ensures { IsTrue result ↔ ((0 < year) × IsDate (pos year) (pos month) (pos day)) }
 {
-    0 < year
+    year != 0
         && year < 10_000
         && month < 100
         && day < 100
@@ -90,7 +90,8 @@ impl Cell for CivilDate {
     }
 
     fn write(&self, cell: &mut [u8]) {
-        let numbers = (self.year.into(), self.month.into(), self.day.into());
+        let CivilDate { year, month, day } = *self;
+        let numbers = (year.into(), month.into(), day.into());
         write_three(cell, 4, numbers);
     }
 

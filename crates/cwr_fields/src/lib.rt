@@ -6,9 +6,11 @@ mod cell_types;
 mod cells;
 mod code_lists;
 mod codes;
+mod conversions;
 mod counted;
 mod dates;
 mod devices;
+mod durations;
 mod flags;
 mod iswc;
 mod numbers;
@@ -20,15 +22,19 @@ pub use byte_runs::{first_control, is_spaces, spells, trimmed};
 pub use cell_types::{CellFault, CellType, Word};
 pub use cells::{fits, width_of};
 pub use codes::{Role, TransactionType};
+pub use conversions::OutOfRange;
 pub use counted::Counted;
 pub use dates::{CivilDate, DateCell};
 pub use devices::{DeviceFault, Source, Target};
+pub use durations::{DurationCell, PlayingTime};
 pub use flags::Flag;
 pub use iswc::iswc_ok;
 pub use numbers::{Number, Share};
 pub use tables::Table;
-pub use times::{DurationCell, PlayingTime, TimeOfDay};
+pub use times::TimeOfDay;
 pub use typed_cells::Cell;
 
+#[cfg(test)]
+mod cell_examples;
 #[cfg(test)]
 mod examples;

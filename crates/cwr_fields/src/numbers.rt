@@ -63,7 +63,7 @@ impl<const W: usize> Cell for Number<W> {
     }
 
     fn write(&self, cell: &mut [u8]) {
-        write_digits(cell, self.value);
+        write_digits(cell, self.value());
     }
 
     ghost width = { λ n. number_width W n.value };
@@ -137,7 +137,7 @@ impl Cell for Share {
     }
 
     fn write(&self, cell: &mut [u8]) {
-        match self.hundredths {
+        match self.hundredths() {
             None => cell.fill(b' '),
             Some(hundredths) => write_digits(cell, u64::from(hundredths)),
         }

@@ -4,7 +4,7 @@ use Rattle.cwr_fields.specs.Bytes.{is_spaces}
 use Rattle.cwr_fields.proofs.Blanks.{blank}
 use Rattle.cwr_fields.proofs.Spellings.{time_spelled}
 use Rattle.cwr_fields.proofs.Written.{duration_or, three_back}
-use Rattle.cwr_fields.proofs.times.DurationCellCell.read.Goals as goal
+use Rattle.cwr_fields.proofs.durations.DurationCellCell.read.Goals as goal
 
 pub returns-then-is_spaces-clause-some : goal.returns-then-is_spaces-clause-some
 returns-then-is_spaces-clause-some c = (λ t. (c.if-cell-ne6.false, inl (blank 6 c.args.cell.now c.if-cell-ne6.false (sym c.is_spaces.ensures ∙ c.if-is_spaces.true))), λ h. refl)
