@@ -1,5 +1,7 @@
 //! Typed cells by example.
 
+ghost use Rattle.std.specs.Prelude.{◌<◌, ◌≤◌};
+
 use super::*;
 use jiff::civil::{Date, date, time};
 use std::test::Fail;
