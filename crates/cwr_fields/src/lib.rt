@@ -1,6 +1,7 @@
 //! The cells of CWR 2.1 records: what the cell of a field may hold, and the tables of codes.
 #![tactic(auto)]
 
+mod agreement_codes;
 mod byte_runs;
 mod cell_types;
 mod cells;
@@ -10,9 +11,18 @@ mod codes;
 mod counted;
 mod devices;
 mod iswc;
+mod message_codes;
+mod party_codes;
+mod sender_digits;
+mod sender_types;
 mod tables;
 mod typed_cells;
+mod work_codes;
 
+pub use agreement_codes::{
+    AgreementType, InclusionExclusion, PostTermCollectionStatus, PriorRoyaltyStatus,
+    SalesManufactureClause,
+};
 pub use byte_runs::{first_control, is_spaces, spells, trimmed};
 pub use cell_types::{CellFault, CellType, Word};
 pub use cells::{fits, width_of};
@@ -21,8 +31,16 @@ pub use codes::{Role, TransactionType};
 pub use counted::Counted;
 pub use devices::{DeviceFault, Source, Target};
 pub use iswc::iswc_ok;
+pub use message_codes::{MessageLevel, TransactionStatus};
+pub use party_codes::{PublisherType, WriterDesignation};
+pub use sender_digits::SenderDigits;
+pub use sender_types::SenderType;
 pub use tables::Table;
 pub use typed_cells::Cell;
+pub use work_codes::{
+    CompositeType, DistributionCategory, ExcerptType, RecordingFormat, RecordingTechnique,
+    TitleType, VersionType,
+};
 
 #[cfg(test)]
 mod examples;
