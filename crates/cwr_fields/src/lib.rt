@@ -43,4 +43,6 @@ pub use work_codes::{
 };
 
 #[cfg(test)]
+mod code_examples;
+#[cfg(test)]
 mod examples;
