@@ -1,94 +1,166 @@
 //! The codes of each table, as its cells hold them, and whether a cell is one of them.
 
-ghost use Rattle.std.specs.Prelude.{◌≡◌, ◌↔◌, IsTrue, Any, length};
+ghost use Rattle.std.specs.Prelude.{◌≡◌, ◌↔◌, IsTrue, Any, length, map};
 ghost use Rattle.cwr_fields.specs.Cells.{SpellsCode};
 ghost use Rattle.cwr_fields.specs.Codes.{code_width};
-ghost use Rattle.cwr_fields.specs.Listed.{cells_of};
+ghost use Rattle.cwr_fields.specs.Members.{listed, coded};
+ghost use Rattle.cwr_fields.specs.SenderCodes.{sender_text, senders};
 
-use crate::byte_runs::are_digits;
+use crate::agreement_codes::{
+    AgreementType, InclusionExclusion, PostTermCollectionStatus, PriorRoyaltyStatus,
+    SalesManufactureClause,
+};
+use crate::codes::{Role, TransactionType};
+use crate::message_codes::{MessageLevel, TransactionStatus};
+use crate::party_codes::{PublisherType, WriterDesignation};
+use crate::sender_types::SenderType;
 use crate::tables::Table;
+use crate::typed_cells::is_cell;
+use crate::work_codes::{
+    CompositeType, DistributionCategory, ExcerptType, RecordingFormat, RecordingTechnique,
+    TitleType, VersionType,
+};
 
-// Each code of a table stands here once, filled up with spaces.
-static SENDER: [[u8; 2]; 4] = [*b"PB", *b"SO", *b"AA", *b"WR"];
-
-static TRANSACTION_TYPE: [[u8; 3]; 4] = [*b"AGR", *b"NWR", *b"REV", *b"ACK"];
-
-static AGREEMENT_TYPE: [[u8; 2]; 4] = [*b"OS", *b"OG", *b"PS", *b"PG"];
-
-static ROLE: [[u8; 2]; 2] = [*b"AS", *b"AC"];
-
-static PRIOR: [[u8; 1]; 3] = [*b"N", *b"D", *b"A"];
-
-static POST_TERM: [[u8; 1]; 3] = [*b"N", *b"O", *b"D"];
-
-static SALES: [[u8; 1]; 2] = [*b"S", *b"M"];
-
-static SIGN: [[u8; 1]; 2] = [*b"I", *b"E"];
-
-static CATEGORY: [[u8; 3]; 4] = [*b"JAZ", *b"POP", *b"SER", *b"UNC"];
-
-static VERSION: [[u8; 3]; 2] = [*b"ORI", *b"MOD"];
-
-static COMPOSITE: [[u8; 3]; 4] = [*b"COS", *b"MED", *b"POT", *b"UCO"];
-
-static EXCERPT: [[u8; 3]; 2] = [*b"MOV", *b"UEX"];
-
-static PUBLISHER: [[u8; 2]; 6] = [*b"E ", *b"AQ", *b"AM", *b"PA", *b"ES", *b"SE"];
-
-static DESIGNATION: [[u8; 2]; 9] = [
-    *b"A ", *b"AD", *b"AR", *b"C ", *b"CA", *b"PA", *b"SA", *b"SR", *b"TR",
+// Each code of a table stands here once, beside its member.
+pub(crate) static TRANSACTION_TYPE: [(TransactionType, &str); 4] = [
+    (TransactionType::Agreement, "AGR"),
+    (TransactionType::NewWork, "NWR"),
+    (TransactionType::RevisedWork, "REV"),
+    (TransactionType::Acknowledgement, "ACK"),
 ];
 
-static TITLE: [[u8; 2]; 11] = [
-    *b"AT", *b"TE", *b"FT", *b"IT", *b"OT", *b"TT", *b"PT", *b"RT", *b"ET", *b"OL", *b"AL",
+pub(crate) static AGREEMENT_TYPE: [(AgreementType, &str); 4] = [
+    (AgreementType::OriginalSpecific, "OS"),
+    (AgreementType::OriginalGeneral, "OG"),
+    (AgreementType::SubpublishingSpecific, "PS"),
+    (AgreementType::SubpublishingGeneral, "PG"),
 ];
 
-static STATUS: [[u8; 2]; 10] = [
-    *b"CO", *b"DU", *b"RA", *b"AS", *b"AC", *b"SR", *b"CR", *b"RJ", *b"NP", *b"RC",
+pub(crate) static ROLE: [(Role, &str); 2] = [(Role::Assignor, "AS"), (Role::Acquirer, "AC")];
+
+pub(crate) static PRIOR: [(PriorRoyaltyStatus, &str); 3] = [
+    (PriorRoyaltyStatus::None, "N"),
+    (PriorRoyaltyStatus::FromDate, "D"),
+    (PriorRoyaltyStatus::All, "A"),
 ];
 
-static MESSAGE: [[u8; 1]; 5] = [*b"E", *b"G", *b"T", *b"R", *b"F"];
+pub(crate) static POST_TERM: [(PostTermCollectionStatus, &str); 3] = [
+    (PostTermCollectionStatus::None, "N"),
+    (PostTermCollectionStatus::Open, "O"),
+    (PostTermCollectionStatus::UntilDate, "D"),
+];
 
-static RECORDING: [[u8; 1]; 2] = [*b"A", *b"V"];
+pub(crate) static SALES: [(SalesManufactureClause, &str); 2] = [
+    (SalesManufactureClause::Sales, "S"),
+    (SalesManufactureClause::Manufacture, "M"),
+];
 
-static TECHNIQUE: [[u8; 1]; 3] = [*b"A", *b"D", *b"U"];
+pub(crate) static SIGN: [(InclusionExclusion, &str); 2] = [
+    (InclusionExclusion::Included, "I"),
+    (InclusionExclusion::Excluded, "E"),
+];
 
-/// Whether the cell is one of the texts.
-pub(crate) fn is_among<const W: usize>(texts: &[[u8; W]], cell: &[u8]) -> bool
-    ensures { IsTrue result ↔ Any (λ text. text ≡ cell.now) texts.now }
+pub(crate) static CATEGORY: [(DistributionCategory, &str); 4] = [
+    (DistributionCategory::Jazz, "JAZ"),
+    (DistributionCategory::Popular, "POP"),
+    (DistributionCategory::Serious, "SER"),
+    (DistributionCategory::Unclassified, "UNC"),
+];
+
+pub(crate) static VERSION: [(VersionType, &str); 2] = [
+    (VersionType::Original, "ORI"),
+    (VersionType::Modified, "MOD"),
+];
+
+pub(crate) static COMPOSITE: [(CompositeType, &str); 4] = [
+    (CompositeType::CompositeOfSamples, "COS"),
+    (CompositeType::Medley, "MED"),
+    (CompositeType::Potpourri, "POT"),
+    (CompositeType::Unspecified, "UCO"),
+];
+
+pub(crate) static EXCERPT: [(ExcerptType, &str); 2] = [
+    (ExcerptType::Movement, "MOV"),
+    (ExcerptType::Unspecified, "UEX"),
+];
+
+pub(crate) static PUBLISHER: [(PublisherType, &str); 6] = [
+    (PublisherType::OriginalPublisher, "E"),
+    (PublisherType::Acquirer, "AQ"),
+    (PublisherType::Administrator, "AM"),
+    (PublisherType::IncomeParticipant, "PA"),
+    (PublisherType::SubstitutedPublisher, "ES"),
+    (PublisherType::SubPublisher, "SE"),
+];
+
+pub(crate) static DESIGNATION: [(WriterDesignation, &str); 9] = [
+    (WriterDesignation::Author, "A"),
+    (WriterDesignation::Adaptor, "AD"),
+    (WriterDesignation::Arranger, "AR"),
+    (WriterDesignation::Composer, "C"),
+    (WriterDesignation::ComposerAuthor, "CA"),
+    (WriterDesignation::IncomeParticipant, "PA"),
+    (WriterDesignation::SubAuthor, "SA"),
+    (WriterDesignation::SubArranger, "SR"),
+    (WriterDesignation::Translator, "TR"),
+];
+
+pub(crate) static TITLE: [(TitleType, &str); 11] = [
+    (TitleType::Alternative, "AT"),
+    (TitleType::FirstLine, "TE"),
+    (TitleType::Formal, "FT"),
+    (TitleType::Incorrect, "IT"),
+    (TitleType::Original, "OT"),
+    (TitleType::OriginalTranslated, "TT"),
+    (TitleType::Part, "PT"),
+    (TitleType::Restricted, "RT"),
+    (TitleType::ExtraSearch, "ET"),
+    (TitleType::OriginalNational, "OL"),
+    (TitleType::AlternativeNational, "AL"),
+];
+
+pub(crate) static STATUS: [(TransactionStatus, &str); 10] = [
+    (TransactionStatus::Conflict, "CO"),
+    (TransactionStatus::Duplicate, "DU"),
+    (TransactionStatus::TransactionAccepted, "RA"),
+    (TransactionStatus::RegistrationAccepted, "AS"),
+    (TransactionStatus::AcceptedWithChanges, "AC"),
+    (TransactionStatus::ReadyForPayment, "SR"),
+    (TransactionStatus::ChangedReadyForPayment, "CR"),
+    (TransactionStatus::Rejected, "RJ"),
+    (TransactionStatus::NoParticipation, "NP"),
+    (TransactionStatus::ClaimRejected, "RC"),
+];
+
+pub(crate) static MESSAGE: [(MessageLevel, &str); 5] = [
+    (MessageLevel::EntireFile, "E"),
+    (MessageLevel::Group, "G"),
+    (MessageLevel::Transaction, "T"),
+    (MessageLevel::Record, "R"),
+    (MessageLevel::Field, "F"),
+];
+
+pub(crate) static RECORDING: [(RecordingFormat, &str); 2] = [
+    (RecordingFormat::Audio, "A"),
+    (RecordingFormat::Visual, "V"),
+];
+
+pub(crate) static TECHNIQUE: [(RecordingTechnique, &str); 3] = [
+    (RecordingTechnique::Analogue, "A"),
+    (RecordingTechnique::Digital, "D"),
+    (RecordingTechnique::Unknown, "U"),
+];
+
+/// The sender types that have a code, each with its code. No static holds a type with a ghost field.
+pub(crate) fn senders() -> [(SenderType, &'static str); 4]
+    ensures { map listed result ≡ map (coded sender_text) senders }
 {
-    texts.iter().any(
-        |text| -> bool
-            ensures { IsTrue result ↔ (text.now ≡ cell.entry.now) }
-        { &text[..] == cell },
-    )
-}
-
-/// Whether the cell is in the table's list.
-fn is_listed(table: Table, cell: &[u8]) -> bool
-    ensures { IsTrue result ↔ Any (λ text. text ≡ cell.now) (cells_of table) }
-{
-    match table {
-        Table::Sender => is_among(&SENDER, cell),
-        Table::TransactionType => is_among(&TRANSACTION_TYPE, cell),
-        Table::AgreementType => is_among(&AGREEMENT_TYPE, cell),
-        Table::Role => is_among(&ROLE, cell),
-        Table::Prior => is_among(&PRIOR, cell),
-        Table::PostTerm => is_among(&POST_TERM, cell),
-        Table::Sales => is_among(&SALES, cell),
-        Table::Sign => is_among(&SIGN, cell),
-        Table::Category => is_among(&CATEGORY, cell),
-        Table::Version => is_among(&VERSION, cell),
-        Table::Composite => is_among(&COMPOSITE, cell),
-        Table::Excerpt => is_among(&EXCERPT, cell),
-        Table::Publisher => is_among(&PUBLISHER, cell),
-        Table::Designation => is_among(&DESIGNATION, cell),
-        Table::Title => is_among(&TITLE, cell),
-        Table::Status => is_among(&STATUS, cell),
-        Table::Message => is_among(&MESSAGE, cell),
-        Table::Recording => is_among(&RECORDING, cell),
-        Table::Technique => is_among(&TECHNIQUE, cell),
-    }
+    [
+        (SenderType::Publisher, "PB"),
+        (SenderType::Society, "SO"),
+        (SenderType::AdministrativeAgency, "AA"),
+        (SenderType::Writer, "WR"),
+    ]
 }
 
 /// Whether the cell is a code of the table, filled up with spaces. A sender type may also be two digits.
@@ -96,5 +168,25 @@ pub(crate) fn is_code(table: Table, cell: &[u8]) -> bool
     requires { length cell.now ≡ code_width table }
     ensures { IsTrue result ↔ SpellsCode table cell.now }
 {
-    is_listed(table, cell) || (matches!(table, Table::Sender) && are_digits(cell))
+    match table {
+        Table::Sender => is_cell::<SenderType>(cell),
+        Table::TransactionType => is_cell::<TransactionType>(cell),
+        Table::AgreementType => is_cell::<AgreementType>(cell),
+        Table::Role => is_cell::<Role>(cell),
+        Table::Prior => is_cell::<PriorRoyaltyStatus>(cell),
+        Table::PostTerm => is_cell::<PostTermCollectionStatus>(cell),
+        Table::Sales => is_cell::<SalesManufactureClause>(cell),
+        Table::Sign => is_cell::<InclusionExclusion>(cell),
+        Table::Category => is_cell::<DistributionCategory>(cell),
+        Table::Version => is_cell::<VersionType>(cell),
+        Table::Composite => is_cell::<CompositeType>(cell),
+        Table::Excerpt => is_cell::<ExcerptType>(cell),
+        Table::Publisher => is_cell::<PublisherType>(cell),
+        Table::Designation => is_cell::<WriterDesignation>(cell),
+        Table::Title => is_cell::<TitleType>(cell),
+        Table::Status => is_cell::<TransactionStatus>(cell),
+        Table::Message => is_cell::<MessageLevel>(cell),
+        Table::Recording => is_cell::<RecordingFormat>(cell),
+        Table::Technique => is_cell::<RecordingTechnique>(cell),
+    }
 }

@@ -44,53 +44,6 @@ fn worked_cells(rt: HostRuntime) {
     }
 }
 
-/// Each table with all its cells, and a text that isn't one of them.
-static CODES: [(Table, &[u8], &[u8]); 19] = [
-    (Table::Sender, b"PBSOAAWR0042", b"P1"),
-    (Table::TransactionType, b"AGRNWRREVACK", b"ISW"),
-    (Table::AgreementType, b"OSOGPSPG", b"OO"),
-    (Table::Role, b"ASAC", b"SA"),
-    (Table::Prior, b"NDA", b"O"),
-    (Table::PostTerm, b"NOD", b"A"),
-    (Table::Sales, b"SM", b"N"),
-    (Table::Sign, b"IE", b"X"),
-    (Table::Category, b"JAZPOPSERUNC", b"JAX"),
-    (Table::Version, b"ORIMOD", b"OR "),
-    (Table::Composite, b"COSMEDPOTUCO", b"cos"),
-    (Table::Excerpt, b"MOVUEX", b"MOD"),
-    (Table::Publisher, b"E AQAMPAESSE", b" E"),
-    (Table::Designation, b"A ADARC CAPASASRTR", b"AX"),
-    (Table::Title, b"ATTEFTITOTTTPTRTETOLAL", b"XX"),
-    (Table::Status, b"CODURAASACSRCRRJNPRC", b"OK"),
-    (Table::Message, b"EGTRF", b"D"),
-    (Table::Recording, b"AV", b"D"),
-    (Table::Technique, b"ADU", b"V"),
-];
-
-#[test]
-fn codes(rt: HostRuntime) {
-    for (table, cells, other) in &CODES {
-        for cell in cells.chunks(table.width()) {
-            assert_eq!(rt;
-                judged(CellType::Code(*table), cell),
-                Some(Ok(())),
-                "{table:?}"
-            );
-            assert_eq!(rt;
-                judged(CellType::OptCode(*table), cell),
-                Some(Ok(())),
-                "{table:?}"
-            );
-        }
-        let refused = Some(Err(CellFault::NotACode));
-        assert_eq!(rt;
-            judged(CellType::OptCode(*table), other),
-            refused,
-            "{table:?}"
-        );
-    }
-}
-
 #[test]
 fn texts(rt: HostRuntime) {
     assert_eq!(rt; trimmed(b"AB  "), b"AB".as_slice());

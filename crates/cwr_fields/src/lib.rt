@@ -1,10 +1,12 @@
 //! The cells of CWR 2.1 records: what the cell of a field may hold, and the tables of codes.
 #![tactic(auto)]
 
+mod agreement_codes;
 mod byte_runs;
 mod cell_types;
 mod cells;
 mod code_lists;
+mod coded;
 mod codes;
 mod conversions;
 mod counted;
@@ -13,14 +15,23 @@ mod devices;
 mod durations;
 mod flags;
 mod iswc;
+mod message_codes;
 mod numbers;
+mod party_codes;
+mod sender_types;
 mod tables;
 mod times;
 mod typed_cells;
+mod work_codes;
 
+pub use agreement_codes::{
+    AgreementType, InclusionExclusion, PostTermCollectionStatus, PriorRoyaltyStatus,
+    SalesManufactureClause,
+};
 pub use byte_runs::{first_control, is_spaces, spells, trimmed};
 pub use cell_types::{CellFault, CellType, Word};
 pub use cells::{fits, width_of};
+pub use coded::Coded;
 pub use codes::{Role, TransactionType};
 pub use conversions::OutOfRange;
 pub use counted::Counted;
@@ -29,12 +40,21 @@ pub use devices::{DeviceFault, Source, Target};
 pub use durations::{DurationCell, PlayingTime};
 pub use flags::Flag;
 pub use iswc::iswc_ok;
+pub use message_codes::{MessageLevel, TransactionStatus};
 pub use numbers::{Number, Share};
+pub use party_codes::{PublisherType, WriterDesignation};
+pub use sender_types::SenderType;
 pub use tables::Table;
 pub use times::TimeOfDay;
 pub use typed_cells::Cell;
+pub use work_codes::{
+    CompositeType, DistributionCategory, ExcerptType, RecordingFormat, RecordingTechnique,
+    TitleType, VersionType,
+};
 
 #[cfg(test)]
 mod cell_examples;
+#[cfg(test)]
+mod code_examples;
 #[cfg(test)]
 mod examples;

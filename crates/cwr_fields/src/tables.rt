@@ -1,9 +1,10 @@
 //! The names of the code tables.
 
-/// A table of codes of this profile. Its codes are listed in `docs/FORMAT.md`.
+/// A table of codes of this profile. Its codes are listed in `docs/FORMAT.md`. Each table has an enum of its own, of
+/// its name where no other is told, whose members stand for the codes.
 #[derive(Clone, Copy, Debug, PartialEq, Eq)]
 pub enum Table {
-    /// HDR's sender type, which may also be two digits.
+    /// HDR's sender type, which may also be two digits: `SenderType`.
     Sender,
     /// GRH's transaction type.
     TransactionType,
@@ -11,35 +12,35 @@ pub enum Table {
     AgreementType,
     /// IPA's role.
     Role,
-    /// AGR's prior royalty status.
+    /// AGR's prior royalty status: `PriorRoyaltyStatus`.
     Prior,
-    /// AGR's post-term collection status.
+    /// AGR's post-term collection status: `PostTermCollectionStatus`.
     PostTerm,
-    /// AGR's sales manufacture clause.
+    /// AGR's sales manufacture clause: `SalesManufactureClause`.
     Sales,
-    /// Whether a territory is included or excluded.
+    /// Whether a territory is included or excluded: `InclusionExclusion`.
     Sign,
-    /// A work's distribution category.
+    /// A work's distribution category: `DistributionCategory`.
     Category,
-    /// A work's version type.
+    /// A work's version type: `VersionType`.
     Version,
-    /// A work's composite type.
+    /// A work's composite type: `CompositeType`.
     Composite,
-    /// A work's excerpt type.
+    /// A work's excerpt type: `ExcerptType`.
     Excerpt,
-    /// The type of a publisher.
+    /// The type of a publisher: `PublisherType`.
     Publisher,
-    /// A writer's designation.
+    /// A writer's designation: `WriterDesignation`.
     Designation,
-    /// The type of an alternative title.
+    /// The type of an alternative title: `TitleType`.
     Title,
-    /// ACK's transaction status.
+    /// ACK's transaction status: `TransactionStatus`.
     Status,
-    /// The type and the level of a message.
+    /// The type and the level of a message: `MessageLevel`.
     Message,
-    /// REC's recording format.
+    /// REC's recording format: `RecordingFormat`.
     Recording,
-    /// REC's recording technique.
+    /// REC's recording technique: `RecordingTechnique`.
     Technique,
 }
 
