@@ -7,6 +7,8 @@ pub mod laws;
 mod layouts;
 mod lines;
 mod lookups;
+#[cfg(test)]
+mod record_tests;
 mod records;
 #[cfg(test)]
 mod tests;
