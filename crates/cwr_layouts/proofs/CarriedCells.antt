@@ -1,12 +1,12 @@
 -- The carried cells of a whole line: each is the part of the line that its field takes, and is set by writing that part.
-use Rattle.std.proofs.Common.{◌≡◌, ℕ, zero, suc, ◌+◌, ◌-◌, ◌≤◌, Bool, true, false, not, cond, List, [], ◌∷◌, length, map, take, filter, option_map, slice_get, slice_set, refl, sym, ap, ◌∙◌, arith, nat_eq, ne_eqb}
+use Rattle.std.proofs.Common.{◌≡◌, ℕ, zero, suc, ◌+◌, ◌-◌, ◌≤◌, Bool, true, false, not, cond, List, [], ◌∷◌, length, map, take, filter, option_map, slice_get, slice_set, refl, sym, ap, subst, ◌∙◌, arith, nat_eq, ne_eqb}
 use Rattle.std.specs.Prelude.{Option, Some, None}
-use Rattle.std.specs.List.{zip}
+use Rattle.std.specs.List.{AllZip, zip}
 use Rattle.std.specs.Option.{option_and_then}
 use Rattle.cwr_layouts.specs.declared.kinds.Kind.{Kind}
 use Rattle.cwr_layouts.specs.Layouts.{FieldLayout, layout, placed, field_placed, field_at, line_width}
 use Rattle.cwr_layouts.specs.Lines.{pieces}
-use Rattle.cwr_layouts.specs.Records.{RecordValue}
+use Rattle.cwr_layouts.specs.Records.{RecordValue, IsCellOf, IsRecord, carried_fields}
 use Rattle.cwr_layouts.specs.Carried.{carried_at, carried_placed, carried_before, carried_cells, record_cell, record_in}
 use Rattle.cwr_layouts.proofs.Judged.{carried_in}
 use Rattle.cwr_layouts.proofs.CellParts.{part, piece_is_part, field_within}
@@ -156,3 +156,60 @@ record_cell-piece kind line i f e d =
     ap (option_and_then (λ (_ : FieldLayout). slice_get (carried_cells kind line) (carried_before kind (suc i)))) (carried_at-field kind i f e d)
     ∙ ap (λ (n : ℕ). slice_get (carried_in (layout kind) (pieces (widths kind) line)) (carried_count (take n (layout kind)))) before
     ∙ carried_in-at (layout kind) (pieces (widths kind) line) i f e d
+
+-- ---- the cells of a record
+
+-- what the first field leaves of a place among the carried fields
+field_behind_first : (b : Bool) (g : FieldLayout) (fields front : List FieldLayout) (o : Option FieldLayout) → slice_get fields (carried_count front) ≡ o
+    → slice_get (cond (not b) (g ∷ fields) fields) (length (cond (not b) (g ∷ filter (λ f. not f.derived) front) (filter (λ f. not f.derived) front))) ≡ o
+field_behind_first true g fields front o h = h
+field_behind_first false g fields front o h = h
+
+first_carried : (b : Bool) (g : FieldLayout) (fields : List FieldLayout) → b ≡ false → slice_get (cond (not b) (g ∷ fields) fields) 0 ≡ Some g
+first_carried true g fields d = absurd (cc d)
+first_carried false g fields d = refl
+
+-- a carried field stands behind the carried fields before it
+carried_field-at : (fields : List FieldLayout) (i : ℕ) (f : FieldLayout) → slice_get fields i ≡ Some f → f.derived ≡ false
+    → slice_get (filter (λ g. not g.derived) fields) (carried_count (take i fields)) ≡ Some f
+carried_field-at [] i f e d = absurd (cc e)
+carried_field-at (g ∷ fields) zero f e d =
+    let same : g ≡ f = cc e in
+    first_carried g.derived g (filter (λ x. not x.derived) fields) (ap (λ (x : FieldLayout). x.derived) same ∙ d) ∙ ap (λ (x : FieldLayout). Some x) same
+carried_field-at (g ∷ fields) (suc i) f e d =
+    field_behind_first g.derived g (filter (λ x. not x.derived) fields) (take i fields) (Some f) (carried_field-at fields i f e d)
+
+-- a cell at the place of each field
+pub record CellAt (f : FieldLayout) (o : Option (List ℕ)) : Type 0 where
+  pub cell : List ℕ
+  pub found : o ≡ Some cell
+  pub is_cell : IsCellOf f cell
+
+cell_beside : (fields : List FieldLayout) (cells : List (List ℕ)) (n : ℕ) (f : FieldLayout) → AllZip IsCellOf fields cells → slice_get fields n ≡ Some f → CellAt f (slice_get cells n)
+cell_beside [] cells n f h e = absurd (cc e)
+cell_beside (g ∷ fields) [] n f h e = absurd h
+cell_beside (g ∷ fields) (c ∷ cells) zero f h e = let same : g ≡ f = cc e in record { cell = c; found = refl; is_cell = subst (λ (x : FieldLayout). IsCellOf x c) same h.0 }
+cell_beside (g ∷ fields) (c ∷ cells) (suc n) f h e = cell_beside fields cells n f h.1 e
+
+open_if : (b : Bool) (g f : FieldLayout) → g.derived ≡ b → cond b None (Some g) ≡ Some f → (g ≡ f) × (f.derived ≡ false)
+open_if true g f d e = absurd (cc e)
+open_if false g f d e = let same : g ≡ f = cc e in (same, ap (λ (x : FieldLayout). x.derived) (sym same) ∙ d)
+
+open_some : (o : Option FieldLayout) (f : FieldLayout) → option_and_then (λ g. cond g.derived None (Some g)) o ≡ Some f → (o ≡ Some f) × (f.derived ≡ false)
+open_some None f e = absurd (cc e)
+open_some (Some g) f e = let s = open_if g.derived g f refl e in (ap (λ (x : FieldLayout). Some x) s.0, s.1)
+
+-- a record has a cell of each carried field, and that is one of the field
+pub record_cell-at : (r : RecordValue) (j : ℕ) (f : FieldLayout) → IsRecord r → carried_at r.kind j ≡ Some f → CellAt f (record_cell r j)
+record_cell-at r zero f h e = absurd (cc e)
+record_cell-at r (suc i) f h e =
+    let s = open_some (slice_get (layout r.kind) i) f e in
+    let before : suc i - 1 ≡ i = omega arith in
+    let place : slice_get (carried_fields r.kind) (carried_before r.kind (suc i)) ≡ Some f =
+    ap (λ (n : ℕ). slice_get (carried_fields r.kind) (carried_count (take n (layout r.kind)))) before ∙ carried_field-at (layout r.kind) i f s.0 s.1 in
+    let at = cell_beside (carried_fields r.kind) r.cells (carried_before r.kind (suc i)) f h place in
+    record {
+      cell = at.cell;
+      found = ap (option_and_then (λ (_ : FieldLayout). slice_get r.cells (carried_before r.kind (suc i)))) e ∙ at.found;
+      is_cell = at.is_cell;
+    }

@@ -14,7 +14,7 @@ use Rattle.cwr_layouts.specs.Carried.{carried_at, carried_placed, carried_cells,
 use Rattle.cwr_layouts.proofs.CellParts.{part}
 use Rattle.cwr_layouts.proofs.HeldLaws.{length-part}
 use Rattle.cwr_layouts.proofs.TypeWidths.{type_width-field}
-use Rattle.cwr_layouts.proofs.CarriedCells.{record_cell-part, record_cell-piece, carried_at-placed, carried_at-field, carried_within, field_at-carried, widths}
+use Rattle.cwr_layouts.proofs.CarriedCells.{record_cell-at, record_cell-part, record_cell-piece, carried_at-placed, carried_at-field, carried_within, field_at-carried, widths}
 use Rattle.cwr_layouts.proofs.Judged.{carried_in, pieces_wide}
 
 -- a cell that is cut out has the width of its field's type, where that has one
@@ -88,3 +88,14 @@ all_fit kind line whole h =
 pub fits_before : (r : RecordValue) (i : ℕ) → i < 1 → FitsAt r i
 fits_before r zero h = tt
 fits_before r (suc i) h = absurd (omega arith)
+
+-- no cell of a record has a fault
+pub no_fault : (r : RecordValue) (j : ℕ) (fault : CellFault) → IsRecord r → HasFaultAt r j fault → ⊥
+no_fault r j fault h bad = by (carried_at r.kind j) refl bad
+  where
+    by : (o : Option FieldLayout) → carried_at r.kind j ≡ o → IsSomeAnd o (λ f. IsSomeAnd (record_cell r j) (λ cell. HasFault f.ty cell fault)) → ⊥
+    by None e b = b
+    by (Some f) e b =
+        let at = record_cell-at r j f h e in
+        let there : IsSomeAnd (Some at.cell) (λ cell. HasFault f.ty cell fault) = subst (λ (o : Option (List ℕ)). IsSomeAnd o (λ cell. HasFault f.ty cell fault)) at.found b in
+        there.0 at.is_cell.1

@@ -1,6 +1,6 @@
 //! Records that are made cell by cell.
 
-ghost use Rattle.std.specs.Prelude.{◌≡◌, ◌+◌, ◌++◌, ◌≤◌, length, OnOk, OnErr, IfOk, IfErr};
+ghost use Rattle.std.specs.Prelude.{◌≡◌, ◌↔◌, ◌+◌, ◌++◌, ◌≤◌, length, IsOk, OnOk, OnErr, IfOk, IfErr};
 ghost use Rattle.std.specs.List.{splice};
 ghost use Rattle.std.specs.Option.{ForSome};
 ghost use Rattle.cwr_fields.specs.Bytes.{filled};
@@ -13,9 +13,10 @@ use crate::kinds::Kind;
 use crate::layouts::{Field, layout};
 use crate::lines::{fill_up, part};
 use crate::lookups::{carried, field, fields};
-use crate::records::{LineText, Record, WIDEST_LINE};
+use crate::records::{LineText, Record, WIDEST_LINE, show_cells};
 use arrayvec::ArrayVec;
 use cwr_fields::{CellFault, CellType, fits};
+use std::fmt::{self, Debug};
 use std::marker::Model;
 
 /// Why a text wasn't set in a draft: the first of these that holds.
@@ -90,7 +91,7 @@ fn judge_cell(kind: Kind, line: &[u8], j: u8) -> Result<(), CellFault>
 /// Judges the cells that a whole line carries, in order.
 pub(crate) fn judge(kind: Kind, line: &[u8]) -> Result<(), DraftFault>
     requires { length line.now ≡ line_width kind }
-    ensures ok { OnOk result (IsRecord (record_in kind line.now)) }
+    ensures variant { IsOk result ↔ IsRecord (record_in kind line.now) }
     ensures err { IfErr result (IsFirstUnfit (record_in kind line.now)) }
 {
     for before in 0..fields(kind) {
@@ -104,7 +105,7 @@ pub(crate) fn judge(kind: Kind, line: &[u8]) -> Result<(), DraftFault>
 
 /// A record that is being made: a kind and the cells of its fields, of which some may not be set yet. Each cell has its
 /// field's width. It takes no memory.
-#[derive(Drop)]
+#[derive(Clone, Drop)]
 pub struct Draft {
     kind: Kind,
     /// The whole line, with spaces in its derived cells.
@@ -112,7 +113,7 @@ pub struct Draft {
 }
 
 impl Model for Draft {
-    ghost use Rattle.std.specs.Prelude.{◌≡◌, length};
+    ghost use Rattle.std.specs.Prelude.{◌≡◌, ◌↔◌, length};
     ghost use Rattle.cwr_layouts.specs.Layouts.{line_width};
     ghost use Rattle.cwr_layouts.specs.Records.{RecordValue};
     ghost use Rattle.cwr_layouts.specs.Carried.{record_in};
@@ -162,13 +163,19 @@ impl Draft {
 
     /// The record of the draft's cells. Where one of them isn't one of its field, the first such is told.
     pub fn done(&self) -> Result<Record, DraftFault>
+        ensures variant { IsOk result ↔ IsRecord self.now }
         ensures ok { IfOk result (λ made. made ≡ self.now) }
-        ensures fits { OnOk result (IsRecord self.now) }
         ensures err { IfErr result (IsFirstUnfit self.now) }
     {
         judge(self.kind, self.text.as_slice())?;
         let mut text = ArrayVec::new();
         let _fits = text.try_extend_from_slice(self.text.as_slice());
         Ok(Record::of_line(self.kind, text))
+    }
+}
+
+impl Debug for Draft {
+    fn fmt<W: fmt::Write>(&self, f: &mut fmt::Formatter<W>) -> fmt::Result {
+        show_cells(self.kind, self.text.as_slice(), f)
     }
 }

@@ -1,12 +1,13 @@
 //! Tests of drafts and records: that the calls answer as the written tables of CWR 2.1 have it.
 
-ghost use Rattle.std.specs.Prelude.{List, refl};
+ghost use Rattle.std.specs.Prelude.{◌≡◌, List, IfOk, refl};
 ghost use Rattle.cwr_fields.specs.declared.cell_types.CellType.TheVariants.{Constant};
 ghost use Rattle.cwr_fields.specs.declared.cell_types.Word.TheVariants.{Edi};
 ghost use Rattle.cwr_fields.specs.Codes.{word_text};
 
 use crate::{Draft, DraftFault, Kind, Record, SetFault};
 use cwr_fields::{Cell, CellFault, CellType, Word};
+use std::alloc::AllocError;
 use std::process::Abort;
 use std::test::Fail;
 
@@ -170,5 +171,27 @@ fn trailers_are_records(rt: HostRuntime) -> Result<(), Fail> {
     assert!(rt; view.cell(4).is_none());
     assert_eq!(rt; view.cell(5), Some(&b"   "[..]));
     assert!(rt; Draft::blank(Kind::Trl).done().is_ok());
+    Ok(())
+}
+
+/// A copy is the same record.
+fn copied(source: &Record) -> Result<Record, AllocError>
+    ensures { IfOk result (λ copy. copy ≡ source.now) }
+{
+    source.clone()
+}
+
+#[test]
+fn shown_to_programmers(rt: HostRuntime) -> Result<(), Fail> {
+    let mut draft = Draft::blank(Kind::Grt);
+    assert_eq!(rt; draft.set(5, b"E\"R"), Ok(()));
+    let text = format!(in rt.alloc(); "{draft:?}")?;
+    let shown = r#"Grt {"currency": "E\"R", "total monetary value": "          "}"#;
+    assert_eq!(rt; text.as_str(), shown);
+    let record = draft.done().ok().ok_or("unfit")?;
+    let copy = copied(&record)?;
+    let view = copy.view();
+    assert_eq!(rt; format!(in rt.alloc(); "{record:?}")?.as_str(), shown);
+    assert_eq!(rt; format!(in rt.alloc(); "{view:?}")?.as_str(), shown);
     Ok(())
 }

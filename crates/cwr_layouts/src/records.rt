@@ -8,9 +8,10 @@ ghost use Rattle.cwr_layouts.specs.Carried.{record_cell, record_in};
 
 use crate::kinds::Kind;
 use crate::lines::part;
-use crate::lookups::carried;
+use crate::lookups::{carried, fields};
 use arrayvec::ArrayVec;
 use cwr_fields::Cell;
+use std::fmt::{self, Debug};
 use std::marker::Model;
 
 /// The bytes of the widest line, those of EWT and VER.
@@ -19,9 +20,37 @@ pub(crate) const WIDEST_LINE: usize = 364;
 /// The bytes of a whole line of some kind.
 pub(crate) type LineText = ArrayVec<u8, WIDEST_LINE>;
 
+/// A cell as programmers read it.
+#[derive(Clone, Copy)]
+struct ShownCell<'a>(&'a [u8]);
+
+impl Debug for ShownCell<'_> {
+    fn fmt<W: fmt::Write>(&self, f: &mut fmt::Formatter<W>) -> fmt::Result {
+        write!(f, "\"{}\"", self.0.escape_ascii())
+    }
+}
+
+/// Writes the kind and the cells that a whole line of it carries, each by its field's name.
+pub(crate) fn show_cells<W: fmt::Write>(
+    kind: Kind,
+    line: &[u8],
+    f: &mut fmt::Formatter<W>,
+) -> fmt::Result
+    requires { length line.now ≡ line_width kind }
+{
+    write!(f, "{kind:?} ")?;
+    let mut cells = f.debug_map();
+    for before in 0..fields(kind) {
+        if let Some(place) = carried(kind, before + 1) {
+            cells.entry(&place.name, &ShownCell(part(line, place)));
+        }
+    }
+    cells.finish()
+}
+
 /// A record of CWR 2.1: its kind and the cells of its fields. Each cell has its field's width and is one of its type;
 /// derived fields have none. It takes no memory.
-#[derive(Drop)]
+#[derive(Clone, Drop)]
 pub struct Record {
     kind: Kind,
     /// The whole line, in whose derived cells nothing is kept.
@@ -62,7 +91,7 @@ impl Record {
 }
 
 /// A record that is borrowed from where it is kept.
-#[derive(Drop)]
+#[derive(Clone, Drop)]
 pub struct RecordRef<'a> {
     kind: Kind,
     /// The whole line. The bytes of its derived cells are never shown.
@@ -108,5 +137,17 @@ impl<'a> RecordRef<'a> {
         ensures value { IfSome result (λ x. record_cell self.now j ≡ Some (C.text x)) }
     {
         C::read(self.cell(j)?)
+    }
+}
+
+impl Debug for RecordRef<'_> {
+    fn fmt<W: fmt::Write>(&self, f: &mut fmt::Formatter<W>) -> fmt::Result {
+        show_cells(self.kind, self.line, f)
+    }
+}
+
+impl Debug for Record {
+    fn fmt<W: fmt::Write>(&self, f: &mut fmt::Formatter<W>) -> fmt::Result {
+        show_cells(self.kind, self.text.as_slice(), f)
     }
 }
