@@ -170,7 +170,7 @@ first_carried true g fields d = absurd (cc d)
 first_carried false g fields d = refl
 
 -- a carried field stands behind the carried fields before it
-carried_field-at : (fields : List FieldLayout) (i : ℕ) (f : FieldLayout) → slice_get fields i ≡ Some f → f.derived ≡ false
+pub carried_field-at : (fields : List FieldLayout) (i : ℕ) (f : FieldLayout) → slice_get fields i ≡ Some f → f.derived ≡ false
     → slice_get (filter (λ g. not g.derived) fields) (carried_count (take i fields)) ≡ Some f
 carried_field-at [] i f e d = absurd (cc e)
 carried_field-at (g ∷ fields) zero f e d =
@@ -195,7 +195,7 @@ open_if : (b : Bool) (g f : FieldLayout) → g.derived ≡ b → cond b None (So
 open_if true g f d e = absurd (cc e)
 open_if false g f d e = let same : g ≡ f = cc e in (same, ap (λ (x : FieldLayout). x.derived) (sym same) ∙ d)
 
-open_some : (o : Option FieldLayout) (f : FieldLayout) → option_and_then (λ g. cond g.derived None (Some g)) o ≡ Some f → (o ≡ Some f) × (f.derived ≡ false)
+pub open_some : (o : Option FieldLayout) (f : FieldLayout) → option_and_then (λ g. cond g.derived None (Some g)) o ≡ Some f → (o ≡ Some f) × (f.derived ≡ false)
 open_some None f e = absurd (cc e)
 open_some (Some g) f e = let s = open_if g.derived g f refl e in (ap (λ (x : FieldLayout). Some x) s.0, s.1)
 

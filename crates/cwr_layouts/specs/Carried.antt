@@ -1,5 +1,5 @@
 -- The carried cells of a record, found by their fields, set and judged, and the line that a record is kept in.
-use Rattle.std.specs.Prelude.{◌≡◌, ℕ, ◌-◌, ◌<◌, ◌≤◌, IsTrue, not, List, length, map, filter, take, Option, Some, None, IfSome, IsSomeAnd, slice_get, slice_set, if◌then◌else◌}
+use Rattle.std.specs.Prelude.{◌≡◌, ◌≢◌, ℕ, ◌-◌, ◌<◌, ◌≤◌, IsTrue, not, List, length, map, filter, take, Option, Some, None, IfSome, IsSomeAnd, slice_get, slice_set, if◌then◌else◌}
 use Rattle.std.specs.Option.{option_and_then}
 use Rattle.cwr_fields.specs.declared.cell_types.CellFault.{CellFault}
 use Rattle.cwr_fields.specs.Bytes.{filled}
@@ -31,6 +31,11 @@ record_cell r j = option_and_then (λ _. slice_get r.cells (carried_before r.kin
 -- the record with that text as its cell of field j
 abbrev pub set_cell : ℕ → List ℕ → RecordValue → RecordValue
 set_cell j text r = record { kind = r.kind; cells = slice_set r.cells (carried_before r.kind j) text }
+
+-- the record with the text as its cell of field j shows that there, and all other cells as before
+pub record ShowsSet (r : RecordValue) (j : ℕ) (text : List ℕ) : Type 0 where
+  pub there : record_cell (set_cell j text r) j ≡ Some text
+  pub others : (i : ℕ) → i ≢ j → record_cell (set_cell j text r) i ≡ record_cell r i
 
 -- new is old with the text, filled up with spaces, as its cell of field j, and that is one of the field
 abbrev pub Sets : ℕ → List ℕ → RecordValue → RecordValue → Type 0
