@@ -1,5 +1,5 @@
 -- Facts that hold of each kind, one by one.
-use Rattle.std.proofs.Common.{◌≡◌, ℕ, ◌≤◌, false, List, [], ◌∷◌, ◌++◌, length, refl, sym, ap, ◌∙◌, lit≤, find, None}
+use Rattle.std.proofs.Common.{◌≡◌, ℕ, ◌≤◌, false, List, [], ◌∷◌, ◌++◌, length, refl, sym, ap, ◌∙◌, lit≤, find, None, arith}
 use Rattle.std.specs.Prelude.{Some}
 use Rattle.std.specs.Str.{bytes_eq}
 use Rattle.std.proofs.lemmas.Bool.{false_from_ne_true}
@@ -96,33 +96,37 @@ NoLf-letters Com = refl
 NoLf-letters Ack = refl
 NoLf-letters Msg = refl
 
+-- no line is wider than the widest
+pub line_width_widest : (kind : Kind) → line_width kind ≤ 364
+line_width_widest Hdr = lit≤ tt
+line_width_widest Grh = lit≤ tt
+line_width_widest Grt = lit≤ tt
+line_width_widest Trl = lit≤ tt
+line_width_widest Agr = lit≤ tt
+line_width_widest Ter = lit≤ tt
+line_width_widest Ipa = lit≤ tt
+line_width_widest Nwr = lit≤ tt
+line_width_widest Rev = lit≤ tt
+line_width_widest Spu = lit≤ tt
+line_width_widest Opu = lit≤ tt
+line_width_widest Spt = lit≤ tt
+line_width_widest Swr = lit≤ tt
+line_width_widest Owr = lit≤ tt
+line_width_widest Swt = lit≤ tt
+line_width_widest Pwr = lit≤ tt
+line_width_widest Alt = lit≤ tt
+line_width_widest Ewt = lit≤ tt
+line_width_widest Ver = lit≤ tt
+line_width_widest Per = lit≤ tt
+line_width_widest Rec = lit≤ tt
+line_width_widest Orn = lit≤ tt
+line_width_widest Com = lit≤ tt
+line_width_widest Ack = lit≤ tt
+line_width_widest Msg = lit≤ tt
+
 -- with CR and without LF a full line fits
 pub line_width_most : (kind : Kind) → line_width kind ≤ 1023
-line_width_most Hdr = lit≤ tt
-line_width_most Grh = lit≤ tt
-line_width_most Grt = lit≤ tt
-line_width_most Trl = lit≤ tt
-line_width_most Agr = lit≤ tt
-line_width_most Ter = lit≤ tt
-line_width_most Ipa = lit≤ tt
-line_width_most Nwr = lit≤ tt
-line_width_most Rev = lit≤ tt
-line_width_most Spu = lit≤ tt
-line_width_most Opu = lit≤ tt
-line_width_most Spt = lit≤ tt
-line_width_most Swr = lit≤ tt
-line_width_most Owr = lit≤ tt
-line_width_most Swt = lit≤ tt
-line_width_most Pwr = lit≤ tt
-line_width_most Alt = lit≤ tt
-line_width_most Ewt = lit≤ tt
-line_width_most Ver = lit≤ tt
-line_width_most Per = lit≤ tt
-line_width_most Rec = lit≤ tt
-line_width_most Orn = lit≤ tt
-line_width_most Com = lit≤ tt
-line_width_most Ack = lit≤ tt
-line_width_most Msg = lit≤ tt
+line_width_most kind = omega (arith, line_width_widest kind)
 
 -- letters aren't trimmed
 pub trimmed-letters : (kind : Kind) (rest : List ℕ) → (ys : List ℕ) × (trimmed (letters kind ++ rest) ≡ letters kind ++ ys)

@@ -17,7 +17,7 @@ abbrev pub part : List ℕ → ℕ × FieldLayout → List ℕ
 part text p = take p.1.width (drop p.0 text)
 
 -- a piece is the part that its field takes
-piece_is_part : (at : ℕ) (fields : List FieldLayout) (text : List ℕ) (i : ℕ)
+pub piece_is_part : (at : ℕ) (fields : List FieldLayout) (text : List ℕ) (i : ℕ)
     → slice_get (pieces (map (λ f. f.width) fields) (drop at text)) i ≡ option_map (part text) (slice_get (placed at fields) i)
 piece_is_part at [] text i = refl
 piece_is_part at (f ∷ fields) text zero = refl
@@ -34,7 +34,7 @@ pub cell_is_part : (kind : Kind) (text : List ℕ) (j : ℕ)
 cell_is_part kind text j =
     unless (j == 0) text (slice_get (pieces (map (λ f. f.width) (layout kind)) text) (j - 1)) (slice_get (placed 0 (layout kind)) (j - 1)) (piece_is_part 0 (layout kind) text (j - 1))
 
-within : (at : ℕ) (fields : List FieldLayout) (i : ℕ) (p : ℕ × FieldLayout) → slice_get (placed at fields) i ≡ Some p → p.0 + p.1.width ≤ at + total_width fields
+pub within : (at : ℕ) (fields : List FieldLayout) (i : ℕ) (p : ℕ × FieldLayout) → slice_get (placed at fields) i ≡ Some p → p.0 + p.1.width ≤ at + total_width fields
 within at [] i p e = absurd cc
 within at (f ∷ fields) zero p e =
     let same : (at, f) ≡ p = cc e in

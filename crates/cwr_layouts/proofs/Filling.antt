@@ -31,11 +31,11 @@ take-filled n width text h = take-append-le n text (replicate (width - length te
 abbrev spaces : ℕ → List ℕ
 spaces n = replicate n 32
 
--- spaces appended, as many as are missing
-pub filled_by_extending : {T E : Type 0} (r : Result T E) (most width missing : ℕ) (old new : List ℕ) → width ≤ most → length old ≤ most → missing ≡ width - length old
-    → (length old + length (take missing (spaces most)) ≤ most → IsOk r) → OnOk r (new ≡ old ++ take missing (spaces most)) → new ≡ filled width old
-filled_by_extending (Ok x) most width missing old new h k e v o =
-    o ∙ ap (λ (x : List ℕ). old ++ x) (take-replicate missing most 32 (omega arith) ∙ ap spaces e)
-filled_by_extending (Err x) most width missing old new h k e v o =
-    let count : length (take missing (spaces most)) ≡ missing = ap length (take-replicate missing most 32 (omega arith)) ∙ length-replicate missing 32 in
+-- spaces appended, as many as are missing, to a text that has room for them; they are cut from so many spaces
+pub filled_by_extending : {T E : Type 0} (r : Result T E) (spare most width missing : ℕ) (old new : List ℕ) → most ≤ spare → width ≤ most → length old ≤ most → missing ≡ width - length old
+    → (length old + length (take missing (spaces spare)) ≤ most → IsOk r) → OnOk r (new ≡ old ++ take missing (spaces spare)) → new ≡ filled width old
+filled_by_extending (Ok x) spare most width missing old new s h k e v o =
+    o ∙ ap (λ (x : List ℕ). old ++ x) (take-replicate missing spare 32 (omega arith) ∙ ap spaces e)
+filled_by_extending (Err x) spare most width missing old new s h k e v o =
+    let count : length (take missing (spaces spare)) ≡ missing = ap length (take-replicate missing spare 32 (omega arith)) ∙ length-replicate missing 32 in
     absurd (false≢true (v (omega arith)))

@@ -48,7 +48,7 @@ over_holds bytes rest byte h = (omega (arith, h.full, length-append bytes (byte 
 
 -- ---- the widths of cells
 
-length-part : (text : List ℕ) (p : ℕ × FieldLayout) → p.0 + p.1.width ≤ length text → length (part text p) ≡ p.1.width
+pub length-part : (text : List ℕ) (p : ℕ × FieldLayout) → p.0 + p.1.width ≤ length text → length (part text p) ≡ p.1.width
 length-part text p h = omega (arith, length-take p.1.width (drop p.0 text), length-drop p.0 text)
 
 -- a cell of a field, which has its width

@@ -3,7 +3,7 @@ use Rattle.std.proofs.Common.{◌≡◌, ℕ, zero, suc, ◌+◌, ◌-◌, List,
 use Rattle.cwr_layouts.specs.declared.kinds.Kind.{Kind}
 use Rattle.cwr_layouts.specs.Layouts.{FieldLayout, layout, placed, field_placed, field_at}
 
-without_starts : (at : ℕ) (fields : List FieldLayout) (i : ℕ) → option_map (λ (p : ℕ × FieldLayout). p.1) (slice_get (placed at fields) i) ≡ slice_get fields i
+pub without_starts : (at : ℕ) (fields : List FieldLayout) (i : ℕ) → option_map (λ (p : ℕ × FieldLayout). p.1) (slice_get (placed at fields) i) ≡ slice_get fields i
 without_starts at [] i = refl
 without_starts at (f ∷ fields) zero = refl
 without_starts at (f ∷ fields) (suc i) = without_starts (at + f.width) fields i

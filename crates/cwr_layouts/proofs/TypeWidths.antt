@@ -9,10 +9,10 @@ use Rattle.cwr_layouts.specs.declared.kinds.Kind.TheVariants.{Hdr, Grh, Grt, Trl
 use Rattle.cwr_layouts.specs.Layouts.{FieldLayout, layout, field_at}
 
 -- the field has the width of its type
-abbrev is_wide : FieldLayout → Bool
+abbrev pub is_wide : FieldLayout → Bool
 is_wide f = unwrap_or (option_map (λ w. w == f.width) (type_width f.ty)) true
 
-all_wide : (kind : Kind) → list_all is_wide (layout kind) ≡ true
+pub all_wide : (kind : Kind) → list_all is_wide (layout kind) ≡ true
 all_wide Hdr = refl
 all_wide Grh = refl
 all_wide Grt = refl
@@ -39,7 +39,7 @@ all_wide Com = refl
 all_wide Ack = refl
 all_wide Msg = refl
 
-wide_one : (fields : List FieldLayout) (i : ℕ) (f : FieldLayout) → list_all is_wide fields ≡ true → slice_get fields i ≡ Some f → is_wide f ≡ true
+pub wide_one : (fields : List FieldLayout) (i : ℕ) (f : FieldLayout) → list_all is_wide fields ≡ true → slice_get fields i ≡ Some f → is_wide f ≡ true
 wide_one [] i f h e = absurd (cc e)
 wide_one (g ∷ fields) zero f h e = let same : g ≡ f = cc e in ap is_wide (sym same) ∙ (and_parts (is_wide g) (list_all is_wide fields) h).0
 wide_one (g ∷ fields) (suc i) f h e = wide_one fields i f (and_parts (is_wide g) (list_all is_wide fields) h).1 e

@@ -1,15 +1,21 @@
-//! The kinds of CWR 2.1 records and their layouts.
+//! The kinds of CWR 2.1 records and their layouts, lines cut into cells, and records as values.
 #![tactic(auto)]
 
+mod drafts;
 mod kinds;
 pub mod laws;
 mod layouts;
 mod lines;
 mod lookups;
 #[cfg(test)]
+mod record_tests;
+mod records;
+#[cfg(test)]
 mod tests;
 
+pub use drafts::{Draft, DraftFault, SetFault};
 pub use kinds::Kind;
 pub use layouts::Field;
 pub use lines::{CutLine, LONGEST_LINE, LineBuf, LineEnd, Taken};
 pub use lookups::{field, fields, width};
+pub use records::{Record, RecordRef};

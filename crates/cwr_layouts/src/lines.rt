@@ -65,8 +65,9 @@ fn drop_return(text: &mut ArrayVec<u8, LONGEST_LINE>) -> bool
 }
 
 /// Fills the text up with spaces to a width in bytes.
-fn fill_up(text: &mut ArrayVec<u8, LONGEST_LINE>, width: usize)
-    requires { width ≤ LONGEST_LINE }
+pub(crate) fn fill_up<const N: usize>(text: &mut ArrayVec<u8, N>, width: usize)
+    requires fits { width ≤ N }
+    requires most { N ≤ LONGEST_LINE }
     ensures { text.new.items ≡ filled width text.old.items }
 {
     let missing = width.saturating_sub(text.len());
@@ -85,7 +86,7 @@ fn fill_by_kind(text: &mut ArrayVec<u8, LONGEST_LINE>) -> Option<Kind>
 }
 
 /// The part of a text that a field takes.
-fn part(text: &[u8], place: Field) -> &[u8]
+pub(crate) fn part(text: &[u8], place: Field) -> &[u8]
     requires { place.start + place.width ≤ length text.now }
     ensures { result.now ≡ take place.width (drop place.start text.now) }
 {

@@ -2,6 +2,7 @@
 
 ghost use Rattle.std.specs.Prelude.{◌≡◌, option_map, length};
 ghost use Rattle.cwr_layouts.specs.Layouts.{field_placed, layout as layout_of, line_width};
+ghost use Rattle.cwr_layouts.specs.Carried.{carried_placed};
 ghost use Rattle.cwr_layouts.specs.Views.{field_view};
 
 use crate::kinds::Kind;
@@ -15,6 +16,18 @@ pub fn field(kind: Kind, j: u8) -> Option<Field>
         return None;
     }
     layout(kind).get(j as usize - 1).copied()
+}
+
+/// Field `j` of a kind's layout, from 1, where its cells are in values. `None` where the kind has no such field, and
+/// where that is derived.
+pub(crate) fn carried(kind: Kind, j: u8) -> Option<Field>
+    ensures { option_map field_view result ≡ carried_placed kind j }
+{
+    let place = field(kind, j)?;
+    if place.derived {
+        return None;
+    }
+    Some(place)
 }
 
 /// How many fields a kind has, the record type counted.

@@ -3,8 +3,8 @@ use Rattle.cwr_layouts.proofs.Filling.{filled_by_extending}
 use Rattle.cwr_layouts.proofs.lines.fill_up.Goals as goal
 
 pub returns : goal.returns
-returns c =
-    let len : length c.args.text.now.items ≤ 1024 = omega (arith, c.len.ensures.value, c.len.ensures.fits) in
+returns g c =
+    let len : length c.args.text.now.items ≤ g.row.N = omega (arith, c.len.ensures.value, c.len.ensures.fits) in
     let missing : c.saturating_sub-missing.result ≡ c.args.width - length c.args.text.now.items = omega (arith, c.len.ensures.value, c.saturating_sub-missing.ensures) in
-    filled_by_extending c.try_extend_from_slice-fits.result 1024 c.args.width c.saturating_sub-missing.result c.args.text.now.items c.try_extend_from_slice-fits.new.self.items
-    c.requires len missing c.try_extend_from_slice-fits.ensures.variant.1 c.try_extend_from_slice-fits.ensures.ok
+    filled_by_extending c.try_extend_from_slice-fits.result 1024 g.row.N c.args.width c.saturating_sub-missing.result c.args.text.now.items c.try_extend_from_slice-fits.new.self.items
+    c.requires.most c.requires.fits len missing c.try_extend_from_slice-fits.ensures.variant.1 c.try_extend_from_slice-fits.ensures.ok

@@ -1,0 +1,181 @@
+//! Records that are made cell by cell.
+
+ghost use Rattle.std.specs.Prelude.{◌≡◌, ◌↔◌, ◌+◌, ◌++◌, ◌≤◌, length, IsOk, OnOk, OnErr, IfOk, IfErr};
+ghost use Rattle.std.specs.List.{splice};
+ghost use Rattle.std.specs.Option.{ForSome};
+ghost use Rattle.cwr_fields.specs.Bytes.{filled};
+ghost use Rattle.cwr_fields.specs.Cells.{type_width};
+ghost use Rattle.cwr_layouts.specs.Layouts.{line_width};
+ghost use Rattle.cwr_layouts.specs.Records.{IsRecord, blank_cell, blank_record};
+ghost use Rattle.cwr_layouts.specs.Carried.{Sets, IsSetFault, FitsAt, HasFaultAt, IsFirstUnfit, record_in};
+
+use crate::kinds::Kind;
+use crate::layouts::{Field, layout};
+use crate::lines::{fill_up, part};
+use crate::lookups::{carried, field, fields};
+use crate::records::{LineText, Record, WIDEST_LINE, show_cells};
+use arrayvec::ArrayVec;
+use cwr_fields::{CellFault, CellType, fits};
+use std::fmt::{self, Debug};
+use std::marker::Model;
+
+/// Why a text wasn't set in a draft: the first of these that holds.
+#[derive(Clone, Copy, Debug, PartialEq, Eq)]
+pub enum SetFault {
+    /// The kind has no such field.
+    NoSuchField,
+    /// The field is derived.
+    Derived,
+    /// The text is wider than the field.
+    TooWide,
+    /// The text, filled up with spaces to the field's width, isn't one of the field's type.
+    Cell(CellFault),
+}
+
+/// The first cell of a draft that isn't one of its field.
+#[derive(Clone, Copy, Debug, PartialEq, Eq)]
+pub struct DraftFault {
+    /// The field's number, from 1.
+    pub field: u8,
+    /// What its cell is told.
+    pub fault: CellFault,
+}
+
+/// Writes a cell into a line.
+fn put(line: &mut [u8], start: usize, cell: &[u8])
+    requires { start + length cell.now ≤ length line.old }
+    ensures { line.new ≡ splice line.old start (start + length cell.now) cell.now }
+{
+    line[start..start + cell.len()].copy_from_slice(cell);
+}
+
+/// Appends the blank cell of a field to a line that ends where the field starts.
+fn push_blank(line: &mut LineText, place: Field)
+    requires begins { length line.old.items ≡ place.start }
+    requires within { place.start + place.width ≤ WIDEST_LINE }
+    requires width { ForSome (type_width place.ty) (λ width. width ≡ place.width) }
+    ensures { line.new.items ≡ line.old.items ++ blank_cell place.ty place.width }
+{
+    match place.ty {
+        CellType::Constant(word) => {
+            let _fits = line.try_extend_from_slice(word.text());
+        }
+        _ => fill_up(line, place.start + place.width),
+    }
+}
+
+/// The text filled up with spaces to a width in bytes.
+fn filled_cell(text: &[u8], width: usize) -> LineText
+    requires within { length text.now ≤ width }
+    requires fits { width ≤ WIDEST_LINE }
+    ensures { result.items ≡ filled width text.now }
+{
+    let mut cell = ArrayVec::new();
+    let _fits = cell.try_extend_from_slice(text);
+    fill_up(&mut cell, width);
+    cell
+}
+
+/// Judges the cell of field `j` of a whole line. A field that isn't there, or is derived, has none.
+fn judge_cell(kind: Kind, line: &[u8], j: u8) -> Result<(), CellFault>
+    requires { length line.now ≡ line_width kind }
+    ensures ok { OnOk result (FitsAt (record_in kind line.now) j) }
+    ensures err { IfErr result (HasFaultAt (record_in kind line.now) j) }
+{
+    match carried(kind, j) {
+        Some(place) => fits(place.ty, part(line, place)),
+        None => Ok(()),
+    }
+}
+
+/// Judges the cells that a whole line carries, in order.
+pub(crate) fn judge(kind: Kind, line: &[u8]) -> Result<(), DraftFault>
+    requires { length line.now ≡ line_width kind }
+    ensures variant { IsOk result ↔ IsRecord (record_in kind line.now) }
+    ensures err { IfErr result (IsFirstUnfit (record_in kind line.now)) }
+{
+    for before in 0..fields(kind) {
+        let field = before + 1;
+        if let Err(fault) = judge_cell(kind, line, field) {
+            return Err(DraftFault { field, fault });
+        }
+    }
+    Ok(())
+}
+
+/// A record that is being made: a kind and the cells of its fields, of which some may not be set yet. Each cell has its
+/// field's width. It takes no memory.
+#[derive(Clone, Drop)]
+pub struct Draft {
+    kind: Kind,
+    /// The whole line, with spaces in its derived cells.
+    text: LineText,
+}
+
+impl Model for Draft {
+    ghost use Rattle.std.specs.Prelude.{◌≡◌, ◌↔◌, length};
+    ghost use Rattle.cwr_layouts.specs.Layouts.{line_width};
+    ghost use Rattle.cwr_layouts.specs.Records.{RecordValue};
+    ghost use Rattle.cwr_layouts.specs.Carried.{record_in};
+
+    ghost Value = { RecordValue };
+
+    ghost view = { λ d. record_in d.kind d.text.items };
+
+    ghost invariant = { λ d. length d.text.items ≡ line_width d.kind };
+}
+
+impl Draft {
+    /// The draft of that kind in which nothing was set: constants stand in it, all else is blank.
+    pub fn blank(kind: Kind) -> Self
+        ensures { result ≡ blank_record kind }
+    {
+        let mut text = ArrayVec::new();
+        for place in layout(kind) {
+            push_blank(&mut text, *place);
+        }
+        Draft { kind, text }
+    }
+
+    /// Sets the cell of field `j`, from 1, to the text, filled up with spaces on the right. A text that is refused
+    /// changes nothing: see `SetFault`.
+    pub fn set(&mut self, j: u8, text: &[u8]) -> Result<(), SetFault>
+        ensures ok { OnOk result (Sets j text.now self.old self.new) }
+        ensures err { OnErr result (self.new ≡ self.old) }
+        ensures fault { IfErr result (IsSetFault self.old.kind j text.now) }
+    {
+        let Some(place) = field(self.kind, j) else {
+            return Err(SetFault::NoSuchField);
+        };
+        if place.derived {
+            return Err(SetFault::Derived);
+        }
+        if text.len() > place.width {
+            return Err(SetFault::TooWide);
+        }
+        let cell = filled_cell(text, place.width);
+        if let Err(fault) = fits(place.ty, cell.as_slice()) {
+            return Err(SetFault::Cell(fault));
+        }
+        put(self.text.as_mut_slice(), place.start, cell.as_slice());
+        Ok(())
+    }
+
+    /// The record of the draft's cells. Where one of them isn't one of its field, the first such is told.
+    pub fn done(&self) -> Result<Record, DraftFault>
+        ensures variant { IsOk result ↔ IsRecord self.now }
+        ensures ok { IfOk result (λ made. made ≡ self.now) }
+        ensures err { IfErr result (IsFirstUnfit self.now) }
+    {
+        judge(self.kind, self.text.as_slice())?;
+        let mut text = ArrayVec::new();
+        let _fits = text.try_extend_from_slice(self.text.as_slice());
+        Ok(Record::of_line(self.kind, text))
+    }
+}
+
+impl Debug for Draft {
+    fn fmt<W: fmt::Write>(&self, f: &mut fmt::Formatter<W>) -> fmt::Result {
+        show_cells(self.kind, self.text.as_slice(), f)
+    }
+}

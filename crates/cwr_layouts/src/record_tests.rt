@@ -1,0 +1,197 @@
+//! Tests of drafts and records: that the calls answer as the written tables of CWR 2.1 have it.
+
+ghost use Rattle.std.specs.Prelude.{◌≡◌, List, IfOk, refl};
+ghost use Rattle.cwr_fields.specs.declared.cell_types.CellType.TheVariants.{Constant};
+ghost use Rattle.cwr_fields.specs.declared.cell_types.Word.TheVariants.{Edi};
+ghost use Rattle.cwr_fields.specs.Codes.{word_text};
+
+use crate::{Draft, DraftFault, Kind, Record, SetFault};
+use cwr_fields::{Cell, CellFault, CellType, Word};
+use std::alloc::AllocError;
+use std::process::Abort;
+use std::test::Fail;
+
+/// The version of the EDI standard, as a cell type.
+#[derive(Clone, Copy)]
+struct EdiVersion;
+
+impl Cell for EdiVersion {
+    ghost TYPE = { Constant Edi };
+
+    ghost WIDTH = { 5 };
+
+    ghost text = { λ _. word_text Edi };
+
+    ghost width = { λ _. refl };
+
+    ghost fits = { λ _. refl };
+
+    ghost equal = { λ x y e. refl };
+
+    const TYPE: CellType = CellType::Constant(Word::Edi);
+
+    const WIDTH: usize = 5;
+
+    fn read(cell: &[u8]) -> Option<Self> {
+        (cell == b"01.10".as_slice()).then_some(EdiVersion)
+    }
+
+    fn write(&self, cell: &mut [u8]) {
+        cell.copy_from_slice(b"01.10");
+    }
+}
+
+/// Why a draft didn't become a record. `None` where it did.
+fn fault_of(draft: &Draft) -> Option<DraftFault> {
+    draft.done().err()
+}
+
+#[test]
+fn refuses_texts(rt: HostRuntime) {
+    let mut draft = Draft::blank(Kind::Ack);
+    let table: [(u8, &[u8], SetFault); 9] = [
+        (0, b"20240102", SetFault::NoSuchField),
+        (14, b"20240102", SetFault::NoSuchField),
+        (255, b"", SetFault::NoSuchField),
+        (1, b"ACK", SetFault::Derived),
+        (2, b"00000000", SetFault::Derived),
+        (2, b"000000000", SetFault::Derived),
+        (13, b"ASX", SetFault::TooWide),
+        (13, b"ZZ", SetFault::Cell(CellFault::NotACode)),
+        (13, b"", SetFault::Cell(CellFault::Blank)),
+    ];
+    for (j, text, fault) in table {
+        assert_eq!(rt; draft.set(j, text), Err(fault));
+    }
+    let blank = Some(DraftFault {
+        field: 6,
+        fault: CellFault::Blank,
+    });
+    assert_eq!(rt; fault_of(&draft), blank);
+}
+
+/// An acknowledgement whose required cells are set, one after the other.
+fn acknowledgement(rt: &impl Abort) -> Result<Record, Fail> {
+    let mut draft = Draft::blank(Kind::Ack);
+    let cells: [(u8, &[u8], u8); 4] = [
+        (6, b"00001", 7),
+        (7, b"00000000", 8),
+        (8, b"NWR", 13),
+        (13, b"AS", 0),
+    ];
+    for (j, text, next) in cells {
+        assert_eq!(rt; draft.set(j, text), Ok(()));
+        if next != 0 {
+            let unfit = Some(DraftFault {
+                field: next,
+                fault: CellFault::Blank,
+            });
+            assert_eq!(rt; fault_of(&draft), unfit);
+        }
+    }
+    assert_eq!(rt; draft.set(9, b"BLUE RIVER"), Ok(()));
+    assert_eq!(rt;
+        draft.set(13, b"ZZ"),
+        Err(SetFault::Cell(CellFault::NotACode))
+    );
+    assert_eq!(rt;
+        draft.set(9, b"BLACK\tRIVER"),
+        Err(SetFault::Cell(CellFault::Control))
+    );
+    Ok(draft.done().ok().ok_or("unfit")?)
+}
+
+#[test]
+fn shows_cells(rt: HostRuntime) -> Result<(), Fail> {
+    let record = acknowledgement(&rt)?;
+    let title = b"BLUE RIVER                                                  ";
+    let cells: [(u8, Option<&[u8]>); 15] = [
+        (0, None),
+        (1, None),
+        (2, None),
+        (3, None),
+        (4, Some(b"        ")),
+        (5, Some(b"      ")),
+        (6, Some(b"00001")),
+        (7, Some(b"00000000")),
+        (8, Some(b"NWR")),
+        (9, Some(title)),
+        (10, Some(b"                    ")),
+        (12, Some(b"        ")),
+        (13, Some(b"AS")),
+        (14, None),
+        (255, None),
+    ];
+    let view = record.view();
+    assert_eq!(rt; view.kind(), Kind::Ack);
+    for (j, cell) in cells {
+        assert_eq!(rt; view.cell(j), cell);
+    }
+    assert!(rt; view.read::<EdiVersion>(6).is_none());
+    Ok(())
+}
+
+#[test]
+fn constants_stand(rt: HostRuntime) -> Result<(), Fail> {
+    let mut group = Draft::blank(Kind::Grh);
+    assert_eq!(rt; group.set(2, b"ACK"), Ok(()));
+    assert_eq!(rt;
+        group.set(4, b"02.20"),
+        Err(SetFault::Cell(CellFault::NotConstant))
+    );
+    assert_eq!(rt; group.set(5, b"0000000001"), Ok(()));
+    let record = group.done().ok().ok_or("unfit")?;
+    assert_eq!(rt; record.view().cell(4), Some(&b"02.10"[..]));
+    let mut header = Draft::blank(Kind::Hdr);
+    let cells: [(u8, &[u8]); 6] = [
+        (2, b"PB"),
+        (3, b"123456789"),
+        (4, b"MUSIC HOUSE"),
+        (6, b"20240102"),
+        (7, b"101500"),
+        (8, b"20240103"),
+    ];
+    for (j, text) in cells {
+        assert_eq!(rt; header.set(j, text), Ok(()));
+    }
+    let record = header.done().ok().ok_or("unfit")?;
+    let view = record.view();
+    assert!(rt; view.read::<EdiVersion>(5).is_some());
+    assert!(rt; view.read::<EdiVersion>(4).is_none());
+    assert!(rt; view.read::<EdiVersion>(1).is_none());
+    assert!(rt; view.read::<EdiVersion>(10).is_none());
+    Ok(())
+}
+
+#[test]
+fn trailers_are_records(rt: HostRuntime) -> Result<(), Fail> {
+    let record = Draft::blank(Kind::Grt).done().ok().ok_or("unfit")?;
+    let view = record.view();
+    assert_eq!(rt; view.kind(), Kind::Grt);
+    assert!(rt; view.cell(4).is_none());
+    assert_eq!(rt; view.cell(5), Some(&b"   "[..]));
+    assert!(rt; Draft::blank(Kind::Trl).done().is_ok());
+    Ok(())
+}
+
+/// A copy is the same record.
+fn copied(source: &Record) -> Result<Record, AllocError>
+    ensures { IfOk result (λ copy. copy ≡ source.now) }
+{
+    source.clone()
+}
+
+#[test]
+fn shown_to_programmers(rt: HostRuntime) -> Result<(), Fail> {
+    let mut draft = Draft::blank(Kind::Grt);
+    assert_eq!(rt; draft.set(5, b"E\"R"), Ok(()));
+    let text = format!(in rt.alloc(); "{draft:?}")?;
+    let shown = r#"Grt {"currency": "E\"R", "total monetary value": "          "}"#;
+    assert_eq!(rt; text.as_str(), shown);
+    let record = draft.done().ok().ok_or("unfit")?;
+    let copy = copied(&record)?;
+    let view = copy.view();
+    assert_eq!(rt; format!(in rt.alloc(); "{record:?}")?.as_str(), shown);
+    assert_eq!(rt; format!(in rt.alloc(); "{view:?}")?.as_str(), shown);
+    Ok(())
+}
