@@ -20,6 +20,16 @@ pub(crate) const WIDEST_LINE: usize = 364;
 /// The bytes of a whole line of some kind.
 pub(crate) type LineText = ArrayVec<u8, WIDEST_LINE>;
 
+/// The bytes of a line, kept in the value.
+pub(crate) fn kept(line: &[u8]) -> LineText
+    requires { length line.now ≤ WIDEST_LINE }
+    ensures { result.items ≡ line.now }
+{
+    let mut text = ArrayVec::new();
+    let _fits = text.try_extend_from_slice(line);
+    text
+}
+
 /// A cell as programmers read it.
 #[derive(Clone, Copy)]
 struct ShownCell<'a>(&'a [u8]);
@@ -49,7 +59,7 @@ pub(crate) fn show_cells<W: fmt::Write>(
 }
 
 /// A record of CWR 2.1: its kind and the cells of its fields. Each cell has its field's width and is one of its type;
-/// derived fields have none. It takes no memory.
+/// derived fields have none. It takes no memory: `clone` never fails.
 #[derive(Clone, Drop)]
 pub struct Record {
     kind: Kind,
@@ -90,7 +100,7 @@ impl Record {
     }
 }
 
-/// A record that is borrowed from where it is kept.
+/// A record of CWR 2.1 that is borrowed from where it is kept.
 #[derive(Clone, Drop)]
 pub struct RecordRef<'a> {
     kind: Kind,
@@ -137,6 +147,14 @@ impl<'a> RecordRef<'a> {
         ensures value { IfSome result (λ x. record_cell self.now j ≡ Some (C.text x)) }
     {
         C::read(self.cell(j)?)
+    }
+
+    /// The record, copied out of where it is kept. It takes no memory.
+    pub fn to_record(&self) -> Record
+        ensures value { result ≡ self.now }
+        ensures fits { IsRecord self.now }
+    {
+        Record::of_line(self.kind, kept(self.line))
     }
 }
 
