@@ -1,10 +1,9 @@
 //! Records as values: a kind and the cells that a record of the kind carries, each one of its field.
 
-ghost use Rattle.std.specs.Prelude.{◌≡◌, ◌↔◌, ◌<◌, ◌≤◌, length, option_map, Some, IsSome, IfSome, IsSomeAnd};
-ghost use Rattle.cwr_fields.specs.Cells.{Holds};
+ghost use Rattle.std.specs.Prelude.{◌≡◌, ◌↔◌, ◌<◌, ◌≤◌, length, option_map, Some, IsSome, IfSome};
 ghost use Rattle.cwr_layouts.specs.Layouts.{line_width};
 ghost use Rattle.cwr_layouts.specs.Records.{IsRecord};
-ghost use Rattle.cwr_layouts.specs.Carried.{record_cell, record_in};
+ghost use Rattle.cwr_layouts.specs.Carried.{HasCellOf, record_cell, record_in};
 
 use crate::kinds::Kind;
 use crate::lines::part;
@@ -143,7 +142,7 @@ impl<'a> RecordRef<'a> {
     pub fn read<C: Cell>(&self, j: u8) -> Option<C>
         requires least { 0 < C.WIDTH }
         requires most { C.WIDTH ≤ 10 }
-        ensures some { IsSome result ↔ IsSomeAnd (record_cell self.now j) (λ cell. (length cell ≡ C.WIDTH) × Holds C.TYPE cell) }
+        ensures some { IsSome result ↔ HasCellOf self.now j C.TYPE C.WIDTH }
         ensures value { IfSome result (λ x. record_cell self.now j ≡ Some (C.text x)) }
     {
         C::read(self.cell(j)?)
