@@ -2,6 +2,7 @@
 use Rattle.std.specs.Prelude.{◌≡◌, ◌≢◌, ℕ, ◌-◌, ◌<◌, ◌≤◌, IsTrue, not, List, length, map, filter, take, Option, Some, None, IfSome, IsSomeAnd, slice_get, slice_set, if◌then◌else◌}
 use Rattle.std.specs.Option.{option_and_then}
 use Rattle.cwr_fields.specs.declared.cell_types.CellFault.{CellFault}
+use Rattle.cwr_fields.specs.declared.cell_types.CellType.{CellType}
 use Rattle.cwr_fields.specs.Bytes.{filled}
 use Rattle.cwr_fields.specs.Cells.{Holds, HasFault}
 use Rattle.cwr_layouts.specs.declared.kinds.Kind.{Kind}
@@ -27,6 +28,10 @@ carried_before kind j = length (filter (λ f. not f.derived) (take (j - 1) (layo
 -- the record's cell of field j; a derived field has none, and no field has none
 abbrev pub record_cell : RecordValue → ℕ → Option (List ℕ)
 record_cell r j = option_and_then (λ _. slice_get r.cells (carried_before r.kind j)) (carried_at r.kind j)
+
+-- the record has a cell of field j, of that width and one of that type
+abbrev pub HasCellOf : RecordValue → ℕ → CellType → ℕ → Type 0
+HasCellOf r j ty width = IsSomeAnd (record_cell r j) (λ cell. (length cell ≡ width) × Holds ty cell)
 
 -- the record with that text as its cell of field j
 abbrev pub set_cell : ℕ → List ℕ → RecordValue → RecordValue

@@ -13,7 +13,7 @@ use crate::kinds::Kind;
 use crate::layouts::{Field, layout};
 use crate::lines::{fill_up, part};
 use crate::lookups::{carried, field, fields};
-use crate::records::{LineText, Record, WIDEST_LINE, show_cells};
+use crate::records::{LineText, Record, WIDEST_LINE, kept, show_cells};
 use arrayvec::ArrayVec;
 use cwr_fields::{CellFault, CellType, fits};
 use std::fmt::{self, Debug};
@@ -32,12 +32,12 @@ pub enum SetFault {
     Cell(CellFault),
 }
 
-/// The first cell of a draft that isn't one of its field.
+/// The first cell of a draft that isn't one of its field's type, by this profile of CWR 2.1.
 #[derive(Clone, Copy, Debug, PartialEq, Eq)]
 pub struct DraftFault {
     /// The field's number, from 1.
     pub field: u8,
-    /// What its cell is told.
+    /// What is told of its cell, as by `fits`.
     pub fault: CellFault,
 }
 
@@ -70,8 +70,7 @@ fn filled_cell(text: &[u8], width: usize) -> LineText
     requires fits { width ≤ WIDEST_LINE }
     ensures { result.items ≡ filled width text.now }
 {
-    let mut cell = ArrayVec::new();
-    let _fits = cell.try_extend_from_slice(text);
+    let mut cell = kept(text);
     fill_up(&mut cell, width);
     cell
 }
@@ -103,8 +102,8 @@ pub(crate) fn judge(kind: Kind, line: &[u8]) -> Result<(), DraftFault>
     Ok(())
 }
 
-/// A record that is being made: a kind and the cells of its fields, of which some may not be set yet. Each cell has its
-/// field's width. It takes no memory.
+/// A record of CWR 2.1 that is being made: a kind and the cells of its fields, of which some may not be set yet. Each
+/// cell has its field's width. It takes no memory: `clone` never fails.
 #[derive(Clone, Drop)]
 pub struct Draft {
     kind: Kind,
@@ -113,7 +112,7 @@ pub struct Draft {
 }
 
 impl Model for Draft {
-    ghost use Rattle.std.specs.Prelude.{◌≡◌, ◌↔◌, length};
+    ghost use Rattle.std.specs.Prelude.{◌≡◌, length};
     ghost use Rattle.cwr_layouts.specs.Layouts.{line_width};
     ghost use Rattle.cwr_layouts.specs.Records.{RecordValue};
     ghost use Rattle.cwr_layouts.specs.Carried.{record_in};
@@ -137,8 +136,8 @@ impl Draft {
         Draft { kind, text }
     }
 
-    /// Sets the cell of field `j`, from 1, to the text, filled up with spaces on the right. A text that is refused
-    /// changes nothing: see `SetFault`.
+    /// Sets the cell of field `j`, from 1, to the text, filled up with spaces on the right as CWR 2.1 does. A text that
+    /// is refused changes nothing; `SetFault` says why.
     pub fn set(&mut self, j: u8, text: &[u8]) -> Result<(), SetFault>
         ensures ok { OnOk result (Sets j text.now self.old self.new) }
         ensures err { OnErr result (self.new ≡ self.old) }
@@ -168,9 +167,7 @@ impl Draft {
         ensures err { IfErr result (IsFirstUnfit self.now) }
     {
         judge(self.kind, self.text.as_slice())?;
-        let mut text = ArrayVec::new();
-        let _fits = text.try_extend_from_slice(self.text.as_slice());
-        Ok(Record::of_line(self.kind, text))
+        Ok(Record::of_line(self.kind, kept(self.text.as_slice())))
     }
 }
 

@@ -128,6 +128,9 @@ fn shows_cells(rt: HostRuntime) -> Result<(), Fail> {
         assert_eq!(rt; view.cell(j), cell);
     }
     assert!(rt; view.read::<EdiVersion>(6).is_none());
+    let copy = view.to_record();
+    assert_eq!(rt; copy.view().kind(), Kind::Ack);
+    assert_eq!(rt; copy.view().cell(8), Some(&b"NWR"[..]));
     Ok(())
 }
 

@@ -1,10 +1,9 @@
 //! Records as values: a kind and the cells that a record of the kind carries, each one of its field.
 
-ghost use Rattle.std.specs.Prelude.{◌≡◌, ◌↔◌, ◌<◌, ◌≤◌, length, option_map, Some, IsSome, IfSome, IsSomeAnd};
-ghost use Rattle.cwr_fields.specs.Cells.{Holds};
+ghost use Rattle.std.specs.Prelude.{◌≡◌, ◌↔◌, ◌<◌, ◌≤◌, length, option_map, Some, IsSome, IfSome};
 ghost use Rattle.cwr_layouts.specs.Layouts.{line_width};
 ghost use Rattle.cwr_layouts.specs.Records.{IsRecord};
-ghost use Rattle.cwr_layouts.specs.Carried.{record_cell, record_in};
+ghost use Rattle.cwr_layouts.specs.Carried.{HasCellOf, record_cell, record_in};
 
 use crate::kinds::Kind;
 use crate::lines::part;
@@ -19,6 +18,16 @@ pub(crate) const WIDEST_LINE: usize = 364;
 
 /// The bytes of a whole line of some kind.
 pub(crate) type LineText = ArrayVec<u8, WIDEST_LINE>;
+
+/// The bytes of a line, kept in the value.
+pub(crate) fn kept(line: &[u8]) -> LineText
+    requires { length line.now ≤ WIDEST_LINE }
+    ensures { result.items ≡ line.now }
+{
+    let mut text = ArrayVec::new();
+    let _fits = text.try_extend_from_slice(line);
+    text
+}
 
 /// A cell as programmers read it.
 #[derive(Clone, Copy)]
@@ -49,7 +58,7 @@ pub(crate) fn show_cells<W: fmt::Write>(
 }
 
 /// A record of CWR 2.1: its kind and the cells of its fields. Each cell has its field's width and is one of its type;
-/// derived fields have none. It takes no memory.
+/// derived fields have none. It takes no memory: `clone` never fails.
 #[derive(Clone, Drop)]
 pub struct Record {
     kind: Kind,
@@ -90,7 +99,7 @@ impl Record {
     }
 }
 
-/// A record that is borrowed from where it is kept.
+/// A record of CWR 2.1 that is borrowed from where it is kept.
 #[derive(Clone, Drop)]
 pub struct RecordRef<'a> {
     kind: Kind,
@@ -133,10 +142,18 @@ impl<'a> RecordRef<'a> {
     pub fn read<C: Cell>(&self, j: u8) -> Option<C>
         requires least { 0 < C.WIDTH }
         requires most { C.WIDTH ≤ 10 }
-        ensures some { IsSome result ↔ IsSomeAnd (record_cell self.now j) (λ cell. (length cell ≡ C.WIDTH) × Holds C.TYPE cell) }
+        ensures some { IsSome result ↔ HasCellOf self.now j C.TYPE C.WIDTH }
         ensures value { IfSome result (λ x. record_cell self.now j ≡ Some (C.text x)) }
     {
         C::read(self.cell(j)?)
+    }
+
+    /// The record, copied out of where it is kept. It takes no memory.
+    pub fn to_record(&self) -> Record
+        ensures value { result ≡ self.now }
+        ensures fits { IsRecord self.now }
+    {
+        Record::of_line(self.kind, kept(self.line))
     }
 }
 
