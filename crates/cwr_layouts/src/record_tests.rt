@@ -6,7 +6,10 @@ ghost use Rattle.cwr_fields.specs.declared.cell_types.Word.TheVariants.{Edi};
 ghost use Rattle.cwr_fields.specs.Codes.{word_text};
 
 use crate::{Draft, DraftFault, Kind, Record, SetFault};
-use cwr_fields::{Cell, CellFault, CellType, Word};
+use cwr_fields::{
+    Cell, CellFault, CellType, CivilDate, DateCell, Number, TransactionStatus, TransactionType,
+    Word,
+};
 use std::alloc::AllocError;
 use std::process::Abort;
 use std::test::Fail;
