@@ -11,7 +11,7 @@ use Rattle.cwr_shape.specs.declared.stages.Stage.TheVariants as stages
 use Rattle.cwr_shape.specs.Shapes.{Pattern, one_of, ◌then◌, ◌or◌, many, Matches, a, some, pattern_of, IsShape}
 use Rattle.cwr_shape.specs.Outlines.{GroupOutline, group_symbols, symbols_of, IsGroupOutline, IsOutline, IsWhole}
 use Rattle.cwr_shape.proofs.HeadFirst.{behind, among_one}
-use Rattle.cwr_shape.proofs.StagePatterns.{group_pattern, any_group, left}
+use Rattle.cwr_shape.specs.Left.{group_pattern, any_group, left}
 
 -- one symbol
 alone : (s : Symbol) → Matches (one_of (s ∷ [])) (s ∷ [])

@@ -1,6 +1,9 @@
 //! How far the records of a transmission have come, and what must still follow.
 
-ghost use Rattle.std.specs.Prelude.{◌≡◌};
+ghost use Rattle.std.specs.Prelude.{◌≡◌, ◌↔◌, List, [], ◌∷◌, ◌++◌, IsSome, IfSome};
+ghost use Rattle.cwr_shape.specs.declared.symbols.Symbol.{Symbol};
+ghost use Rattle.cwr_shape.specs.Outlines.{GoesOn};
+ghost use Rattle.cwr_shape.specs.Left.{Any, StandsAt};
 ghost use Rattle.cwr_shape.specs.Steps.{header_step, party_step, tail_step, party_of_work, behind_writer, step_on, may_end, next_stage};
 
 use crate::symbols::Symbol;
@@ -172,7 +175,7 @@ fn next_within(ty: TransactionType, step: Step, symbol: Symbol) -> Option<Stage>
 }
 
 /// The stage after one more record; `None` where the table of stages has none.
-pub(crate) fn next(stage: Stage, symbol: Symbol) -> Option<Stage>
+fn next(stage: Stage, symbol: Symbol) -> Option<Stage>
     ensures { result ≡ next_stage stage symbol }
 {
     match (stage, symbol) {
@@ -181,5 +184,23 @@ pub(crate) fn next(stage: Stage, symbol: Symbol) -> Option<Stage>
         (Stage::Closed, Symbol::Plain(Kind::Trl)) => Some(Stage::Ended),
         (Stage::Within(ty, step), _) => next_within(ty, step, symbol),
         _ => None,
+    }
+}
+
+impl Stage {
+    /// Before the first record.
+    pub fn start() -> Stage
+        ensures { StandsAt [] result }
+    {
+        Stage::Start
+    }
+
+    /// The stage after one more record. `None` where no transmission goes on so: for all records that stand at this
+    /// stage, and whatever came before them.
+    pub fn next(self, symbol: Symbol) -> Option<Stage>
+        ensures some { (xs : List Symbol) → StandsAt xs self → IsSome result ↔ GoesOn Any (xs ++ symbol ∷ []) }
+        ensures value { (xs : List Symbol) → StandsAt xs self → IfSome result (StandsAt (xs ++ symbol ∷ [])) }
+    {
+        next(self, symbol)
     }
 }
