@@ -1,7 +1,6 @@
 -- Patterns in a form in which those that match the same symbols here are the same.
-use Rattle.std.proofs.Common.{◌≡◌, ℕ, zero, suc, ◌<◌, Bool, true, false, cond, ◌&&◌, ◌||◌, List, [], ◌∷◌, ◌++◌, length, refl, sym, ap, ap₂, subst, ◌∙◌, inl, inr, arith, true≢false, append_assoc}
+use Rattle.std.proofs.Common.{◌≡◌, Bool, true, false, cond, ◌&&◌, ◌||◌, List, [], ◌∷◌, ◌++◌, refl, sym, ap, ap₂, subst, ◌∙◌, inl, inr, true≢false, append_assoc}
 use Rattle.std.specs.Prelude.{◌⊎◌, ◌↔◌}
-use Rattle.std.specs.List.{AllByRecursion, IsAmong, flat_map}
 use Rattle.std.specs.Str.{bytes_eq}
 use Rattle.std.proofs.lemmas.Bool.{and_parts, or_cases}
 use Rattle.std.proofs.lemmas.Slice.Eq.{bytes_eq-Decides}
@@ -115,7 +114,7 @@ unfolding seq
 seq_alike (one_of ss) q = seq_one ss q (is_none (one_of ss)) refl
 seq_alike (p then r) q =
     alike_trans (seq p (seq r q)) (p then seq r q) ((p then r) then q) (seq_alike p (seq r q))
-        (alike_trans (p then seq r q) (p then (r then q)) ((p then r) then q) (then_alike p (seq r q) p (r then q) (alike_refl p) (seq_alike r q)) (then_assoc p r q))
+    (alike_trans (p then seq r q) (p then (r then q)) ((p then r) then q) (then_alike p (seq r q) p (r then q) (alike_refl p) (seq_alike r q)) (then_assoc p r q))
 seq_alike (p or r) q = alike_refl ((p or r) then q)
 seq_alike (p and r) q = alike_refl ((p and r) then q)
 seq_alike (many p) q = seq_many p q (is_none p) refl
@@ -186,7 +185,7 @@ pub alt_alike : (p q : Pattern) → Alike (alt p q) (p or q)
 unfolding alt
 alt_alike (p or r) q =
     alike_trans (alt p (alt r q)) (p or alt r q) ((p or r) or q) (alt_alike p (alt r q))
-        (alike_trans (p or alt r q) (p or (r or q)) ((p or r) or q) (or_alike p (alt r q) p (r or q) (alike_refl p) (alt_alike r q)) (λ xs. (or_assoc_forth p r q xs, or_assoc_back p r q xs)))
+    (alike_trans (p or alt r q) (p or (r or q)) ((p or r) or q) (or_alike p (alt r q) p (r or q) (alike_refl p) (alt_alike r q)) (λ xs. (or_assoc_forth p r q xs, or_assoc_back p r q xs)))
 alt_alike (one_of ss) q = alt_one ss q (is_none (one_of ss)) refl
 alt_alike (p then r) q = insert_alike (p then r) q
 alt_alike (p and r) q = insert_alike (p and r) q

@@ -1,26 +1,21 @@
 -- What is left of a transmission at each stage, as a pattern, and that the table of stages follows it.
-use Rattle.std.proofs.Common.{◌≡◌, ℕ, zero, suc, ◌<◌, Bool, true, false, cond, ◌&&◌, List, [], ◌∷◌, ◌++◌, Option, Some, None, length, refl, sym, ap, subst, ◌∙◌, arith, true≢false, lit<}
-use Rattle.std.specs.Prelude.{◌↔◌}
+use Rattle.std.proofs.Common.{◌≡◌, Bool, true, ◌&&◌, List, [], ◌∷◌, Option, Some, None, refl, sym, subst, true≢false, lit<}
 use Rattle.std.specs.List.{list_all}
 use Rattle.std.proofs.lemmas.Bool.{and_parts}
-use Rattle.cwr_fields.specs.declared.codes.Role.{Role}
 use Rattle.cwr_fields.specs.declared.codes.Role.TheVariants.{Assignor, Acquirer}
-use Rattle.cwr_fields.specs.declared.codes.TransactionType.{TransactionType}
 use Rattle.cwr_fields.specs.declared.codes.TransactionType.TheVariants.{Agreement, NewWork, RevisedWork, Acknowledgement}
-use Rattle.cwr_layouts.specs.declared.kinds.Kind.{Kind}
 use Rattle.cwr_layouts.specs.declared.kinds.Kind.TheVariants as kinds
 use Rattle.cwr_shape.specs.declared.symbols.Symbol.{Symbol}
 use Rattle.cwr_shape.specs.declared.symbols.Symbol.TheVariants.{Plain, Ipa, Grh}
 use Rattle.cwr_shape.specs.declared.stages.Stage.{Stage}
 use Rattle.cwr_shape.specs.declared.stages.Stage.TheVariants as stages
-use Rattle.cwr_shape.specs.declared.stages.Step.{Step}
 use Rattle.cwr_shape.specs.declared.stages.Step.TheVariants as steps
-use Rattle.cwr_shape.specs.Shapes.{Pattern, one_of, ◌then◌, ◌or◌, ◌and◌, many, Matches, a, some, party, among_parties, block, publisher, writer, tail_record, pattern_of}
+use Rattle.cwr_shape.specs.Shapes.{Pattern, Matches}
 use Rattle.cwr_shape.specs.Steps.{next_stage}
-use Rattle.cwr_shape.specs.Left.{group_pattern, any_group, closing, rest_of, left_of, is_step_of, is_stage, left}
+use Rattle.cwr_shape.specs.Left.{is_stage, left}
 use Rattle.cwr_shape.proofs.PrefixFree.{among_passes}
-use Rattle.cwr_shape.proofs.Matcher.{text_of, has, nullable, after, after_all, is_dead, dead_sound, nothing_matches, accepts_sound}
-use Rattle.cwr_shape.proofs.NormalForms.{same_list, same, same_sound, dead, seq, contains, insert, alt, both, norm, norm_alike, follows}
+use Rattle.cwr_shape.proofs.Matcher.{nullable, after, is_dead, dead_sound}
+use Rattle.cwr_shape.proofs.NormalForms.{same_list, same, same_sound, seq, contains, insert, alt, both, norm, norm_alike, follows}
 
 -- what the pattern leaves is what is left at the stage; no stage, and nothing is
 unfoldable pub leads : Option Stage → Pattern → Bool
@@ -176,7 +171,7 @@ all_follow (stages.Within Acknowledgement steps.Acked) h = acknowledgement_acked
 all_follow stage h = absurd (true≢false (sym h))
 
 -- a test of every symbol is one of each
-of_each : (test : Symbol → Bool) (s : Symbol) → list_all test all_symbols ≡ true → test s ≡ true
+pub of_each : (test : Symbol → Bool) (s : Symbol) → list_all test all_symbols ≡ true → test s ≡ true
 of_each test (Plain kinds.Hdr) h = among_passes test all_symbols (Plain kinds.Hdr) 0 h (lit< tt)
 of_each test (Plain kinds.Grh) h = among_passes test all_symbols (Plain kinds.Hdr) 1 h (lit< tt)
 of_each test (Plain kinds.Grt) h = among_passes test all_symbols (Plain kinds.Hdr) 2 h (lit< tt)

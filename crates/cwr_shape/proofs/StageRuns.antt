@@ -1,6 +1,6 @@
 -- Symbols that begin a whole transmission are those by which the table goes on from the start.
-use Rattle.std.proofs.Common.{◌≡◌, ℕ, ◌<◌, Bool, true, false, cond, ◌&&◌, List, [], ◌∷◌, ◌++◌, Option, Some, None, length, refl, sym, ap, subst, ◌∙◌, arith, true≢false, append_assoc, append-nil}
-use Rattle.std.specs.Prelude.{◌↔◌, IsSome, IfSome, is_some}
+use Rattle.std.proofs.Common.{◌≡◌, true, List, [], ◌∷◌, ◌++◌, Option, Some, None, refl, sym, ap, subst, ◌∙◌, true≢false, append_assoc}
+use Rattle.std.specs.Prelude.{◌↔◌, IsSome, is_some}
 use Rattle.std.specs.Option.{option_and_then}
 use Rattle.cwr_fields.specs.declared.codes.Role.TheVariants.{Assignor, Acquirer}
 use Rattle.cwr_fields.specs.declared.codes.TransactionType.TheVariants.{Agreement, NewWork, RevisedWork, Acknowledgement}
@@ -12,11 +12,11 @@ use Rattle.cwr_shape.specs.declared.stages.Stage.{Stage}
 use Rattle.cwr_shape.specs.declared.stages.Stage.TheVariants as stages
 use Rattle.cwr_shape.specs.declared.stages.Step.TheVariants as steps
 use Rattle.cwr_shape.specs.Shapes.{Matches}
-use Rattle.cwr_shape.specs.Outlines.{GroupOutline, IsOutline, symbols_of, GoesOn, IsWhole}
+use Rattle.cwr_shape.specs.Outlines.{GoesOn, IsWhole}
 use Rattle.cwr_shape.specs.Steps.{next_stage}
 use Rattle.cwr_shape.proofs.Matcher.{nullable, after, after_all, accepts_sound}
-use Rattle.cwr_shape.specs.Left.{left, is_stage, Any, StandsAt}
-use Rattle.cwr_shape.proofs.StagePatterns.{Goes, goes_on, goes_back, next_is_stage}
+use Rattle.cwr_shape.specs.Left.{left, is_stage, Any, LeavesAt}
+use Rattle.cwr_shape.proofs.StagePatterns.{goes_on, goes_back, next_is_stage}
 use Rattle.cwr_shape.proofs.WholePatterns.{whole_matches, matches_whole}
 
 -- the stage after some symbols, by the table
@@ -227,33 +227,33 @@ left_at (stages.Within Acknowledgement steps.InGroup) h = left_within_acknowledg
 left_at (stages.Within Acknowledgement steps.Acked) h = left_within_acknowledgement_acked
 left_at stage h = absurd (true≢false (sym h))
 
--- symbols that stand at a stage begin a transmission
-pub stands_begins : (xs : List Symbol) (stage : Stage) → StandsAt xs stage → GoesOn Any xs
-stands_begins xs stage st =
+-- symbols that leave what a stage has left begin a transmission
+pub leaves_begins : (xs : List Symbol) (stage : Stage) → LeavesAt xs stage → GoesOn Any xs
+leaves_begins xs stage st =
     let rest = left_at stage st.real in
     let w = (st.leaves rest.0).1 rest.1 in
     (w.0, w.1, tt, (rest.0, sym w.2))
 
 -- one more symbol comes where the table has a stage for it
-next_begins : (xs : List Symbol) (stage : Stage) (s : Symbol) → StandsAt xs stage → (o : Option Stage) → next_stage stage s ≡ o → IsSome o → GoesOn Any (xs ++ s ∷ [])
+next_begins : (xs : List Symbol) (stage : Stage) (s : Symbol) → LeavesAt xs stage → (o : Option Stage) → next_stage stage s ≡ o → IsSome o → GoesOn Any (xs ++ s ∷ [])
 next_begins xs stage s st None e some = absurd (true≢false (sym some))
 next_begins xs stage s st (Some to) e some =
     let rest = left_at to (next_is_stage stage s to st.real e) in
     let w = (st.leaves (s ∷ rest.0)).1 (goes_back stage s to rest.0 st.real e rest.1) in
     (w.0, w.1, tt, (rest.0, sym w.2 ∙ sym (append_assoc xs (s ∷ []) rest.0)))
 
-begins_next : (xs : List Symbol) (stage : Stage) (s : Symbol) → StandsAt xs stage → GoesOn Any (xs ++ s ∷ []) → IsSome (next_stage stage s)
+begins_next : (xs : List Symbol) (stage : Stage) (s : Symbol) → LeavesAt xs stage → GoesOn Any (xs ++ s ∷ []) → IsSome (next_stage stage s)
 begins_next xs stage s st g =
     let whole : IsWhole (xs ++ s ∷ g.3.0) = (g.0, g.1, sym (append_assoc xs (s ∷ []) g.3.0) ∙ sym g.3.1) in
     let on = goes_on stage s g.3.0 st.real ((st.leaves (s ∷ g.3.0)).0 whole) in
     ap is_some on.is
 
-pub stands_next : (xs : List Symbol) (stage : Stage) (s : Symbol) → StandsAt xs stage → IsSome (next_stage stage s) ↔ GoesOn Any (xs ++ s ∷ [])
-stands_next xs stage s st = (next_begins xs stage s st (next_stage stage s) refl, begins_next xs stage s st)
+pub leaves_next : (xs : List Symbol) (stage : Stage) (s : Symbol) → LeavesAt xs stage → IsSome (next_stage stage s) ↔ GoesOn Any (xs ++ s ∷ [])
+leaves_next xs stage s st = (next_begins xs stage s st (next_stage stage s) refl, begins_next xs stage s st)
 
--- and there they stand with it
-pub stands_to : (xs : List Symbol) (stage : Stage) (s : Symbol) (to : Stage) → StandsAt xs stage → next_stage stage s ≡ Some to → StandsAt (xs ++ s ∷ []) to
-stands_to xs stage s to st e = record {
+-- and with it they leave what is left there
+pub leaves_to : (xs : List Symbol) (stage : Stage) (s : Symbol) (to : Stage) → LeavesAt xs stage → next_stage stage s ≡ Some to → LeavesAt (xs ++ s ∷ []) to
+leaves_to xs stage s to st e = record {
   real = next_is_stage stage s to st.real e;
   leaves = λ rest. (
     λ w. let m = (st.leaves (s ∷ rest)).0 (subst IsWhole (append_assoc xs (s ∷ []) rest) w) in
@@ -266,17 +266,6 @@ stands_to xs stage s to st e = record {
   where
     only_one : (x y : Stage) → Some x ≡ Some y → x ≡ y
     only_one x y k = cc k
-
-pub next_exact : (xs : List Symbol) (stage : Stage) (s : Symbol) (o : Option Stage) → o ≡ next_stage stage s → StandsAt xs stage → IsSome o ↔ GoesOn Any (xs ++ s ∷ [])
-next_exact xs stage s o e st = subst (λ (x : Option Stage). IsSome x ↔ GoesOn Any (xs ++ s ∷ [])) (sym e) (stands_next xs stage s st)
-
-pub next_stands : (xs : List Symbol) (stage : Stage) (s : Symbol) (o : Option Stage) → o ≡ next_stage stage s → StandsAt xs stage → IfSome o (StandsAt (xs ++ s ∷ []))
-next_stands xs stage s None e st = tt
-next_stands xs stage s (Some to) e st = stands_to xs stage s to st (sym e)
-
--- no symbols stand at the start
-pub stands_start : StandsAt [] stages.Start
-stands_start = record { real = refl; leaves = λ rest. (λ w. subst (Matches (left stages.Start)) (sym w.2) (whole_matches w.0 w.1), λ m. matches_whole rest m) }
 
 -- some transmission begins with the symbols where the table goes through them
 pub begins_run : (xs : List Symbol) → GoesOn Any xs → (to : Stage) × (run stages.Start xs ≡ Some to)

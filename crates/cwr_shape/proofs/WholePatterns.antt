@@ -1,6 +1,5 @@
 -- A whole transmission is what is left at the start.
-use Rattle.std.proofs.Common.{◌≡◌, ℕ, zero, suc, ◌<◌, List, [], ◌∷◌, ◌++◌, length, map, refl, sym, ap, ap₂, subst, ◌∙◌, inl, inr, arith, lit<, append_assoc}
-use Rattle.std.specs.Prelude.{◌⊎◌}
+use Rattle.std.proofs.Common.{◌≡◌, ◌<◌, List, [], ◌∷◌, ◌++◌, length, refl, ap, ap₂, ◌∙◌, inl, inr, arith, lit<}
 use Rattle.std.specs.List.{AllByRecursion, flat_map}
 use Rattle.cwr_fields.specs.declared.codes.TransactionType.{TransactionType}
 use Rattle.cwr_fields.specs.declared.codes.TransactionType.TheVariants.{Agreement, NewWork, RevisedWork, Acknowledgement}
@@ -8,7 +7,7 @@ use Rattle.cwr_layouts.specs.declared.kinds.Kind.TheVariants as kinds
 use Rattle.cwr_shape.specs.declared.symbols.Symbol.{Symbol}
 use Rattle.cwr_shape.specs.declared.symbols.Symbol.TheVariants.{Plain, Grh}
 use Rattle.cwr_shape.specs.declared.stages.Stage.TheVariants as stages
-use Rattle.cwr_shape.specs.Shapes.{Pattern, one_of, ◌then◌, ◌or◌, many, Matches, a, some, pattern_of, IsShape}
+use Rattle.cwr_shape.specs.Shapes.{one_of, ◌then◌, many, Matches, a, some, pattern_of, IsShape}
 use Rattle.cwr_shape.specs.Outlines.{GroupOutline, group_symbols, symbols_of, IsGroupOutline, IsOutline, IsWhole}
 use Rattle.cwr_shape.proofs.HeadFirst.{behind, among_one}
 use Rattle.cwr_shape.specs.Left.{group_pattern, any_group, left}
@@ -26,9 +25,13 @@ transactions_match ty [] some h = absurd (omega arith)
 transactions_match ty (t ∷ ts) some h = (t, flat_map (λ u. u) ts, refl, h.0, (ts, refl, h.1))
 
 group_matches : (g : GroupOutline) → IsGroupOutline g → Matches (group_pattern g.ty) (group_symbols g)
-group_matches g h =
-    (Grh g.ty ∷ [], flat_map (λ t. t) g.transactions ++ Plain kinds.Grt ∷ [], refl, alone (Grh g.ty),
-        (flat_map (λ t. t) g.transactions, Plain kinds.Grt ∷ [], refl, transactions_match g.ty g.transactions h.0 h.1, alone (Plain kinds.Grt)))
+group_matches g h = (
+  Grh g.ty ∷ [],
+  flat_map (λ t. t) g.transactions ++ Plain kinds.Grt ∷ [],
+  refl,
+  alone (Grh g.ty),
+  (flat_map (λ t. t) g.transactions, Plain kinds.Grt ∷ [], refl, transactions_match g.ty g.transactions h.0 h.1, alone (Plain kinds.Grt)),
+)
 
 -- a group of some type
 of_some_type : (ty : TransactionType) (xs : List Symbol) → Matches (group_pattern ty) xs → Matches any_group xs
@@ -50,9 +53,13 @@ some_groups_match (g ∷ groups) h =
 
 -- what a whole transmission is
 pub whole_matches : (groups : List GroupOutline) → IsOutline groups → Matches (left stages.Start) (symbols_of groups)
-whole_matches groups h =
-    (Plain kinds.Hdr ∷ [], flat_map group_symbols groups ++ Plain kinds.Trl ∷ [], refl, alone (Plain kinds.Hdr),
-        (flat_map group_symbols groups, Plain kinds.Trl ∷ [], refl, some_groups_match groups h, alone (Plain kinds.Trl)))
+whole_matches groups h = (
+  Plain kinds.Hdr ∷ [],
+  flat_map group_symbols groups ++ Plain kinds.Trl ∷ [],
+  refl,
+  alone (Plain kinds.Hdr),
+  (flat_map group_symbols groups, Plain kinds.Trl ∷ [], refl, some_groups_match groups h, alone (Plain kinds.Trl)),
+)
 
 -- ---- the other way round
 

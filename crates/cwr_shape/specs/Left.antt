@@ -1,18 +1,18 @@
--- What is left of a transmission at each stage: the patterns of the symbols that may still come. Records stand at a
--- stage where they leave just that.
+-- Where symbols stand, and what is left of a transmission at each stage: the pattern of what may still come.
 use Rattle.std.specs.Prelude.{◌≡◌, ◌↔◌, Bool, true, false, IsTrue, List, [], ◌∷◌, ◌++◌}
 use Rattle.cwr_fields.specs.declared.codes.Role.TheVariants.{Assignor, Acquirer}
 use Rattle.cwr_fields.specs.declared.codes.TransactionType.{TransactionType}
 use Rattle.cwr_fields.specs.declared.codes.TransactionType.TheVariants.{Agreement, NewWork, RevisedWork, Acknowledgement}
 use Rattle.cwr_layouts.specs.declared.kinds.Kind.TheVariants as kinds
 use Rattle.cwr_shape.specs.declared.symbols.Symbol.{Symbol}
-use Rattle.cwr_shape.specs.declared.symbols.Symbol.TheVariants.{Plain, Grh}
+use Rattle.cwr_shape.specs.declared.symbols.Symbol.TheVariants.{Grh}
 use Rattle.cwr_shape.specs.declared.stages.Stage.{Stage}
 use Rattle.cwr_shape.specs.declared.stages.Stage.TheVariants as stages
 use Rattle.cwr_shape.specs.declared.stages.Step.{Step}
 use Rattle.cwr_shape.specs.declared.stages.Step.TheVariants as steps
 use Rattle.cwr_shape.specs.Shapes.{Pattern, one_of, ◌then◌, ◌or◌, ◌and◌, many, Matches, a, some, party, among_parties, block, publisher, writer, tail_record, pattern_of}
 use Rattle.cwr_shape.specs.Outlines.{GroupOutline, IsWhole, GoesOn}
+use Rattle.cwr_shape.specs.Stages.{stage_after}
 
 -- a group of the type
 abbrev pub group_pattern : TransactionType → Pattern
@@ -86,7 +86,12 @@ is_stage stage = true
 abbrev pub Any : List GroupOutline → Type 0
 Any groups = Unit {0}
 
--- the symbols begin a transmission, and stand at the stage: what makes them a whole one is what is left there
+-- the symbols begin a transmission, and this is the stage after them
 pub record StandsAt (xs : List Symbol) (stage : Stage) : Type 0 where
+  pub begins : GoesOn Any xs
+  pub named : stage ≡ stage_after xs
+
+-- what makes the symbols a whole transmission is what is left at the stage
+pub record LeavesAt (xs : List Symbol) (stage : Stage) : Type 0 where
   pub real : IsTrue (is_stage stage)
   pub leaves : (rest : List Symbol) → IsWhole (xs ++ rest) ↔ Matches (left stage) rest
