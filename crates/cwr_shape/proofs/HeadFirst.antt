@@ -25,12 +25,12 @@ part ty s = 2
 is_later : TransactionType → Symbol → Bool
 is_later ty s = part ty s == 2
 
-among_one : (s t : Symbol) (i : ℕ) → i < 1 → t ≡ slice_index_or (s ∷ []) i t → t ≡ s
+pub among_one : (s t : Symbol) (i : ℕ) → i < 1 → t ≡ slice_index_or (s ∷ []) i t → t ≡ s
 among_one s t zero h e = e
 among_one s t (suc i) h e = absurd (omega arith)
 
 -- what a pattern of one symbol and then another matches
-behind : (s : Symbol) (p : Pattern) (xs : List Symbol) → Matches (one_of (s ∷ []) then p) xs → (rest : List Symbol) × (xs ≡ s ∷ rest) × Matches p rest
+pub behind : (s : Symbol) (p : Pattern) (xs : List Symbol) → Matches (one_of (s ∷ []) then p) xs → (rest : List Symbol) × (xs ≡ s ∷ rest) × Matches p rest
 behind s p xs m =
     let same : m.3.0 ≡ s = among_one s m.3.0 m.3.1.0 m.3.1.1.0 m.3.1.1.1 in
     (m.1, m.2 ∙ ap (λ (front : List Symbol). front ++ m.1) (m.3.2 ∙ ap (λ (u : Symbol). u ∷ []) same), m.4)

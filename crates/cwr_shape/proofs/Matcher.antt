@@ -31,7 +31,7 @@ known_kind k x h e = clash (sym (kind_of-letters k) ∙ ap kind_of e ∙ h)
 heads_differ : (m n : ℕ) (xs ys : List ℕ) → m ∷ xs ≡ n ∷ ys → (m ≡ n → ⊥) → ⊥
 heads_differ m n xs ys e h = h (cc e)
 
-same_text : (s t : Symbol) → text_of s ≡ text_of t → s ≡ t
+pub same_text : (s t : Symbol) → text_of s ≡ text_of t → s ≡ t
 same_text (Plain j) (Plain k) e = ap Plain (letters-injective j k e)
 same_text (Plain j) (Ipa Assignor) e = absurd (known_kind j _ refl e)
 same_text (Plain j) (Ipa Acquirer) e = absurd (known_kind j _ refl e)
@@ -102,7 +102,7 @@ is_dead (p or q) = is_dead p && is_dead q
 is_dead (p and q) = is_dead p || is_dead q
 is_dead (many p) = false
 
-nothing_matches : (xs : List Symbol) → Matches (one_of []) xs → ⊥
+pub nothing_matches : (xs : List Symbol) → Matches (one_of []) xs → ⊥
 nothing_matches xs m = omega (arith, m.1.1.0)
 
 nullable_sound : (p : Pattern) → nullable p ≡ true → Matches p []
@@ -117,7 +117,7 @@ nullable_sound (p or q) h = either (or_cases (nullable p) (nullable q) h) (nulla
 nullable_sound (p and q) h = let b = and_parts (nullable p) (nullable q) h in (nullable_sound p b.0, nullable_sound q b.1)
 nullable_sound (many p) h = ([], refl, tt)
 
-empty_only : (xs : List Symbol) → Matches (many (one_of [])) xs → xs ≡ []
+pub empty_only : (xs : List Symbol) → Matches (many (one_of [])) xs → xs ≡ []
 empty_only xs m = by m.0 m.1 m.2
   where
     by : (parts : List (List Symbol)) → xs ≡ flat_map (λ part. part) parts → AllByRecursion (Matches (one_of [])) parts → xs ≡ []
@@ -132,7 +132,7 @@ after_then : (s : Symbol) (p q r : Pattern) (xs : List Symbol) (b : Bool) → nu
 after_then s p q r xs true e f m = ([], s ∷ xs, refl, nullable_sound p e, f m)
 after_then s p q r xs false e f m = absurd (nothing_matches xs m)
 
-after_sound : (s : Symbol) (p : Pattern) (xs : List Symbol) → Matches (after s p) xs → Matches p (s ∷ xs)
+pub after_sound : (s : Symbol) (p : Pattern) (xs : List Symbol) → Matches (after s p) xs → Matches p (s ∷ xs)
 unfolding after
 after_sound s (one_of ss) xs m = after_one s ss xs (has s ss) refl m
 after_sound s (p then q) xs (inl m) = (s ∷ m.0, m.1, ap (λ (ys : List Symbol). s ∷ ys) m.2, after_sound s p m.0 m.3, m.4)
@@ -192,7 +192,7 @@ many_complete s p r xs ((t ∷ f) ∷ parts) fp e h =
     let c = cons_parts s t xs (f ++ flat_map (λ part. part) parts) e in
     (f, flat_map (λ part. part) parts, c.1, fp f (subst (λ (u : Symbol). Matches p (u ∷ f)) (sym c.0) h.0), (parts, refl, h.1))
 
-after_complete : (s : Symbol) (p : Pattern) (xs : List Symbol) → Matches p (s ∷ xs) → Matches (after s p) xs
+pub after_complete : (s : Symbol) (p : Pattern) (xs : List Symbol) → Matches p (s ∷ xs) → Matches (after s p) xs
 unfolding after
 after_complete s (one_of ss) xs m =
     let c = cons_parts s m.0 xs [] m.2 in
@@ -209,7 +209,7 @@ unfolding after_all
 follows_complete [] rest p m = m
 follows_complete (s ∷ xs) rest p m = follows_complete xs rest (after s p) (after_complete s p (xs ++ rest) m)
 
-dead_sound : (p : Pattern) (xs : List Symbol) → is_dead p ≡ true → Matches p xs → ⊥
+pub dead_sound : (p : Pattern) (xs : List Symbol) → is_dead p ≡ true → Matches p xs → ⊥
 unfolding is_dead
 dead_sound (one_of []) xs h m = nothing_matches xs m
 dead_sound (one_of (s ∷ ss)) xs h m = true≢false (sym h)

@@ -20,7 +20,7 @@ only test (p or q) = only test p && only test q
 only test (p and q) = only test p
 only test (many p) = only test p
 
-among_passes : (test : Symbol → Bool) (ss : List Symbol) (s : Symbol) (i : ℕ) → list_all test ss ≡ true → i < length ss → test (slice_index_or ss i s) ≡ true
+pub among_passes : (test : Symbol → Bool) (ss : List Symbol) (s : Symbol) (i : ℕ) → list_all test ss ≡ true → i < length ss → test (slice_index_or ss i s) ≡ true
 among_passes test [] s i h k = absurd (omega arith)
 among_passes test (x ∷ ss) s zero h k = (and_parts (test x) (list_all test ss) h).0
 among_passes test (x ∷ ss) s (suc i) h k = among_passes test ss s i (and_parts (test x) (list_all test ss) h).1 (omega arith)

@@ -5,6 +5,8 @@ pub mod laws;
 mod levels;
 mod limits;
 mod reasons;
+#[cfg(test)]
+mod stage_tests;
 mod stages;
 mod symbols;
 mod tallies;

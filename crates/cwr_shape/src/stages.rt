@@ -1,6 +1,14 @@
 //! How far the records of a transmission have come, and what must still follow.
 
+ghost use Rattle.std.specs.Prelude.{◌≡◌, ◌↔◌, List, [], ◌∷◌, ◌++◌, IsSome, IfSome};
+ghost use Rattle.cwr_shape.specs.declared.symbols.Symbol.{Symbol};
+ghost use Rattle.cwr_shape.specs.Outlines.{GoesOn};
+ghost use Rattle.cwr_shape.specs.Left.{Any, StandsAt};
+ghost use Rattle.cwr_shape.specs.Steps.{header_step, party_step, tail_step, party_of_work, behind_writer, step_on, may_end, next_stage};
+
+use crate::symbols::Symbol;
 use cwr_fields::{Role, TransactionType};
+use cwr_layouts::Kind;
 
 /// How far a transmission has come.
 #[derive(Clone, Copy, Debug, PartialEq, Eq)]
@@ -55,4 +63,144 @@ pub struct Needs {
     pub groups: u32,
     /// Further records of the open transaction, or where none is open of the next one.
     pub transaction: u32,
+}
+
+/// The step after the header of a type's transactions.
+fn header(ty: TransactionType, symbol: Symbol) -> Option<Step>
+    ensures { result ≡ header_step ty symbol }
+{
+    match (ty, symbol) {
+        (TransactionType::Agreement, Symbol::Plain(Kind::Agr)) => Some(Step::Agreed),
+        (TransactionType::NewWork, Symbol::Plain(Kind::Nwr)) => Some(Step::Work),
+        (TransactionType::RevisedWork, Symbol::Plain(Kind::Rev)) => Some(Step::Work),
+        (TransactionType::Acknowledgement, Symbol::Plain(Kind::Ack)) => Some(Step::Acked),
+        _ => None,
+    }
+}
+
+/// The step after a record that may stand behind the writers.
+fn tail(symbol: Symbol) -> Option<Step>
+    ensures { result ≡ tail_step symbol }
+{
+    match symbol {
+        Symbol::Plain(
+            Kind::Alt | Kind::Ewt | Kind::Ver | Kind::Per | Kind::Rec | Kind::Orn | Kind::Com,
+        ) => Some(Step::Tail),
+        _ => None,
+    }
+}
+
+/// The step after a publisher or a writer of a work.
+fn party(symbol: Symbol) -> Option<Step>
+    ensures { result ≡ party_of_work symbol }
+{
+    match symbol {
+        Symbol::Plain(Kind::Spu) => Some(Step::Controlled),
+        Symbol::Plain(Kind::Opu) => Some(Step::Other),
+        Symbol::Plain(Kind::Swr) => Some(Step::Writer),
+        Symbol::Plain(Kind::Owr) => Some(Step::OtherWriter),
+        _ => None,
+    }
+}
+
+/// The step after a further writer, or after a record behind the writers.
+fn behind(symbol: Symbol) -> Option<Step>
+    ensures { result ≡ behind_writer symbol }
+{
+    match symbol {
+        Symbol::Plain(Kind::Swr) => Some(Step::Writer),
+        Symbol::Plain(Kind::Owr) => Some(Step::OtherWriter),
+        _ => tail(symbol),
+    }
+}
+
+impl Step {
+    /// The step after one more party, in a block with parties of one role.
+    fn after_party(side: Role, role: Role) -> Step
+        ensures { result ≡ party_step side role }
+    {
+        match (side, role) {
+            (Role::Assignor, Role::Assignor) => Step::OneSide(Role::Assignor),
+            (Role::Acquirer, Role::Acquirer) => Step::OneSide(Role::Acquirer),
+            _ => Step::Both,
+        }
+    }
+
+    /// The step after one more record of the transaction.
+    fn on(self, symbol: Symbol) -> Option<Step>
+        ensures { result ≡ step_on self symbol }
+    {
+        match (self, symbol) {
+            (Step::Acked, Symbol::Plain(Kind::Msg)) => Some(Step::Acked),
+            (Step::Agreed | Step::Territories | Step::Both, Symbol::Plain(Kind::Ter)) => {
+                Some(Step::Territories)
+            }
+            (Step::Territories, Symbol::Ipa(role)) => Some(Step::OneSide(role)),
+            (Step::OneSide(side), Symbol::Ipa(role)) => Some(Step::after_party(side, role)),
+            (Step::Both, Symbol::Ipa(_)) => Some(Step::Both),
+            (Step::Controlled, Symbol::Plain(Kind::Spt)) => Some(Step::Controlled),
+            (Step::Work | Step::Controlled | Step::Other, _) => party(symbol),
+            (Step::Writer, Symbol::Plain(Kind::Swt | Kind::Pwr)) => Some(Step::Writer),
+            (Step::OtherWriter, Symbol::Plain(Kind::Pwr)) => Some(Step::OtherWriter),
+            (Step::Writer | Step::OtherWriter, _) => behind(symbol),
+            (Step::Tail, _) => tail(symbol),
+            _ => None,
+        }
+    }
+
+    /// Whether the transaction may end here.
+    fn may_end(self) -> bool
+        ensures { result ≡ may_end self }
+    {
+        matches!(
+            self,
+            Step::Acked | Step::Both | Step::Writer | Step::OtherWriter | Step::Tail
+        )
+    }
+}
+
+/// The stage after one more record inside a group of the type.
+fn next_within(ty: TransactionType, step: Step, symbol: Symbol) -> Option<Stage>
+    ensures { result ≡ next_stage (Stage.Within ty step) symbol }
+{
+    if let Some(on) = step.on(symbol) {
+        return Some(Stage::Within(ty, on));
+    }
+    match (step, symbol) {
+        (_, Symbol::Plain(Kind::Grt)) if step.may_end() => Some(Stage::Closed),
+        (Step::InGroup, _) => header(ty, symbol).map(|first| Stage::Within(ty, first)),
+        _ if step.may_end() => header(ty, symbol).map(|first| Stage::Within(ty, first)),
+        _ => None,
+    }
+}
+
+/// The stage after one more record; `None` where the table of stages has none.
+fn next(stage: Stage, symbol: Symbol) -> Option<Stage>
+    ensures { result ≡ next_stage stage symbol }
+{
+    match (stage, symbol) {
+        (Stage::Start, Symbol::Plain(Kind::Hdr)) => Some(Stage::Opened),
+        (Stage::Opened | Stage::Closed, Symbol::Grh(ty)) => Some(Stage::Within(ty, Step::InGroup)),
+        (Stage::Closed, Symbol::Plain(Kind::Trl)) => Some(Stage::Ended),
+        (Stage::Within(ty, step), _) => next_within(ty, step, symbol),
+        _ => None,
+    }
+}
+
+impl Stage {
+    /// Before the first record.
+    pub fn start() -> Stage
+        ensures { StandsAt [] result }
+    {
+        Stage::Start
+    }
+
+    /// The stage after one more record. `None` where no transmission goes on so: for all records that stand at this
+    /// stage, and whatever came before them.
+    pub fn next(self, symbol: Symbol) -> Option<Stage>
+        ensures some { (xs : List Symbol) → StandsAt xs self → IsSome result ↔ GoesOn Any (xs ++ symbol ∷ []) }
+        ensures value { (xs : List Symbol) → StandsAt xs self → IfSome result (StandsAt (xs ++ symbol ∷ [])) }
+    {
+        next(self, symbol)
+    }
 }

@@ -1,0 +1,494 @@
+-- The stage that the table comes to is the one that the symbols name.
+use Rattle.std.proofs.Common.{◌≡◌, ℕ, ◌+◌, ◌-◌, ◌≤◌, Bool, true, false, cond, not, ◌&&◌, ◌||◌, List, [], ◌∷◌, ◌++◌, Option, Some, None, length, reverse, drop, refl, sym, ap, subst, ◌∙◌, arith, true≢false, append_assoc, append-nil}
+use Rattle.std.specs.List.{list_all, list_any, filter, last_or, after_last, prefix_len, suffix_len}
+use Rattle.std.proofs.lemmas.Bool.{and_parts}
+use Rattle.std.proofs.lemmas.List.{reverse-append, length-append, drop-append-le}
+use Rattle.std.proofs.lemmas.List.Elements.{filter-append}
+use Rattle.std.proofs.lemmas.List.Folds.{list_any-append}
+use Rattle.std.proofs.lemmas.List.Sums.{suffix_len-le-length}
+use Rattle.cwr_fields.specs.declared.codes.Role.{Role}
+use Rattle.cwr_fields.specs.declared.codes.Role.TheVariants.{Assignor, Acquirer}
+use Rattle.cwr_fields.specs.declared.codes.TransactionType.{TransactionType}
+use Rattle.cwr_fields.specs.declared.codes.TransactionType.TheVariants.{Agreement, NewWork, RevisedWork, Acknowledgement}
+use Rattle.cwr_layouts.specs.declared.kinds.Kind.TheVariants as kinds
+use Rattle.cwr_shape.specs.declared.symbols.Symbol.{Symbol}
+use Rattle.cwr_shape.specs.declared.symbols.Symbol.TheVariants.{Plain, Ipa, Grh}
+use Rattle.cwr_shape.specs.declared.stages.Stage.{Stage}
+use Rattle.cwr_shape.specs.declared.stages.Stage.TheVariants as stages
+use Rattle.cwr_shape.specs.declared.stages.Step.{Step}
+use Rattle.cwr_shape.specs.declared.stages.Step.TheVariants as steps
+use Rattle.cwr_shape.specs.Steps.{next_stage}
+use Rattle.cwr_shape.specs.Stages.{is_grh, is_ipa, is_ipa_of, is_writer, latest, pwr_step, step_after, group_of, stage_by, stage_after}
+use Rattle.cwr_shape.specs.Left.{is_stage}
+use Rattle.cwr_shape.proofs.StagePatterns.{all_symbols, of_each, next_is_stage}
+use Rattle.cwr_shape.proofs.StageRuns.{run, run_first}
+
+-- ---- tests of sameness
+
+unfoldable same_type : TransactionType → TransactionType → Bool
+same_type Agreement Agreement = true
+same_type NewWork NewWork = true
+same_type RevisedWork RevisedWork = true
+same_type Acknowledgement Acknowledgement = true
+same_type t u = false
+
+same_type_sound : (t u : TransactionType) → same_type t u ≡ true → t ≡ u
+unfolding same_type
+same_type_sound Agreement Agreement h = refl
+same_type_sound NewWork NewWork h = refl
+same_type_sound RevisedWork RevisedWork h = refl
+same_type_sound Acknowledgement Acknowledgement h = refl
+same_type_sound t u h = absurd (true≢false (sym h))
+
+unfoldable same_step : Step → Step → Bool
+same_step steps.InGroup steps.InGroup = true
+same_step steps.Acked steps.Acked = true
+same_step steps.Agreed steps.Agreed = true
+same_step steps.Territories steps.Territories = true
+same_step (steps.OneSide Assignor) (steps.OneSide Assignor) = true
+same_step (steps.OneSide Acquirer) (steps.OneSide Acquirer) = true
+same_step steps.Both steps.Both = true
+same_step steps.Work steps.Work = true
+same_step steps.Controlled steps.Controlled = true
+same_step steps.Other steps.Other = true
+same_step steps.Writer steps.Writer = true
+same_step steps.OtherWriter steps.OtherWriter = true
+same_step steps.Tail steps.Tail = true
+same_step t u = false
+
+same_step_sound : (t u : Step) → same_step t u ≡ true → t ≡ u
+unfolding same_step
+same_step_sound steps.InGroup steps.InGroup h = refl
+same_step_sound steps.Acked steps.Acked h = refl
+same_step_sound steps.Agreed steps.Agreed h = refl
+same_step_sound steps.Territories steps.Territories h = refl
+same_step_sound (steps.OneSide Assignor) (steps.OneSide Assignor) h = refl
+same_step_sound (steps.OneSide Acquirer) (steps.OneSide Acquirer) h = refl
+same_step_sound steps.Both steps.Both h = refl
+same_step_sound steps.Work steps.Work h = refl
+same_step_sound steps.Controlled steps.Controlled h = refl
+same_step_sound steps.Other steps.Other h = refl
+same_step_sound steps.Writer steps.Writer h = refl
+same_step_sound steps.OtherWriter steps.OtherWriter h = refl
+same_step_sound steps.Tail steps.Tail h = refl
+same_step_sound t u h = absurd (true≢false (sym h))
+
+unfoldable same_stage : Stage → Stage → Bool
+same_stage stages.Start stages.Start = true
+same_stage stages.Opened stages.Opened = true
+same_stage (stages.Within t p) (stages.Within u q) = same_type t u && same_step p q
+same_stage stages.Closed stages.Closed = true
+same_stage stages.Ended stages.Ended = true
+same_stage t u = false
+
+within_same : (t u : TransactionType) (p q : Step) → t ≡ u → p ≡ q → stages.Within t p ≡ stages.Within u q
+within_same t u p q e f = cc (e, f)
+
+same_stage_sound : (t u : Stage) → same_stage t u ≡ true → t ≡ u
+unfolding same_stage
+same_stage_sound stages.Start stages.Start h = refl
+same_stage_sound stages.Opened stages.Opened h = refl
+same_stage_sound (stages.Within t p) (stages.Within u q) h =
+    let b = and_parts (same_type t u) (same_step p q) h in within_same t u p q (same_type_sound t u b.0) (same_step_sound p q b.1)
+same_stage_sound stages.Closed stages.Closed h = refl
+same_stage_sound stages.Ended stages.Ended h = refl
+same_stage_sound t u h = absurd (true≢false (sym h))
+
+unfoldable same_bool : Bool → Bool → Bool
+same_bool true true = true
+same_bool false false = true
+same_bool a b = false
+
+same_bool_sound : (a b : Bool) → same_bool a b ≡ true → a ≡ b
+unfolding same_bool
+same_bool_sound true true h = refl
+same_bool_sound false false h = refl
+same_bool_sound a b h = absurd (true≢false (sym h))
+
+-- ---- what symbols tell of their stage
+
+-- the last writer is one whom the submitter doesn't control
+abbrev other_writer : Option Symbol → Bool
+other_writer (Some (Plain kinds.Owr)) = true
+other_writer w = false
+
+-- the parties at the end have one of the role
+abbrev side : Role → List Symbol → Bool
+side role xs = list_any (is_ipa_of role) (after_last (λ s. not (is_ipa s)) xs)
+
+-- the stage after a symbol, by the group's type, the last writer, and the sides of the parties at the end
+unfoldable name_of : Symbol → TransactionType → Bool → Bool → Bool → Stage
+name_of (Plain kinds.Hdr) ty o a b = stages.Opened
+name_of (Grh t) ty o a b = stages.Within t steps.InGroup
+name_of (Plain kinds.Grt) ty o a b = stages.Closed
+name_of (Plain kinds.Trl) ty o a b = stages.Ended
+name_of (Ipa Assignor) ty o a b = stages.Within ty (cond b steps.Both (steps.OneSide Assignor))
+name_of (Ipa Acquirer) ty o a b = stages.Within ty (cond a steps.Both (steps.OneSide Acquirer))
+name_of (Plain kinds.Pwr) ty o a b = stages.Within ty (cond o steps.OtherWriter steps.Writer)
+name_of s ty o a b = stages.Within ty (step_after s [])
+
+pwr_by : (w : Option Symbol) → pwr_step w ≡ cond (other_writer w) steps.OtherWriter steps.Writer
+pwr_by (Some (Plain kinds.Owr)) = refl
+pwr_by w = refl
+
+named : (s : Symbol) (ys : List Symbol)
+    → stage_by (Some s) ys ≡ name_of s (group_of (latest is_grh ys)) (other_writer (latest is_writer ys)) (side Assignor ys) (side Acquirer ys)
+unfolding name_of
+named (Plain kinds.Pwr) ys = ap (stages.Within (group_of (latest is_grh ys))) (pwr_by (latest is_writer ys))
+named (Ipa Assignor) ys = refl
+named (Ipa Acquirer) ys = refl
+named (Grh t) ys = refl
+named (Plain kinds.Hdr) ys = refl
+named (Plain kinds.Grt) ys = refl
+named (Plain kinds.Trl) ys = refl
+named s ys = refl
+
+-- ---- one more symbol
+
+last_or-snoc : (o : Option Symbol) (xs : List Symbol) (s : Symbol) → last_or o (xs ++ s ∷ []) ≡ Some s
+last_or-snoc o [] s = refl
+last_or-snoc o (x ∷ xs) s = last_or-snoc (Some x) xs s
+
+latest_by : (test : Symbol → Bool) (xs : List Symbol) (s : Symbol) (b : Bool) → test s ≡ b → last_or None (filter test xs ++ cond b (s ∷ []) []) ≡ cond b (Some s) (latest test xs)
+latest_by test xs s true e = last_or-snoc None (filter test xs) s
+latest_by test xs s false e = ap (last_or None) (append-nil (filter test xs))
+
+filter_one : (test : Symbol → Bool) (s : Symbol) (b : Bool) → test s ≡ b → filter test (s ∷ []) ≡ cond b (s ∷ []) []
+filter_one test s true e = rw e refl
+filter_one test s false e = rw e refl
+
+latest-snoc : (test : Symbol → Bool) (xs : List Symbol) (s : Symbol) → latest test (xs ++ s ∷ []) ≡ cond (test s) (Some s) (latest test xs)
+latest-snoc test xs s =
+    ap (last_or None) (filter-append test xs (s ∷ []) ∙ ap (λ (ys : List Symbol). filter test xs ++ ys) (filter_one test s (test s) refl)) ∙ latest_by test xs s (test s) refl
+
+-- the type of the group, the last writer and the sides, with one more symbol
+abbrev type_next : Symbol → TransactionType → TransactionType
+type_next (Grh t) ty = t
+type_next s ty = ty
+
+abbrev writer_next : Symbol → Bool → Bool
+writer_next (Plain kinds.Swr) o = false
+writer_next (Plain kinds.Owr) o = true
+writer_next s o = o
+
+abbrev side_next : Role → Symbol → Bool → Bool
+side_next role s a = cond (is_ipa s) (a || is_ipa_of role s) false
+
+type_more : (s : Symbol) (g : Option Symbol) → group_of (cond (is_grh s) (Some s) g) ≡ type_next s (group_of g)
+type_more (Grh t) g = refl
+type_more s g = refl
+
+writer_more : (s : Symbol) (w : Option Symbol) → other_writer (cond (is_writer s) (Some s) w) ≡ writer_next s (other_writer w)
+writer_more (Plain kinds.Swr) w = refl
+writer_more (Plain kinds.Owr) w = refl
+writer_more s w = refl
+
+abbrev is_other : Symbol → Bool
+is_other s = not (is_ipa s)
+
+-- how many parties stand at the end
+abbrev parties : List Symbol → ℕ
+parties xs = suffix_len (λ s. not (is_other s)) xs
+
+parties_by : (xs : List Symbol) (s : Symbol) (b : Bool) → not (is_other s) ≡ b → prefix_len (λ s. not (is_other s)) (s ∷ reverse xs) ≡ cond b (1 + parties xs) 0
+parties_by xs s true e = rw e refl
+parties_by xs s false e = rw e refl
+
+parties-snoc : (xs : List Symbol) (s : Symbol) → parties (xs ++ s ∷ []) ≡ cond (not (is_other s)) (1 + parties xs) 0
+parties-snoc xs s = ap (prefix_len (λ s. not (is_other s))) (reverse-append xs (s ∷ [])) ∙ parties_by xs s (not (is_other s)) refl
+
+twice : (b : Bool) → not (not b) ≡ b
+twice true = refl
+twice false = refl
+
+after_last_by : (xs : List Symbol) (s : Symbol) (b : Bool) → parties (xs ++ s ∷ []) ≡ cond b (1 + parties xs) 0
+    → after_last is_other (xs ++ s ∷ []) ≡ cond b (after_last is_other xs ++ s ∷ []) []
+after_last_by xs s true e =
+    let few : parties xs ≤ length xs = suffix_len-le-length (λ s. not (is_other s)) xs in
+    let same : length (xs ++ s ∷ []) - parties (xs ++ s ∷ []) ≡ length xs - parties xs = omega (arith, e, few, length-append xs (s ∷ [])) in
+    ap (λ (n : ℕ). drop n (xs ++ s ∷ [])) same ∙ drop-append-le (length xs - parties xs) xs (s ∷ []) (omega arith)
+after_last_by xs s false e =
+    let all : length (xs ++ s ∷ []) - parties (xs ++ s ∷ []) ≡ length (xs ++ s ∷ []) = omega (arith, e) in
+    ap (λ (n : ℕ). drop n (xs ++ s ∷ [])) all ∙ drop_whole (xs ++ s ∷ [])
+  where
+    drop_whole : (ys : List Symbol) → drop (length ys) ys ≡ []
+    drop_whole [] = refl
+    drop_whole (y ∷ ys) = drop_whole ys
+
+side_by : (role : Role) (xs : List Symbol) (s : Symbol) (b : Bool) → after_last is_other (xs ++ s ∷ []) ≡ cond b (after_last is_other xs ++ s ∷ []) []
+    → side role (xs ++ s ∷ []) ≡ cond b (side role xs || is_ipa_of role s) false
+side_by role xs s true e = ap (list_any (is_ipa_of role)) e ∙ list_any-append (is_ipa_of role) (after_last is_other xs) (s ∷ []) ∙ ap (λ (b : Bool). side role xs || b) (or_false (is_ipa_of role s))
+  where
+    or_false : (b : Bool) → (b || false) ≡ b
+    or_false true = refl
+    or_false false = refl
+side_by role xs s false e = ap (list_any (is_ipa_of role)) e
+
+side-snoc : (role : Role) (xs : List Symbol) (s : Symbol) → side role (xs ++ s ∷ []) ≡ side_next role s (side role xs)
+side-snoc role xs s =
+    side_by role xs s (is_ipa s) (after_last_by xs s (is_ipa s) (parties-snoc xs s ∙ ap (λ (b : Bool). cond b (1 + parties xs) 0) (twice (is_ipa s))))
+
+-- ---- what a stage says of the symbols that stand there
+
+abbrev side_of : Role → Stage → Bool
+side_of role (stages.Within ty steps.Both) = true
+side_of Assignor (stages.Within ty (steps.OneSide Assignor)) = true
+side_of Acquirer (stages.Within ty (steps.OneSide Acquirer)) = true
+side_of role stage = false
+
+abbrev writer_fits : Step → Bool → Bool
+writer_fits steps.Writer o = not o
+writer_fits steps.OtherWriter o = o
+writer_fits step o = true
+
+abbrev fits : Stage → TransactionType → Bool → Bool
+fits (stages.Within t step) ty o = same_type t ty && writer_fits step o
+fits stage ty o = true
+
+record Seen (xs : List Symbol) (stage : Stage) : Type 0 where
+  pub name : stage ≡ stage_after xs
+  pub fit : fits stage (group_of (latest is_grh xs)) (other_writer (latest is_writer xs)) ≡ true
+  pub assignor : side Assignor xs ≡ side_of Assignor stage
+  pub acquirer : side Acquirer xs ≡ side_of Acquirer stage
+
+-- the stage that the table comes to, and what it says
+unfoldable agrees : Option Stage → Symbol → TransactionType → Bool → Bool → Bool → Bool
+agrees None s ty o a b = true
+agrees (Some to) s ty o a b = same_stage to (name_of s ty o a b) && fits to ty o && same_bool a (side_of Assignor to) && same_bool b (side_of Acquirer to)
+
+unfoldable keeps : Stage → TransactionType → Bool → Symbol → Bool
+keeps stage ty o s =
+    not (fits stage ty o)
+    || agrees (next_stage stage s) s (type_next s ty) (writer_next s o) (side_next Assignor s (side_of Assignor stage)) (side_next Acquirer s (side_of Acquirer stage))
+
+-- for both last writers
+abbrev both_keep : Stage → TransactionType → Bool
+both_keep stage ty = list_all (λ o. list_all (keeps stage ty o) all_symbols) (true ∷ false ∷ [])
+
+-- for each type of the group
+unfoldable all_keep : Stage → Bool
+all_keep stage = list_all (both_keep stage) (Agreement ∷ NewWork ∷ RevisedWork ∷ Acknowledgement ∷ [])
+
+start_keeps : all_keep stages.Start ≡ true
+unfolding all_keep keeps agrees same_stage same_step same_type same_bool name_of
+start_keeps = refl
+
+opened_keeps : all_keep stages.Opened ≡ true
+unfolding all_keep keeps agrees same_stage same_step same_type same_bool name_of
+opened_keeps = refl
+
+closed_keeps : all_keep stages.Closed ≡ true
+unfolding all_keep keeps agrees same_stage same_step same_type same_bool name_of
+closed_keeps = refl
+
+ended_keeps : all_keep stages.Ended ≡ true
+unfolding all_keep keeps agrees same_stage same_step same_type same_bool name_of
+ended_keeps = refl
+
+agreement_ingroup_keeps : all_keep (stages.Within Agreement steps.InGroup) ≡ true
+unfolding all_keep keeps agrees same_stage same_step same_type same_bool name_of
+agreement_ingroup_keeps = refl
+
+agreement_agreed_keeps : all_keep (stages.Within Agreement steps.Agreed) ≡ true
+unfolding all_keep keeps agrees same_stage same_step same_type same_bool name_of
+agreement_agreed_keeps = refl
+
+agreement_territories_keeps : all_keep (stages.Within Agreement steps.Territories) ≡ true
+unfolding all_keep keeps agrees same_stage same_step same_type same_bool name_of
+agreement_territories_keeps = refl
+
+agreement_side_assignor_keeps : all_keep (stages.Within Agreement (steps.OneSide Assignor)) ≡ true
+unfolding all_keep keeps agrees same_stage same_step same_type same_bool name_of
+agreement_side_assignor_keeps = refl
+
+agreement_side_acquirer_keeps : all_keep (stages.Within Agreement (steps.OneSide Acquirer)) ≡ true
+unfolding all_keep keeps agrees same_stage same_step same_type same_bool name_of
+agreement_side_acquirer_keeps = refl
+
+agreement_both_keeps : all_keep (stages.Within Agreement steps.Both) ≡ true
+unfolding all_keep keeps agrees same_stage same_step same_type same_bool name_of
+agreement_both_keeps = refl
+
+newwork_ingroup_keeps : all_keep (stages.Within NewWork steps.InGroup) ≡ true
+unfolding all_keep keeps agrees same_stage same_step same_type same_bool name_of
+newwork_ingroup_keeps = refl
+
+newwork_work_keeps : all_keep (stages.Within NewWork steps.Work) ≡ true
+unfolding all_keep keeps agrees same_stage same_step same_type same_bool name_of
+newwork_work_keeps = refl
+
+newwork_controlled_keeps : all_keep (stages.Within NewWork steps.Controlled) ≡ true
+unfolding all_keep keeps agrees same_stage same_step same_type same_bool name_of
+newwork_controlled_keeps = refl
+
+newwork_other_keeps : all_keep (stages.Within NewWork steps.Other) ≡ true
+unfolding all_keep keeps agrees same_stage same_step same_type same_bool name_of
+newwork_other_keeps = refl
+
+newwork_writer_keeps : all_keep (stages.Within NewWork steps.Writer) ≡ true
+unfolding all_keep keeps agrees same_stage same_step same_type same_bool name_of
+newwork_writer_keeps = refl
+
+newwork_otherwriter_keeps : all_keep (stages.Within NewWork steps.OtherWriter) ≡ true
+unfolding all_keep keeps agrees same_stage same_step same_type same_bool name_of
+newwork_otherwriter_keeps = refl
+
+newwork_tail_keeps : all_keep (stages.Within NewWork steps.Tail) ≡ true
+unfolding all_keep keeps agrees same_stage same_step same_type same_bool name_of
+newwork_tail_keeps = refl
+
+revisedwork_ingroup_keeps : all_keep (stages.Within RevisedWork steps.InGroup) ≡ true
+unfolding all_keep keeps agrees same_stage same_step same_type same_bool name_of
+revisedwork_ingroup_keeps = refl
+
+revisedwork_work_keeps : all_keep (stages.Within RevisedWork steps.Work) ≡ true
+unfolding all_keep keeps agrees same_stage same_step same_type same_bool name_of
+revisedwork_work_keeps = refl
+
+revisedwork_controlled_keeps : all_keep (stages.Within RevisedWork steps.Controlled) ≡ true
+unfolding all_keep keeps agrees same_stage same_step same_type same_bool name_of
+revisedwork_controlled_keeps = refl
+
+revisedwork_other_keeps : all_keep (stages.Within RevisedWork steps.Other) ≡ true
+unfolding all_keep keeps agrees same_stage same_step same_type same_bool name_of
+revisedwork_other_keeps = refl
+
+revisedwork_writer_keeps : all_keep (stages.Within RevisedWork steps.Writer) ≡ true
+unfolding all_keep keeps agrees same_stage same_step same_type same_bool name_of
+revisedwork_writer_keeps = refl
+
+revisedwork_otherwriter_keeps : all_keep (stages.Within RevisedWork steps.OtherWriter) ≡ true
+unfolding all_keep keeps agrees same_stage same_step same_type same_bool name_of
+revisedwork_otherwriter_keeps = refl
+
+revisedwork_tail_keeps : all_keep (stages.Within RevisedWork steps.Tail) ≡ true
+unfolding all_keep keeps agrees same_stage same_step same_type same_bool name_of
+revisedwork_tail_keeps = refl
+
+acknowledgement_ingroup_keeps : all_keep (stages.Within Acknowledgement steps.InGroup) ≡ true
+unfolding all_keep keeps agrees same_stage same_step same_type same_bool name_of
+acknowledgement_ingroup_keeps = refl
+
+acknowledgement_acked_keeps : all_keep (stages.Within Acknowledgement steps.Acked) ≡ true
+unfolding all_keep keeps agrees same_stage same_step same_type same_bool name_of
+acknowledgement_acked_keeps = refl
+
+all_stages_keep : (stage : Stage) → is_stage stage ≡ true → all_keep stage ≡ true
+all_stages_keep stages.Start h = start_keeps
+all_stages_keep stages.Opened h = opened_keeps
+all_stages_keep stages.Closed h = closed_keeps
+all_stages_keep stages.Ended h = ended_keeps
+all_stages_keep (stages.Within Agreement steps.InGroup) h = agreement_ingroup_keeps
+all_stages_keep (stages.Within Agreement steps.Agreed) h = agreement_agreed_keeps
+all_stages_keep (stages.Within Agreement steps.Territories) h = agreement_territories_keeps
+all_stages_keep (stages.Within Agreement (steps.OneSide Assignor)) h = agreement_side_assignor_keeps
+all_stages_keep (stages.Within Agreement (steps.OneSide Acquirer)) h = agreement_side_acquirer_keeps
+all_stages_keep (stages.Within Agreement steps.Both) h = agreement_both_keeps
+all_stages_keep (stages.Within NewWork steps.InGroup) h = newwork_ingroup_keeps
+all_stages_keep (stages.Within NewWork steps.Work) h = newwork_work_keeps
+all_stages_keep (stages.Within NewWork steps.Controlled) h = newwork_controlled_keeps
+all_stages_keep (stages.Within NewWork steps.Other) h = newwork_other_keeps
+all_stages_keep (stages.Within NewWork steps.Writer) h = newwork_writer_keeps
+all_stages_keep (stages.Within NewWork steps.OtherWriter) h = newwork_otherwriter_keeps
+all_stages_keep (stages.Within NewWork steps.Tail) h = newwork_tail_keeps
+all_stages_keep (stages.Within RevisedWork steps.InGroup) h = revisedwork_ingroup_keeps
+all_stages_keep (stages.Within RevisedWork steps.Work) h = revisedwork_work_keeps
+all_stages_keep (stages.Within RevisedWork steps.Controlled) h = revisedwork_controlled_keeps
+all_stages_keep (stages.Within RevisedWork steps.Other) h = revisedwork_other_keeps
+all_stages_keep (stages.Within RevisedWork steps.Writer) h = revisedwork_writer_keeps
+all_stages_keep (stages.Within RevisedWork steps.OtherWriter) h = revisedwork_otherwriter_keeps
+all_stages_keep (stages.Within RevisedWork steps.Tail) h = revisedwork_tail_keeps
+all_stages_keep (stages.Within Acknowledgement steps.InGroup) h = acknowledgement_ingroup_keeps
+all_stages_keep (stages.Within Acknowledgement steps.Acked) h = acknowledgement_acked_keeps
+all_stages_keep stage h = absurd (true≢false (sym h))
+
+here : {X : Type 0} (test : X → Bool) (x : X) (xs : List X) → list_all test (x ∷ xs) ≡ true → test x ≡ true
+here test x xs h = (and_parts (test x) (list_all test xs) h).0
+
+there : {X : Type 0} (test : X → Bool) (x : X) (xs : List X) → list_all test (x ∷ xs) ≡ true → list_all test xs ≡ true
+there test x xs h = (and_parts (test x) (list_all test xs) h).1
+
+kept_by : (stage : Stage) (ty : TransactionType) (o : Bool) → both_keep stage ty ≡ true → list_all (keeps stage ty o) all_symbols ≡ true
+kept_by stage ty true h = here (λ o. list_all (keeps stage ty o) all_symbols) true (false ∷ []) h
+kept_by stage ty false h = here (λ o. list_all (keeps stage ty o) all_symbols) false [] (there (λ o. list_all (keeps stage ty o) all_symbols) true (false ∷ []) h)
+
+type_kept : (stage : Stage) (ty : TransactionType) → all_keep stage ≡ true → both_keep stage ty ≡ true
+unfolding all_keep
+type_kept stage Agreement h = here (both_keep stage) Agreement (NewWork ∷ RevisedWork ∷ Acknowledgement ∷ []) h
+type_kept stage NewWork h =
+    here (both_keep stage) NewWork (RevisedWork ∷ Acknowledgement ∷ []) (there (both_keep stage) Agreement (NewWork ∷ RevisedWork ∷ Acknowledgement ∷ []) h)
+type_kept stage RevisedWork h =
+    here (both_keep stage) RevisedWork (Acknowledgement ∷ [])
+    (there (both_keep stage) NewWork (RevisedWork ∷ Acknowledgement ∷ []) (there (both_keep stage) Agreement (NewWork ∷ RevisedWork ∷ Acknowledgement ∷ []) h))
+type_kept stage Acknowledgement h =
+    here (both_keep stage) Acknowledgement []
+    (there (both_keep stage) RevisedWork (Acknowledgement ∷ [])
+    (there (both_keep stage) NewWork (RevisedWork ∷ Acknowledgement ∷ []) (there (both_keep stage) Agreement (NewWork ∷ RevisedWork ∷ Acknowledgement ∷ []) h)))
+
+kept : (stage : Stage) (ty : TransactionType) (o : Bool) → all_keep stage ≡ true → list_all (keeps stage ty o) all_symbols ≡ true
+kept stage ty o h = kept_by stage ty o (type_kept stage ty h)
+
+if_not : (a b : Bool) → a ≡ true → (not a || b) ≡ true → b ≡ true
+if_not true b e h = h
+if_not false b e h = absurd (true≢false (sym e))
+
+agreed : (stage : Stage) (ty : TransactionType) (o : Bool) (s : Symbol) → is_stage stage ≡ true → fits stage ty o ≡ true
+    → agrees (next_stage stage s) s (type_next s ty) (writer_next s o) (side_next Assignor s (side_of Assignor stage)) (side_next Acquirer s (side_of Acquirer stage)) ≡ true
+unfolding keeps
+agreed stage ty o s real fit = if_not (fits stage ty o) _ fit (of_each (keeps stage ty o) s (kept stage ty o (all_stages_keep stage real)))
+
+-- what agreeing says
+agrees_says : (op : Option Stage) (to : Stage) (s : Symbol) (ty : TransactionType) (o a b : Bool) → op ≡ Some to → agrees op s ty o a b ≡ true
+    → (to ≡ name_of s ty o a b) × (fits to ty o ≡ true) × (a ≡ side_of Assignor to) × (b ≡ side_of Acquirer to)
+unfolding agrees
+agrees_says None to s ty o a b e h = absurd (none_is_some to e)
+  where
+    none_is_some : (x : Stage) → None ≡ Some x → ⊥
+    none_is_some x k = cc k
+agrees_says (Some at) to s ty o a b e h =
+    let same : at ≡ to = cc e in
+    let x = and_parts (same_stage at (name_of s ty o a b) && fits at ty o && same_bool a (side_of Assignor at)) (same_bool b (side_of Acquirer at)) h in
+    let y = and_parts (same_stage at (name_of s ty o a b) && fits at ty o) (same_bool a (side_of Assignor at)) x.0 in
+    let z = and_parts (same_stage at (name_of s ty o a b)) (fits at ty o) y.0 in
+    subst (λ (t : Stage). (t ≡ name_of s ty o a b) × (fits t ty o ≡ true) × (a ≡ side_of Assignor t) × (b ≡ side_of Acquirer t)) same
+    (same_stage_sound at (name_of s ty o a b) z.0, z.1, same_bool_sound a (side_of Assignor at) y.1, same_bool_sound b (side_of Acquirer at) x.1)
+
+stage-snoc : (xs : List Symbol) (s : Symbol) → stage_after (xs ++ s ∷ []) ≡ stage_by (Some s) (xs ++ s ∷ [])
+stage-snoc xs s = ap (λ (l : Option Symbol). stage_by l (xs ++ s ∷ [])) (last_or-snoc None xs s)
+
+-- one more symbol by the table
+seen_next : (xs : List Symbol) (stage : Stage) (s : Symbol) (to : Stage) → is_stage stage ≡ true → next_stage stage s ≡ Some to → Seen xs stage → Seen (xs ++ s ∷ []) to
+seen_next xs stage s to real e seen =
+    let ys : List Symbol = xs ++ s ∷ [] in
+    let ty : group_of (latest is_grh ys) ≡ type_next s (group_of (latest is_grh xs)) = ap group_of (latest-snoc is_grh xs s) ∙ type_more s (latest is_grh xs) in
+    let o : other_writer (latest is_writer ys) ≡ writer_next s (other_writer (latest is_writer xs)) = ap other_writer (latest-snoc is_writer xs s) ∙ writer_more s (latest is_writer xs) in
+    let a : side Assignor ys ≡ side_next Assignor s (side_of Assignor stage) = side-snoc Assignor xs s ∙ ap (side_next Assignor s) seen.assignor in
+    let b : side Acquirer ys ≡ side_next Acquirer s (side_of Acquirer stage) = side-snoc Acquirer xs s ∙ ap (side_next Acquirer s) seen.acquirer in
+    let says = agrees_says (next_stage stage s) to s _ _ _ _ e (agreed stage (group_of (latest is_grh xs)) (other_writer (latest is_writer xs)) s real seen.fit) in
+    let named_so : stage_after ys ≡ name_of s (group_of (latest is_grh ys)) (other_writer (latest is_writer ys)) (side Assignor ys) (side Acquirer ys) = stage-snoc xs s ∙ named s ys in
+    record {
+      name = says.0 ∙ sym (named_so ∙ same_name s _ _ _ _ _ _ _ _ ty o a b);
+      fit = fits_too to _ _ _ _ ty o says.1;
+      assignor = a ∙ says.2;
+      acquirer = b ∙ says.3;
+    }
+  where
+    same_name : (s : Symbol) (ty ty' : TransactionType) (o o' a a' b b' : Bool) → ty ≡ ty' → o ≡ o' → a ≡ a' → b ≡ b' → name_of s ty o a b ≡ name_of s ty' o' a' b'
+    same_name s ty ty' o o' a a' b b' p q r t = cc (p, q, r, t)
+
+    fits_too : (to : Stage) (ty ty' : TransactionType) (o o' : Bool) → ty ≡ ty' → o ≡ o' → fits to ty' o' ≡ true → fits to ty o ≡ true
+    fits_too to ty ty' o o' p q h = rw (p, q) h
+
+-- and so on to the end
+seen_run : (front xs : List Symbol) (stage to : Stage) → is_stage stage ≡ true → run stage xs ≡ Some to → Seen front stage → Seen (front ++ xs) to
+unfolding run
+seen_run front [] stage to real e seen =
+    let same : stage ≡ to = cc e in subst (λ (t : Stage). Seen (front ++ []) t) same (subst (λ (ys : List Symbol). Seen ys stage) (sym (append-nil front)) seen)
+seen_run front (s ∷ xs) stage to real e seen =
+    let first = run_first stage s xs to e in
+    let more = seen_next front stage s first.0 real first.1 seen in
+    subst (λ (ys : List Symbol). Seen ys to) (append_assoc front (s ∷ []) xs) (seen_run (front ++ s ∷ []) xs first.0 to (next_is_stage stage s first.0 real first.1) first.2 more)
+
+-- the stage to which the table comes is the one that the symbols name
+pub run_names : (xs : List Symbol) (to : Stage) → run stages.Start xs ≡ Some to → to ≡ stage_after xs
+run_names xs to e = (seen_run [] xs stages.Start to refl e (record { name = refl; fit = refl; assignor = refl; acquirer = refl })).name

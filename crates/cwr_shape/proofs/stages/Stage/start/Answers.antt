@@ -1,0 +1,5 @@
+use Rattle.cwr_shape.proofs.StageStands.{stands_start}
+use Rattle.cwr_shape.proofs.stages.Stage.start.Goals as goal
+
+pub returns : goal.returns
+returns c = stands_start

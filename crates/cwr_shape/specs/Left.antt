@@ -1,0 +1,97 @@
+-- Where symbols stand, and what is left of a transmission at each stage: the pattern of what may still come.
+use Rattle.std.specs.Prelude.{◌≡◌, ◌↔◌, Bool, true, false, IsTrue, List, [], ◌∷◌, ◌++◌}
+use Rattle.cwr_fields.specs.declared.codes.Role.TheVariants.{Assignor, Acquirer}
+use Rattle.cwr_fields.specs.declared.codes.TransactionType.{TransactionType}
+use Rattle.cwr_fields.specs.declared.codes.TransactionType.TheVariants.{Agreement, NewWork, RevisedWork, Acknowledgement}
+use Rattle.cwr_layouts.specs.declared.kinds.Kind.TheVariants as kinds
+use Rattle.cwr_shape.specs.declared.symbols.Symbol.{Symbol}
+use Rattle.cwr_shape.specs.declared.symbols.Symbol.TheVariants.{Grh}
+use Rattle.cwr_shape.specs.declared.stages.Stage.{Stage}
+use Rattle.cwr_shape.specs.declared.stages.Stage.TheVariants as stages
+use Rattle.cwr_shape.specs.declared.stages.Step.{Step}
+use Rattle.cwr_shape.specs.declared.stages.Step.TheVariants as steps
+use Rattle.cwr_shape.specs.Shapes.{Pattern, one_of, ◌then◌, ◌or◌, ◌and◌, many, Matches, a, some, party, among_parties, block, publisher, writer, tail_record, pattern_of}
+use Rattle.cwr_shape.specs.Outlines.{GroupOutline, IsWhole, GoesOn}
+use Rattle.cwr_shape.specs.Stages.{stage_after}
+
+-- a group of the type
+abbrev pub group_pattern : TransactionType → Pattern
+group_pattern ty = one_of (Grh ty ∷ []) then (some (pattern_of ty) then a kinds.Grt)
+
+-- a group
+abbrev pub any_group : Pattern
+any_group = group_pattern Agreement or group_pattern NewWork or group_pattern RevisedWork or group_pattern Acknowledgement
+
+-- after a group
+abbrev pub closing : Pattern
+closing = many any_group then a kinds.Trl
+
+-- after a transaction of a group
+abbrev pub rest_of : TransactionType → Pattern
+rest_of ty = many (pattern_of ty) then (a kinds.Grt then closing)
+
+-- what is left of a transaction
+abbrev pub left_of : Step → Pattern
+left_of steps.InGroup = one_of []
+left_of steps.Acked = many (a kinds.Msg)
+left_of steps.Agreed = some block
+left_of steps.Territories = many (a kinds.Ter) then ((among_parties Assignor and among_parties Acquirer) then many block)
+left_of (steps.OneSide Assignor) = ((among_parties Assignor or many party) and among_parties Acquirer) then many block
+left_of (steps.OneSide Acquirer) = (among_parties Assignor and (among_parties Acquirer or many party)) then many block
+left_of steps.Both = ((among_parties Assignor or many party) and (among_parties Acquirer or many party)) then many block
+left_of steps.Work = many publisher then (some writer then many tail_record)
+left_of steps.Controlled = many (a kinds.Spt) then (many publisher then (some writer then many tail_record))
+left_of steps.Other = many publisher then (some writer then many tail_record)
+left_of steps.Writer = many (a kinds.Swt or a kinds.Pwr) then (many writer then many tail_record)
+left_of steps.OtherWriter = many (a kinds.Pwr) then (many writer then many tail_record)
+left_of steps.Tail = many tail_record
+
+-- what is left of a transmission
+abbrev pub left : Stage → Pattern
+left stages.Start = a kinds.Hdr then (some any_group then a kinds.Trl)
+left stages.Opened = some any_group then a kinds.Trl
+left (stages.Within ty steps.InGroup) = pattern_of ty then rest_of ty
+left (stages.Within ty step) = left_of step then rest_of ty
+left stages.Closed = closing
+left stages.Ended = many (one_of [])
+
+-- the step is one of a transaction of the type
+abbrev pub is_step_of : TransactionType → Step → Bool
+is_step_of ty steps.InGroup = true
+is_step_of Acknowledgement steps.Acked = true
+is_step_of Agreement steps.Agreed = true
+is_step_of Agreement steps.Territories = true
+is_step_of Agreement (steps.OneSide role) = true
+is_step_of Agreement steps.Both = true
+is_step_of NewWork steps.Work = true
+is_step_of NewWork steps.Controlled = true
+is_step_of NewWork steps.Other = true
+is_step_of NewWork steps.Writer = true
+is_step_of NewWork steps.OtherWriter = true
+is_step_of NewWork steps.Tail = true
+is_step_of RevisedWork steps.Work = true
+is_step_of RevisedWork steps.Controlled = true
+is_step_of RevisedWork steps.Other = true
+is_step_of RevisedWork steps.Writer = true
+is_step_of RevisedWork steps.OtherWriter = true
+is_step_of RevisedWork steps.Tail = true
+is_step_of ty step = false
+
+-- the stage is one that some records come to
+abbrev pub is_stage : Stage → Bool
+is_stage (stages.Within ty step) = is_step_of ty step
+is_stage stage = true
+
+-- any transmission will do
+abbrev pub Any : List GroupOutline → Type 0
+Any groups = Unit {0}
+
+-- the symbols begin a transmission, and this is the stage after them
+pub record StandsAt (xs : List Symbol) (stage : Stage) : Type 0 where
+  pub begins : GoesOn Any xs
+  pub named : stage ≡ stage_after xs
+
+-- what makes the symbols a whole transmission is what is left at the stage
+pub record LeavesAt (xs : List Symbol) (stage : Stage) : Type 0 where
+  pub real : IsTrue (is_stage stage)
+  pub leaves : (rest : List Symbol) → IsWhole (xs ++ rest) ↔ Matches (left stage) rest
