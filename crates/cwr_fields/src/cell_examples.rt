@@ -32,6 +32,9 @@ fn numbers(rt: HostRuntime) {
         assert_eq!(rt; u64::from(seven), 7);
     }
     assert_eq!(rt; &cell, b"00007");
+    assert_eq!(rt; Number::<5>::try_from(99999).map(Number::value), Ok(99999));
+    assert_eq!(rt; Number::<5>::try_from(100000), Err(OutOfRange));
+    assert_eq!(rt; Number::<11>::try_from(0), Err(OutOfRange));
     assert!(rt; is_kept::<Number<10>>(b"9999999999"));
     assert!(rt; is_kept::<Number<1>>(b"0"));
     assert!(rt; Number::<5>::read(b"1234").is_none());

@@ -34,6 +34,20 @@ impl<const W: usize> From<Number<W>> for u64 {
     }
 }
 
+impl<const W: usize> TryFrom<u64> for Number<W> {
+    type Error = OutOfRange;
+
+    ghost try_from_gives = { λ n r. (IsOk r ↔ ((0 < W) × (W ≤ 10) × (n < 10 ^ W))) × IfOk r (λ x. x.value ≡ n) };
+
+    /// A number that `W` digits can't write is out of range, and so is each where `W` isn't from 1 to 10.
+    fn try_from(number: u64) -> Result<Number<W>, OutOfRange> {
+        if W == 0 || W > 10 {
+            return Err(OutOfRange);
+        }
+        Number::new(number).ok_or(OutOfRange)
+    }
+}
+
 impl<const W: usize> Display for Number<W> {
     ghost use Rattle.std.specs.Fmt.{decimal};
 
@@ -114,6 +128,25 @@ impl From<TimeOfDay> for Time {
             clock.second() as i8,
             0,
         )
+    }
+}
+
+impl TryFrom<Time> for TimeOfDay {
+    type Error = OutOfRange;
+
+    ghost try_from_gives = { λ c r. (IsOk r ↔ (c.subsec_nanosecond ≡ 0)) × IfOk r (λ t. IsHms (pos t.hour) (pos t.minute) (pos t.second) (pos 0) c) };
+
+    /// A time between two seconds is out of range.
+    fn try_from(clock: Time) -> Result<TimeOfDay, OutOfRange> {
+        if clock.subsec_nanosecond() != 0 {
+            return Err(OutOfRange);
+        }
+        TimeOfDay::new(
+            clock.hour() as u8,
+            clock.minute() as u8,
+            clock.second() as u8,
+        )
+        .ok_or(OutOfRange)
     }
 }
 
