@@ -105,7 +105,7 @@ is_dead (many p) = false
 pub nothing_matches : (xs : List Symbol) → Matches (one_of []) xs → ⊥
 nothing_matches xs m = omega (arith, m.1.1.0)
 
-nullable_sound : (p : Pattern) → nullable p ≡ true → Matches p []
+pub nullable_sound : (p : Pattern) → nullable p ≡ true → Matches p []
 unfolding nullable
 nullable_sound (one_of ss) h = absurd (true≢false (sym h))
 nullable_sound (p then q) h = let b = and_parts (nullable p) (nullable q) h in ([], [], refl, nullable_sound p b.0, nullable_sound q b.1)
@@ -157,7 +157,7 @@ both_empty (x ∷ f) r e = absurd (no x (f ++ r) e)
     no : (y : Symbol) (ys : List Symbol) → [] ≡ y ∷ ys → ⊥
     no y ys h = cc h
 
-nullable_complete : (p : Pattern) → Matches p [] → nullable p ≡ true
+pub nullable_complete : (p : Pattern) → Matches p [] → nullable p ≡ true
 unfolding nullable
 nullable_complete (one_of ss) m = absurd (no m.0 m.2)
   where

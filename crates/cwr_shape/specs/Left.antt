@@ -10,7 +10,7 @@ use Rattle.cwr_shape.specs.declared.stages.Stage.{Stage}
 use Rattle.cwr_shape.specs.declared.stages.Stage.TheVariants as stages
 use Rattle.cwr_shape.specs.declared.stages.Step.{Step}
 use Rattle.cwr_shape.specs.declared.stages.Step.TheVariants as steps
-use Rattle.cwr_shape.specs.Shapes.{Pattern, one_of, ◌then◌, ◌or◌, ◌and◌, many, Matches, a, some, party, among_parties, block, publisher, writer, tail_record, pattern_of}
+use Rattle.cwr_shape.specs.Shapes.{Pattern, one_of, ◌then◌, ◌or◌, ◌and◌, many, Matches, a, some, party, among_parties, block, publisher, writer, tail_record, pattern_of, IsShape}
 use Rattle.cwr_shape.specs.Outlines.{GroupOutline, IsWhole, GoesOn}
 use Rattle.cwr_shape.specs.Stages.{stage_after}
 
@@ -95,3 +95,17 @@ pub record StandsAt (xs : List Symbol) (stage : Stage) : Type 0 where
 pub record LeavesAt (xs : List Symbol) (stage : Stage) : Type 0 where
   pub real : IsTrue (is_stage stage)
   pub leaves : (rest : List Symbol) → IsWhole (xs ++ rest) ↔ Matches (left stage) rest
+
+-- a step inside a transaction
+abbrev pub is_inside : Step → Bool
+is_inside steps.InGroup = false
+is_inside step = true
+
+-- some transaction of the type begins with the symbols
+abbrev pub GoesOnIn : TransactionType → List Symbol → Type 0
+GoesOnIn ty xs = (rest : List Symbol) × IsShape ty (xs ++ rest)
+
+-- the symbols begin a transaction of the type, and stand at the step: what makes them a whole one is what is left there
+pub record StandsIn (ty : TransactionType) (xs : List Symbol) (step : Step) : Type 0 where
+  pub inside : IsTrue (is_inside step)
+  pub leaves : (rest : List Symbol) → IsShape ty (xs ++ rest) ↔ Matches (left_of step) rest

@@ -1,9 +1,11 @@
 //! How far the records of a transmission have come, and what must still follow.
 
-ghost use Rattle.std.specs.Prelude.{◌≡◌, ◌↔◌, List, [], ◌∷◌, ◌++◌, IsSome, IfSome};
+ghost use Rattle.std.specs.Prelude.{◌≡◌, ◌↔◌, List, [], ◌∷◌, ◌++◌, IsTrue, IsSome, IfSome};
 ghost use Rattle.cwr_shape.specs.declared.symbols.Symbol.{Symbol};
 ghost use Rattle.cwr_shape.specs.Outlines.{GoesOn};
-ghost use Rattle.cwr_shape.specs.Left.{Any, StandsAt};
+ghost use Rattle.cwr_shape.specs.Left.{Any, StandsAt, GoesOnIn, StandsIn};
+ghost use Rattle.cwr_shape.specs.Shapes.{IsShape};
+ghost use Rattle.cwr_fields.specs.declared.codes.TransactionType.{TransactionType};
 ghost use Rattle.cwr_shape.specs.Steps.{header_step, party_step, tail_step, party_of_work, behind_writer, step_on, may_end, next_stage};
 
 use crate::symbols::Symbol;
@@ -184,6 +186,32 @@ fn next(stage: Stage, symbol: Symbol) -> Option<Stage>
         (Stage::Closed, Symbol::Plain(Kind::Trl)) => Some(Stage::Ended),
         (Stage::Within(ty, step), _) => next_within(ty, step, symbol),
         _ => None,
+    }
+}
+
+impl Step {
+    /// The step after the first record of a transaction of the type. `None` where no transaction of the type begins so.
+    pub fn first(ty: TransactionType, symbol: Symbol) -> Option<Step>
+        ensures some { IsSome result ↔ GoesOnIn ty (symbol ∷ []) }
+        ensures value { IfSome result (StandsIn ty (symbol ∷ [])) }
+    {
+        header(ty, symbol)
+    }
+
+    /// The step after one more record of the transaction. `None` where no transaction goes on so: for all records that
+    /// stand at this step in a transaction of some type.
+    pub fn next(self, symbol: Symbol) -> Option<Step>
+        ensures some { (ty : TransactionType) (xs : List Symbol) → StandsIn ty xs self → IsSome result ↔ GoesOnIn ty (xs ++ symbol ∷ []) }
+        ensures value { (ty : TransactionType) (xs : List Symbol) → StandsIn ty xs self → IfSome result (StandsIn ty (xs ++ symbol ∷ [])) }
+    {
+        self.on(symbol)
+    }
+
+    /// Whether the records that stand at this step in a transaction of some type are a whole one.
+    pub fn is_whole(self) -> bool
+        ensures { (ty : TransactionType) (xs : List Symbol) → StandsIn ty xs self → IsTrue result ↔ IsShape ty xs }
+    {
+        self.may_end()
     }
 }
 
