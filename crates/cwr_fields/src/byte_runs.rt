@@ -81,7 +81,7 @@ pub(crate) fn write_three(cell: &mut [u8], first: usize, numbers: (u64, u64, u64
     write_digits(last, numbers.2);
 }
 
-/// Where the first control byte stands: one of 0 to 31, or 127.
+/// Where the first control byte stands, from 0: one of 0 to 31, or 127. `None` where there is none.
 pub fn first_control(text: &[u8]) -> Option<usize>
     ensures { result ≡ position is_control text.now }
 {

@@ -119,18 +119,22 @@ fn prints(rt: HostRuntime) -> Result<(), Fail> {
     let printed = format!(in alloc; "{}", Flag::Unknown)?;
     assert_eq!(rt; printed.as_str(), "U");
     if let (Some(seven), Some(third)) = (Number::<5>::new(7), Share::new(3305)) {
-        let printed = format!(in alloc; "{seven} {third} [{}]", Share::blank())?;
-        assert_eq!(rt; printed.as_str(), "7 33.05% []");
+        let printed = format!(in alloc; "{seven} {seven:03} {third} [{}]", Share::blank())?;
+        assert_eq!(rt; printed.as_str(), "7 007 33.05% []");
+    }
+    if let (Some(whole), Some(least)) = (Share::new(10000), Share::new(5)) {
+        let printed = format!(in alloc; "{whole} {least} [{:>3}]", Flag::Yes)?;
+        assert_eq!(rt; printed.as_str(), "100.00% 0.05% [  Y]");
     }
     if let (Some(day), Some(clock), Some(song)) = (
         CivilDate::new(987, 2, 3),
         TimeOfDay::new(4, 5, 6),
-        PlayingTime::new(0, 3, 25),
+        PlayingTime::new(12, 3, 25),
     ) {
         let printed = format!(in alloc; "{day} {clock} {song} {OutOfRange}")?;
         assert_eq!(rt;
             printed.as_str(),
-            "0987-02-03 04:05:06 00:03:25 out of the range of the cell"
+            "0987-02-03 04:05:06 12:03:25 out of the range of the cell"
         );
     }
     Ok(())

@@ -58,14 +58,17 @@ fn told(is_one: bool, fault: CellFault) -> Result<(), CellFault>
     if is_one { Ok(()) } else { Err(fault) }
 }
 
-/// The fault of a cell that must hold something: that it is blank, or another one.
-fn blank_or(other: CellFault, cell: &[u8]) -> CellFault
-    ensures { result ≡ (if is_spaces cell.now then CellFault.Blank else other) }
+/// `Ok` where the cell was found to be one of its type, and else that it is blank, or another fault.
+fn told_or_blank(is_one: bool, other: CellFault, cell: &[u8]) -> Result<(), CellFault>
+    ensures ok { OnOk result (IsTrue is_one) }
+    ensures err { IfErr result (λ f. IsFalse is_one × (f ≡ (if is_spaces cell.now then CellFault.Blank else other))) }
 {
-    if is_spaces(cell) {
-        CellFault::Blank
+    if is_one {
+        Ok(())
+    } else if is_spaces(cell) {
+        Err(CellFault::Blank)
     } else {
-        other
+        Err(other)
     }
 }
 
@@ -104,22 +107,16 @@ pub fn fits(ty: CellType, cell: &[u8]) -> Result<(), CellFault>
     match ty {
         CellType::Text => told(is_plain(cell), CellFault::Control),
         CellType::Required => required(cell),
-        CellType::Number => told(is_number(cell), blank_or(CellFault::NotDigits, cell)),
+        CellType::Number => told_or_blank(is_number(cell), CellFault::NotDigits, cell),
         CellType::OptNumber => told(is_opt_number(cell), CellFault::NotDigits),
-        CellType::Date => told(
-            is_cell::<CivilDate>(cell),
-            blank_or(CellFault::NotADate, cell),
-        ),
+        CellType::Date => told_or_blank(is_cell::<CivilDate>(cell), CellFault::NotADate, cell),
         CellType::OptDate => told(is_cell::<DateCell>(cell), CellFault::NotADate),
-        CellType::Time => told(
-            is_cell::<TimeOfDay>(cell),
-            blank_or(CellFault::NotATime, cell),
-        ),
+        CellType::Time => told_or_blank(is_cell::<TimeOfDay>(cell), CellFault::NotATime, cell),
         CellType::OptTime => told(is_opt_time(cell), CellFault::NotATime),
         CellType::OptDuration => told(is_cell::<DurationCell>(cell), CellFault::NotATime),
         CellType::Share => share(cell),
         CellType::Flag => told(is_cell::<Flag>(cell), CellFault::NotACode),
-        CellType::Code(table) => told(is_code(table, cell), blank_or(CellFault::NotACode, cell)),
+        CellType::Code(table) => told_or_blank(is_code(table, cell), CellFault::NotACode, cell),
         CellType::OptCode(table) => told(is_opt_code(table, cell), CellFault::NotACode),
         CellType::Constant(word) => told(cell == word.text(), CellFault::NotConstant),
     }

@@ -53,9 +53,9 @@ impl<const W: usize> Display for Number<W> {
 
     ghost output = { λ n. Some (decimal n.value) };
 
-    /// Without leading zeros, as Rust prints a number.
+    /// As Rust prints a number: without leading zeros, and by the format's own width.
     fn fmt<O: Write>(&self, f: &mut Formatter<O>) -> fmt::Result {
-        write!(f, "{}", self.value())
+        self.value().fmt(f)
     }
 }
 
@@ -195,7 +195,7 @@ impl Display for Flag {
 
     /// The flag's letter, or a space.
     fn fmt<O: Write>(&self, f: &mut Formatter<O>) -> fmt::Result {
-        f.write_str(match self {
+        f.pad(match self {
             Flag::Yes => "Y",
             Flag::No => "N",
             Flag::Unknown => "U",

@@ -18,7 +18,7 @@ pub struct PlayingTime {
 }
 
 impl PlayingTime {
-    /// The duration. `None` for more than 99 hours, 59 minutes or 59 seconds.
+    /// The duration. `None` for more than 99 hours, and for more than 59 minutes or seconds beyond them.
     pub fn new(hours: u8, minutes: u8, seconds: u8) -> Option<PlayingTime>
         ensures some { IsSome result ↔ ((hours < 100) × (minutes < 60) × (seconds < 60)) }
         ensures value { IfSome result (λ t. (t.hours ≡ hours) × (t.minutes ≡ minutes) × (t.seconds ≡ seconds)) }

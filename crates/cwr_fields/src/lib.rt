@@ -1,4 +1,5 @@
-//! The cells of CWR 2.1 records: what the cell of a field may hold, and the tables of codes.
+//! The cells of CWR 2.1 records: what the cell of a field may hold, the tables of codes, and cells as typed values.
+//! Beside them the check digit of work codes, and the readers and writers that count their failures.
 #![tactic(auto)]
 
 mod agreement_codes;
@@ -13,6 +14,7 @@ mod counted;
 mod dates;
 mod devices;
 mod durations;
+mod faults;
 mod flags;
 mod iswc;
 mod message_codes;

@@ -28,7 +28,7 @@ pub trait Cell: Copy {
         ensures some { IsSome result ↔ ((length cell.now ≡ WIDTH) × Holds TYPE cell.now) }
         ensures value { IfSome result (λ x. text x ≡ cell.now) };
 
-    /// Writes a cell.
+    /// Writes a cell of `WIDTH` bytes.
     fn write(&self, cell: &mut [u8])
         requires { length cell.old ≡ WIDTH }
         ensures { cell.new ≡ text self.now };

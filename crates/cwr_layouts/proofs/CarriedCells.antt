@@ -8,6 +8,8 @@ use Rattle.cwr_layouts.specs.Layouts.{FieldLayout, layout, placed, field_placed,
 use Rattle.cwr_layouts.specs.Lines.{pieces}
 use Rattle.cwr_layouts.specs.Records.{RecordValue, IsCellOf, IsRecord, carried_fields}
 use Rattle.cwr_layouts.specs.Carried.{carried_at, carried_placed, carried_before, carried_cells, record_cell, record_in}
+use Rattle.std.proofs.lemmas.List.{length-map}
+use Rattle.cwr_layouts.proofs.HeldLaws.{length-pieces}
 use Rattle.cwr_layouts.proofs.Judged.{carried_in}
 use Rattle.cwr_layouts.proofs.CellParts.{part, piece_is_part, field_within}
 use Rattle.cwr_layouts.proofs.Placed.{field_at-placed}
@@ -54,6 +56,28 @@ carried_in-set (g ∷ fields) (c ∷ cells) zero f t e d =
 carried_in-set (g ∷ fields) (c ∷ cells) (suc i) f t e d =
     set_behind_first g.derived g (take i fields) c t (filter (λ p. not p.0.derived) (zip fields cells)) (filter (λ p. not p.0.derived) (zip fields (slice_set cells i t)))
     (carried_in-set fields cells i f t e d)
+
+count_by : (b : Bool) (f : FieldLayout) (fields : List FieldLayout) (c : List ℕ) (rest : List (FieldLayout × List ℕ)) → length (map (λ p. p.1) rest) ≡ length fields
+    → length (map (λ p. p.1) (cond (not b) ((f, c) ∷ rest) rest)) ≡ length (cond (not b) (f ∷ fields) fields)
+count_by true f fields c rest h = h
+count_by false f fields c rest h = ap suc h
+
+-- as many carried cells as carried fields
+carried_length : (fields : List FieldLayout) (cells : List (List ℕ)) → length cells ≡ length fields → length (carried_in fields cells) ≡ carried_count fields
+carried_length [] [] h = refl
+carried_length [] (c ∷ cells) h = refl
+carried_length (f ∷ fields) [] h = absurd (omega (arith, h))
+carried_length (f ∷ fields) (c ∷ cells) h =
+    count_by f.derived f (filter (λ g. not g.derived) fields) c (filter (λ p. not p.0.derived) (zip fields cells)) (carried_length fields cells (omega (arith, h)))
+
+pub cells_whole : (kind : Kind) (line : List ℕ) → length (carried_cells kind line) ≡ length (carried_fields kind)
+unfolding carried_cells
+cells_whole kind line =
+    carried_length (layout kind) (pieces (map (λ f. f.width) (layout kind)) line) (length-pieces (map (λ f. f.width) (layout kind)) line ∙ length-map (layout kind) (λ f. f.width))
+
+-- so a record that is seen in a line has a cell for each of its carried fields
+pub whole_of : (kind : Kind) (line : List ℕ) (r : RecordValue) → record_in kind line ≡ r → length r.cells ≡ length (carried_fields r.kind)
+whole_of kind line r e = subst (λ (v : RecordValue). length v.cells ≡ length (carried_fields v.kind)) e (cells_whole kind line)
 
 -- ---- the cells of a line
 

@@ -85,7 +85,7 @@ length-held_cell h kind j f cell e g there = by_place (field_placed kind j) refl
         let field : p.1 ≡ f = cc same in
         length-placed_cell h kind j p cell e at there ∙ ap (λ (q : FieldLayout). q.width) field
 
-length-pieces : (widths : List ℕ) (text : List ℕ) → length (pieces widths text) ≡ length widths
+pub length-pieces : (widths : List ℕ) (text : List ℕ) → length (pieces widths text) ≡ length widths
 length-pieces [] text = refl
 length-pieces (w ∷ widths) text = ap suc (length-pieces widths (drop w text))
 

@@ -6,7 +6,7 @@ ghost use Rattle.std.specs.Option.{ForSome};
 ghost use Rattle.cwr_fields.specs.Bytes.{filled};
 ghost use Rattle.cwr_fields.specs.Cells.{type_width};
 ghost use Rattle.cwr_layouts.specs.Layouts.{line_width};
-ghost use Rattle.cwr_layouts.specs.Records.{IsRecord, blank_cell, blank_record};
+ghost use Rattle.cwr_layouts.specs.Records.{IsRecord, blank_cell, blank_record, carried_fields};
 ghost use Rattle.cwr_layouts.specs.Carried.{Sets, IsSetFault, FitsAt, HasFaultAt, IsFirstUnfit, record_in};
 
 use crate::kinds::Kind;
@@ -16,7 +16,8 @@ use crate::lookups::{carried, field, fields};
 use crate::records::{LineText, Record, WIDEST_LINE, kept, show_cells};
 use arrayvec::ArrayVec;
 use cwr_fields::{CellFault, CellType, fits};
-use std::fmt::{self, Debug};
+use std::error::Error;
+use std::fmt::{self, Debug, Display};
 use std::marker::Model;
 
 /// Why a text wasn't set in a draft: the first of these that holds.
@@ -28,7 +29,7 @@ pub enum SetFault {
     Derived,
     /// The text is wider than the field.
     TooWide,
-    /// The text, filled up with spaces to the field's width, isn't one of the field's type.
+    /// The text, filled up with spaces to the field's width, doesn't fit the field's type.
     Cell(CellFault),
 }
 
@@ -142,6 +143,7 @@ impl Draft {
         ensures ok { OnOk result (Sets j text.now self.old self.new) }
         ensures err { OnErr result (self.new ≡ self.old) }
         ensures fault { IfErr result (IsSetFault self.old.kind j text.now) }
+        ensures whole { length self.new.cells ≡ length (carried_fields self.new.kind) }
     {
         let Some(place) = field(self.kind, j) else {
             return Err(SetFault::NoSuchField);
@@ -160,7 +162,7 @@ impl Draft {
         Ok(())
     }
 
-    /// The record of the draft's cells. Where one of them isn't one of its field, the first such is told.
+    /// The record of the draft's cells. Where one of them doesn't fit its field's type, the first such is told.
     pub fn done(&self) -> Result<Record, DraftFault>
         ensures variant { IsOk result ↔ IsRecord self.now }
         ensures ok { IfOk result (λ made. made ≡ self.now) }
@@ -170,6 +172,27 @@ impl Draft {
         Ok(Record::of_line(self.kind, kept(self.text.as_slice())))
     }
 }
+
+impl Display for SetFault {
+    fn fmt<W: fmt::Write>(&self, f: &mut fmt::Formatter<W>) -> fmt::Result {
+        match self {
+            SetFault::NoSuchField => f.pad("no such field"),
+            SetFault::Derived => f.pad("a derived field"),
+            SetFault::TooWide => f.pad("wider than the field"),
+            SetFault::Cell(fault) => Display::fmt(fault, f),
+        }
+    }
+}
+
+impl Error for SetFault {}
+
+impl Display for DraftFault {
+    fn fmt<W: fmt::Write>(&self, f: &mut fmt::Formatter<W>) -> fmt::Result {
+        write!(f, "field {}: {}", self.field, self.fault)
+    }
+}
+
+impl Error for DraftFault {}
 
 impl Debug for Draft {
     fn fmt<W: fmt::Write>(&self, f: &mut fmt::Formatter<W>) -> fmt::Result {

@@ -7,8 +7,8 @@ ghost use Rattle.cwr_fields.specs.Codes.{word_text};
 
 use crate::{Draft, DraftFault, Kind, Record, SetFault};
 use cwr_fields::{
-    Cell, CellFault, CellType, CivilDate, DateCell, Number, TransactionStatus, TransactionType,
-    Word,
+    Cell, CellFault, CellType, CivilDate, DateCell, Flag, Number, TimeOfDay, TransactionStatus,
+    TransactionType, Word,
 };
 use std::alloc::AllocError;
 use std::process::Abort;
@@ -131,6 +131,15 @@ fn shows_cells(rt: HostRuntime) -> Result<(), Fail> {
         assert_eq!(rt; view.cell(j), cell);
     }
     assert!(rt; view.read::<EdiVersion>(6).is_none());
+    assert_eq!(rt; view.read::<DateCell>(4), Some(DateCell::Blank));
+    assert_eq!(rt; view.read::<Number<5>>(6).map(u64::from), Some(1));
+    assert!(rt; view.read::<Number<8>>(6).is_none());
+    assert!(rt; view.read::<CivilDate>(4).is_none());
+    assert!(rt; view.read::<TimeOfDay>(5).is_none());
+    assert!(rt; view.read::<Flag>(13).is_none());
+    let accepted = Some(TransactionStatus::RegistrationAccepted);
+    assert_eq!(rt; view.read::<TransactionStatus>(13), accepted);
+    assert!(rt; view.read::<TransactionType>(13).is_none());
     let copy = view.to_record();
     assert_eq!(rt; copy.view().kind(), Kind::Ack);
     assert_eq!(rt; copy.view().cell(8), Some(&b"NWR"[..]));
@@ -166,6 +175,22 @@ fn constants_stand(rt: HostRuntime) -> Result<(), Fail> {
     assert!(rt; view.read::<EdiVersion>(4).is_none());
     assert!(rt; view.read::<EdiVersion>(1).is_none());
     assert!(rt; view.read::<EdiVersion>(10).is_none());
+    Ok(())
+}
+
+#[test]
+fn faults_are_printed(rt: HostRuntime) -> Result<(), Fail> {
+    let mut draft = Draft::blank(Kind::Ack);
+    let (no_field, control) = (draft.set(14, b""), draft.set(9, b"\t"));
+    if let (Err(no_field), Err(control), Err(fault)) = (no_field, control, draft.done()) {
+        let text = format!(in rt.alloc(); "{no_field}, {control}, {fault}")?;
+        assert_eq!(rt;
+            text.as_str(),
+            "no such field, control byte, field 6: blank cell"
+        );
+    } else {
+        assert!(rt; false);
+    }
     Ok(())
 }
 

@@ -3,6 +3,7 @@ use Rattle.std.specs.Prelude.{IsTrue}
 use Rattle.cwr_fields.specs.Bytes.{filled}
 use Rattle.cwr_fields.specs.Cells.{HasFault}
 use Rattle.cwr_layouts.specs.Views.{field_view}
+use Rattle.cwr_layouts.proofs.CarriedCells.{cells_whole, whole_of}
 use Rattle.cwr_layouts.proofs.SetCells.{no_field, of_field, of_carried, field_most, filled_wide, part_within, is_set}
 use Rattle.cwr_layouts.proofs.drafts.Draft.set.Goals as goal
 
@@ -40,3 +41,18 @@ returns-clause-ok c =
     let same : c.as_slice.result.now ≡ c.as_slice-2.result.now = c.as_slice.ensures.value ∙ sym c.as_slice-2.ensures.value in
     is_set c.self.inside.kind c.self.inside.text.items c.args.j (field_view c.in-Some.place) c.args.self.now c.args.text.now c.as_slice-2.result.now c.as_mut_slice.result.now c.put.new.line c.self.view_is c.self.invariant
     c.in-Some.ensures c.if-place.false c.if-text-place.false (c.as_slice-2.ensures.value ∙ c.filled_cell-cell.ensures) c.as_mut_slice.ensures.value c.put.ensures (rw same at c.in_default-fits.ensures.ok)
+
+pub returns-in_default-clause-whole : goal.returns-in_default-clause-whole
+returns-in_default-clause-whole c = whole_of c.self.inside.kind c.self.inside.text.items c.args.self.now c.self.view_is
+
+pub returns-then-place-clause-whole : goal.returns-then-place-clause-whole
+returns-then-place-clause-whole c = whole_of c.self.inside.kind c.self.inside.text.items c.args.self.now c.self.view_is
+
+pub returns-then-text-place-clause-whole : goal.returns-then-text-place-clause-whole
+returns-then-text-place-clause-whole c = whole_of c.self.inside.kind c.self.inside.text.items c.args.self.now c.self.view_is
+
+pub returns-in-Err-clause-whole : goal.returns-in-Err-clause-whole
+returns-in-Err-clause-whole c = whole_of c.self.inside.kind c.self.inside.text.items c.args.self.now c.self.view_is
+
+pub returns-clause-whole : goal.returns-clause-whole
+returns-clause-whole c = cells_whole c.self.inside.kind _
