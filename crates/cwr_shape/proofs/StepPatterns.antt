@@ -260,3 +260,7 @@ ends_exact ty xs step b e st = (
   λ h. subst (IsShape ty) (append-nil xs) ((st.leaves []).1 (nullable_sound (left_of step) (ends_led step st.inside ∙ sym e ∙ h))),
   λ shape. e ∙ sym (ends_led step st.inside) ∙ nullable_complete (left_of step) ((st.leaves []).0 (subst (IsShape ty) (sym (append-nil xs)) shape)),
 )
+
+-- symbols that stand in a transaction of the type begin one
+pub stands_goes : (ty : TransactionType) (xs : List Symbol) (step : Step) → StandsIn ty xs step → GoesOnIn ty xs
+stands_goes ty xs step st = let rest = left_in step st.inside in (rest.0, (st.leaves rest.0).1 rest.1)

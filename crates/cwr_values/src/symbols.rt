@@ -1,0 +1,23 @@
+//! Records as their order sees them.
+
+ghost use Rattle.std.specs.Prelude.{◌≡◌};
+ghost use Rattle.cwr_values.specs.Values.{symbol_of};
+
+use cwr_fields::{Role, TransactionType};
+use cwr_layouts::{Kind, RecordRef};
+use cwr_shape::Symbol;
+
+/// What the order of records sees of a record: its kind, and of IPA and GRH the role or the type too.
+pub fn symbol_of(borrowed: &RecordRef<'_>) -> Symbol
+    ensures { result ≡ symbol_of borrowed.now }
+{
+    match borrowed.kind() {
+        Kind::Ipa => Symbol::Ipa(borrowed.read::<Role>(4).unwrap_or(Role::Assignor)),
+        Kind::Grh => Symbol::Grh(
+            borrowed
+                .read::<TransactionType>(2)
+                .unwrap_or(TransactionType::Acknowledgement),
+        ),
+        kind => Symbol::Plain(kind),
+    }
+}

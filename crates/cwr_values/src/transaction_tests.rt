@@ -1,0 +1,78 @@
+//! Tests of transactions, on the worked orders of records.
+
+use crate::{PushFault, Transaction};
+use cwr_layouts::{Draft, Kind, Record};
+use std::test::Fail;
+
+/// The record of the kind in which these cells are set.
+fn made(kind: Kind, cells: &[(u8, &[u8])]) -> Result<Record, Fail> {
+    let mut draft = Draft::blank(kind);
+    for (j, text) in cells {
+        draft.set(*j, text)?;
+    }
+    Ok(draft.done()?)
+}
+
+fn work() -> Result<Record, Fail> {
+    made(
+        Kind::Nwr,
+        &[(4, b"BLUE RIVER"), (6, b"W000001"), (15, b"ORI")],
+    )
+}
+
+fn writer() -> Result<Record, Fail> {
+    made(Kind::Swr, &[(4, b"000000001"), (5, b"SMITH")])
+}
+
+fn publisher() -> Result<Record, Fail> {
+    made(
+        Kind::Spu,
+        &[(4, b"01"), (5, b"000000002"), (6, b"MUSIC HOUSE")],
+    )
+}
+
+fn party(role: &[u8]) -> Result<Record, Fail> {
+    made(Kind::Ipa, &[(4, role), (8, b"SMITH")])
+}
+
+#[test]
+fn works(rt: HostRuntime) -> Result<(), Fail> {
+    let refused = Transaction::new(rt.alloc(), writer()?.view());
+    assert_eq!(rt; refused.err(), Some(PushFault::Misplaced));
+    let mut transaction = Transaction::new(rt.alloc(), work()?.view())?;
+    assert!(rt; !transaction.complete());
+    assert_eq!(rt; transaction.push(writer()?.view()), Ok(()));
+    assert!(rt; transaction.complete());
+    assert_eq!(rt;
+        transaction.push(publisher()?.view()),
+        Err(PushFault::Misplaced)
+    );
+    assert_eq!(rt; transaction.len(), 2);
+    assert_eq!(rt; transaction.kind(), Kind::Nwr);
+    let title = transaction
+        .record(0)
+        .ok_or("no record")?
+        .cell(4)
+        .map(<[u8]>::len);
+    assert_eq!(rt; title, Some(60));
+    assert!(rt; transaction.record(2).is_none());
+    Ok(())
+}
+
+#[test]
+fn agreements(rt: HostRuntime) -> Result<(), Fail> {
+    let header = made(
+        Kind::Agr,
+        &[(4, b"A0000000000001"), (6, b"OS"), (15, b"00001")],
+    )?;
+    let mut transaction = Transaction::new(rt.alloc(), header.view())?;
+    let territory = made(Kind::Ter, &[(4, b"I"), (5, b"2136")])?;
+    assert_eq!(rt; transaction.push(territory.view()), Ok(()));
+    assert_eq!(rt; transaction.push(party(b"AS")?.view()), Ok(()));
+    assert_eq!(rt; transaction.push(party(b"AS")?.view()), Ok(()));
+    assert!(rt; !transaction.complete());
+    assert_eq!(rt; transaction.push(party(b"AC")?.view()), Ok(()));
+    assert!(rt; transaction.complete());
+    assert_eq!(rt; transaction.len(), 5);
+    Ok(())
+}

@@ -1,0 +1,147 @@
+//! Transactions as values.
+
+ghost use Rattle.std.specs.Prelude.{◌≡◌, ◌↔◌, List, [], ◌∷◌, ◌++◌, length, option_map, slice_get, IsTrue, IsSome, IfSome, IfOk, OnOk, OnErr, Some, Err};
+ghost use Rattle.cwr_shape.specs.Shapes.{BeginsShape};
+ghost use Rattle.cwr_shape.specs.Left.{StandsIn};
+ghost use Rattle.cwr_values.specs.Values.{symbol_of};
+ghost use Rattle.cwr_values.specs.Begun.{IsBegun, IsWholeTransaction, BeginsWithOneMore};
+
+use crate::symbols::symbol_of;
+use cwr_fields::TransactionType;
+use cwr_layouts::{Kind, Record, RecordRef};
+use cwr_shape::{Step, Symbol};
+use std::alloc::Global;
+use std::error::Error;
+use std::fmt::{self, Display, Formatter, Write};
+use std::marker::Model;
+
+/// Why a record wasn't added to a transaction: the first of these that holds.
+#[derive(Clone, Copy, Debug, PartialEq, Eq)]
+pub enum PushFault {
+    /// No transaction goes on so.
+    Misplaced,
+    /// Memory for the record was refused.
+    Memory,
+}
+
+impl Display for PushFault {
+    fn fmt<O: Write>(&self, f: &mut Formatter<O>) -> fmt::Result {
+        f.pad(match self {
+            PushFault::Misplaced => "misplaced record",
+            PushFault::Memory => "out of memory",
+        })
+    }
+}
+
+impl Error for PushFault {}
+
+/// The type and the step of a transaction that begins with a record. `None` where none does.
+fn begin(symbol: Symbol) -> Option<(TransactionType, Step)>
+    ensures some { IsSome result ↔ BeginsShape (symbol ∷ []) }
+    ensures value { IfSome result (λ p. StandsIn p.0 (symbol ∷ []) p.1) }
+{
+    if let Some(step) = Step::first(TransactionType::Agreement, symbol) {
+        return Some((TransactionType::Agreement, step));
+    }
+    if let Some(step) = Step::first(TransactionType::NewWork, symbol) {
+        return Some((TransactionType::NewWork, step));
+    }
+    if let Some(step) = Step::first(TransactionType::RevisedWork, symbol) {
+        return Some((TransactionType::RevisedWork, step));
+    }
+    match Step::first(TransactionType::Acknowledgement, symbol) {
+        Some(step) => Some((TransactionType::Acknowledgement, step)),
+        None => None,
+    }
+}
+
+/// A transaction, or the records with which one begins: its header and the records behind it, in an order of this
+/// profile.
+#[derive(Drop)]
+pub struct Transaction {
+    ty: TransactionType,
+    /// The step after its records.
+    step: Step,
+    records: Vec<Record>,
+}
+
+impl Model for Transaction {
+    ghost use Rattle.std.specs.Prelude.{List};
+    ghost use Rattle.cwr_layouts.specs.Records.{RecordValue};
+    ghost use Rattle.cwr_values.specs.Begun.{KeepsTransaction};
+
+    ghost Value = { List RecordValue };
+
+    ghost view = { λ t. t.records.items };
+
+    ghost invariant = { λ t. KeepsTransaction t.ty t.step t.records.items };
+}
+
+impl Transaction {
+    /// The transaction that begins with the record. It is refused as misplaced exactly where none does.
+    pub fn new(alloc: Global, head: RecordRef<'_>) -> Result<Transaction, PushFault>
+        ensures ok { IfOk result (λ t. t ≡ head.entry ∷ []) }
+        ensures misplaced { (result ≡ Err PushFault.Misplaced) ↔ ¬ BeginsShape (symbol_of head.entry ∷ []) }
+    {
+        let Some((ty, step)) = begin(symbol_of(&head)) else {
+            return Err(PushFault::Misplaced);
+        };
+        let mut records = Vec::new(alloc);
+        match records.push(head.to_record()) {
+            Ok(()) => Ok(Transaction { ty, step, records }),
+            Err(_) => Err(PushFault::Memory),
+        }
+    }
+
+    /// How many records it has, its header counted.
+    pub fn len(&self) -> usize
+        ensures len { result ≡ length self.now }
+        ensures begun { IsBegun self.now }
+    {
+        self.records.len()
+    }
+
+    /// Record `i`, from 0. `None` where it has no such record.
+    pub fn record(&self, i: usize) -> Option<RecordRef<'_>>
+        ensures value { result ≡ slice_get self.now i }
+        ensures begun { IsBegun self.now }
+    {
+        match self.records.get(i) {
+            Some(kept) => Some(kept.view()),
+            None => None,
+        }
+    }
+
+    /// Adds a record at the end. It is refused as misplaced exactly where no transaction goes on so, and a refused one
+    /// changes nothing.
+    pub fn push(&mut self, next: RecordRef<'_>) -> Result<(), PushFault>
+        ensures ok { OnOk result (self.new ≡ self.old ++ next.entry ∷ []) }
+        ensures err { OnErr result (self.new ≡ self.old) }
+        ensures misplaced { (result ≡ Err PushFault.Misplaced) ↔ ¬ BeginsWithOneMore self.old next.entry }
+    {
+        let Some(step) = self.step.next(symbol_of(&next)) else {
+            return Err(PushFault::Misplaced);
+        };
+        match self.records.push(next.to_record()) {
+            Ok(()) => {
+                self.step = step;
+                Ok(())
+            }
+            Err(_) => Err(PushFault::Memory),
+        }
+    }
+
+    /// The kind of its header.
+    pub fn kind(&self) -> Kind
+        ensures { Some result ≡ option_map (λ r. r.kind) (slice_get self.now 0) }
+    {
+        self.records.as_slice()[0].view().kind()
+    }
+
+    /// Whether its records are a whole transaction.
+    pub fn complete(&self) -> bool
+        ensures { IsTrue result ↔ IsWholeTransaction self.now }
+    {
+        self.step.is_whole()
+    }
+}
