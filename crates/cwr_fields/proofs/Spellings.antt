@@ -1,6 +1,6 @@
 -- What a cell spells, and the digits in its parts.
-use Rattle.std.proofs.Common.{◌≡◌, ℕ, zero, suc, ◌+◌, ◌-◌, ◌*◌, ◌/◌, ◌%◌, ◌^◌, ◌<◌, ◌≤◌, Bool, true, leb, List, [], ◌∷◌, ◌++◌, length, take, drop, refl, sym, ap, ◌∙◌, subst, pow-suc, append_assoc, append-nil, add-zero, zero-add, take_all, lit<, arith, pos}
-use Rattle.std.specs.Prelude.{◌↔◌, IsTrue}
+use Rattle.std.proofs.Common.{◌≡◌, ℕ, zero, suc, ◌+◌, ◌-◌, ◌*◌, ◌/◌, ◌%◌, ◌^◌, ◌<◌, ◌≤◌, true, leb, List, [], ◌∷◌, ◌++◌, length, take, drop, refl, sym, ap, ◌∙◌, subst, pow-suc, append_assoc, append-nil, add-zero, zero-add, take_all, lit<, arith, pos}
+use Rattle.std.specs.Prelude.{◌↔◌}
 use Rattle.std.specs.List.{fold}
 use Rattle.std.proofs.lemmas.List.{length-take-le, length-drop, take-append-drop, drop-drop}
 use Rattle.std.proofs.lemmas.List.Folds.{list_all-append}
@@ -162,14 +162,3 @@ share_spelled cell wide = (
   ),
   λ d. (number_of cell, d.1, sym (subst (λ (w : ℕ). digits w (number_of cell) ≡ cell) wide (digits-number_of cell d.0))),
 )
-
--- a test of one fact is a test of another that holds where it does
-pub tests_also : {P Q : Type 0} (b : Bool) → P ↔ Q → (IsTrue b → Q) → (Q → IsTrue b) → IsTrue b ↔ P
-tests_also b e f g = (λ h. e.1 (f h), λ p. g (e.0 p))
-
--- a test of the numbers in the parts of eight digits is a test of the day
-pub tests_day : (cell : List ℕ) (y m d : ℕ) (b : Bool) → length cell ≡ 8 → are_digits cell ≡ true → y ≡ year_part cell → m ≡ month_part cell → d ≡ day_part cell
-    → (IsTrue b ↔ ((0 < y) × IsDate (pos y) (pos m) (pos d))) → IsTrue b ↔ SpellsDay cell
-tests_day cell y m d b wide there p q r h =
-    let moved : IsTrue b ↔ ((0 < year_part cell) × IsDate (pos (year_part cell)) (pos (month_part cell)) (pos (day_part cell))) = rw (← p, ← q, ← r) h in
-    tests_also b (day_spelled cell wide) (λ t. let f = moved.0 t in (there, f.0, f.1)) (λ s. moved.1 (s.1, s.2))

@@ -44,6 +44,27 @@ fn worked_cells(rt: HostRuntime) {
     }
 }
 
+static FAULTS: [(CellFault, &str); 8] = [
+    (CellFault::Blank, "blank cell"),
+    (CellFault::Control, "control byte"),
+    (CellFault::NotDigits, "not digits"),
+    (CellFault::NotADate, "not a date"),
+    (CellFault::NotATime, "not a time"),
+    (CellFault::OverShare, "a share over 100%"),
+    (CellFault::NotACode, "not a code"),
+    (CellFault::NotConstant, "not the constant"),
+];
+
+#[test]
+fn faults_are_printed(rt: HostRuntime) -> Result<(), Fail> {
+    for (fault, text) in &FAULTS {
+        assert_eq!(rt; format!(in rt.alloc(); "{fault}")?.as_str(), *text);
+    }
+    let printed = format!(in rt.alloc(); "[{DeviceFault:>18}]")?;
+    assert_eq!(rt; printed.as_str(), "[ the device failed]");
+    Ok(())
+}
+
 #[test]
 fn texts(rt: HostRuntime) {
     assert_eq!(rt; trimmed(b"AB  "), b"AB".as_slice());

@@ -13,7 +13,7 @@ impl Display for CellFault {
             CellFault::NotDigits => "not digits",
             CellFault::NotADate => "not a date",
             CellFault::NotATime => "not a time",
-            CellFault::OverShare => "more than the whole share",
+            CellFault::OverShare => "a share over 100%",
             CellFault::NotACode => "not a code",
             CellFault::NotConstant => "not the constant",
         })
