@@ -15,7 +15,7 @@ use Rattle.cwr_fields.specs.Cells.{type_width}
 use Rattle.cwr_fields.specs.Codes.{word_text}
 use Rattle.cwr_layouts.specs.declared.kinds.Kind.{Kind}
 use Rattle.cwr_layouts.specs.declared.layouts.Field.{Field}
-use Rattle.cwr_layouts.specs.Layouts.{FieldLayout, layout, placed, total_width, line_width}
+use Rattle.cwr_layouts.specs.Layouts.{FieldLayout, layout, placed, total_width}
 use Rattle.cwr_layouts.specs.Lines.{pieces}
 use Rattle.cwr_layouts.specs.Records.{blank_cell, blank_record}
 use Rattle.cwr_layouts.specs.Carried.{carried_cells, record_in}
@@ -72,10 +72,6 @@ carried_first false f fields rest h = ap (λ (xs : List (List ℕ)). blank_of f 
 carried_in-blanks : (fields : List FieldLayout) → carried_in fields (map blank_of fields) ≡ map blank_of (filter (λ f. not f.derived) fields)
 carried_in-blanks [] = refl
 carried_in-blanks (f ∷ fields) = carried_first f.derived f fields (filter (λ p. not p.0.derived) (zip fields (map blank_of fields))) (carried_in-blanks fields)
-
--- the blank line of a kind is a whole line
-pub length-blank_text : (kind : Kind) → length (blank_text (layout kind)) ≡ line_width kind
-length-blank_text kind = length-concat (layout kind) (map blank_of (layout kind)) (blanks_wide (layout kind) (all_wide kind))
 
 -- the blank line of a kind carries the blank record
 pub record_in-blank : (kind : Kind) → record_in kind (blank_text (layout kind)) ≡ blank_record kind

@@ -3,7 +3,7 @@ use Rattle.std.proofs.Common.{◌≡◌, ℕ, ◌+◌, ◌-◌, ◌≤◌, List,
 use Rattle.std.specs.Prelude.{Result, Ok, Err}
 use Rattle.std.specs.Result.{IsOk, OnOk}
 use Rattle.std.proofs.lemmas.Bool.{false≢true}
-use Rattle.std.proofs.lemmas.List.{length-append, length-replicate, replicate-append-replicate, take-append-le, take-replicate}
+use Rattle.std.proofs.lemmas.List.{length-append, length-replicate, replicate-append-replicate, take-replicate}
 use Rattle.std.proofs.lemmas.List.Sums.{sum_by-cons}
 use Rattle.cwr_fields.specs.Bytes.{filled}
 use Rattle.cwr_layouts.specs.declared.kinds.Kind.{Kind}
@@ -23,10 +23,6 @@ filled-filled m n text h =
 -- each line has the three bytes of its record type
 pub line_width_least : (kind : Kind) → 3 ≤ line_width kind
 line_width_least kind = omega (arith, sum_by-cons (λ (f : FieldLayout). f.width) record_type (fields_after_type kind))
-
--- the first bytes of a text stay where it is filled up
-pub take-filled : (n width : ℕ) (text : List ℕ) → n ≤ length text → take n (filled width text) ≡ take n text
-take-filled n width text h = take-append-le n text (replicate (width - length text) 32) h
 
 abbrev spaces : ℕ → List ℕ
 spaces n = replicate n 32

@@ -6,6 +6,7 @@ use Rattle.cwr_layouts.specs.declared.kinds.Kind.{Kind}
 use Rattle.cwr_layouts.specs.declared.lines.LineEnd.{LineEnd}
 use Rattle.cwr_layouts.specs.declared.lines.LineEnd.TheVariants.{Open, Line, Over}
 use Rattle.cwr_layouts.specs.Layouts.{line_width}
+use Rattle.cwr_layouts.specs.Records.{RecordValue, record_of}
 use Rattle.cwr_layouts.specs.Lines.{is_lf, longest_line, without_cr, body_kind, cells_as, excess_as, line_kind, line_cells, has_bad_excess}
 
 -- the bytes of a line before its line feed, and how it ended
@@ -61,6 +62,14 @@ cell_as (Some kind) cells j = if j == 0 then None else slice_get cells (j - 1)
 -- cell j of the line, from 1
 abbrev pub held_cell : HeldLine → ℕ → Option (List ℕ)
 held_cell h j = cell_as (held_kind h) (held_cells h) j
+
+-- what the line's cells carry; a line of unknown kind carries nothing
+abbrev pub carried_by : Option Kind → List (List ℕ) → Option RecordValue
+carried_by None cells = None
+carried_by (Some kind) cells = Some (record_of (record { kind = kind; cells = cells }))
+
+abbrev pub held_record : HeldLine → Option RecordValue
+held_record h = carried_by (held_kind h) (held_cells h)
 
 -- a line that is too long was taken up to the longest
 abbrev pub IsFull : LineEnd → ℕ → Type 0

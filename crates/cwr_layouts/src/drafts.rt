@@ -177,7 +177,7 @@ impl Display for SetFault {
     fn fmt<W: fmt::Write>(&self, f: &mut fmt::Formatter<W>) -> fmt::Result {
         match self {
             SetFault::NoSuchField => f.pad("no such field"),
-            SetFault::Derived => f.pad("a derived field"),
+            SetFault::Derived => f.pad("the field is derived"),
             SetFault::TooWide => f.pad("wider than the field"),
             SetFault::Cell(fault) => Display::fmt(fault, f),
         }

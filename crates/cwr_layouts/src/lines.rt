@@ -2,15 +2,17 @@
 //! one carriage return directly before that belongs to the line end. The most bytes of a line, and that spaces may be
 //! left out or added at its end, are rules of this profile.
 
-ghost use Rattle.std.specs.Prelude.{◌≡◌, ◌≢◌, ◌≤◌, ◌<◌, ◌+◌, ◌++◌, length, take, drop, slice_index, IsFalse, MatchOption, option_map};
+ghost use Rattle.std.specs.Prelude.{◌≡◌, ◌≢◌, ◌≤◌, ◌<◌, ◌+◌, ◌++◌, length, take, drop, slice_index, ◌↔◌, IsFalse, IsSome, IsSomeAnd, IfSome, Some, MatchOption, option_map};
 ghost use Rattle.std.specs.List.{list_any};
 ghost use Rattle.cwr_fields.specs.Bytes.{filled};
 ghost use Rattle.cwr_layouts.specs.Lines.{is_lf, without_cr, body_kind};
-ghost use Rattle.cwr_layouts.specs.Held.{HeldLine, Takes, IsHeld, empty_line, held_kind, held_cell, held_excess, filled_as, return_if};
+ghost use Rattle.cwr_layouts.specs.Records.{IsRecord};
+ghost use Rattle.cwr_layouts.specs.Held.{held_record, HeldLine, Takes, IsHeld, empty_line, held_kind, held_cell, held_excess, filled_as, return_if};
 
 use crate::kinds::Kind;
 use crate::layouts::Field;
 use crate::lookups::{field, width};
+use crate::records::RecordRef;
 use arrayvec::ArrayVec;
 use cwr_fields::is_spaces;
 use memchr::memchr;
@@ -111,7 +113,8 @@ pub struct LineBuf {
 }
 
 impl Model for LineBuf {
-    ghost use Rattle.cwr_layouts.specs.Held.{HeldLine, line_kept, IsKept};
+    ghost use Rattle.cwr_layouts.specs.Records.{IsRecord};
+    ghost use Rattle.cwr_layouts.specs.Held.{held_record, HeldLine, line_kept, IsKept};
 
     ghost Value = { HeldLine };
 
@@ -266,6 +269,17 @@ impl<'a> CutLine<'a> {
         let line = self.line;
         let place = field(line.kind?, j)?;
         Some(part(line.text.as_slice(), place))
+    }
+
+    /// The record that the line's cells carry, borrowed from the line: nothing is copied. `None` where the kind is unknown,
+    /// or one of these cells isn't one of its field's type. Derived cells and the excess aren't judged.
+    pub fn record(&self) -> Option<RecordRef<'a>>
+        ensures some { IsSome result ↔ IsSomeAnd (held_record self.now) IsRecord }
+        ensures value { IfSome result (λ found. held_record self.now ≡ Some found) }
+    {
+        let line = self.line;
+        let kind = line.kind?;
+        RecordRef::judged(kind, &line.text.as_slice()[..width(kind)])
     }
 
     /// Whether what stands behind the last field is bad: it isn't all spaces, or the line is too long. A line of

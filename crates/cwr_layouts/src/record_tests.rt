@@ -191,6 +191,15 @@ fn faults_are_printed(rt: HostRuntime) -> Result<(), Fail> {
     } else {
         assert!(rt; false);
     }
+    let faults = [
+        (SetFault::NoSuchField, "no such field"),
+        (SetFault::Derived, "the field is derived"),
+        (SetFault::TooWide, "wider than the field"),
+        (SetFault::Cell(CellFault::OverShare), "a share over 100%"),
+    ];
+    for (fault, text) in &faults {
+        assert_eq!(rt; format!(in rt.alloc(); "{fault}")?.as_str(), *text);
+    }
     Ok(())
 }
 

@@ -5,6 +5,7 @@ ghost use Rattle.cwr_layouts.specs.Layouts.{line_width};
 ghost use Rattle.cwr_layouts.specs.Records.{IsRecord};
 ghost use Rattle.cwr_layouts.specs.Carried.{HasCellOf, record_cell, record_in};
 
+use crate::drafts::judge;
 use crate::kinds::Kind;
 use crate::lines::part;
 use crate::lookups::{carried, fields};
@@ -119,6 +120,18 @@ impl<'a> Model for RecordRef<'a> {
 }
 
 impl<'a> RecordRef<'a> {
+    /// The record that a whole line of the kind carries. `None` where one of its cells isn't one of its field's type.
+    pub(crate) fn judged(kind: Kind, line: &'a [u8]) -> Option<Self>
+        requires { length line.now ≡ line_width kind }
+        ensures some { IsSome result ↔ IsRecord (record_in kind line.now) }
+        ensures value { IfSome result (λ found. found ≡ record_in kind line.now) }
+    {
+        match judge(kind, line) {
+            Ok(()) => Some(RecordRef { kind, line }),
+            Err(_) => None,
+        }
+    }
+
     /// The record's kind.
     pub fn kind(&self) -> Kind
         ensures value { result ≡ self.now.kind }

@@ -186,3 +186,26 @@ fn cleared_lines_are_new(rt: HostRuntime) {
     assert_eq!(rt; taken.ended, LineEnd::Open);
     assert_eq!(rt; line.len(), 3);
 }
+
+/// An acknowledgement in full width.
+const ACK: [u8; 159] =
+    *b"ACK0000000000000000202401021015000000100000000NWRBLUE RIVER                                                  W0001                                   20240110AS";
+
+#[test]
+fn records_of_lines(rt: HostRuntime) -> Result<(), Fail> {
+    let line = line_of(&ACK);
+    let found = line.cut().record().ok_or("no record")?;
+    assert_eq!(rt; found.kind(), Kind::Ack);
+    assert_eq!(rt; found.cell(13), Some(&b"AS"[..]));
+    assert!(rt; found.cell(2).is_none());
+    let mut unknown_status = ACK;
+    unknown_status[157..].copy_from_slice(b"ZZ");
+    assert!(rt; line_of(&unknown_status).cut().record().is_none());
+    let mut longer = [b'X'; 160];
+    longer[..159].copy_from_slice(&ACK);
+    let longer = line_of(&longer);
+    assert!(rt; longer.cut().excess());
+    assert!(rt; longer.cut().record().is_some());
+    assert!(rt; line_of(b"XYZ").cut().record().is_none());
+    Ok(())
+}

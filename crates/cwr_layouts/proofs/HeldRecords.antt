@@ -1,0 +1,51 @@
+-- What a held line carries is what the first bytes of its filled text carry, as many as its kind is wide.
+use Rattle.std.proofs.Common.{◌≡◌, ℕ, ◌+◌, ◌-◌, ◌≤◌, List, [], ◌∷◌, length, map, take, drop, refl, sym, ap, ap₂, subst, ◌∙◌, arith}
+use Rattle.std.specs.Prelude.{◌↔◌, Option, Some, None, IsSome, IfSome, IsSomeAnd}
+use Rattle.std.proofs.lemmas.List.{length-take, drop-take, take-take}
+use Rattle.std.proofs.lemmas.List.Sums.{sum_by-cons}
+use Rattle.cwr_layouts.specs.declared.kinds.Kind.{Kind}
+use Rattle.cwr_layouts.specs.Layouts.{FieldLayout, layout, total_width, line_width}
+use Rattle.cwr_layouts.specs.Lines.{pieces, cells_as}
+use Rattle.cwr_layouts.specs.Records.{RecordValue, IsRecord, record_of}
+use Rattle.cwr_layouts.specs.Carried.{carried_cells, record_in}
+use Rattle.cwr_layouts.specs.Held.{HeldLine, held_body, held_kind, carried_by, held_record, IsFilled}
+use Rattle.cwr_layouts.proofs.Filling.{length-filled}
+
+-- pieces of a text lie within its first bytes
+pieces_within : (fields : List FieldLayout) (n : ℕ) (text : List ℕ) → total_width fields ≤ n → pieces (map (λ f. f.width) fields) (take n text) ≡ pieces (map (λ f. f.width) fields) text
+pieces_within [] n text h = refl
+pieces_within (f ∷ fields) n text h =
+    let total : total_width (f ∷ fields) ≡ f.width + total_width fields = sum_by-cons (λ (g : FieldLayout). g.width) f fields in
+    let split : n ≡ f.width + (n - f.width) = omega (arith, h, total) in
+    ap₂ (λ (x : List ℕ) (y : List (List ℕ)). x ∷ y) (take-take f.width n text (omega (arith, h, total)))
+    (ap (pieces (map (λ g. g.width) fields)) (ap (λ (m : ℕ). drop f.width (take m text)) split ∙ drop-take f.width (n - f.width) text)
+    ∙ pieces_within fields (n - f.width) (drop f.width text) (omega (arith, h, total)))
+
+-- the filled text is at least as wide as the kind
+pub filled_wide : (text : List ℕ) (kind : Kind) (h : HeldLine) → IsFilled text (Some kind) h → line_width kind ≤ length text
+filled_wide text kind h k =
+    let count : length text ≡ length (held_body h) + (line_width kind - length (held_body h)) = ap length k.parts ∙ length-filled (line_width kind) (held_body h) in
+    omega (arith, count)
+
+pub record_held : (text : List ℕ) (kind : Kind) (h : HeldLine) → IsFilled text (Some kind) h → held_record h ≡ Some (record_in kind (take (line_width kind) text))
+unfolding carried_cells
+record_held text kind h k =
+    ap (λ (o : Option Kind). carried_by o (cells_as o (held_body h))) (sym k.known)
+    ∙ ap (λ (cells : List (List ℕ)). Some (record_of (record { kind = kind; cells = cells })))
+    (ap (pieces (map (λ f. f.width) (layout kind))) (sym k.parts) ∙ sym (pieces_within (layout kind) (line_width kind) text (omega arith)))
+
+pub record_found : (text : List ℕ) (kind : Kind) (h : HeldLine) (o : Option RecordValue) → IsFilled text (Some kind) h → IsSome o ↔ IsRecord (record_in kind (take (line_width kind) text))
+    → IsSome o ↔ IsSomeAnd (held_record h) IsRecord
+record_found text kind h o k e = subst (λ (r : Option RecordValue). IsSome o ↔ IsSomeAnd r IsRecord) (sym (record_held text kind h k)) e
+
+pub record_value : (text : List ℕ) (kind : Kind) (h : HeldLine) (o : Option RecordValue) → IsFilled text (Some kind) h → IfSome o (λ found. found ≡ record_in kind (take (line_width kind) text))
+    → IfSome o (λ found. held_record h ≡ Some found)
+record_value text kind h None k e = tt
+record_value text kind h (Some found) k e = record_held text kind h k ∙ ap Some (sym e)
+
+pub no_record : (h : HeldLine) → held_kind h ≡ None → held_record h ≡ None
+no_record h e = ap (λ (o : Option Kind). carried_by o (cells_as o (held_body h))) e
+
+-- as many bytes of the filled text as the kind is wide
+pub first_bytes : (text slice : List ℕ) (kind : Kind) (width : ℕ) (h : HeldLine) → IsFilled text (Some kind) h → slice ≡ text → width ≡ line_width kind → length (take width slice) ≡ width
+first_bytes text slice kind width h k e f = omega (arith, length-take width slice, ap length e, f, filled_wide text kind h k)
