@@ -1,5 +1,5 @@
 -- A transaction begins with its header and has no other.
-use Rattle.std.proofs.Common.{◌≡◌, ℕ, zero, suc, ◌<◌, Bool, true, List, [], ◌∷◌, ◌++◌, refl, ap, ◌∙◌, arith}
+use Rattle.std.proofs.Common.{◌≡◌, ℕ, zero, suc, ◌<◌, true, List, [], ◌∷◌, ◌++◌, refl, ap, ◌∙◌, arith}
 use Rattle.std.specs.Prelude.{◌==◌, slice_index_or}
 use Rattle.std.specs.List.{list_all}
 use Rattle.cwr_fields.specs.declared.codes.TransactionType.{TransactionType}
@@ -21,9 +21,6 @@ part NewWork (Plain kinds.Nwr) = 1
 part RevisedWork (Plain kinds.Rev) = 1
 part Acknowledgement (Plain kinds.Ack) = 1
 part ty s = 2
-
-is_later : TransactionType → Symbol → Bool
-is_later ty s = part ty s == 2
 
 pub among_one : (s t : Symbol) (i : ℕ) → i < 1 → t ≡ slice_index_or (s ∷ []) i t → t ≡ s
 among_one s t zero h e = e

@@ -1,11 +1,8 @@
 -- The stage that the table comes to is the one that the symbols name.
-use Rattle.std.proofs.Common.{◌≡◌, ℕ, ◌+◌, ◌-◌, ◌≤◌, Bool, true, false, cond, not, ◌&&◌, ◌||◌, List, [], ◌∷◌, ◌++◌, Option, Some, None, length, reverse, drop, refl, sym, ap, subst, ◌∙◌, arith, true≢false, append_assoc, append-nil}
-use Rattle.std.specs.List.{list_all, list_any, filter, last_or, after_last, prefix_len, suffix_len}
+use Rattle.std.proofs.Common.{◌≡◌, Bool, true, false, cond, not, ◌&&◌, ◌||◌, List, [], ◌∷◌, ◌++◌, Option, Some, None, refl, sym, ap, subst, ◌∙◌, true≢false, append_assoc, append-nil}
+use Rattle.std.specs.List.{list_all, list_any, after_last}
 use Rattle.std.proofs.lemmas.Bool.{and_parts}
-use Rattle.std.proofs.lemmas.List.{reverse-append, length-append, drop-append-le}
-use Rattle.std.proofs.lemmas.List.Elements.{filter-append}
 use Rattle.std.proofs.lemmas.List.Folds.{list_any-append}
-use Rattle.std.proofs.lemmas.List.Sums.{suffix_len-le-length}
 use Rattle.cwr_fields.specs.declared.codes.Role.{Role}
 use Rattle.cwr_fields.specs.declared.codes.Role.TheVariants.{Assignor, Acquirer}
 use Rattle.cwr_fields.specs.declared.codes.TransactionType.{TransactionType}
@@ -22,6 +19,7 @@ use Rattle.cwr_shape.specs.Stages.{is_grh, is_ipa, is_ipa_of, is_writer, latest,
 use Rattle.cwr_shape.specs.Left.{is_stage}
 use Rattle.cwr_shape.proofs.StagePatterns.{all_symbols, of_each, next_is_stage}
 use Rattle.cwr_shape.proofs.StageRuns.{run, run_first}
+use Rattle.cwr_shape.proofs.OneMore.{latest-snoc, last_or-snoc, after_last-snoc}
 
 -- ---- tests of sameness
 
@@ -145,22 +143,6 @@ named s ys = refl
 
 -- ---- one more symbol
 
-last_or-snoc : (o : Option Symbol) (xs : List Symbol) (s : Symbol) → last_or o (xs ++ s ∷ []) ≡ Some s
-last_or-snoc o [] s = refl
-last_or-snoc o (x ∷ xs) s = last_or-snoc (Some x) xs s
-
-latest_by : (test : Symbol → Bool) (xs : List Symbol) (s : Symbol) (b : Bool) → test s ≡ b → last_or None (filter test xs ++ cond b (s ∷ []) []) ≡ cond b (Some s) (latest test xs)
-latest_by test xs s true e = last_or-snoc None (filter test xs) s
-latest_by test xs s false e = ap (last_or None) (append-nil (filter test xs))
-
-filter_one : (test : Symbol → Bool) (s : Symbol) (b : Bool) → test s ≡ b → filter test (s ∷ []) ≡ cond b (s ∷ []) []
-filter_one test s true e = rw e refl
-filter_one test s false e = rw e refl
-
-latest-snoc : (test : Symbol → Bool) (xs : List Symbol) (s : Symbol) → latest test (xs ++ s ∷ []) ≡ cond (test s) (Some s) (latest test xs)
-latest-snoc test xs s =
-    ap (last_or None) (filter-append test xs (s ∷ []) ∙ ap (λ (ys : List Symbol). filter test xs ++ ys) (filter_one test s (test s) refl)) ∙ latest_by test xs s (test s) refl
-
 -- the type of the group, the last writer and the sides, with one more symbol
 abbrev type_next : Symbol → TransactionType → TransactionType
 type_next (Grh t) ty = t
@@ -186,36 +168,7 @@ writer_more s w = refl
 abbrev is_other : Symbol → Bool
 is_other s = not (is_ipa s)
 
--- how many parties stand at the end
-abbrev parties : List Symbol → ℕ
-parties xs = suffix_len (λ s. not (is_other s)) xs
-
-parties_by : (xs : List Symbol) (s : Symbol) (b : Bool) → not (is_other s) ≡ b → prefix_len (λ s. not (is_other s)) (s ∷ reverse xs) ≡ cond b (1 + parties xs) 0
-parties_by xs s true e = rw e refl
-parties_by xs s false e = rw e refl
-
-parties-snoc : (xs : List Symbol) (s : Symbol) → parties (xs ++ s ∷ []) ≡ cond (not (is_other s)) (1 + parties xs) 0
-parties-snoc xs s = ap (prefix_len (λ s. not (is_other s))) (reverse-append xs (s ∷ [])) ∙ parties_by xs s (not (is_other s)) refl
-
-twice : (b : Bool) → not (not b) ≡ b
-twice true = refl
-twice false = refl
-
-after_last_by : (xs : List Symbol) (s : Symbol) (b : Bool) → parties (xs ++ s ∷ []) ≡ cond b (1 + parties xs) 0
-    → after_last is_other (xs ++ s ∷ []) ≡ cond b (after_last is_other xs ++ s ∷ []) []
-after_last_by xs s true e =
-    let few : parties xs ≤ length xs = suffix_len-le-length (λ s. not (is_other s)) xs in
-    let same : length (xs ++ s ∷ []) - parties (xs ++ s ∷ []) ≡ length xs - parties xs = omega (arith, e, few, length-append xs (s ∷ [])) in
-    ap (λ (n : ℕ). drop n (xs ++ s ∷ [])) same ∙ drop-append-le (length xs - parties xs) xs (s ∷ []) (omega arith)
-after_last_by xs s false e =
-    let all : length (xs ++ s ∷ []) - parties (xs ++ s ∷ []) ≡ length (xs ++ s ∷ []) = omega (arith, e) in
-    ap (λ (n : ℕ). drop n (xs ++ s ∷ [])) all ∙ drop_whole (xs ++ s ∷ [])
-  where
-    drop_whole : (ys : List Symbol) → drop (length ys) ys ≡ []
-    drop_whole [] = refl
-    drop_whole (y ∷ ys) = drop_whole ys
-
-side_by : (role : Role) (xs : List Symbol) (s : Symbol) (b : Bool) → after_last is_other (xs ++ s ∷ []) ≡ cond b (after_last is_other xs ++ s ∷ []) []
+side_by : (role : Role) (xs : List Symbol) (s : Symbol) (b : Bool) → after_last is_other (xs ++ s ∷ []) ≡ cond (not b) [] (after_last is_other xs ++ s ∷ [])
     → side role (xs ++ s ∷ []) ≡ cond b (side role xs || is_ipa_of role s) false
 side_by role xs s true e = ap (list_any (is_ipa_of role)) e ∙ list_any-append (is_ipa_of role) (after_last is_other xs) (s ∷ []) ∙ ap (λ (b : Bool). side role xs || b) (or_false (is_ipa_of role s))
   where
@@ -225,8 +178,7 @@ side_by role xs s true e = ap (list_any (is_ipa_of role)) e ∙ list_any-append 
 side_by role xs s false e = ap (list_any (is_ipa_of role)) e
 
 side-snoc : (role : Role) (xs : List Symbol) (s : Symbol) → side role (xs ++ s ∷ []) ≡ side_next role s (side role xs)
-side-snoc role xs s =
-    side_by role xs s (is_ipa s) (after_last_by xs s (is_ipa s) (parties-snoc xs s ∙ ap (λ (b : Bool). cond b (1 + parties xs) 0) (twice (is_ipa s))))
+side-snoc role xs s = side_by role xs s (is_ipa s) (after_last-snoc is_other xs s)
 
 -- ---- what a stage says of the symbols that stand there
 

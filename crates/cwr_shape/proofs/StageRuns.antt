@@ -227,13 +227,6 @@ left_at (stages.Within Acknowledgement steps.InGroup) h = left_within_acknowledg
 left_at (stages.Within Acknowledgement steps.Acked) h = left_within_acknowledgement_acked
 left_at stage h = absurd (true≢false (sym h))
 
--- symbols that leave what a stage has left begin a transmission
-pub leaves_begins : (xs : List Symbol) (stage : Stage) → LeavesAt xs stage → GoesOn Any xs
-leaves_begins xs stage st =
-    let rest = left_at stage st.real in
-    let w = (st.leaves rest.0).1 rest.1 in
-    (w.0, w.1, tt, (rest.0, sym w.2))
-
 -- one more symbol comes where the table has a stage for it
 next_begins : (xs : List Symbol) (stage : Stage) (s : Symbol) → LeavesAt xs stage → (o : Option Stage) → next_stage stage s ≡ o → IsSome o → GoesOn Any (xs ++ s ∷ [])
 next_begins xs stage s st None e some = absurd (true≢false (sym some))
@@ -250,22 +243,6 @@ begins_next xs stage s st g =
 
 pub leaves_next : (xs : List Symbol) (stage : Stage) (s : Symbol) → LeavesAt xs stage → IsSome (next_stage stage s) ↔ GoesOn Any (xs ++ s ∷ [])
 leaves_next xs stage s st = (next_begins xs stage s st (next_stage stage s) refl, begins_next xs stage s st)
-
--- and with it they leave what is left there
-pub leaves_to : (xs : List Symbol) (stage : Stage) (s : Symbol) (to : Stage) → LeavesAt xs stage → next_stage stage s ≡ Some to → LeavesAt (xs ++ s ∷ []) to
-leaves_to xs stage s to st e = record {
-  real = next_is_stage stage s to st.real e;
-  leaves = λ rest. (
-    λ w. let m = (st.leaves (s ∷ rest)).0 (subst IsWhole (append_assoc xs (s ∷ []) rest) w) in
-        let on = goes_on stage s rest st.real m in
-        let there : on.to ≡ to = only_one on.to to (sym on.is ∙ e) in
-        subst (λ (t : Stage). Matches (left t) rest) there on.left_there,
-    λ m. subst IsWhole (sym (append_assoc xs (s ∷ []) rest)) ((st.leaves (s ∷ rest)).1 (goes_back stage s to rest st.real e m)),
-  );
-}
-  where
-    only_one : (x y : Stage) → Some x ≡ Some y → x ≡ y
-    only_one x y k = cc k
 
 -- some transmission begins with the symbols where the table goes through them
 pub begins_run : (xs : List Symbol) → GoesOn Any xs → (to : Stage) × (run stages.Start xs ≡ Some to)

@@ -17,6 +17,7 @@ use Rattle.cwr_shape.specs.Left.{left_of, is_inside, StandsIn, GoesOnIn}
 use Rattle.cwr_shape.proofs.Matcher.{nullable, nullable_sound, nullable_complete, after, after_all, is_dead, dead_sound, accepts_sound}
 use Rattle.cwr_shape.proofs.NormalForms.{same_list, same, same_sound, seq, contains, insert, alt, both, norm, norm_alike, follows}
 use Rattle.cwr_shape.proofs.StagePatterns.{all_symbols, of_each}
+use Rattle.cwr_shape.proofs.StepNames.{first_named, on_named}
 
 -- what the pattern leaves is what is left at the step; no step, and nothing is
 unfoldable leads_in : Option Step → Pattern → Bool
@@ -197,6 +198,10 @@ goes_by o xs g = ap is_some g.is
 one_step : (x y : Step) → Some x ≡ Some y → x ≡ y
 one_step x y e = cc e
 
+-- symbols that stand in a transaction of the type begin one
+pub stands_goes : (ty : TransactionType) (xs : List Symbol) (step : Step) → StandsIn ty xs step → GoesOnIn ty xs
+stands_goes ty xs step st = let rest = left_in step st.inside in (rest.0, (st.leaves rest.0).1 rest.1)
+
 -- a transaction begins by its header
 first_begins : (ty : TransactionType) (s : Symbol) (o : Option Step) → header_step ty s ≡ o → IsSome o → GoesOnIn ty (s ∷ [])
 first_begins ty s None e some = absurd (true≢false (sym some))
@@ -217,6 +222,7 @@ pub first_stands : (ty : TransactionType) (s : Symbol) (o : Option Step) → o �
 first_stands ty s None e = tt
 first_stands ty s (Some to) e = record {
   inside = led_real (after s (pattern_of ty)) to (header_step ty s) (sym e) (first_led ty s);
+  named = first_named ty s to (sym e);
   leaves = λ rest. (
     λ m. let on = led_on (after s (pattern_of ty)) rest (header_step ty s) (first_led ty s) ((follows s (pattern_of ty) rest).1 m) in
         subst (λ (t : Step). Matches (left_of t) rest) (one_step on.to to (sym on.is ∙ sym e)) on.left_there,
@@ -246,6 +252,7 @@ pub on_stands : (ty : TransactionType) (xs : List Symbol) (step : Step) (s : Sym
 on_stands ty xs step s None e st = tt
 on_stands ty xs step s (Some to) e st = record {
   inside = led_real (after s (left_of step)) to (step_on step s) (sym e) (step_led step s st.inside);
+  named = on_named ty xs step s to (stands_goes ty xs step st) st.named st.inside (sym e);
   leaves = λ rest. (
     λ shape. let on = on_goes ty xs step s rest st shape in
         subst (λ (t : Step). Matches (left_of t) rest) (one_step on.to to (sym on.is ∙ sym e)) on.left_there,
@@ -260,7 +267,3 @@ ends_exact ty xs step b e st = (
   λ h. subst (IsShape ty) (append-nil xs) ((st.leaves []).1 (nullable_sound (left_of step) (ends_led step st.inside ∙ sym e ∙ h))),
   λ shape. e ∙ sym (ends_led step st.inside) ∙ nullable_complete (left_of step) ((st.leaves []).0 (subst (IsShape ty) (sym (append-nil xs)) shape)),
 )
-
--- symbols that stand in a transaction of the type begin one
-pub stands_goes : (ty : TransactionType) (xs : List Symbol) (step : Step) → StandsIn ty xs step → GoesOnIn ty xs
-stands_goes ty xs step st = let rest = left_in step st.inside in (rest.0, (st.leaves rest.0).1 rest.1)

@@ -1,8 +1,10 @@
--- Worked stages, needs and levels.
-use Rattle.std.proofs.Common.{◌≡◌, ℕ, List, [], ◌∷◌, refl}
+-- Worked stages, needs and candidates.
+use Prim.Native.String.{String}
+use Rattle.std.proofs.Common.{◌≡◌, ℕ, List, [], ◌∷◌, map, Some, None, refl}
+use Rattle.std.specs.Prelude.{codes}
 use Rattle.cwr_fields.specs.declared.codes.Role.TheVariants.{Assignor, Acquirer}
 use Rattle.cwr_fields.specs.declared.codes.TransactionType.{TransactionType}
-use Rattle.cwr_fields.specs.declared.codes.TransactionType.TheVariants.{Agreement, NewWork, Acknowledgement}
+use Rattle.cwr_fields.specs.declared.codes.TransactionType.TheVariants.{Agreement, NewWork, RevisedWork, Acknowledgement}
 use Rattle.cwr_layouts.specs.declared.kinds.Kind.{Kind}
 use Rattle.cwr_layouts.specs.declared.kinds.Kind.TheVariants as kinds
 use Rattle.cwr_shape.specs.declared.symbols.Symbol.{Symbol}
@@ -12,6 +14,7 @@ use Rattle.cwr_shape.specs.declared.stages.Step.TheVariants as steps
 use Rattle.cwr_shape.specs.declared.stages.Needs.{Needs}
 use Rattle.cwr_shape.specs.Outlines.{GroupOutline, symbols_of}
 use Rattle.cwr_shape.specs.Stages.{stage_after, GoesOnBy}
+use Rattle.cwr_shape.specs.Candidates.{candidates}
 
 -- shorter names
 
@@ -84,8 +87,51 @@ controlled = record { begins = (_, refl); records = refl; groups_more = refl; tr
 writer : GoesOnBy (after NewWork (p kinds.Nwr ∷ p kinds.Swr ∷ [])) (one_group NewWork (p kinds.Nwr ∷ p kinds.Swr ∷ [])) (needs 2 0 0)
 writer = record { begins = (_, refl); records = refl; groups_more = refl; transaction = refl }
 
+other : GoesOnBy (after NewWork (p kinds.Nwr ∷ p kinds.Opu ∷ [])) (one_group NewWork (p kinds.Nwr ∷ p kinds.Opu ∷ p kinds.Swr ∷ [])) (needs 3 0 1)
+other = record { begins = (_, refl); records = refl; groups_more = refl; transaction = refl }
+
+other_writer : GoesOnBy (after RevisedWork (p kinds.Rev ∷ p kinds.Owr ∷ [])) (one_group RevisedWork (p kinds.Rev ∷ p kinds.Owr ∷ [])) (needs 2 0 0)
+other_writer = record { begins = (_, refl); records = refl; groups_more = refl; transaction = refl }
+
+tail : GoesOnBy (after NewWork (p kinds.Nwr ∷ p kinds.Swr ∷ p kinds.Com ∷ [])) (one_group NewWork (p kinds.Nwr ∷ p kinds.Swr ∷ p kinds.Com ∷ [])) (needs 2 0 0)
+tail = record { begins = (_, refl); records = refl; groups_more = refl; transaction = refl }
+
 closed : GoesOnBy (after Acknowledgement (p kinds.Ack ∷ p kinds.Grt ∷ [])) (one_group Acknowledgement (p kinds.Ack ∷ [])) (needs 1 0 0)
 closed = record { begins = (_, refl); records = refl; groups_more = refl; transaction = refl }
 
 ended : GoesOnBy (symbols_of (one_group Acknowledgement (p kinds.Ack ∷ []))) (one_group Acknowledgement (p kinds.Ack ∷ [])) (needs 0 0 0)
 ended = record { begins = ([], refl); records = refl; groups_more = refl; transaction = refl }
+
+-- ---- longer ways on: the third number is of the open transaction alone, or where none is open of the next one
+
+abbrev two_groups : List GroupOutline
+two_groups = record { ty = Acknowledgement; transactions = (p kinds.Ack ∷ []) ∷ (p kinds.Ack ∷ p kinds.Msg ∷ p kinds.Msg ∷ []) ∷ [] } ∷ one_group Agreement shortest_agreement
+
+before_a_longer_one : GoesOnBy (after Acknowledgement (p kinds.Ack ∷ [])) two_groups (needs 11 1 0)
+before_a_longer_one = record { begins = (_, refl); records = refl; groups_more = refl; transaction = refl }
+
+in_the_longer_one : GoesOnBy (after Acknowledgement (p kinds.Ack ∷ p kinds.Ack ∷ [])) two_groups (needs 10 1 2)
+in_the_longer_one = record { begins = (_, refl); records = refl; groups_more = refl; transaction = refl }
+
+before_another_group : GoesOnBy (after Acknowledgement (p kinds.Ack ∷ p kinds.Ack ∷ p kinds.Msg ∷ p kinds.Msg ∷ p kinds.Grt ∷ [])) two_groups (needs 7 1 4)
+before_another_group = record { begins = (_, refl); records = refl; groups_more = refl; transaction = refl }
+
+-- ---- what the cells of a line tell of its symbol
+
+abbrev cells : List String → List (List ℕ)
+cells texts = map codes texts
+
+ipa_seen : (candidates (Some kinds.Ipa) [] ≡ Ipa Assignor ∷ Ipa Acquirer ∷ [])
+    × (candidates (Some kinds.Ipa) (cells ("IPA" ∷ "00000000" ∷ "00000002" ∷ [])) ≡ Ipa Assignor ∷ Ipa Acquirer ∷ [])
+    × (candidates (Some kinds.Ipa) (cells ("IPA" ∷ "00000000" ∷ "00000002" ∷ "AS" ∷ [])) ≡ Ipa Assignor ∷ [])
+    × (candidates (Some kinds.Ipa) (cells ("IPA" ∷ "00000000" ∷ "00000002" ∷ "AC" ∷ "           " ∷ [])) ≡ Ipa Acquirer ∷ [])
+    × (candidates (Some kinds.Ipa) (cells ("IPA" ∷ "00000000" ∷ "00000002" ∷ "as" ∷ [])) ≡ Ipa Assignor ∷ Ipa Acquirer ∷ [])
+ipa_seen = (refl, refl, refl, refl, refl)
+
+grh_seen : (candidates (Some kinds.Grh) (cells ("GRH" ∷ [])) ≡ Grh Agreement ∷ Grh NewWork ∷ Grh RevisedWork ∷ Grh Acknowledgement ∷ [])
+    × (candidates (Some kinds.Grh) (cells ("GRH" ∷ "REV" ∷ [])) ≡ Grh RevisedWork ∷ [])
+    × (candidates (Some kinds.Grh) (cells ("GRH" ∷ "ISW" ∷ [])) ≡ Grh Agreement ∷ Grh NewWork ∷ Grh RevisedWork ∷ Grh Acknowledgement ∷ [])
+grh_seen = (refl, refl, refl)
+
+others_seen : (candidates (Some kinds.Ack) (cells ("ACK" ∷ "00000000" ∷ [])) ≡ p kinds.Ack ∷ []) × (candidates None (cells ("hdr" ∷ [])) ≡ [])
+others_seen = (refl, refl)

@@ -1,14 +1,16 @@
 -- Worked levels: each entry of the table of levels.
-use Rattle.std.proofs.Common.{◌≡◌, List, [], ◌∷◌, ◌++◌, map, replicate, refl, false}
+use Rattle.std.proofs.Common.{◌≡◌, ◌+◌, List, [], ◌∷◌, ◌++◌, length, map, replicate, refl, false}
 use Rattle.std.specs.Prelude.{Some, None}
 use Rattle.std.specs.List.{flat_map}
 use Rattle.cwr_fields.specs.declared.cell_types.CellType.{CellType}
 use Rattle.cwr_fields.specs.declared.cell_types.CellType.TheVariants as types
 use Rattle.cwr_fields.specs.declared.cell_types.CellFault.TheVariants.{Blank, Control, NotDigits, NotADate, NotATime, OverShare, NotACode, NotConstant}
 use Rattle.cwr_fields.specs.declared.tables.Table.TheVariants as tables
+use Rattle.cwr_fields.specs.declared.cell_types.Word.TheVariants as words
 use Rattle.cwr_layouts.specs.declared.kinds.Kind.{Kind}
 use Rattle.cwr_layouts.specs.declared.kinds.Kind.TheVariants as kinds
 use Rattle.cwr_layouts.specs.Kinds.{all_kinds}
+use Rattle.cwr_layouts.specs.Layouts.{layout}
 use Rattle.cwr_shape.specs.declared.reasons.Reason.{Reason}
 use Rattle.cwr_shape.specs.declared.reasons.Reason.TheVariants as reasons
 use Rattle.cwr_shape.specs.declared.limits.LimitKind.TheVariants as limits
@@ -50,17 +52,21 @@ too_many_groups : flat_map (λ place. map (λ kind. level_of (Some kind) 1 (reas
 too_many_groups = refl
 
 transaction_too_long : (level_of (Some kinds.Grh) 2 (reasons.Limit limits.Transaction) places.File ≡ G)
+    × (level_of (Some kinds.Ipa) 4 (reasons.Limit limits.Transaction) places.Transaction ≡ T)
     × (map (λ kind. level_of (Some kind) 1 (reasons.Limit limits.Transaction) places.Transaction) (kinds.Agr ∷ kinds.Nwr ∷ kinds.Rev ∷ kinds.Ack ∷ inner_kinds) ≡ replicate 21 T)
-transaction_too_long = (refl, refl)
+transaction_too_long = (refl, refl, refl)
 
--- a cell, a number or an excess around transactions and in their headers
-in_file : flat_map (λ kind. map (λ reason. level_of (Some kind) 2 reason places.File) cell_reasons) (kinds.Hdr ∷ kinds.Trl ∷ []) ≡ replicate 20 E
-in_file = refl
+-- a cell, a number or an excess around transactions and in their headers, at field 2, at the last one and behind it
+abbrev levels_in : Kind → Place → List Level
+levels_in kind place = flat_map (λ j. map (λ reason. level_of (Some kind) j reason place) cell_reasons) (2 ∷ length (layout kind) ∷ (length (layout kind) + 1) ∷ [])
 
-in_group : flat_map (λ kind. map (λ reason. level_of (Some kind) 2 reason places.File) cell_reasons) (kinds.Grh ∷ kinds.Grt ∷ []) ≡ replicate 20 G
-in_group = refl
+in_file : (levels_in kinds.Hdr places.File ≡ replicate 30 E) × (levels_in kinds.Trl places.File ≡ replicate 30 E)
+in_file = (refl, refl)
 
-in_header : flat_map (λ kind. map (λ reason. level_of (Some kind) 6 reason places.Transaction) cell_reasons) (kinds.Agr ∷ kinds.Nwr ∷ kinds.Rev ∷ kinds.Ack ∷ []) ≡ replicate 40 T
+in_group : (levels_in kinds.Grh places.File ≡ replicate 30 G) × (levels_in kinds.Grt places.Transaction ≡ replicate 30 G)
+in_group = (refl, refl)
+
+in_header : flat_map (λ kind. flat_map (levels_in kind) (places.Group ∷ places.Transaction ∷ [])) (kinds.Agr ∷ kinds.Nwr ∷ kinds.Rev ∷ kinds.Ack ∷ []) ≡ replicate 240 T
 in_header = refl
 
 -- behind a header: the two sequences
@@ -68,16 +74,16 @@ in_sequences : flat_map (λ kind. flat_map (λ j. map (λ reason. level_of (Some
 in_sequences = refl
 
 -- behind a header: the excess
-in_excess : map (λ kind. level_of (Some kind) 1 reasons.Excess places.Transaction) inner_kinds ≡ replicate 17 R
+in_excess : map (λ kind. level_of (Some kind) (length (layout kind) + 1) reasons.Excess places.Transaction) inner_kinds ≡ replicate 17 R
 in_excess = refl
 
 -- behind a header: a cell, by its type
 abbrev level_of_cells : CellType → Level
 level_of_cells ty = level_of_type (Some (record { name = []; width = 1; ty = ty; derived = false }))
 
-by_type : map level_of_cells (types.Required ∷ types.Number ∷ types.Code tables.Role ∷ []) ++ map level_of_cells (types.Text ∷ types.OptNumber ∷ types.OptDate ∷ types.OptTime ∷ types.OptDuration ∷ types.Share ∷ types.Flag ∷ types.OptCode tables.Sign ∷ [])
-    ≡ R ∷ R ∷ R ∷ F ∷ F ∷ F ∷ F ∷ F ∷ F ∷ F ∷ F ∷ []
-by_type = refl
+by_type : (map level_of_cells (types.Required ∷ types.Number ∷ types.Code tables.Role ∷ []) ≡ replicate 3 R)
+    × (map level_of_cells (types.Text ∷ types.OptNumber ∷ types.Date ∷ types.OptDate ∷ types.Time ∷ types.OptTime ∷ types.OptDuration ∷ types.Share ∷ types.Flag ∷ types.OptCode tables.Sign ∷ types.Constant words.Edi ∷ []) ≡ replicate 11 F)
+by_type = (refl, refl)
 
 by_field : (level_of (Some kinds.Swr) 5 (reasons.Cell Blank) places.Transaction ≡ R) × (level_of (Some kinds.Ter) 5 (reasons.Cell NotDigits) places.Transaction ≡ R)
     × (level_of (Some kinds.Ipa) 4 (reasons.Cell NotACode) places.Transaction ≡ R) × (level_of (Some kinds.Swr) 12 (reasons.Cell OverShare) places.Transaction ≡ F)

@@ -5,7 +5,7 @@ use Rattle.cwr_fields.specs.declared.codes.TransactionType.{TransactionType}
 use Rattle.cwr_fields.specs.declared.codes.TransactionType.TheVariants.{Agreement, NewWork, RevisedWork, Acknowledgement}
 use Rattle.cwr_layouts.specs.declared.kinds.Kind.TheVariants as kinds
 use Rattle.cwr_shape.specs.declared.symbols.Symbol.{Symbol}
-use Rattle.cwr_shape.specs.declared.symbols.Symbol.TheVariants.{Grh}
+use Rattle.cwr_shape.specs.declared.symbols.Symbol.TheVariants.{Plain, Grh}
 use Rattle.cwr_shape.specs.declared.stages.Stage.{Stage}
 use Rattle.cwr_shape.specs.declared.stages.Stage.TheVariants as stages
 use Rattle.cwr_shape.specs.declared.stages.Step.{Step}
@@ -105,7 +105,12 @@ is_inside step = true
 abbrev pub GoesOnIn : TransactionType → List Symbol → Type 0
 GoesOnIn ty xs = (rest : List Symbol) × IsShape ty (xs ++ rest)
 
--- the symbols begin a transaction of the type, and stand at the step: what makes them a whole one is what is left there
+-- the symbols behind the headers of a transmission and of its first group
+abbrev pub in_group : TransactionType → List Symbol → List Symbol
+in_group ty xs = Plain kinds.Hdr ∷ Grh ty ∷ xs
+
+-- the symbols begin a transaction of the type, this is the step after them, and what makes them a whole transaction is what is left there
 pub record StandsIn (ty : TransactionType) (xs : List Symbol) (step : Step) : Type 0 where
   pub inside : IsTrue (is_inside step)
+  pub named : stages.Within ty step ≡ stage_after (in_group ty xs)
   pub leaves : (rest : List Symbol) → IsShape ty (xs ++ rest) ↔ Matches (left_of step) rest

@@ -1,7 +1,8 @@
 //! Laws over the order of records.
 
-ghost use Rattle.std.specs.Prelude.{List, [], ◌++◌, ◌≡◌};
-ghost use Rattle.cwr_shape.specs.Outlines.{IsWhole};
+ghost use Rattle.std.specs.Prelude.{List, [], ◌∷◌, ◌++◌, ◌≡◌, length, slice_index_or};
+ghost use Rattle.cwr_shape.specs.Numbers.{numbers_of, lengths_of, symbol_kind};
+ghost use Rattle.cwr_shape.specs.Outlines.{GroupOutline, IsOutline, IsWhole, symbols_of};
 ghost use Rattle.cwr_shape.specs.declared.symbols.Symbol.{Symbol};
 ghost use Rattle.cwr_shape.specs.declared.stages.Stage.{Stage};
 ghost use Rattle.cwr_shape.specs.Left.{StandsAt, LeavesAt};
@@ -14,4 +15,13 @@ pub fn no_transmission_goes_on()
 /// What makes records that stand at a stage a whole transmission is what is left at the stage.
 pub fn stages_tell_what_is_left()
     ensures { (xs : List Symbol) (stage : Stage) → StandsAt xs stage → LeavesAt xs stage }
+{}
+
+/// The numbers of a record depend on its kind and on the records before it alone: where two transmissions begin with
+/// the same records and go on with one of the same kind, that one has the same numbers in both.
+pub fn numbers_depend_on_records_before()
+    ensures { (groups others : List GroupOutline) (xs : List Symbol) (s t : Symbol) (rest more : List Symbol)
+        → IsOutline groups → IsOutline others → symbols_of groups ≡ xs ++ s ∷ rest → symbols_of others ≡ xs ++ t ∷ more
+        → symbol_kind s ≡ symbol_kind t
+        → slice_index_or (numbers_of (lengths_of groups)) (length xs) [] ≡ slice_index_or (numbers_of (lengths_of others)) (length xs) [] }
 {}

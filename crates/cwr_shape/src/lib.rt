@@ -1,6 +1,7 @@
 //! The order of records in a CWR 2.1 transmission, its limits, and the levels of refusals.
 #![tactic(auto)]
 
+mod faults;
 pub mod laws;
 mod levels;
 mod limits;
@@ -11,6 +12,8 @@ mod stages;
 mod symbols;
 mod tallies;
 #[cfg(test)]
+mod tally_tests;
+#[cfg(test)]
 mod tests;
 
 pub use levels::level;
@@ -18,4 +21,4 @@ pub use limits::{LimitKind, Limits, LimitsFault};
 pub use reasons::{Level, Reason};
 pub use stages::{Needs, Stage, Step};
 pub use symbols::Symbol;
-pub use tallies::{Bar, Place};
+pub use tallies::{Bar, Place, Tally};

@@ -1,6 +1,6 @@
 //! How far the records of a transmission have come, and what must still follow.
 
-ghost use Rattle.std.specs.Prelude.{◌≡◌, ◌↔◌, List, [], ◌∷◌, ◌++◌, IsTrue, IsSome, IfSome};
+ghost use Rattle.std.specs.Prelude.{◌≡◌, ◌↔◌, List, [], ◌∷◌, ◌++◌, IsTrue, IsFalse, IsSome, IfSome, None};
 ghost use Rattle.cwr_shape.specs.declared.symbols.Symbol.{Symbol};
 ghost use Rattle.cwr_shape.specs.Outlines.{GoesOn};
 ghost use Rattle.cwr_shape.specs.Left.{Any, StandsAt, GoesOnIn, StandsIn};
@@ -198,18 +198,21 @@ impl Step {
         header(ty, symbol)
     }
 
-    /// The step after one more record of the transaction. `None` where no transaction goes on so: for all records that
-    /// stand at this step in a transaction of some type.
+    /// The step after one more record of the transaction, the one that its records name. `None` where no transaction
+    /// goes on so, for all records that stand at this step in a transaction of some type, and where none has begun.
     pub fn next(self, symbol: Symbol) -> Option<Step>
         ensures some { (ty : TransactionType) (xs : List Symbol) → StandsIn ty xs self → IsSome result ↔ GoesOnIn ty (xs ++ symbol ∷ []) }
         ensures value { (ty : TransactionType) (xs : List Symbol) → StandsIn ty xs self → IfSome result (StandsIn ty (xs ++ symbol ∷ [])) }
+        ensures unbegun { self ≡ Step.InGroup → result ≡ None }
     {
         self.on(symbol)
     }
 
-    /// Whether the records that stand at this step in a transaction of some type are a whole one.
+    /// Whether the records that stand at this step in a transaction of some type are a whole one. `false` where none has
+    /// begun.
     pub fn is_whole(self) -> bool
-        ensures { (ty : TransactionType) (xs : List Symbol) → StandsIn ty xs self → IsTrue result ↔ IsShape ty xs }
+        ensures whole { (ty : TransactionType) (xs : List Symbol) → StandsIn ty xs self → IsTrue result ↔ IsShape ty xs }
+        ensures unbegun { self ≡ Step.InGroup → IsFalse result }
     {
         self.may_end()
     }

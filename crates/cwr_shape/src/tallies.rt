@@ -1,6 +1,20 @@
-//! Where a transmission stands, and what bars a record.
+//! Where a transmission stands, what was counted of it, and what bars a record.
 
-use crate::limits::LimitKind;
+ghost use Rattle.std.specs.Prelude.{◌≡◌, ◌<◌, List, [], ◌∷◌, ◌++◌, length, count_by, OnOk};
+ghost use Rattle.cwr_fields.specs.declared.codes.TransactionType.TheVariants.{Acknowledgement};
+ghost use Rattle.cwr_shape.specs.declared.symbols.Symbol.{Symbol};
+ghost use Rattle.cwr_shape.specs.Stages.{is_grh, stage_after};
+ghost use Rattle.cwr_shape.specs.Bars.{bar_rank};
+ghost use Rattle.cwr_shape.specs.Numbers.{number_in, IsNumberAt};
+ghost use Rattle.cwr_shape.specs.Counting.{counts_with, easier, place_at, stage_type, passed_by, expected, number_inside, HaveRoom};
+ghost use Rattle.cwr_shape.specs.Tallies.{is_header_of, StandsFor, IsAdmitted, Answers, AnswersKind, begun, place_after, KeepsTally};
+
+use crate::limits::{LimitKind, Limits};
+use crate::stages::{Stage, Step};
+use crate::symbols::Symbol;
+use cwr_fields::{Role, TransactionType};
+use cwr_layouts::Kind;
+use std::marker::Model;
 
 /// What is open.
 #[derive(Clone, Copy, Debug, PartialEq, Eq)]
@@ -20,4 +34,311 @@ pub enum Bar {
     Misplaced,
     /// Transmissions go on so, but none within the limit.
     Limit(LimitKind),
+}
+
+impl Bar {
+    /// Its place among the bars, of which the first is told.
+    fn rank(self) -> u8
+        ensures { result ≡ bar_rank self }
+    {
+        match self {
+            Bar::Misplaced => 1,
+            Bar::Limit(LimitKind::Records) => 2,
+            Bar::Limit(LimitKind::Groups) => 3,
+            Bar::Limit(LimitKind::Transaction) => 4,
+        }
+    }
+}
+
+/// What is counted of the records so far.
+#[derive(Clone, Copy, Debug, PartialEq, Eq)]
+struct Counts {
+    /// All records.
+    records: u32,
+    /// GRH records.
+    groups: u32,
+    /// Transactions that have begun.
+    transactions: u32,
+    /// Transactions that have begun in the open group.
+    in_group: u32,
+    /// Records behind the last GRH.
+    behind_grh: u32,
+    /// Records behind the last header in the open group.
+    behind_header: u32,
+}
+
+impl Counts {
+    /// Nothing was counted.
+    const NONE: Counts = Counts {
+        records: 0,
+        groups: 0,
+        transactions: 0,
+        in_group: 0,
+        behind_grh: 0,
+        behind_header: 0,
+    };
+
+    /// With one more record, which is `symbol` in a group of the type.
+    fn with(self, ty: TransactionType, symbol: Symbol) -> Counts
+        requires { HaveRoom self }
+        ensures { result ≡ counts_with ty self symbol }
+    {
+        let one_more = Counts {
+            records: self.records + 1,
+            behind_grh: self.behind_grh + 1,
+            behind_header: self.behind_header + 1,
+            ..self
+        };
+        if let Symbol::Grh(_) = symbol {
+            return Counts {
+                groups: self.groups + 1,
+                in_group: 0,
+                behind_grh: 0,
+                behind_header: 0,
+                ..one_more
+            };
+        }
+        if is_header(ty, symbol) {
+            return Counts {
+                transactions: self.transactions + 1,
+                in_group: self.in_group + 1,
+                behind_header: 0,
+                ..one_more
+            };
+        }
+        one_more
+    }
+
+    /// The number in field `j` of the next record, which is of the kind and stands in a group of the type. `None` where
+    /// that field holds none.
+    fn number(&self, ty: TransactionType, kind: Kind, j: u8) -> Option<u32>
+        requires { HaveRoom self.now }
+        ensures { result ≡ number_in kind j (expected ty self.now kind) }
+    {
+        match (kind, j) {
+            (Kind::Grh, 3) => Some(self.groups + 1),
+            (Kind::Grt | Kind::Trl, 2) => Some(self.groups),
+            (Kind::Grt, 3) => Some(self.in_group),
+            (Kind::Grt, 4) => Some(self.behind_grh + 2),
+            (Kind::Trl, 3) => Some(self.transactions),
+            (Kind::Trl, 4) => Some(self.records + 1),
+            (Kind::Hdr | Kind::Grh | Kind::Grt | Kind::Trl, _) => None,
+            _ => self.inside(is_header(ty, Symbol::Plain(kind)), j),
+        }
+    }
+
+    /// The number in field `j` of the next record, which is the header of a transaction or goes on with one.
+    fn inside(&self, begins: bool, j: u8) -> Option<u32>
+        requires { HaveRoom self.now }
+        ensures { result ≡ number_inside begins self.now j }
+    {
+        match (j, begins) {
+            (2, true) => Some(self.in_group),
+            (2, false) => Some(self.in_group.saturating_sub(1)),
+            (3, true) => Some(0),
+            (3, false) => Some(self.behind_header + 1),
+            _ => None,
+        }
+    }
+}
+
+/// Whether the record is the header of a transaction of the type.
+fn is_header(ty: TransactionType, symbol: Symbol) -> bool
+    ensures { result ≡ is_header_of ty symbol }
+{
+    matches!(
+        (ty, symbol),
+        (TransactionType::Agreement, Symbol::Plain(Kind::Agr))
+            | (TransactionType::NewWork, Symbol::Plain(Kind::Nwr))
+            | (TransactionType::RevisedWork, Symbol::Plain(Kind::Rev))
+            | (TransactionType::Acknowledgement, Symbol::Plain(Kind::Ack))
+    )
+}
+
+/// What is open at a stage.
+fn place_at(stage: Stage) -> Place
+    ensures { result ≡ place_at stage }
+{
+    match stage {
+        Stage::Start | Stage::Opened | Stage::Closed | Stage::Ended => Place::File,
+        Stage::Within(_, Step::InGroup) => Place::Group,
+        Stage::Within(..) => Place::Transaction,
+    }
+}
+
+/// Of two answers the one that comes first: a record may come, or else the first bar.
+fn easier(one: Result<(), Bar>, other: Result<(), Bar>) -> Result<(), Bar>
+    ensures { result ≡ easier one other }
+{
+    match (one, other) {
+        (Ok(()), _) | (_, Ok(())) => Ok(()),
+        (Err(bar), Err(next)) if bar.rank() <= next.rank() => Err(bar),
+        (_, Err(next)) => Err(next),
+    }
+}
+
+/// The first limit that the counts pass at a stage.
+fn passed(limits: Limits, stage: Stage, counts: &Counts) -> Option<LimitKind>
+    ensures { result ≡ passed_by limits stage counts.now }
+{
+    if counts.records > limits.records() {
+        return Some(LimitKind::Records);
+    }
+    if counts.groups > limits.groups() {
+        return Some(LimitKind::Groups);
+    }
+    match place_at(stage) {
+        Place::Transaction if counts.behind_header >= limits.transaction() => {
+            Some(LimitKind::Transaction)
+        }
+        _ => None,
+    }
+}
+
+/// The type of the group that is open at a stage. Where none is open no record is a header, of whatever type.
+fn type_at(stage: Stage) -> TransactionType
+    ensures { result ≡ stage_type stage }
+{
+    match stage {
+        Stage::Within(ty, _) => ty,
+        _ => TransactionType::Acknowledgement,
+    }
+}
+
+/// What was counted of the records of a transmission as they come: how far they are, and the number that belongs in
+/// each derived cell of the next one. It holds counters, no records.
+#[derive(Clone, Copy, Debug)]
+pub struct Tally {
+    limits: Limits,
+    stage: Stage,
+    counts: Counts,
+}
+
+impl Model for Tally {
+    ghost use Rattle.cwr_shape.specs.Tallies.{TallyValue, KeepsTally};
+
+    ghost Value = { TallyValue };
+
+    ghost view = { λ t. record { limits = t.limits; stage = t.stage; counts = t.counts } };
+
+    ghost invariant = { λ t. KeepsTally (record { limits = t.limits; stage = t.stage; counts = t.counts }) };
+
+    ghost inverse = { λ v. record { limits = v.limits; stage = v.stage; counts = v.counts } };
+}
+
+impl Tally {
+    /// No record has come. The transmission is to keep to the limits.
+    pub fn new(limits: Limits) -> Tally
+        ensures limits { result.limits ≡ limits }
+        ensures stands { StandsFor result [] }
+    {
+        prove!(limits.records() > 0);
+        Tally {
+            limits,
+            stage: Stage::start(),
+            counts: Counts::NONE,
+        }
+    }
+
+    /// How far the records have come.
+    pub fn stage(&self) -> Stage
+        ensures value { result ≡ self.now.stage }
+        ensures named { (xs : List Symbol) → StandsFor self.now xs → result ≡ stage_after xs }
+    {
+        self.stage
+    }
+
+    /// What is open behind the last record.
+    pub fn place(&self) -> Place
+        ensures { (xs : List Symbol) → StandsFor self.now xs → result ≡ place_after xs }
+    {
+        place_at(self.stage)
+    }
+
+    /// How many records have come.
+    pub fn records(&self) -> u32
+        ensures value { result ≡ self.now.counts.records }
+        ensures counted { (xs : List Symbol) → StandsFor self.now xs → result ≡ length xs }
+        ensures kept { KeepsTally self.now }
+    {
+        self.counts.records
+    }
+
+    /// How many groups have begun.
+    pub fn groups(&self) -> u32
+        ensures value { result ≡ self.now.counts.groups }
+        ensures counted { (xs : List Symbol) → StandsFor self.now xs → result ≡ count_by is_grh xs }
+        ensures kept { KeepsTally self.now }
+    {
+        self.counts.groups
+    }
+
+    /// How many transactions have begun in all groups.
+    pub fn transactions(&self) -> u32
+        ensures value { result ≡ self.now.counts.transactions }
+        ensures counted { (xs : List Symbol) → StandsFor self.now xs → result ≡ begun Acknowledgement xs }
+        ensures kept { KeepsTally self.now }
+    {
+        self.counts.transactions
+    }
+
+    /// The number that belongs in field `j`, from 1, of the next record, if that is of the kind. `None` where that
+    /// field holds no number. Of a kind that may not come now the answer says nothing.
+    pub fn expects(&self, kind: Kind, j: u8) -> Option<u64>
+        ensures { (xs : List Symbol) → StandsFor self.now xs → IsNumberAt xs kind j result }
+    {
+        let number = self.counts.number(type_at(self.stage), kind, j)?;
+        Some(u64::from(number))
+    }
+
+    /// Whether the record may come next: it is misplaced where no transmission goes on so, and else barred by the first
+    /// limit that it passes.
+    pub fn admits(&self, symbol: Symbol) -> Result<(), Bar>
+        ensures answer { (xs : List Symbol) → StandsFor self.now xs → Answers self.now.limits xs symbol result }
+        ensures admitted { OnOk result (IsAdmitted self.now symbol) }
+    {
+        let Some(stage) = self.stage.next(symbol) else {
+            return Err(Bar::Misplaced);
+        };
+        let counts = self.counts.with(type_at(self.stage), symbol);
+        match passed(self.limits, stage, &counts) {
+            Some(limit) => Err(Bar::Limit(limit)),
+            None => Ok(()),
+        }
+    }
+
+    /// Whether some record of the kind may come next: else the first bar that one of them gets.
+    pub fn admits_kind(&self, kind: Kind) -> Result<(), Bar>
+        ensures { (xs : List Symbol) → StandsFor self.now xs → AnswersKind self.now.limits xs kind result }
+    {
+        match kind {
+            Kind::Ipa => easier(
+                self.admits(Symbol::Ipa(Role::Assignor)),
+                self.admits(Symbol::Ipa(Role::Acquirer)),
+            ),
+            Kind::Grh => easier(
+                easier(
+                    self.admits(Symbol::Grh(TransactionType::Agreement)),
+                    self.admits(Symbol::Grh(TransactionType::NewWork)),
+                ),
+                easier(
+                    self.admits(Symbol::Grh(TransactionType::RevisedWork)),
+                    self.admits(Symbol::Grh(TransactionType::Acknowledgement)),
+                ),
+            ),
+            _ => self.admits(Symbol::Plain(kind)),
+        }
+    }
+
+    /// Counts the next record, which may come.
+    pub fn step(&mut self, symbol: Symbol)
+        requires { IsAdmitted self.old symbol }
+        ensures limits { self.new.limits ≡ self.old.limits }
+        ensures stands { (xs : List Symbol) → StandsFor self.old xs → StandsFor self.new (xs ++ symbol ∷ []) }
+    {
+        self.counts = self.counts.with(type_at(self.stage), symbol);
+        if let Some(stage) = self.stage.next(symbol) {
+            self.stage = stage;
+        }
+    }
 }

@@ -1,6 +1,6 @@
 //! Tests of what no clause says: that the calls answer as the worked examples of this profile have it.
 
-use crate::{Level, LimitKind, Limits, LimitsFault, Place, Reason, level};
+use crate::{Bar, Level, LimitKind, Limits, LimitsFault, Place, Reason, level};
 use cwr_fields::CellFault;
 use cwr_layouts::Kind;
 use std::test::Fail;
@@ -61,4 +61,36 @@ fn levels_of_worked_refusals(rt: HostRuntime) {
         Level::G
     );
     assert_eq!(rt; level(None, 1, &Reason::UnknownKind, Place::File), Level::E);
+}
+
+#[test]
+fn faults_print(rt: HostRuntime) -> Result<(), Fail> {
+    let bars = format!(in rt.alloc();
+        "{}, {}, {}, {}",
+        Bar::Misplaced,
+        Bar::Limit(LimitKind::Records),
+        Bar::Limit(LimitKind::Groups),
+        Bar::Limit(LimitKind::Transaction)
+    )?;
+    assert_eq!(rt;
+        bars.as_str(),
+        "misplaced, limit records, limit groups, limit transaction"
+    );
+    let kinds = format!(in rt.alloc();
+        "{}, {}, {}",
+        LimitKind::Records,
+        LimitKind::Groups,
+        LimitKind::Transaction
+    )?;
+    assert_eq!(rt; kinds.as_str(), "records, groups, transaction");
+    let faults = format!(in rt.alloc();
+        "{}, {}, {}",
+        LimitsFault::Records,
+        LimitsFault::Groups,
+        LimitsFault::Transaction
+    )?;
+    let expected =
+        "limit of records out of range, limit of groups out of range, limit of a transaction's records out of range";
+    assert_eq!(rt; faults.as_str(), expected);
+    Ok(())
 }

@@ -1,0 +1,22 @@
+use Rattle.std.proofs.Common.{List, [], ◌∷◌, ◌++◌, refl, sym, ap, subst, ◌∙◌}
+use Rattle.cwr_fields.specs.declared.codes.TransactionType.{TransactionType}
+use Rattle.cwr_shape.specs.declared.symbols.Symbol.{Symbol}
+use Rattle.cwr_shape.specs.Tallies.{TallyValue, StandsFor, IsAdmitted}
+use Rattle.cwr_shape.specs.Counting.{counts_with}
+use Rattle.cwr_shape.proofs.Tallied.{goes_next, stands_next}
+use Rattle.cwr_shape.proofs.Barred.{keeps_tally}
+use Rattle.cwr_shape.proofs.tallies.Tally.step.Goals as goal
+
+pub invariant_of-self : goal.invariant_of-self
+invariant_of-self c =
+    let before : TallyValue = record { limits = c.self.inside.limits; stage = c.self.inside.stage; counts = c.self.inside.counts } in
+    keeps_tally before c.args.symbol c.in-Some.stage c.with-self-inside.result c.self.invariant (subst (λ (t : TallyValue). IsAdmitted t c.args.symbol) (sym c.self.view_is) c.requires)
+    (λ xs st. c.in-Some.ensures.value xs st) (c.with-self-inside.ensures ∙ ap (λ (ty : TransactionType). counts_with ty c.self.inside.counts c.args.symbol) c.type_at.ensures)
+
+pub returns-in-Some-clause-stands : goal.returns-in-Some-clause-stands
+returns-in-Some-clause-stands c =
+    let next : TallyValue = record { limits = c.self.inside.limits; stage = c.in-Some.stage; counts = c.with-self-inside.result } in
+    subst (λ (t : TallyValue). (xs : List Symbol) → StandsFor t xs → StandsFor next (xs ++ c.args.symbol ∷ [])) c.self.view_is
+    (λ xs st. stands_next (record { limits = c.self.inside.limits; stage = c.self.inside.stage; counts = c.self.inside.counts }) next xs c.args.symbol st (c.in-Some.ensures.value xs st.stands)
+    (goes_next (record { limits = c.self.inside.limits; stage = c.self.inside.stage; counts = c.self.inside.counts }) xs c.args.symbol st ((c.in-Some.ensures.some xs st.stands).0 refl))
+    (c.with-self-inside.ensures ∙ ap (λ (ty : TransactionType). counts_with ty c.self.inside.counts c.args.symbol) c.type_at.ensures))

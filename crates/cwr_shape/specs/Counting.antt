@@ -1,0 +1,108 @@
+-- How the counters go on with one more record, and the numbers that they give it.
+use Rattle.std.specs.Prelude.{ℕ, ◌+◌, ◌-◌, ◌≤◌, Bool, true, false, ◌==◌, nat_le, nat_lt, List, [], ◌∷◌, Option, Some, None, Result, Ok, Err, if◌then◌else◌}
+use Rattle.cwr_fields.specs.declared.codes.TransactionType.{TransactionType}
+use Rattle.cwr_fields.specs.declared.codes.TransactionType.TheVariants.{Acknowledgement}
+use Rattle.cwr_layouts.specs.declared.kinds.Kind.{Kind}
+use Rattle.cwr_layouts.specs.declared.kinds.Kind.TheVariants.{Hdr, Grh, Grt, Trl}
+use Rattle.cwr_shape.specs.declared.symbols.Symbol.{Symbol}
+use Rattle.cwr_shape.specs.declared.symbols.Symbol.TheVariants as symbols
+use Rattle.cwr_shape.specs.declared.stages.Stage.{Stage}
+use Rattle.cwr_shape.specs.declared.stages.Stage.TheVariants.{Within}
+use Rattle.cwr_shape.specs.declared.stages.Step.TheVariants.{InGroup}
+use Rattle.cwr_shape.specs.declared.tallies.Bar.{Bar}
+use Rattle.cwr_shape.specs.declared.tallies.Place.{Place}
+use Rattle.cwr_shape.specs.declared.tallies.Place.TheVariants as places
+use Rattle.cwr_shape.specs.Bars.{bar_rank}
+use Rattle.cwr_shape.specs.declared.tallies.Counts.{Counts}
+use Rattle.cwr_shape.specs.Ranges.{LimitValues}
+use Rattle.cwr_shape.specs.declared.limits.LimitKind.{LimitKind}
+use Rattle.cwr_shape.specs.declared.limits.LimitKind.TheVariants.{Records, Groups, Transaction}
+use Rattle.cwr_shape.specs.Tallies.{is_header_of, is_in_transaction}
+
+-- what is open at a stage
+abbrev pub place_at : Stage → Place
+place_at (Within ty InGroup) = places.Group
+place_at (Within ty step) = places.Transaction
+place_at stage = places.File
+
+-- of two answers the one that comes first
+abbrev pub easier : Result (Unit {0}) Bar → Result (Unit {0}) Bar → Result (Unit {0}) Bar
+easier (Ok u) other = Ok tt
+easier (Err bar) (Ok u) = Ok tt
+easier (Err bar) (Err next) = if nat_le (bar_rank bar) (bar_rank next) then Err bar else Err next
+
+-- the type of the group that is open at a stage, if one is
+abbrev pub stage_type : Stage → TransactionType
+stage_type (Within ty step) = ty
+stage_type stage = Acknowledgement
+
+-- with a GRH
+abbrev pub counts_with_group : Counts → Counts
+counts_with_group c = record {
+  records = c.records + 1;
+  groups = c.groups + 1;
+  transactions = c.transactions;
+  in_group = 0;
+  behind_grh = 0;
+  behind_header = 0;
+}
+
+-- with a header
+abbrev pub counts_with_header : Counts → Counts
+counts_with_header c = record {
+  records = c.records + 1;
+  groups = c.groups;
+  transactions = c.transactions + 1;
+  in_group = c.in_group + 1;
+  behind_grh = c.behind_grh + 1;
+  behind_header = 0;
+}
+
+-- with any other record
+abbrev pub counts_with_other : Counts → Counts
+counts_with_other c = record {
+  records = c.records + 1;
+  groups = c.groups;
+  transactions = c.transactions;
+  in_group = c.in_group;
+  behind_grh = c.behind_grh + 1;
+  behind_header = c.behind_header + 1;
+}
+
+-- with one more record, in a group of the type
+abbrev pub counts_with : TransactionType → Counts → Symbol → Counts
+counts_with ty c (symbols.Grh t) = counts_with_group c
+counts_with ty c s = if is_header_of ty s then counts_with_header c else counts_with_other c
+
+-- no count is so large that one more isn't a number of the code
+pub record HaveRoom (c : Counts) : Type 0 where
+  pub records : c.records ≤ 99999999
+  pub groups : c.groups ≤ 99999999
+  pub transactions : c.transactions ≤ 99999999
+  pub in_group : c.in_group ≤ 99999999
+  pub behind_grh : c.behind_grh ≤ 99999999
+  pub behind_header : c.behind_header ≤ 99999999
+
+-- the numbers of a record inside a transaction, which is a header or not
+abbrev pub expected_inside : Bool → Counts → List ℕ
+expected_inside true c = c.in_group ∷ 0 ∷ []
+expected_inside false c = (c.in_group - 1) ∷ (c.behind_header + 1) ∷ []
+
+-- the numbers of a record of the kind, in a group of the type
+abbrev pub expected : TransactionType → Counts → Kind → List ℕ
+expected ty c Hdr = []
+expected ty c Grh = (c.groups + 1) ∷ []
+expected ty c Grt = c.groups ∷ c.in_group ∷ (c.behind_grh + 2) ∷ []
+expected ty c Trl = c.groups ∷ c.transactions ∷ (c.records + 1) ∷ []
+expected ty c kind = expected_inside (is_header_of ty (symbols.Plain kind)) c
+
+-- the number in a field of a record inside a transaction, which is a header or not
+abbrev pub number_inside : Bool → Counts → ℕ → Option ℕ
+number_inside begins c j = if 2 == j then Some (if begins then c.in_group else (c.in_group - 1))
+    else (if 3 == j then Some (if begins then 0 else (c.behind_header + 1)) else None)
+
+-- the first limit that the counts pass at a stage
+abbrev pub passed_by : LimitValues → Stage → Counts → Option LimitKind
+passed_by limits stage c = if nat_lt limits.records c.records then Some Records
+    else (if nat_lt limits.groups c.groups then Some Groups
+    else (if nat_lt limits.transaction (if is_in_transaction (place_at stage) then (1 + c.behind_header) else 0) then Some Transaction else None))

@@ -1,0 +1,158 @@
+//! Tests of tallies, on worked orders of records.
+
+use crate::{Bar, LimitKind, Limits, Place, Stage, Step, Symbol, Tally};
+use cwr_fields::{Role, TransactionType};
+use cwr_layouts::Kind;
+use std::test::Fail;
+
+const HDR: Symbol = Symbol::Plain(Kind::Hdr);
+
+const NWR: Symbol = Symbol::Plain(Kind::Nwr);
+
+const REV: Symbol = Symbol::Plain(Kind::Rev);
+
+const SWR: Symbol = Symbol::Plain(Kind::Swr);
+
+const GRT: Symbol = Symbol::Plain(Kind::Grt);
+
+const TRL: Symbol = Symbol::Plain(Kind::Trl);
+
+/// Group NWR with one work and group REV with two, of two records each.
+const TWO_GROUPS: [Symbol; 12] = [
+    HDR,
+    Symbol::Grh(TransactionType::NewWork),
+    NWR,
+    SWR,
+    GRT,
+    Symbol::Grh(TransactionType::RevisedWork),
+    REV,
+    SWR,
+    REV,
+    SWR,
+    GRT,
+    TRL,
+];
+
+/// Within the largest limits.
+fn tally() -> Result<Tally, Fail> {
+    Ok(Tally::new(Limits::new(99_999_999, 99_999, 999_999)?))
+}
+
+/// Asks for each record and counts it.
+fn come(tally: &mut Tally, symbols: &[Symbol]) -> Result<(), Bar> {
+    for symbol in symbols {
+        tally.admits(*symbol)?;
+        tally.step(*symbol);
+    }
+    Ok(())
+}
+
+#[test]
+fn numbers_of_two_groups(rt: HostRuntime) -> Result<(), Fail> {
+    let mut tally = tally()?;
+    assert_eq!(rt; tally.stage(), Stage::Start);
+    assert_eq!(rt; tally.place(), Place::File);
+    assert_eq!(rt; tally.expects(Kind::Hdr, 1), None);
+    assert_eq!(rt; tally.expects(Kind::Hdr, 8), None);
+    come(&mut tally, &TWO_GROUPS[..1])?;
+    assert_eq!(rt; tally.expects(Kind::Grh, 2), None);
+    assert_eq!(rt; tally.expects(Kind::Grh, 3), Some(1));
+    come(&mut tally, &TWO_GROUPS[1..2])?;
+    assert_eq!(rt; tally.place(), Place::Group);
+    assert_eq!(rt; tally.expects(Kind::Nwr, 2), Some(0));
+    assert_eq!(rt; tally.expects(Kind::Nwr, 3), Some(0));
+    come(&mut tally, &TWO_GROUPS[2..3])?;
+    assert_eq!(rt; tally.place(), Place::Transaction);
+    assert_eq!(rt; tally.expects(Kind::Swr, 2), Some(0));
+    assert_eq!(rt; tally.expects(Kind::Swr, 3), Some(1));
+    assert_eq!(rt; tally.expects(Kind::Swr, 4), None);
+    come(&mut tally, &TWO_GROUPS[3..4])?;
+    assert_eq!(rt; tally.expects(Kind::Nwr, 2), Some(1));
+    assert_eq!(rt; tally.expects(Kind::Swr, 3), Some(2));
+    assert_eq!(rt; tally.expects(Kind::Grt, 1), None);
+    assert_eq!(rt; tally.expects(Kind::Grt, 2), Some(1));
+    assert_eq!(rt; tally.expects(Kind::Grt, 3), Some(1));
+    assert_eq!(rt; tally.expects(Kind::Grt, 4), Some(4));
+    assert_eq!(rt; tally.expects(Kind::Grt, 5), None);
+    come(&mut tally, &TWO_GROUPS[4..6])?;
+    assert_eq!(rt; tally.groups(), 2);
+    assert_eq!(rt; tally.expects(Kind::Rev, 2), Some(0));
+    assert_eq!(rt; tally.expects(Kind::Rev, 3), Some(0));
+    come(&mut tally, &TWO_GROUPS[6..10])?;
+    assert_eq!(rt; tally.expects(Kind::Grt, 2), Some(2));
+    assert_eq!(rt; tally.expects(Kind::Grt, 3), Some(2));
+    assert_eq!(rt; tally.expects(Kind::Grt, 4), Some(6));
+    come(&mut tally, &TWO_GROUPS[10..11])?;
+    assert_eq!(rt; tally.place(), Place::File);
+    assert_eq!(rt; tally.expects(Kind::Grh, 3), Some(3));
+    assert_eq!(rt; tally.expects(Kind::Trl, 2), Some(2));
+    assert_eq!(rt; tally.expects(Kind::Trl, 3), Some(3));
+    assert_eq!(rt; tally.expects(Kind::Trl, 4), Some(12));
+    come(&mut tally, &TWO_GROUPS[11..])?;
+    assert_eq!(rt; tally.stage(), Stage::Ended);
+    assert_eq!(rt;
+        (tally.records(), tally.groups(), tally.transactions()),
+        (12, 2, 3)
+    );
+    Ok(())
+}
+
+#[test]
+fn bars(rt: HostRuntime) -> Result<(), Fail> {
+    let mut tally = tally()?;
+    assert_eq!(rt; tally.admits(TRL), Err(Bar::Misplaced));
+    assert_eq!(rt; tally.admits(Symbol::Plain(Kind::Grh)), Err(Bar::Misplaced));
+    assert_eq!(rt; tally.admits_kind(Kind::Grh), Err(Bar::Misplaced));
+    assert_eq!(rt; tally.admits_kind(Kind::Hdr), Ok(()));
+    come(&mut tally, &[HDR])?;
+    assert_eq!(rt; tally.admits_kind(Kind::Grh), Ok(()));
+    come(
+        &mut tally,
+        &[
+            Symbol::Grh(TransactionType::Agreement),
+            Symbol::Plain(Kind::Agr),
+        ],
+    )?;
+    assert_eq!(rt;
+        tally.stage(),
+        Stage::Within(TransactionType::Agreement, Step::Agreed)
+    );
+    assert_eq!(rt; tally.admits_kind(Kind::Ipa), Err(Bar::Misplaced));
+    come(
+        &mut tally,
+        &[Symbol::Plain(Kind::Ter), Symbol::Ipa(Role::Acquirer)],
+    )?;
+    assert_eq!(rt; tally.admits_kind(Kind::Ipa), Ok(()));
+    assert_eq!(rt; tally.admits(GRT), Err(Bar::Misplaced));
+    Ok(())
+}
+
+#[test]
+fn limits_bar_in_their_order(rt: HostRuntime) -> Result<(), Fail> {
+    let mut tally = Tally::new(Limits::new(5, 1, 1)?);
+    come(
+        &mut tally,
+        &[
+            HDR,
+            Symbol::Grh(TransactionType::Acknowledgement),
+            Symbol::Plain(Kind::Ack),
+        ],
+    )?;
+    let long = Err(Bar::Limit(LimitKind::Transaction));
+    assert_eq!(rt; tally.admits(Symbol::Plain(Kind::Msg)), long);
+    assert_eq!(rt; tally.admits(Symbol::Plain(Kind::Ack)), Ok(()));
+    assert_eq!(rt; tally.admits(SWR), Err(Bar::Misplaced));
+    come(&mut tally, &[GRT])?;
+    let groups = Err(Bar::Limit(LimitKind::Groups));
+    assert_eq!(rt; tally.admits_kind(Kind::Grh), groups);
+    assert_eq!(rt; tally.admits(TRL), Ok(()));
+    let mut tally = Tally::new(Limits::new(5, 1, 2)?);
+    come(
+        &mut tally,
+        &[HDR, Symbol::Grh(TransactionType::NewWork), NWR, SWR, GRT],
+    )?;
+    let records = Err(Bar::Limit(LimitKind::Records));
+    assert_eq!(rt; tally.admits(TRL), records);
+    assert_eq!(rt; tally.admits_kind(Kind::Grh), records);
+    Ok(())
+}
