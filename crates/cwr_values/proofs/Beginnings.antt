@@ -20,7 +20,7 @@ use Rattle.cwr_values.specs.Values.{symbol_of}
 use Rattle.cwr_values.specs.Begun.{IsBegun, KeepsTransaction, IsWholeTransaction, BeginsWithOneMore}
 
 -- the type whose header the symbol is
-abbrev header_of : Symbol → TransactionType
+abbrev pub header_of : Symbol → TransactionType
 header_of (Plain kinds.Agr) = Agreement
 header_of (Plain kinds.Nwr) = NewWork
 header_of (Plain kinds.Rev) = RevisedWork
@@ -34,7 +34,7 @@ header_named Acknowledgement (Plain kinds.Ack) h = refl
 header_named ty s h = absurd (omega (arith, h))
 
 -- a shape's type is that of its first symbol
-shape_type : (ty : TransactionType) (s : Symbol) (xs : List Symbol) → IsShape ty (s ∷ xs) → header_of s ≡ ty
+pub shape_type : (ty : TransactionType) (s : Symbol) (xs : List Symbol) → IsShape ty (s ∷ xs) → header_of s ≡ ty
 shape_type ty s xs shape =
     let h = head_first ty (s ∷ xs) shape in
     let same : s ≡ h.head = cc h.whole in
@@ -80,7 +80,7 @@ whole_in ty step records k = (
     nil [] = refl
     nil (x ∷ xs) = ap (λ (l : List Symbol). x ∷ l) (nil xs)
 
-none_is_some : (o : Option Step) (P : Type 0) → o ≡ None → IsSome o ↔ P → ¬ P
+pub none_is_some : (o : Option Step) (P : Type 0) → o ≡ None → IsSome o ↔ P → ¬ P
 none_is_some o P e t p = true≢false (sym (sym (ap is_some e) ∙ t.1 p))
 
 -- where no type begins by the symbol, no transaction does
@@ -100,9 +100,6 @@ more_exact ty step kept records s r o k e f t =
     let all = goes_in ty (map symbol_of kept) step s (omega (arith, k.some, length_map kept)) k.stands in
     let both : IsSome o ↔ BeginsShape (map symbol_of kept ++ s ∷ []) = (λ h. all.0 (own.0 h), λ b. own.1 (all.1 b)) in
     subst (λ (rs : List RecordValue). IsSome o ↔ BeginsWithOneMore rs r) e (subst (λ (u : Symbol). IsSome o ↔ BeginsShape (map symbol_of kept ++ u ∷ [])) f both)
-
-pub none_begins : (o : Option Step) (P : Type 0) → o ≡ None → IsSome o ↔ P → ¬ P
-none_begins o P e t = none_is_some o P e t
 
 map_more : (records : List RecordValue) (r : RecordValue) → map symbol_of (records ++ r ∷ []) ≡ map symbol_of records ++ symbol_of r ∷ []
 map_more [] r = refl

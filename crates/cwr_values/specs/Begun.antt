@@ -1,12 +1,14 @@
--- Records that begin a transaction, and how they are kept.
-use Rattle.std.specs.Prelude.{◌<◌, List, [], ◌∷◌, ◌++◌, length, map}
+-- What begins a transaction, a group and a transmission, and how the records of a transaction are kept.
+use Rattle.std.specs.Prelude.{◌≡◌, ◌<◌, List, [], ◌∷◌, ◌++◌, length, map, slice_get, IsSomeAnd}
 use Rattle.std.specs.List.{AllByRecursion}
 use Rattle.cwr_fields.specs.declared.codes.TransactionType.{TransactionType}
+use Rattle.cwr_layouts.specs.declared.kinds.Kind.TheVariants as kinds
 use Rattle.cwr_layouts.specs.Records.{RecordValue, IsRecord}
 use Rattle.cwr_shape.specs.declared.stages.Step.{Step}
 use Rattle.cwr_shape.specs.Shapes.{IsShape, BeginsShape}
 use Rattle.cwr_shape.specs.Left.{StandsIn}
-use Rattle.cwr_values.specs.Values.{symbol_of}
+use Rattle.cwr_shape.specs.Tallies.{header_kind}
+use Rattle.cwr_values.specs.Values.{GroupValue, TransmissionValue, symbol_of, type_of, IsTransaction, IsRecordOf, IsGroup}
 
 -- records in an order in which some transaction begins
 pub record IsBegun (records : List RecordValue) : Type 0 where
@@ -26,3 +28,18 @@ pub record KeepsTransaction (ty : TransactionType) (step : Step) (records : List
   pub some : 0 < length records
   pub each : AllByRecursion IsRecord records
   pub stands : StandsIn ty (map symbol_of records) step
+
+-- the first of the records is a header of the type
+abbrev pub HasHeaderOf : TransactionType → List RecordValue → Type 0
+HasHeaderOf ty records = IsSomeAnd (slice_get records 0) (λ r. r.kind ≡ header_kind ty)
+
+-- a GRH record, transactions of its type, none or more, and a GRT record
+pub record IsBegunGroup (g : GroupValue) : Type 0 where
+  pub head : IsRecordOf kinds.Grh g.head
+  pub each : AllByRecursion (IsTransaction (type_of g.head)) g.transactions
+  pub foot : IsRecordOf kinds.Grt g.foot
+
+-- an HDR record and groups, none or more
+pub record IsBegunTransmission (v : TransmissionValue) : Type 0 where
+  pub opening : IsRecordOf kinds.Hdr v.opening
+  pub each : AllByRecursion IsGroup v.groups

@@ -1,14 +1,17 @@
 //! Laws over transmissions, their rows and the texts that spell them.
 
-ghost use Rattle.std.specs.Prelude.{Contains, List, filter, length, ℕ, ◌++◌, ◌≡◌, ◌<◌, ◌≤◌, ◌^◌};
-ghost use Rattle.std.specs.List.{AllZip};
+ghost use Rattle.std.specs.Prelude.{Contains, List, None, filter, length, map, take, ℕ, ◌++◌, ◌≡◌, ◌↔◌, ◌<◌, ◌≤◌, ◌^◌};
+ghost use Rattle.std.specs.List.{AllByRecursion, AllZip};
 ghost use Rattle.cwr_layouts.specs.Layouts.{fields_after_type};
 ghost use Rattle.cwr_layouts.specs.Lines.{IsLineOf};
-ghost use Rattle.cwr_layouts.specs.Records.{Row};
+ghost use Rattle.cwr_layouts.specs.Records.{IsRecord, RecordValue, Row};
 ghost use Rattle.cwr_shape.specs.Numbers.{numbers_of};
+ghost use Rattle.cwr_shape.specs.Outlines.{IsWhole};
 ghost use Rattle.cwr_shape.specs.declared.limits.Limits.{Limits};
+ghost use Rattle.cwr_values.specs.Begins.{rows_so_far};
+ghost use Rattle.cwr_values.specs.Fits.{value_fault};
 ghost use Rattle.cwr_values.specs.Rows.{canonical_text, lengths_of_value, records_of, rows, Spells};
-ghost use Rattle.cwr_values.specs.Values.{FitsIn, IsTransmission, TransmissionValue};
+ghost use Rattle.cwr_values.specs.Values.{FitsIn, IsTransmission, symbol_of, TransmissionValue};
 
 /// The canonical text of a transmission spells it.
 pub fn canonical_text_spells()
@@ -33,4 +36,26 @@ pub fn numbers_fit_their_fields()
         → limits.records ≤ 99999999 → limits.groups ≤ 99999
         → AllZip (λ numbers r. AllZip (λ f n. n < 10 ^ f.width) (filter (λ f. f.derived) (fields_after_type r.kind)) numbers)
         (numbers_of (lengths_of_value v)) (records_of v) }
+{}
+
+/// No fault is told of a transmission exactly where it has a group and is within the limits.
+pub fn fits_is_within()
+    ensures { (limits : Limits) (v : TransmissionValue) → (value_fault limits v ≡ None) ↔ ((0 < length v.groups) × FitsIn limits v) }
+{}
+
+/// Records that are each in order, and whose order is a whole one, are the records of a transmission, and of no other.
+pub fn whole_records_are_a_transmission()
+    ensures some { (records : List RecordValue) → AllByRecursion IsRecord records → IsWhole (map symbol_of records)
+        → (v : TransmissionValue) × IsTransmission v × (records_of v ≡ records) }
+    ensures no_other { (v w : TransmissionValue) → IsTransmission v → IsTransmission w → records_of v ≡ records_of w → v ≡ w }
+{}
+
+/// A row depends on its record and on the records before it alone: transmissions that begin with the same records
+/// begin with the same rows, which are those that are counted as the records come.
+pub fn rows_depend_on_records_before()
+    ensures same { (v w : TransmissionValue) (before rest others : List RecordValue) → IsTransmission v → IsTransmission w
+        → records_of v ≡ before ++ rest → records_of w ≡ before ++ others
+        → take (length before) (rows v) ≡ take (length before) (rows w) }
+    ensures counted { (v : TransmissionValue) (before rest : List RecordValue) → IsTransmission v → records_of v ≡ before ++ rest
+        → (more : List Row) × (rows v ≡ rows_so_far before ++ more) }
 {}

@@ -1,35 +1,9 @@
 //! Tests of transactions, on the worked orders of records.
 
+use crate::worked_records::{made, publisher, work, writer};
 use crate::{PushFault, Transaction};
-use cwr_layouts::{Draft, Kind, Record};
+use cwr_layouts::{Kind, Record};
 use std::test::Fail;
-
-/// The record of the kind in which these cells are set.
-fn made(kind: Kind, cells: &[(u8, &[u8])]) -> Result<Record, Fail> {
-    let mut draft = Draft::blank(kind);
-    for (j, text) in cells {
-        draft.set(*j, text)?;
-    }
-    Ok(draft.done()?)
-}
-
-fn work() -> Result<Record, Fail> {
-    made(
-        Kind::Nwr,
-        &[(4, b"BLUE RIVER"), (6, b"W000001"), (15, b"ORI")],
-    )
-}
-
-fn writer() -> Result<Record, Fail> {
-    made(Kind::Swr, &[(4, b"000000001"), (5, b"SMITH")])
-}
-
-fn publisher() -> Result<Record, Fail> {
-    made(
-        Kind::Spu,
-        &[(4, b"01"), (5, b"000000002"), (6, b"MUSIC HOUSE")],
-    )
-}
 
 fn party(role: &[u8]) -> Result<Record, Fail> {
     made(Kind::Ipa, &[(4, role), (8, b"SMITH")])
@@ -56,6 +30,14 @@ fn works(rt: HostRuntime) -> Result<(), Fail> {
         .map(<[u8]>::len);
     assert_eq!(rt; title, Some(60));
     assert!(rt; transaction.record(2).is_none());
+    Ok(())
+}
+
+#[test]
+fn faults_are_printed(rt: HostRuntime) -> Result<(), Fail> {
+    let (misplaced, memory) = (PushFault::Misplaced, PushFault::Memory);
+    let text = format!(in rt.alloc(); "{misplaced}, {memory}")?;
+    assert_eq!(rt; text.as_str(), "misplaced record, out of memory");
     Ok(())
 }
 

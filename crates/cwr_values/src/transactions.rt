@@ -57,7 +57,7 @@ fn begin(symbol: Symbol) -> Option<(TransactionType, Step)>
 
 /// A transaction, or the records with which one begins: its header and the records behind it, in an order of this
 /// profile.
-#[derive(Drop)]
+#[derive(Debug, Drop)]
 pub struct Transaction {
     ty: TransactionType,
     /// The step after its records.
@@ -133,14 +133,16 @@ impl Transaction {
 
     /// The kind of its header.
     pub fn kind(&self) -> Kind
-        ensures { Some result ≡ option_map (λ r. r.kind) (slice_get self.now 0) }
+        ensures value { Some result ≡ option_map (λ r. r.kind) (slice_get self.now 0) }
+        ensures begun { IsBegun self.now }
     {
         self.records.as_slice()[0].view().kind()
     }
 
     /// Whether its records are a whole transaction.
     pub fn complete(&self) -> bool
-        ensures { IsTrue result ↔ IsWholeTransaction self.now }
+        ensures whole { IsTrue result ↔ IsWholeTransaction self.now }
+        ensures begun { IsBegun self.now }
     {
         self.step.is_whole()
     }

@@ -2,13 +2,13 @@ use Rattle.std.proofs.Common.{Err, refl, ap, map}
 use Rattle.std.specs.Prelude.{is_some}
 use Rattle.cwr_values.specs.declared.transactions.PushFault.TheVariants.{Memory}
 use Rattle.cwr_values.specs.Values.{symbol_of}
-use Rattle.cwr_values.proofs.Beginnings.{more_exact, none_begins, keeps_more, ok_is_refused, memory_is_misplaced}
+use Rattle.cwr_values.proofs.Beginnings.{more_exact, none_is_some, keeps_more, ok_is_refused, memory_is_misplaced}
 use Rattle.cwr_values.proofs.transactions.Transaction.push.Goals as goal
 
 pub returns-in_default-clause-misplaced : goal.returns-in_default-clause-misplaced
 returns-in_default-clause-misplaced c =
     let more = more_exact c.self.inside.ty c.self.inside.step c.self.inside.records.items c.args.self.now c.symbol_of.result c.args.next c.next.result c.self.invariant c.self.view_is c.symbol_of.ensures c.next.ensures.some in
-    (λ e. none_begins c.next.result _ c.in_default.is more, λ n. refl)
+    (λ e. none_is_some c.next.result _ c.in_default.is more, λ n. refl)
 
 pub invariant_of-self : goal.invariant_of-self
 invariant_of-self c =

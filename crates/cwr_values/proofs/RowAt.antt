@@ -1,0 +1,123 @@
+-- The row of a record depends on the records before it alone.
+use Rattle.std.proofs.Common.{◌≡◌, ℕ, suc, List, [], ◌∷◌, ◌++◌, length, map, refl, sym, ap, ap₂, ◌∙◌, append_assoc, append-nil}
+use Rattle.std.specs.Prelude.{take}
+use Rattle.std.specs.List.{zip}
+use Rattle.std.proofs.lemmas.List.{map-append, length-map}
+use Rattle.cwr_fields.specs.declared.codes.TransactionType.{TransactionType}
+use Rattle.cwr_fields.specs.declared.codes.TransactionType.TheVariants.{Acknowledgement}
+use Rattle.cwr_layouts.specs.declared.kinds.Kind.{Kind}
+use Rattle.cwr_layouts.specs.declared.kinds.Kind.TheVariants as kinds
+use Rattle.cwr_layouts.specs.Records.{RecordValue, Row, row_of}
+use Rattle.cwr_shape.specs.declared.symbols.Symbol.{Symbol}
+use Rattle.cwr_shape.specs.declared.tallies.Counts.{Counts}
+use Rattle.cwr_shape.specs.Numbers.{numbers_of, lengths_of, symbol_kind}
+use Rattle.cwr_shape.specs.Tallies.{type_behind, open_type, counts_of}
+use Rattle.cwr_shape.specs.Counting.{counts_with, expected}
+use Rattle.cwr_shape.proofs.OneMore.{open_type-snoc, counts-snoc}
+use Rattle.cwr_shape.proofs.Walks.{walk, walks_whole}
+use Rattle.cwr_values.specs.Values.{GroupValue, TransmissionValue, IsTransmission, symbol_of, symbol_by, outline_of, outline_of_group}
+use Rattle.cwr_values.specs.Rows.{records_of, lengths_of_value, rows}
+use Rattle.cwr_values.specs.Begins.{row_behind, rows_behind, rows_so_far}
+use Rattle.cwr_values.proofs.Unique.{symbols-outline, outline_whole}
+
+-- ---- lengths are those of the outline
+
+transactions_lengths : (ts : List (List RecordValue)) → map length (map (map symbol_of) ts) ≡ map length ts
+transactions_lengths [] = refl
+transactions_lengths (t ∷ ts) = ap₂ (λ (n : ℕ) (ns : List ℕ). n ∷ ns) (length-map t symbol_of) (transactions_lengths ts)
+
+groups_lengths : (gs : List GroupValue) → lengths_of (map outline_of_group gs) ≡ map (λ g. map length g.transactions) gs
+groups_lengths [] = refl
+groups_lengths (g ∷ gs) = ap₂ (λ (n : List ℕ) (ns : List (List ℕ)). n ∷ ns) (transactions_lengths g.transactions) (groups_lengths gs)
+
+-- ---- counters give the rows
+
+-- a record has its symbol's kind
+pub kind_of_symbol : (r : RecordValue) → symbol_kind (symbol_of r) ≡ r.kind
+kind_of_symbol r = by r.kind
+  where
+    by : (k : Kind) → symbol_kind (symbol_by k r) ≡ k
+    by kinds.Ipa = refl
+    by kinds.Grh = refl
+    by k = refl
+
+rows_walked : (before rs : List RecordValue)
+    → map (λ p. row_of p.0 p.1) (zip (walk (open_type (map symbol_of before)) (counts_of (map symbol_of before)) (map symbol_of rs)) rs) ≡ rows_behind before rs
+unfolding rows_behind
+rows_walked before [] = refl
+rows_walked before (r ∷ rs) =
+    let xs : List Symbol = map symbol_of before in
+    let s : Symbol = symbol_of r in
+    let grown : map symbol_of (before ++ r ∷ []) ≡ xs ++ s ∷ [] = map-append symbol_of before (r ∷ []) in
+    let ty : type_behind (open_type xs) s ≡ open_type (map symbol_of (before ++ r ∷ [])) = sym (open_type-snoc xs s) ∙ sym (ap open_type grown) in
+    let counts : counts_with (open_type xs) (counts_of xs) s ≡ counts_of (map symbol_of (before ++ r ∷ [])) = counts-snoc xs s ∙ sym (ap counts_of grown) in
+    ap₂ (λ (a : Row) (l : List Row). a ∷ l) (ap (λ (k : Kind). row_of (expected (open_type xs) (counts_of xs) k) r) (kind_of_symbol r))
+    (ap₂ (λ (t : TransactionType) (c : Counts). map (λ p. row_of p.0 p.1) (zip (walk t c (map symbol_of rs)) rs)) ty counts ∙ rows_walked (before ++ r ∷ []) rs)
+
+-- the rows of a transmission are those of its records, one after another
+pub rows_whole : (v : TransmissionValue) → IsTransmission v → rows v ≡ rows_so_far (records_of v)
+unfolding rows
+rows_whole v h =
+    let numbers : numbers_of (lengths_of_value v) ≡ walk (open_type []) (counts_of []) (map symbol_of (records_of v)) =
+    sym (ap numbers_of (groups_lengths v.groups)) ∙ sym (walks_whole (outline_of v) (outline_whole v h)) ∙ ap (walk Acknowledgement (counts_of [])) (symbols-outline v h) in
+    ap (λ (ns : List (List ℕ)). map (λ p. row_of p.0 p.1) (zip ns (records_of v))) numbers ∙ rows_walked [] (records_of v)
+
+-- ---- more records
+
+pub rows_behind-append : (before xs ys : List RecordValue) → rows_behind before (xs ++ ys) ≡ rows_behind before xs ++ rows_behind (before ++ xs) ys
+unfolding rows_behind
+rows_behind-append before [] ys = ap (λ (b : List RecordValue). rows_behind b ys) (sym (append-nil before))
+rows_behind-append before (x ∷ xs) ys =
+    ap (λ (l : List Row). row_behind before x ∷ l)
+    (rows_behind-append (before ++ x ∷ []) xs ys ∙ ap (λ (b : List RecordValue). rows_behind (before ++ x ∷ []) xs ++ rows_behind b ys) (append_assoc before (x ∷ []) xs))
+
+-- one more record has one more row
+pub rows_so_far-snoc : (rs : List RecordValue) (r : RecordValue) → rows_so_far (rs ++ r ∷ []) ≡ rows_so_far rs ++ row_behind rs r ∷ []
+unfolding rows_behind
+rows_so_far-snoc rs r = rows_behind-append [] rs (r ∷ [])
+
+-- as many rows as records
+pub length-rows_behind : (before rs : List RecordValue) → length (rows_behind before rs) ≡ length rs
+unfolding rows_behind
+length-rows_behind before [] = refl
+length-rows_behind before (r ∷ rs) = ap suc (length-rows_behind (before ++ r ∷ []) rs)
+
+pub length-rows_so_far : (rs : List RecordValue) → length (rows_so_far rs) ≡ length rs
+length-rows_so_far rs = length-rows_behind [] rs
+
+-- a transmission's rows begin with those of the records that it begins with
+pub rows_split : (v : TransmissionValue) (before after : List RecordValue) → IsTransmission v → records_of v ≡ before ++ after → rows v ≡ rows_so_far before ++ rows_behind before after
+rows_split v before after h e = rows_whole v h ∙ ap rows_so_far e ∙ rows_behind-append [] before after
+
+pub rows_begin : (v : TransmissionValue) (before after : List RecordValue) → IsTransmission v → records_of v ≡ before ++ after → (rest : List Row) × (rows v ≡ rows_so_far before ++ rest)
+rows_begin v before after h e = (rows_behind before after, rows_split v before after h e)
+
+-- the row of one record, by the records before it
+pub record RowAt (v : TransmissionValue) (before : List RecordValue) (r : RecordValue) : Type 0 where
+  pub front : List Row
+  pub rest : List Row
+  pub split : rows v ≡ front ++ row_behind before r ∷ rest
+  pub as_many : length front ≡ length before
+
+pub row_at : (v : TransmissionValue) (before after : List RecordValue) (r : RecordValue) → IsTransmission v → records_of v ≡ before ++ r ∷ after → RowAt v before r
+unfolding rows_behind
+row_at v before after r h e = record {
+  front = rows_so_far before;
+  rest = rows_behind (before ++ r ∷ []) after;
+  split = rows_split v before (r ∷ after) h e;
+  as_many = length-rows_so_far before;
+}
+
+-- transmissions that begin with the same records begin with the same rows
+pub same_rows : (v w : TransmissionValue) (before rest others : List RecordValue) → IsTransmission v → IsTransmission w → records_of v ≡ before ++ rest → records_of w ≡ before ++ others
+    → take (length before) (rows v) ≡ take (length before) (rows w)
+same_rows v w before rest others h k e f =
+    front (rows v) (rows_behind before rest) (rows_split v before rest h e) ∙ sym (front (rows w) (rows_behind before others) (rows_split w before others k f))
+  where
+    taken : (xs ys : List Row) → take (length xs) (xs ++ ys) ≡ xs
+    taken [] ys = refl
+    taken (x ∷ xs) ys = ap (λ (l : List Row). x ∷ l) (taken xs ys)
+
+    front : (rs more : List Row) → rs ≡ rows_so_far before ++ more → take (length before) rs ≡ rows_so_far before
+    front rs more d =
+        ap₂ (λ (n : ℕ) (l : List Row). take n l) (sym (length-rows_so_far before)) d ∙ taken (rows_so_far before) more

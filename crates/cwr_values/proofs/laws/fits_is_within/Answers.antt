@@ -1,0 +1,5 @@
+use Rattle.cwr_values.proofs.Fitting.{no_fault}
+use Rattle.cwr_values.proofs.laws.fits_is_within.Goals as goal
+
+pub returns : goal.returns
+returns c = no_fault

@@ -1,0 +1,84 @@
+//! The records of the worked transactions, for tests.
+
+use crate::Transaction;
+use cwr_layouts::{Draft, Kind, Record};
+use std::alloc::Global;
+use std::test::Fail;
+
+/// The record of the kind in which these cells are set.
+pub(crate) fn made(kind: Kind, cells: &[(u8, &[u8])]) -> Result<Record, Fail> {
+    let mut draft = Draft::blank(kind);
+    for (j, text) in cells {
+        draft.set(*j, text)?;
+    }
+    Ok(draft.done()?)
+}
+
+/// HDR.
+pub(crate) fn opening() -> Result<Record, Fail> {
+    made(
+        Kind::Hdr,
+        &[
+            (2, b"PB"),
+            (3, b"123456789"),
+            (4, b"MUSIC HOUSE"),
+            (6, b"20240102"),
+            (7, b"101500"),
+            (8, b"20240103"),
+        ],
+    )
+}
+
+/// GRH of a type.
+pub(crate) fn group_head(ty: &[u8]) -> Result<Record, Fail> {
+    made(Kind::Grh, &[(2, ty), (5, b"0000000001")])
+}
+
+/// NWR.
+pub(crate) fn work() -> Result<Record, Fail> {
+    made(
+        Kind::Nwr,
+        &[
+            (4, b"BLUE RIVER"),
+            (6, b"W0001"),
+            (10, b"POP"),
+            (15, b"ORI"),
+        ],
+    )
+}
+
+/// REV of a title and a number of the work.
+pub(crate) fn revision<'a>(title: &'a [u8], number: &'a [u8]) -> Result<Record, Fail> {
+    made(Kind::Rev, &[(4, title), (6, number), (15, b"ORI")])
+}
+
+/// SWR.
+pub(crate) fn writer() -> Result<Record, Fail> {
+    made(
+        Kind::Swr,
+        &[(4, b"W1"), (5, b"SMITH"), (6, b"ANNA"), (8, b"CA")],
+    )
+}
+
+/// SPU.
+pub(crate) fn publisher() -> Result<Record, Fail> {
+    made(
+        Kind::Spu,
+        &[
+            (4, b"01"),
+            (5, b"P1"),
+            (6, b"MUSIC HOUSE"),
+            (8, b"E"),
+            (13, b"02500"),
+            (15, b"05000"),
+            (17, b"05000"),
+        ],
+    )
+}
+
+/// A work of its header and one writer.
+pub(crate) fn written(alloc: Global, header: &Record) -> Result<Transaction, Fail> {
+    let mut transaction = Transaction::new(alloc, header.view())?;
+    transaction.push(writer()?.view())?;
+    Ok(transaction)
+}
