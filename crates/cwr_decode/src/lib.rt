@@ -1,7 +1,19 @@
 //! Reading CWR 2.1 transmissions.
 #![tactic(auto)]
 
+#[cfg(test)]
+mod decoder_tests;
+mod decoders;
+mod judging;
+#[cfg(test)]
+mod judging_tests;
 pub mod laws;
+mod machine;
+mod outcomes;
 mod refusals;
+#[cfg(test)]
+mod worked_texts;
 
+pub use decoders::Decoder;
+pub use outcomes::{Outcome, Step};
 pub use refusals::Refusal;
