@@ -20,7 +20,7 @@ chosen : (b : Bool) (text : List ℕ) → (rest : List ℕ) × (cond b text (tex
 chosen true text = ([], sym (append-nil text))
 chosen false text = (10 ∷ [], refl)
 
-closed_begins : (text : List ℕ) → (rest : List ℕ) × (closed text ≡ text ++ rest)
+pub closed_begins : (text : List ℕ) → (rest : List ℕ) × (closed text ≡ text ++ rest)
 closed_begins text = chosen _ text
 
 pub canonical_accepted : (limits : Limits) (v : TransmissionValue) (more : List ℕ) → IsTransmission v → FitsIn limits v → IsAccepted limits (canonical_text v ++ more) v (length (canonical_text v))

@@ -5,15 +5,9 @@ use Rattle.cwr_fields.specs.Bytes.{number_of}
 use Rattle.cwr_layouts.specs.declared.kinds.Kind.{Kind}
 use Rattle.cwr_layouts.specs.declared.kinds.Kind.TheVariants.{Hdr, Grh, Grt, Trl}
 use Rattle.cwr_layouts.specs.Records.{RecordValue, Row, record_of}
+use Rattle.cwr_values.specs.declared.items.Item.{Item}
+use Rattle.cwr_values.specs.declared.items.Item.TheVariants.{Opened, GroupOpened, Transaction, GroupClosed, Ended}
 use Rattle.cwr_values.specs.Values.{GroupValue, TransmissionValue}
-
--- what is handed out
-pub data ItemValue : Type 0 where
-  opened : RecordValue → ItemValue
-  group_opened : RecordValue → ItemValue
-  transaction : List RecordValue → ItemValue
-  group_closed : RecordValue → ItemValue
-  ended : ItemValue
 
 -- records of the kind stand inside transactions
 abbrev pub is_in_transaction : Kind → Bool
@@ -42,34 +36,34 @@ transaction_at_end None before = []
 transaction_at_end (Some last) before = map record_of (drop (length before - (1 + record_sequence last)) before)
 
 -- the row's own item
-abbrev pub own_item : Kind → Row → List ItemValue
-own_item Hdr row = opened (record_of row) ∷ []
-own_item Grh row = group_opened (record_of row) ∷ []
-own_item Grt row = group_closed (record_of row) ∷ []
-own_item Trl row = ended ∷ []
+abbrev pub own_item : Kind → Row → List Item
+own_item Hdr row = Opened (record_of row) ∷ []
+own_item Grh row = GroupOpened (record_of row) ∷ []
+own_item Grt row = GroupClosed (record_of row) ∷ []
+own_item Trl row = Ended ∷ []
 own_item kind row = []
 
 -- the items that a row gives behind these rows: the transaction that ended with the row before it, and then its own
-abbrev pub items_at : List Row → Row → List ItemValue
+abbrev pub items_at : List Row → Row → List Item
 items_at before row =
-    (if ends_transaction (last_or None before) row then transaction (transaction_at_end (last_or None before) before) ∷ [] else [])
+    (if ends_transaction (last_or None before) row then Transaction (transaction_at_end (last_or None before) before) ∷ [] else [])
     ++ own_item row.kind row
 
 -- the items that rows give behind others
-unfoldable pub items_behind : List Row → List Row → List ItemValue
+unfoldable pub items_behind : List Row → List Row → List Item
 items_behind before [] = []
 items_behind before (row ∷ rest) = items_at before row ++ items_behind (before ++ row ∷ []) rest
 
 -- the items that rows give
-abbrev pub items : List Row → List ItemValue
+abbrev pub items : List Row → List Item
 items rows = items_behind [] rows
 
 -- ---- the same of a transmission, by its parts
 
 -- a group's items: it opens, each of its transactions, it closes
-abbrev pub group_items : GroupValue → List ItemValue
-group_items g = group_opened g.head ∷ map transaction g.transactions ++ group_closed g.foot ∷ []
+abbrev pub group_items : GroupValue → List Item
+group_items g = GroupOpened g.head ∷ map Transaction g.transactions ++ GroupClosed g.foot ∷ []
 
 -- a transmission's items: it opens, each of its groups, it ends
-abbrev pub value_items : TransmissionValue → List ItemValue
-value_items v = opened v.opening ∷ flat_map group_items v.groups ++ ended ∷ []
+abbrev pub value_items : TransmissionValue → List Item
+value_items v = Opened v.opening ∷ flat_map group_items v.groups ++ Ended ∷ []

@@ -1,27 +1,47 @@
--- When a decoder can go on.
-use Rattle.std.specs.Prelude.{◌≡◌, ◌≢◌, Option, Some, None, IsSomeAnd}
-use Rattle.cwr_layouts.specs.declared.lines.LineEnd.TheVariants.{Open}
-use Rattle.cwr_layouts.specs.Records.{IsRecord}
-use Rattle.cwr_layouts.specs.Held.{HeldLine, held_record}
+-- What a decoder holds, and what each of its steps does.
+use Rattle.std.specs.Prelude.{◌≡◌, ◌≢◌, ◌⊎◌, ◌+◌, Bool, true, false, List, [], ◌∷◌, ◌++◌, length, Option, Some, None, IsSomeAnd, Result, Ok, Err, MatchOption, MatchResult}
+use Rattle.cwr_layouts.specs.declared.kinds.Kind.{Kind}
+use Rattle.cwr_layouts.specs.declared.kinds.Kind.TheVariants.{Hdr, Grh, Grt, Trl}
+use Rattle.cwr_layouts.specs.declared.lines.LineEnd.TheVariants as line_ends
+use Rattle.cwr_layouts.specs.Records.{RecordValue, IsRecord}
+use Rattle.cwr_layouts.specs.Held.{HeldLine, held_excess, held_kind, held_record, empty_line}
+use Rattle.cwr_shape.specs.declared.symbols.Symbol.{Symbol}
+use Rattle.cwr_shape.specs.Levels.{level_of}
+use Rattle.cwr_shape.specs.Tallies.{TallyValue, StandsFor, place_after}
+use Rattle.cwr_values.specs.declared.items.Item.{Item}
 use Rattle.cwr_values.specs.declared.items.Item.TheVariants as items
+use Rattle.cwr_values.specs.declared.transactions.PushFault.{PushFault}
+use Rattle.cwr_decode.specs.declared.judging.LineFault.{LineFault}
 use Rattle.cwr_decode.specs.declared.outcomes.Outcome.{Outcome}
 use Rattle.cwr_decode.specs.declared.outcomes.Outcome.TheVariants as outcomes
 use Rattle.cwr_decode.specs.declared.machine.State.{State}
 use Rattle.cwr_decode.specs.declared.machine.State.TheVariants.{Reading, Pending, Ended, Refused, Truncated, Memory}
+use Rattle.cwr_decode.specs.declared.refusals.Refusal.{Refusal}
+use Rattle.cwr_decode.specs.Judged.{IsNext, IsOfNone, IsFirstFault}
+use Rattle.cwr_decode.specs.Open.{goes_on_with}
+
+-- what a decoder holds: the line that is read or waits, what is counted of the records, and the records of the open
+-- transaction; what it does next, and whether the input is over
+pub record Standing : Type 0 where
+  pub line : HeldLine
+  pub tally : TallyValue
+  pub held : Option (List RecordValue)
+  pub state : State
+  pub finished : Bool
 
 -- the line ended, and a record is in its cells
 pub record HasRecord (line : HeldLine) : Type 0 where
-  pub ended : line.ended ≢ Open
+  pub ended : line.ended ≢ line_ends.Open
   pub carries : IsSomeAnd (held_record line) IsRecord
 
--- while it reads, the line is open; while a record waits, the line has it
-abbrev pub IsReady : State → HeldLine → Type 0
-IsReady Reading line = line.ended ≡ Open
-IsReady Pending line = HasRecord line
-IsReady Ended line = Unit {0}
-IsReady (Refused refusal) line = Unit {0}
-IsReady (Truncated records) line = Unit {0}
-IsReady Memory line = Unit {0}
+-- while it reads, the line is open, and empty once the input is over; while a record waits, the line has it
+abbrev pub IsReady : State → Bool → HeldLine → Type 0
+IsReady Reading finished line = (line.ended ≡ line_ends.Open) × (finished ≡ true → length line.bytes ≡ 0)
+IsReady Pending finished line = HasRecord line
+IsReady Ended finished line = Unit {0}
+IsReady (Refused refusal) finished line = Unit {0}
+IsReady (Truncated records) finished line = Unit {0}
+IsReady Memory finished line = Unit {0}
 
 -- what is answered for good, once it was answered
 abbrev pub again : State → Option Outcome
@@ -35,8 +55,129 @@ again Memory = Some outcomes.Memory
 -- the state behind an answer
 abbrev pub Leaves : Outcome → State → Type 0
 Leaves outcomes.More state = state ≡ Reading
-Leaves (outcomes.Item item) state = item ≡ items.Ended → state ≡ Ended
+Leaves (outcomes.Item item) state = (item ≡ items.Ended → state ≡ Ended) × (item ≢ items.Ended → again state ≡ None)
 Leaves (outcomes.Refused refusal) state = state ≡ Refused refusal
 Leaves (outcomes.Truncated records) state = state ≡ Truncated records
 Leaves outcomes.Memory state = state ≡ Memory
 Leaves outcomes.Done state = state ≡ Ended
+
+-- ---- one step
+
+-- nothing was read within the limits
+abbrev pub first : TallyValue → Standing
+first tally = record { line = empty_line; tally = tally; held = None; state = Reading; finished = false }
+
+-- stopped for good
+abbrev pub stopped : Standing → State → Standing
+stopped old state = record { line = empty_line; tally = old.tally; held = None; state = state; finished = old.finished }
+
+-- at the start of a line
+abbrev pub reading : Standing → Option (List RecordValue) → Standing
+reading old held = record { line = empty_line; tally = old.tally; held = held; state = Reading; finished = old.finished }
+
+-- the records that are held, if any are
+abbrev pub held_list : Option (List RecordValue) → List RecordValue
+held_list None = []
+held_list (Some records) = records
+
+-- the open transaction is taken out, unless the next record goes on with it
+abbrev pub HandsOut : Bool → Option (List RecordValue) → Option (List RecordValue) → Option (List RecordValue) → Type 0
+HandsOut true old result new = (result ≡ None) × (new ≡ old)
+HandsOut false old result new = (result ≡ old) × (new ≡ None)
+
+-- an accepted record of the kind is added to those that are held, or it is an item of its own
+abbrev pub Adds : Kind → RecordValue → Option (List RecordValue) → Result (Option Item) PushFault → Option (List RecordValue) → Type 0
+Adds Hdr r old result new = (result ≡ Ok (Some (items.Opened r))) × (new ≡ old)
+Adds Grh r old result new = (result ≡ Ok (Some (items.GroupOpened r))) × (new ≡ old)
+Adds Grt r old result new = (result ≡ Ok (Some (items.GroupClosed r))) × (new ≡ old)
+Adds Trl r old result new = (result ≡ Ok (Some items.Ended)) × (new ≡ old)
+Adds kind r old result new = MatchResult result (λ item. (item ≡ None) × (new ≡ Some (held_list old ++ r ∷ []))) (λ fault. Unit {0})
+
+-- behind an accepted record a new line begins, unless that was the last one or found no memory
+abbrev pub GoesOn : Result (Option Item) PushFault → Standing → Option Outcome → Standing → Type 0
+GoesOn (Err fault) old result new = (result ≡ Some outcomes.Memory) × (new ≡ stopped old Memory)
+GoesOn (Ok None) old result new = (result ≡ None) × (new ≡ reading old old.held)
+GoesOn (Ok (Some items.Ended)) old result new = (result ≡ Some (outcomes.Item items.Ended)) × (new ≡ stopped old Ended)
+GoesOn (Ok (Some item)) old result new = (result ≡ Some (outcomes.Item item)) × (new ≡ reading old old.held)
+
+-- an accepted record of the kind is entered
+abbrev pub Enters : Kind → RecordValue → Standing → Option Outcome → Standing → Type 0
+Enters Hdr r old result new = (result ≡ Some (outcomes.Item (items.Opened r))) × (new ≡ reading old old.held)
+Enters Grh r old result new = (result ≡ Some (outcomes.Item (items.GroupOpened r))) × (new ≡ reading old old.held)
+Enters Grt r old result new = (result ≡ Some (outcomes.Item (items.GroupClosed r))) × (new ≡ reading old old.held)
+Enters Trl r old result new = (result ≡ Some (outcomes.Item items.Ended)) × (new ≡ stopped old Ended)
+Enters kind r old result new = MatchOption result (new ≡ reading old (Some (held_list old.held ++ r ∷ []))) (λ o. (o ≡ outcomes.Memory) × (new ≡ stopped old Memory))
+
+-- the same with that tally
+abbrev pub counted : Standing → TallyValue → Standing
+counted old tally = record { line = old.line; tally = tally; held = old.held; state = old.state; finished = old.finished }
+
+-- the record of the line waits
+abbrev pub pending : Standing → Standing
+pending old = record { line = old.line; tally = old.tally; held = None; state = Pending; finished = old.finished }
+
+-- a record is entered at once where it goes on with the open transaction or none is open; else that is handed out first
+abbrev pub Follows : Bool → Option (List RecordValue) → RecordValue → Standing → Option Outcome → Standing → Type 0
+Follows true held r old result new = Enters r.kind r old result new
+Follows false None r old result new = Enters r.kind r old result new
+Follows false (Some whole) r old result new = (result ≡ Some (outcomes.Item (items.Transaction whole))) × (new ≡ pending old)
+
+-- the line is accepted as that of a record
+pub record Accepts (old : Standing) (result : Option Outcome) (new : Standing) : Type 0 where
+  pub symbol : Symbol
+  pub accepted : RecordValue
+  pub carried : held_record old.line ≡ Some accepted
+  pub in_order : IsRecord accepted
+  pub excess : held_excess old.line ≡ false
+  pub next : (xs : List Symbol) → StandsFor old.tally xs → IsNext old.tally.limits xs old.line symbol accepted
+  pub tally : TallyValue
+  pub limits : tally.limits ≡ old.tally.limits
+  pub stands : (xs : List Symbol) → StandsFor old.tally xs → StandsFor tally (xs ++ symbol ∷ [])
+  pub goes_on : Bool
+  pub same : (xs : List Symbol) → StandsFor old.tally xs → goes_on ≡ goes_on_with xs symbol
+  pub follows : Follows goes_on old.held accepted (counted old tally) result new
+
+-- the fault of a line of the kind is told, and nothing is held from then on
+pub record Tells (old : Standing) (kind : Option Kind) (fault : LineFault) (outcome : Outcome) (new : Standing) : Type 0 where
+  pub refusal : Refusal
+  pub number : refusal.rec ≡ old.tally.counts.records + 1
+  pub field : refusal.field ≡ fault.field
+  pub reason : refusal.reason ≡ fault.reason
+  pub level : (xs : List Symbol) → StandsFor old.tally xs → refusal.level ≡ level_of kind fault.field fault.reason (place_after xs)
+  pub told : outcome ≡ outcomes.Refused refusal
+  pub stops : new ≡ stopped old (Refused refusal)
+
+-- the line is refused
+pub record Refuses (old : Standing) (result : Option Outcome) (new : Standing) : Type 0 where
+  pub fault : LineFault
+  pub none : (xs : List Symbol) → StandsFor old.tally xs → IsOfNone old.tally.limits xs old.line
+  pub first : (xs : List Symbol) → StandsFor old.tally xs → IsFirstFault old.tally.limits xs old.line fault.field fault.reason
+  pub tells : IsSomeAnd result (λ outcome. Tells old (held_kind old.line) fault outcome new)
+
+-- the line is accepted or refused
+abbrev pub Judges : Standing → Option Outcome → Standing → Type 0
+Judges old result new = Accepts old result new ⊎ Refuses old result new
+
+-- the record that waits is entered
+abbrev pub EntersHeld : Option RecordValue → Standing → Option Outcome → Standing → Type 0
+EntersHeld None old result new = ⊥
+EntersHeld (Some r) old result new = Enters r.kind r old result new
+
+-- what is answered without a further byte
+abbrev pub Settles : State → Standing → Option Outcome → Standing → Type 0
+Settles Reading old result new = (result ≡ None) × (new ≡ old)
+Settles Pending old result new = EntersHeld (held_record old.line) old result new
+Settles Ended old result new = (result ≡ Some outcomes.Done) × (new ≡ old)
+Settles (Refused refusal) old result new = (result ≡ Some (outcomes.Refused refusal)) × (new ≡ old)
+Settles (Truncated records) old result new = (result ≡ Some (outcomes.Truncated records)) × (new ≡ old)
+Settles Memory old result new = (result ≡ Some outcomes.Memory) × (new ≡ old)
+
+-- the input is over
+abbrev pub over : Standing → Standing
+over old = record { line = old.line; tally = old.tally; held = old.held; state = old.state; finished = true }
+
+-- the input is over, and a last line is there that had no line feed, or not
+abbrev pub Closes : Bool → Standing → Standing → Type 0
+Closes true old new = (old.state ≡ Reading) × (0 ≢ length old.line.bytes)
+    × (new ≡ record { line = record { bytes = old.line.bytes; ended = line_ends.Line }; tally = old.tally; held = old.held; state = old.state; finished = true })
+Closes false old new = (new ≡ over old) × (old.state ≡ Reading → length old.line.bytes ≡ 0)

@@ -63,8 +63,8 @@ fn one_acknowledgement_by_items(rt: HostRuntime) -> Result<(), Fail> {
     Ok(())
 }
 
-/// The names of the items of row 1, and of what is answered behind them.
-const ROW_1: [&str; 6] = [
+/// The names of the items of the transmission of one acknowledgement, and of what is answered behind them.
+const ITEMS: [&str; 6] = [
     "opened",
     "group opened",
     "transaction",
@@ -74,7 +74,7 @@ const ROW_1: [&str; 6] = [
 ];
 
 /// Feeds a piece until more is needed, or the end was answered, and answers how many bytes were used. The outcomes go on
-/// from place `told` of those of row 1.
+/// from place `told` of these.
 fn feed_piece(rt: &impl Abort, decoder: &mut Decoder, piece: &[u8], told: &mut usize) -> usize {
     let mut used: usize = 0;
     for _ in 0..7 {
@@ -83,7 +83,7 @@ fn feed_piece(rt: &impl Abort, decoder: &mut Decoder, piece: &[u8], told: &mut u
         match step.outcome {
             Outcome::More | Outcome::Done => return used,
             outcome => {
-                assert_eq!(rt; Some(&named(&outcome)), ROW_1.get(*told));
+                assert_eq!(rt; Some(&named(&outcome)), ITEMS.get(*told));
                 *told = told.saturating_add(1);
             }
         }
@@ -102,7 +102,7 @@ fn one_acknowledgement_however_cut(rt: HostRuntime) -> Result<(), Fail> {
         let used = feed_piece(&rt, &mut decoder, front, &mut told);
         let more = feed_piece(&rt, &mut decoder, rest, &mut told);
         assert_eq!(rt; (used, more, told), (at, rest.len(), 5));
-        assert_eq!(rt; named(&decoder.finish()), "done");
+        assert_eq!(rt; named(&decoder.finish().outcome), "done");
     }
     let mut decoder = decoder(rt.alloc())?;
     let mut told = 0;
@@ -150,8 +150,8 @@ fn lines_without_trailing_spaces(rt: HostRuntime) -> Result<(), Fail> {
         assert_eq!(rt; (step.used, named(&step.outcome)), (used, name));
         left = left.get(step.used..).unwrap_or(b"");
     }
-    assert_eq!(rt; named(&decoder.finish()), "ended");
-    assert_eq!(rt; named(&decoder.finish()), "done");
+    assert_eq!(rt; named(&decoder.finish().outcome), "ended");
+    assert_eq!(rt; named(&decoder.finish().outcome), "done");
     assert_eq!(rt; named(&decoder.feed(b"x").outcome), "done");
     Ok(())
 }
@@ -187,16 +187,16 @@ fn two_groups_by_items(rt: HostRuntime) -> Result<(), Fail> {
     Ok(())
 }
 
-/// Where and why row 1 is refused or truncated when it is cut after so many bytes.
+/// Where and why the transmission of one acknowledgement is refused or truncated when it is cut after so many bytes.
 fn end_of_front(rt: &impl Abort, decoder: &mut Decoder, front: &[u8], items: usize) -> Outcome {
     let mut told = 0;
     let used = feed_piece(rt, decoder, front, &mut told);
     assert_eq!(rt; used, front.len());
     for _ in told..items {
-        assert_eq!(rt; Some(&named(&decoder.finish())), ROW_1.get(told));
+        assert_eq!(rt; Some(&named(&decoder.finish().outcome)), ITEMS.get(told));
         told = told.saturating_add(1);
     }
-    decoder.finish()
+    decoder.finish().outcome
 }
 
 #[test]
@@ -216,7 +216,7 @@ fn truncated_texts(rt: HostRuntime) -> Result<(), Fail> {
             Outcome::Truncated { records } => assert_eq!(rt; records, lines),
             outcome => assert_eq!(rt; named(&outcome), "truncated"),
         }
-        assert_eq!(rt; named(&decoder.finish()), "truncated");
+        assert_eq!(rt; named(&decoder.finish().outcome), "truncated");
         assert_eq!(rt; decoder.holds(), (0, 0));
     }
     for at in [357, 358] {
@@ -285,7 +285,7 @@ fn check_refused(
         assert_eq!(rt; decoder.feed(left).used, 0);
     }
     assert_eq!(rt; decoder.holds(), (0, 0));
-    assert_eq!(rt; named(&decoder.finish()), "refused");
+    assert_eq!(rt; named(&decoder.finish().outcome), "refused");
 }
 
 #[test]

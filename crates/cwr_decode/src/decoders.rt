@@ -1,9 +1,12 @@
 //! Reading a transmission in pieces of any size.
 
-ghost use Rattle.std.specs.Prelude.{◌≡◌, ◌≤◌, length, IfSome};
-ghost use Rattle.cwr_decode.specs.Machines.{Leaves, again};
+ghost use Rattle.std.specs.Prelude.{◌≡◌, ◌≤◌, ◌++◌, [], List, ℕ, length, take, IfSome, true, false};
+ghost use Rattle.cwr_decode.specs.Calls.{IsLive, seen};
+ghost use Rattle.cwr_decode.specs.Machines.{Leaves, again, held_list, over};
+ghost use Rattle.cwr_decode.specs.Stands.{IsRight, StandsFor, items_out};
+ghost use Rattle.cwr_values.specs.declared.items.Item.{Item};
 
-use crate::machine::Machine;
+use crate::machine::{Machine, State};
 use crate::outcomes::{Outcome, Step};
 use cwr_shape::Limits;
 use std::alloc::Global;
@@ -16,50 +19,76 @@ pub struct Decoder {
 }
 
 impl Model for Decoder {
-    ghost use Rattle.cwr_decode.specs.declared.machine.Machine.{Machine};
+    ghost use Rattle.cwr_decode.specs.Machines.{Standing, IsReady};
 
-    ghost Value = { Machine };
-
-    ghost use Rattle.cwr_decode.specs.Machines.{IsReady};
+    ghost Value = { Standing };
 
     ghost view = { λ d. d.machine };
 
-    ghost invariant = { λ d. IsReady d.machine.state d.machine.line };
+    ghost invariant = { λ d. IsReady d.machine.state d.machine.finished d.machine.line };
 }
 
 impl Decoder {
     /// A decoder of a transmission within the limits, of which nothing was read.
-    pub fn new(alloc: Global, limits: Limits) -> Self {
+    pub fn new(alloc: Global, limits: Limits) -> Self
+        ensures stands { StandsFor result [] [] }
+        ensures limits { result.tally.limits ≡ limits }
+        ensures reading { result.state ≡ State.Reading }
+        ensures fresh { result.finished ≡ false }
+    {
         Decoder {
             machine: Machine::new(alloc, limits),
         }
     }
 
     /// How many records were accepted.
-    pub fn records(&self) -> u32 {
+    pub fn records(&self) -> u32
+        ensures { result ≡ self.now.tally.counts.records }
+    {
         self.machine.records()
     }
 
     /// How many bytes of the line that is read or waits are held, its line feed not counted, and how many records of
     /// the open transaction.
-    pub fn holds(&self) -> (usize, usize) {
+    pub fn holds(&self) -> (usize, usize)
+        ensures line { result.0 ≡ length self.now.line.bytes }
+        ensures transaction { result.1 ≡ length (held_list self.now.held) }
+    {
         self.machine.holds()
     }
 
     /// Takes the next piece of the input, up to the next item. `feed` after `finish` uses nothing and answers as that.
     pub fn feed(&mut self, piece: &[u8]) -> Step
         ensures used { result.used ≤ length piece.now }
+        // Whatever it stood for before, with the bytes that were used and the item that is answered it stands for that.
+        ensures stands { (input : List ℕ) (given : List Item) → StandsFor self.old input given
+            → StandsFor self.new (input ++ take result.used piece.now) (given ++ items_out result.outcome) }
+        // The end of a transmission is answered where one is accepted, and a refusal or the end of the input where none is.
+        ensures right { IsLive self.old.state → (input : List ℕ) (given : List Item) → StandsFor self.old input given
+            → IsRight self.old.tally.limits result.outcome self.old.finished (input ++ take result.used piece.now)
+            (seen self.old.finished input piece.now) (given ++ items_out result.outcome) }
         ensures leaves { Leaves result.outcome self.new.state }
-        ensures again { IfSome (again self.old.state) (λ outcome. (result.outcome ≡ outcome) × (result.used ≡ 0)) }
+        ensures again { IfSome (again self.old.state) (λ outcome. (result.outcome ≡ outcome) × (result.used ≡ 0) × (self.new ≡ self.old)) }
+        ensures more { result.outcome ≡ Outcome.More → (result.used ≡ length piece.now) × (self.old.finished ≡ false) }
+        ensures finished { self.new.finished ≡ self.old.finished }
+        ensures limits { self.new.tally.limits ≡ self.old.tally.limits }
     {
         self.machine.feed(piece)
     }
 
     /// Takes the end of the input, and answers an item, a refusal, `Memory`, `Truncated` or `Done`; after an item it is
-    /// called again. A last line without its line feed is one that has it.
-    pub fn finish(&mut self) -> Outcome
-        ensures leaves { Leaves result self.new.state }
-        ensures again { IfSome (again self.old.state) (λ outcome. result ≡ outcome) }
+    /// called again. A last line without its line feed is one that has it. No byte is used.
+    pub fn finish(&mut self) -> Step
+        ensures used { result.used ≡ 0 }
+        ensures stands { (input : List ℕ) (given : List Item) → StandsFor self.old input given
+            → StandsFor self.new input (given ++ items_out result.outcome) }
+        ensures right { IsLive self.old.state → (input : List ℕ) (given : List Item) → StandsFor self.old input given
+            → IsRight self.old.tally.limits result.outcome true input input (given ++ items_out result.outcome) }
+        ensures leaves { Leaves result.outcome self.new.state }
+        ensures again { IfSome (again self.old.state) (λ outcome. (result.outcome ≡ outcome) × (self.new ≡ over self.old)) }
+        ensures more { result.outcome ≡ Outcome.More → ⊥ }
+        ensures finished { self.new.finished ≡ true }
+        ensures limits { self.new.tally.limits ≡ self.old.tally.limits }
     {
         self.machine.finish()
     }

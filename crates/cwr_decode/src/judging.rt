@@ -5,9 +5,10 @@ ghost use Rattle.std.specs.Option.{ForSome};
 ghost use Rattle.cwr_fields.specs.Bytes.{digits};
 ghost use Rattle.cwr_fields.specs.Cells.{type_width};
 ghost use Rattle.cwr_layouts.specs.Layouts.{layout as layout_of};
-ghost use Rattle.cwr_layouts.specs.Held.{held_kind};
+ghost use Rattle.cwr_layouts.specs.Held.{held_excess, held_kind, held_record};
+ghost use Rattle.cwr_layouts.specs.Records.{IsRecord};
 ghost use Rattle.cwr_shape.specs.declared.symbols.Symbol.{Symbol};
-ghost use Rattle.cwr_shape.specs.Tallies.{StandsFor};
+ghost use Rattle.cwr_shape.specs.Tallies.{IsAdmitted, StandsFor};
 ghost use Rattle.cwr_decode.specs.Judged.{HasNumberAt, HasNumbers, IsNext, IsOfNone, Lacks, told_symbol, bar_reason, IsGoodText, IsTextFault, IsNumberFault, IsGoodAt, HasFaultAt, MayComeOf, IsFirstFault};
 
 use cwr_fields::{Cell, CellType, Role, TransactionType, fits, spells};
@@ -64,6 +65,8 @@ fn has_numbers(tally: &Tally, line: &CutLine<'_>, kind: Kind) -> bool
 fn next_record<'a>(tally: &Tally, line: &CutLine<'a>) -> Option<(Symbol, RecordRef<'a>)>
     ensures some { (xs : List Symbol) → StandsFor tally.now xs → IfSome result (λ found. IsNext tally.now.limits xs line.now found.0 found.1) }
     ensures none { (xs : List Symbol) → StandsFor tally.now xs → IsNone result → IsOfNone tally.now.limits xs line.now }
+    ensures admitted { IfSome result (λ found. IsAdmitted tally.now found.0) }
+    ensures carried { IfSome result (λ found. (held_record line.now ≡ Some found.1) × IsRecord found.1 × IsFalse (held_excess line.now)) }
 {
     let Some(record) = line.record() else {
         return None;
@@ -200,6 +203,8 @@ pub(crate) fn judge<'a>(
 ) -> Result<(Symbol, RecordRef<'a>), LineFault>
     ensures ok { (xs : List Symbol) → StandsFor tally.now xs → IfOk result (λ found. IsNext tally.now.limits xs line.now found.0 found.1) }
     ensures err { (xs : List Symbol) → StandsFor tally.now xs → IfErr result (λ _. IsOfNone tally.now.limits xs line.now) }
+    ensures admitted { IfOk result (λ found. IsAdmitted tally.now found.0) }
+    ensures carried { IfOk result (λ found. (held_record line.now ≡ Some found.1) × IsRecord found.1 × IsFalse (held_excess line.now)) }
     ensures first { (xs : List Symbol) → StandsFor tally.now xs → IfErr result (λ f. IsFirstFault tally.now.limits xs line.now f.field f.reason) }
 {
     match next_record(tally, line) {

@@ -10,10 +10,14 @@ mod judging_tests;
 pub mod laws;
 mod machine;
 mod outcomes;
+#[cfg(test)]
+mod reading_tests;
+mod readings;
 mod refusals;
 #[cfg(test)]
 mod worked_texts;
 
 pub use decoders::Decoder;
 pub use outcomes::{Outcome, Step};
+pub use readings::{ReadFault, Reading};
 pub use refusals::Refusal;

@@ -1,15 +1,22 @@
 //! The steps of a decoder.
 
-ghost use Rattle.std.specs.Prelude.{◌≡◌, ◌≢◌, ◌≤◌, ◌<◌, Some, length, IfNone, IfSome, IsSome, true, false};
-ghost use Rattle.cwr_decode.specs.Machines.{HasRecord, IsReady, Leaves, again};
+ghost use Rattle.std.specs.Prelude.{List, ◌∷◌, ◌++◌, [], ◌≡◌, ◌≢◌, length, false};
+ghost use Rattle.cwr_layouts.specs.Held.{IsHeld, Takes, held_record};
+ghost use Rattle.cwr_shape.specs.Ranges.{AreInRange};
+ghost use Rattle.cwr_shape.specs.Tallies.{IsAdmitted, StandsFor};
+ghost use Rattle.cwr_shape.specs.declared.symbols.Symbol.{Symbol};
+ghost use Rattle.cwr_decode.specs.Open.{goes_on_with};
+ghost use Rattle.cwr_decode.specs.Machines.{Adds, Closes, EntersHeld, GoesOn, HandsOut, HasRecord, IsReady, Judges, Settles, Tells, first, held_list, reading, stopped};
+ghost use Rattle.cwr_decode.specs.Calls.{Advances, Ends, Feeds, Finishes};
 
 use crate::judging::{LineFault, judge};
 use crate::outcomes::{Outcome, Step};
 use crate::refusals::Refusal;
-use cwr_layouts::{Kind, LineBuf, LineEnd, RecordRef};
-use cwr_shape::{Limits, Place, Tally, level};
+use cwr_layouts::{Kind, LineBuf, LineEnd, RecordRef, Taken};
+use cwr_shape::{Limits, Place, Symbol, Tally, level};
 use cwr_values::{Item, PushFault, Transaction};
 use std::alloc::Global;
+use std::marker::Model;
 
 /// What a decoder does next.
 #[derive(Clone, Copy, Debug, PartialEq, Eq)]
@@ -28,6 +35,13 @@ pub enum State {
     Memory,
 }
 
+/// How many bytes were used, and what is answered.
+#[derive(Drop)]
+struct Advance {
+    used: usize,
+    outcome: Option<Outcome>,
+}
+
 /// What a decoder holds: at most one line and one transaction.
 #[derive(Drop)]
 pub struct Machine {
@@ -42,12 +56,41 @@ pub struct Machine {
     finished: bool,
 }
 
+impl Model for Machine {
+    ghost use Rattle.cwr_decode.specs.Machines.{Standing};
+
+    ghost Value = { Standing };
+
+    ghost view = { λ m. record { line = m.line; tally = m.tally; held = m.held; state = m.state; finished = m.finished } };
+}
+
+/// Counts an accepted record, and tells whether it goes on with the open transaction.
+fn goes_on(tally: &mut Tally, symbol: Symbol) -> bool
+    requires { IsAdmitted tally.old symbol }
+    ensures limits { tally.new.limits ≡ tally.old.limits }
+    ensures stands { (xs : List Symbol) → StandsFor tally.old xs → StandsFor tally.new (xs ++ symbol ∷ []) }
+    ensures same { (xs : List Symbol) → StandsFor tally.old xs → result ≡ goes_on_with xs symbol }
+{
+    let begun = tally.transactions();
+    tally.step(symbol);
+    tally.transactions() == begun && matches!(tally.place(), Place::Transaction)
+}
+
+/// Takes the open transaction out, unless the next record goes on with it.
+fn hand_out(goes_on: bool, held: &mut Option<Transaction>) -> Option<Transaction>
+    ensures { HandsOut goes_on held.old result held.new }
+{
+    if goes_on { None } else { held.take() }
+}
+
 /// Adds an accepted record to the transaction that is held, or begins one with it, or answers its own item.
 fn entered(
     alloc: Global,
     held: &mut Option<Transaction>,
     accepted: RecordRef<'_>,
-) -> Result<Option<Item>, PushFault> {
+) -> Result<Option<Item>, PushFault>
+    ensures { Adds accepted.entry.kind accepted.entry held.old result held.new }
+{
     let item = match accepted.kind() {
         Kind::Hdr => Item::Opened(accepted.to_record()),
         Kind::Grh => Item::GroupOpened(accepted.to_record()),
@@ -67,7 +110,10 @@ fn entered(
 impl Machine {
     /// Nothing was read.
     pub fn new(alloc: Global, limits: Limits) -> Self
-        ensures { IsReady result.state result.line }
+        ensures limits { result.tally.limits ≡ limits }
+        ensures in_range { AreInRange result.tally.limits }
+        ensures stands { StandsFor result.tally [] }
+        ensures first { result ≡ first result.tally }
     {
         Machine {
             alloc,
@@ -80,12 +126,17 @@ impl Machine {
     }
 
     /// How many records were accepted.
-    pub fn records(&self) -> u32 {
+    pub fn records(&self) -> u32
+        ensures { result ≡ self.now.tally.counts.records }
+    {
         self.tally.records()
     }
 
     /// How many bytes of the line, and how many records of the transaction.
-    pub fn holds(&self) -> (usize, usize) {
+    pub fn holds(&self) -> (usize, usize)
+        ensures line { result.0 ≡ length self.now.line.bytes }
+        ensures transaction { result.1 ≡ length (held_list self.now.held) }
+    {
         match &self.held {
             Some(transaction) => (self.line.len(), transaction.len()),
             None => (self.line.len(), 0),
@@ -94,9 +145,7 @@ impl Machine {
 
     /// Stops for good: nothing is held from then on.
     fn stop(&mut self, state: State)
-        requires stops { state ≢ State.Pending }
-        ensures state { self.new.state ≡ state }
-        ensures ready { IsReady self.new.state self.new.line }
+        ensures { self.new ≡ stopped self.old state }
     {
         self.line.clear();
         self.held = None;
@@ -105,8 +154,7 @@ impl Machine {
 
     /// Refuses the line for good.
     fn refuse(&mut self, kind: Option<Kind>, fault: LineFault) -> Outcome
-        ensures ready { IsReady self.new.state self.new.line }
-        ensures leaves { Leaves result self.new.state }
+        ensures { Tells self.old kind fault result self.new }
     {
         let refusal = Refusal {
             rec: self.tally.records() + 1,
@@ -120,8 +168,7 @@ impl Machine {
 
     /// Begins a new line.
     fn read_on(&mut self)
-        ensures ready { IsReady self.new.state self.new.line }
-        ensures reading { self.new.state ≡ State.Reading }
+        ensures { self.new ≡ reading self.old self.old.held }
     {
         self.line.clear();
         self.state = State::Reading;
@@ -129,9 +176,7 @@ impl Machine {
 
     /// Begins a new line behind an accepted record, or stops for good where that was the last one or found no memory.
     fn go_on(&mut self, entered: Result<Option<Item>, PushFault>) -> Option<Outcome>
-        ensures ready { IsReady self.new.state self.new.line }
-        ensures none { IfNone result (self.new.state ≡ State.Reading) }
-        ensures leaves { IfSome result (λ outcome. Leaves outcome self.new.state) }
+        ensures { GoesOn entered self.old result self.new }
     {
         match entered {
             Err(_) => {
@@ -156,14 +201,12 @@ impl Machine {
     /// Enters the record that waits.
     fn enter(&mut self) -> Option<Outcome>
         requires { HasRecord self.old.line }
-        ensures ready { IsReady self.new.state self.new.line }
-        ensures none { IfNone result (self.new.state ≡ State.Reading) }
-        ensures leaves { IfSome result (λ outcome. Leaves outcome self.new.state) }
+        ensures { EntersHeld (held_record self.old.line) self.old result self.new }
     {
-        let outcome = match self.line.cut().record() {
-            Some(accepted) => entered(self.alloc, &mut self.held, accepted),
-            None => Ok(None),
+        let Some(accepted) = self.line.cut().record() else {
+            unreachable!();
         };
+        let outcome = entered(self.alloc, &mut self.held, accepted);
         self.go_on(outcome)
     }
 
@@ -171,13 +214,9 @@ impl Machine {
     /// that is handed out first.
     fn take_line(&mut self) -> Option<Outcome>
         requires { self.old.line.ended ≢ LineEnd.Open }
-        ensures ready { IsReady self.new.state self.new.line }
-        ensures none { IfNone result (self.new.state ≡ State.Reading) }
-        ensures leaves { IfSome result (λ outcome. Leaves outcome self.new.state) }
-        ensures over { self.old.line.ended ≡ LineEnd.Over → IsSome result }
+        ensures { Judges self.old result self.new }
     {
         let cut = self.line.cut();
-        let begun = self.tally.transactions();
         let (symbol, accepted) = match judge(&self.tally, &cut) {
             Ok(found) => found,
             Err(fault) => {
@@ -185,14 +224,10 @@ impl Machine {
                 return Some(self.refuse(kind, fault));
             }
         };
-        self.tally.step(symbol);
-        let goes_on = self.tally.transactions() == begun
-            && self.tally.place() == Place::Transaction;
-        if !goes_on {
-            if let Some(whole) = self.held.take() {
-                self.state = State::Pending;
-                return Some(Outcome::Item(Item::Transaction(whole)));
-            }
+        let goes_on = goes_on(&mut self.tally, symbol);
+        if let Some(whole) = hand_out(goes_on, &mut self.held) {
+            self.state = State::Pending;
+            return Some(Outcome::Item(Item::Transaction(whole)));
         }
         let outcome = entered(self.alloc, &mut self.held, accepted);
         self.go_on(outcome)
@@ -200,11 +235,8 @@ impl Machine {
 
     /// What is answered without a further byte. `None` where one is needed.
     fn settle(&mut self) -> Option<Outcome>
-        requires { IsReady self.old.state self.old.line }
-        ensures again { IfSome (again self.old.state) (λ outcome. (result ≡ Some outcome) × (self.new ≡ self.old)) }
-        ensures ready { IsReady self.new.state self.new.line }
-        ensures none { IfNone result (self.new.state ≡ State.Reading) }
-        ensures leaves { IfSome result (λ outcome. Leaves outcome self.new.state) }
+        requires { IsReady self.old.state self.old.finished self.old.line }
+        ensures { Settles self.old.state self.old result self.new }
     {
         match self.state {
             State::Reading => None,
@@ -216,55 +248,100 @@ impl Machine {
         }
     }
 
+    /// Takes more of the line.
+    fn take(&mut self, piece: &[u8]) -> Taken
+        requires { self.old.line.ended ≡ LineEnd.Open }
+        ensures takes { Takes self.old.line piece.now result.used self.new.line }
+        ensures ended { result.ended ≡ self.new.line.ended }
+        ensures held { IsHeld self.new.line }
+        ensures others { self.new ≡ record self.old { line = self.new.line } }
+    {
+        self.line.take(piece)
+    }
+
+    /// Takes the end of the input, and tells whether a last line is there that had no line feed.
+    fn close(&mut self) -> bool
+        requires { IsReady self.old.state self.old.finished self.old.line }
+        ensures { Closes result self.old self.new }
+    {
+        self.finished = true;
+        let unended = matches!(self.state, State::Reading) && self.line.len() > 0;
+        if unended {
+            self.line.close();
+        }
+        unended
+    }
+
+    /// Takes the end of the input, and with it a last line that had no line feed.
+    fn last_line(&mut self) -> Option<Outcome>
+        requires { IsReady self.old.state self.old.finished self.old.line }
+        ensures { Ends self.old result self.new }
+    {
+        if self.close() {
+            return self.take_line();
+        }
+        None
+    }
+
+    /// Takes bytes up to the end of a line, and judges that.
+    fn advance(&mut self, piece: &[u8]) -> Advance
+        requires ready { IsReady self.old.state self.old.finished self.old.line }
+        requires reading { self.old.state ≡ State.Reading }
+        requires fresh { self.old.finished ≡ false }
+        ensures { Advances self.old piece.now result.used result.outcome self.new }
+    {
+        let taken = self.take(piece);
+        if let LineEnd::Open = taken.ended {
+            return Advance {
+                used: taken.used,
+                outcome: Some(Outcome::More),
+            };
+        }
+        let outcome = self.take_line();
+        Advance {
+            used: taken.used,
+            outcome,
+        }
+    }
+
     /// Takes the next piece of the input, up to the next item.
     pub fn feed(&mut self, piece: &[u8]) -> Step
-        requires { IsReady self.old.state self.old.line }
-        ensures ready { IsReady self.new.state self.new.line }
-        ensures used { result.used ≤ length piece.now }
-        ensures leaves { Leaves result.outcome self.new.state }
-        ensures again { IfSome (again self.old.state) (λ outcome. (result.outcome ≡ outcome) × (result.used ≡ 0)) }
+        requires { IsReady self.old.state self.old.finished self.old.line }
+        ensures { Feeds self.old piece.now result.used result.outcome self.new }
     {
         if self.finished {
-            let outcome = self.finish();
-            return Step { used: 0, outcome };
+            return self.finish();
         }
         if let Some(outcome) = self.settle() {
             return Step { used: 0, outcome };
         }
         let mut used = 0;
         loop {
-            let taken = self.line.take(&piece[used..]);
-            used += taken.used;
-            if taken.ended == LineEnd::Open {
-                let outcome = Outcome::More;
-                return Step { used, outcome };
-            }
-            if let Some(outcome) = self.take_line() {
+            let advance = self.advance(&piece[used..]);
+            used += advance.used;
+            if let Some(outcome) = advance.outcome {
                 return Step { used, outcome };
             }
         }
     }
 
     /// Takes the end of the input.
-    pub fn finish(&mut self) -> Outcome
-        requires { IsReady self.old.state self.old.line }
-        ensures ready { IsReady self.new.state self.new.line }
-        ensures leaves { Leaves result self.new.state }
-        ensures again { IfSome (again self.old.state) (λ outcome. result ≡ outcome) }
+    pub fn finish(&mut self) -> Step
+        requires { IsReady self.old.state self.old.finished self.old.line }
+        ensures used { result.used ≡ 0 }
+        ensures finishes { Finishes self.old result.outcome self.new }
     {
-        let first = !self.finished;
-        self.finished = true;
-        if let Some(outcome) = self.settle() {
-            return outcome;
+        if let Some(outcome) = self.last_line() {
+            return Step { used: 0, outcome };
         }
-        if first && self.line.len() > 0 {
-            self.line.close();
-            if let Some(outcome) = self.take_line() {
-                return outcome;
-            }
+        if let Some(outcome) = self.settle() {
+            return Step { used: 0, outcome };
         }
         let records = self.tally.records();
         self.stop(State::Truncated(records));
-        Outcome::Truncated { records }
+        Step {
+            used: 0,
+            outcome: Outcome::Truncated { records },
+        }
     }
 }

@@ -76,7 +76,7 @@ impl Text {
         self.whole_line(kind, &line)
     }
 
-    /// H.
+    /// HDR.
     pub(crate) fn header(&mut self) -> Result<(), AllocError> {
         let cells: [(u8, &[u8]); 8] = [
             (1, b"HDR"),
@@ -91,7 +91,7 @@ impl Text {
         self.line(Kind::Hdr, &cells)
     }
 
-    /// GR of the type, with its group ID.
+    /// GRH of the type, with its group ID.
     pub(crate) fn group(&mut self, ty: &[u8], id: &[u8]) -> Result<(), AllocError> {
         let mut line = [b' '; 364];
         let cells: [(u8, &[u8]); 3] = [(1, b"GRH"), (4, b"02.10"), (5, b"0000000001")];
@@ -101,7 +101,7 @@ impl Text {
         self.whole_line(Kind::Grh, &line)
     }
 
-    /// A1, with its transaction sequence.
+    /// ACK of a new work, with its transaction sequence.
     pub(crate) fn acknowledgement(&mut self, sequence: &[u8]) -> Result<(), AllocError> {
         let cells: [(u8, &[u8]); 10] = [
             (1, b"ACK"),
@@ -118,7 +118,7 @@ impl Text {
         self.inside(Kind::Ack, sequence, b"00000000", &cells)
     }
 
-    /// W1, with its transaction sequence.
+    /// NWR, with its transaction sequence.
     pub(crate) fn work(&mut self, sequence: &[u8]) -> Result<(), AllocError> {
         let cells: [(u8, &[u8]); 5] = [
             (1, b"NWR"),
@@ -130,13 +130,13 @@ impl Text {
         self.inside(Kind::Nwr, sequence, b"00000000", &cells)
     }
 
-    /// V1, with its transaction sequence.
+    /// REV, with its transaction sequence.
     pub(crate) fn revision(&mut self, sequence: &[u8]) -> Result<(), AllocError> {
         let cells: [(u8, &[u8]); 4] = [(1, b"REV"), (4, b"RED HILL"), (6, b"W0002"), (15, b"ORI")];
         self.inside(Kind::Rev, sequence, b"00000000", &cells)
     }
 
-    /// S1, with its sequences.
+    /// SWR, with its sequences.
     pub(crate) fn writer(&mut self, transaction: &[u8], sequence: &[u8]) -> Result<(), AllocError> {
         let cells: [(u8, &[u8]); 5] = [
             (1, b"SWR"),
@@ -186,7 +186,7 @@ impl Text {
     }
 }
 
-/// Row 1: H, GR(ACK), A1, GRT, TRL.
+/// A transmission of one group of one acknowledgement.
 pub(crate) fn one_acknowledgement(alloc: Global) -> Result<Text, AllocError> {
     let mut text = Text::new(alloc);
     text.header()?;
@@ -197,7 +197,7 @@ pub(crate) fn one_acknowledgement(alloc: Global) -> Result<Text, AllocError> {
     Ok(text)
 }
 
-/// Row 6: group NWR with W1 S1; group REV with V1 S1 twice.
+/// A transmission of a new work of one writer in one group, and of two revised works in another.
 pub(crate) fn two_groups(alloc: Global) -> Result<Text, AllocError> {
     let mut text = Text::new(alloc);
     text.header()?;

@@ -75,7 +75,7 @@ record Moved (b c : Counts) (records transactions : ℕ) : Type 0 where
 -- ---- a transaction
 
 -- neither a header of the type nor one of the records around transactions
-abbrev is_inner : TransactionType → Symbol → Bool
+abbrev pub is_inner : TransactionType → Symbol → Bool
 is_inner ty (Grh t) = false
 is_inner ty (Plain kinds.Grh) = false
 is_inner ty (Plain kinds.Hdr) = false
@@ -84,14 +84,14 @@ is_inner ty (Plain kinds.Trl) = false
 is_inner ty s = not (is_header_of ty s)
 
 -- a transaction's records: its header, and inner ones
-record Headed (ty : TransactionType) (xs : List Symbol) : Type 0 where
-  head : Symbol
-  rest : List Symbol
-  whole : xs ≡ head ∷ rest
-  first : (c : Counts) → expected ty c (symbol_kind head) ≡ c.in_group ∷ 0 ∷ []
-  counts : (c : Counts) → counts_with ty c head ≡ counts_with_header c
-  same_type : type_behind ty head ≡ ty
-  inner : list_all (is_inner ty) rest ≡ true
+pub record Headed (ty : TransactionType) (xs : List Symbol) : Type 0 where
+  pub head : Symbol
+  pub rest : List Symbol
+  pub whole : xs ≡ head ∷ rest
+  pub first : (c : Counts) → expected ty c (symbol_kind head) ≡ c.in_group ∷ 0 ∷ []
+  pub counts : (c : Counts) → counts_with ty c head ≡ counts_with_header c
+  pub same_type : type_behind ty head ≡ ty
+  pub inner : list_all (is_inner ty) rest ≡ true
 
 headed : (ty : TransactionType) (s : Symbol) (p : Pattern) (xs : List Symbol) → ((c : Counts) → expected ty c (symbol_kind s) ≡ c.in_group ∷ 0 ∷ [])
     → ((c : Counts) → counts_with ty c s ≡ counts_with_header c) → type_behind ty s ≡ ty → only (is_inner ty) p ≡ true → Matches (one_of (s ∷ []) then p) xs → Headed ty xs
@@ -99,7 +99,7 @@ headed ty s p xs f g h k m =
     let b = behind s p xs m in
     record { head = s; rest = b.0; whole = b.1; first = f; counts = g; same_type = h; inner = matched_pass (is_inner ty) p k b.0 b.2 }
 
-headed_shape : (ty : TransactionType) (xs : List Symbol) → IsShape ty xs → Headed ty xs
+pub headed_shape : (ty : TransactionType) (xs : List Symbol) → IsShape ty xs → Headed ty xs
 unfolding only
 headed_shape Agreement xs m = headed Agreement (Plain kinds.Agr) (some block) xs (λ c. refl) (λ c. refl) refl refl m
 headed_shape NewWork xs m = headed NewWork (Plain kinds.Nwr) (many publisher then some writer then many tail_record) xs (λ c. refl) (λ c. refl) refl refl m
@@ -110,12 +110,12 @@ not_true : (b : Bool) → not b ≡ true → b ≡ false
 not_true true h = absurd (true≢false (sym h))
 not_true false h = refl
 
-record Inner (ty : TransactionType) (c : Counts) (s : Symbol) : Type 0 where
-  numbers : expected ty c (symbol_kind s) ≡ (c.in_group - 1) ∷ (c.behind_header + 1) ∷ []
-  counts : counts_with ty c s ≡ counts_with_other c
-  same_type : type_behind ty s ≡ ty
+pub record Inner (ty : TransactionType) (c : Counts) (s : Symbol) : Type 0 where
+  pub numbers : expected ty c (symbol_kind s) ≡ (c.in_group - 1) ∷ (c.behind_header + 1) ∷ []
+  pub counts : counts_with ty c s ≡ counts_with_other c
+  pub same_type : type_behind ty s ≡ ty
 
-inner_symbol : (ty : TransactionType) (c : Counts) (s : Symbol) → is_inner ty s ≡ true → Inner ty c s
+pub inner_symbol : (ty : TransactionType) (c : Counts) (s : Symbol) → is_inner ty s ≡ true → Inner ty c s
 inner_symbol ty c (Grh t) h = absurd (true≢false (sym h))
 inner_symbol ty c (Plain kinds.Hdr) h = absurd (true≢false (sym h))
 inner_symbol ty c (Plain kinds.Grt) h = absurd (true≢false (sym h))

@@ -1,5 +1,6 @@
 //! Where a transmission stands, what was counted of it, and what bars a record.
 
+ghost use Rattle.cwr_shape.specs.Ranges.{AreInRange};
 ghost use Rattle.std.specs.Prelude.{◌≡◌, ◌<◌, List, [], ◌∷◌, ◌++◌, length, count_by, OnOk};
 ghost use Rattle.cwr_fields.specs.declared.codes.TransactionType.TheVariants.{Acknowledgement};
 ghost use Rattle.cwr_shape.specs.declared.symbols.Symbol.{Symbol};
@@ -230,6 +231,7 @@ impl Tally {
     /// No record has come. The transmission is to keep to the limits.
     pub fn new(limits: Limits) -> Tally
         ensures limits { result.limits ≡ limits }
+        ensures in_range { AreInRange result.limits }
         ensures stands { StandsFor result [] }
     {
         prove!(limits.records() > 0);

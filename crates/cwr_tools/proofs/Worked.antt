@@ -16,7 +16,8 @@ use Rattle.cwr_values.specs.declared.transmissions.ValueFault.TheVariants as val
 use Rattle.cwr_values.specs.Values.{TransmissionValue, outline_of}
 use Rattle.cwr_values.specs.Rows.{rows, records_of, canonical_text, lengths_of_value}
 use Rattle.cwr_values.specs.Fits.{value_fault}
-use Rattle.cwr_decode.specs.Items.{opened, group_opened, transaction, group_closed, ended, items, items_behind}
+use Rattle.cwr_values.specs.declared.items.Item.TheVariants.{Opened, GroupOpened, Transaction, GroupClosed, Ended}
+use Rattle.cwr_decode.specs.Items.{items, items_behind}
 use Rattle.cwr_shape.specs.declared.reasons.Level.{Level}
 use Rattle.cwr_shape.specs.declared.reasons.Level.TheVariants.{T, R, F}
 use Rattle.cwr_levels.specs.declared.rules.Rule.{Rule}
@@ -89,12 +90,12 @@ one_acknowledgement_records : map record_of (rows Samples.one_acknowledgement) �
 unfolding digits rows
 one_acknowledgement_records = refl
 
-one_acknowledgement_items : items (rows Samples.one_acknowledgement) ≡ opened Samples.h ∷ group_opened (Samples.gr "ACK") ∷ transaction (Samples.a1 ∷ []) ∷ group_closed Samples.grt ∷ ended ∷ []
+one_acknowledgement_items : items (rows Samples.one_acknowledgement) ≡ Opened Samples.h ∷ GroupOpened (Samples.gr "ACK") ∷ Transaction (Samples.a1 ∷ []) ∷ GroupClosed Samples.grt ∷ Ended ∷ []
 unfolding digits rows items_behind
 one_acknowledgement_items = refl
 
 -- no transaction is handed out before a row follows it
-one_acknowledgement_three : items (take 3 (rows Samples.one_acknowledgement)) ≡ opened Samples.h ∷ group_opened (Samples.gr "ACK") ∷ []
+one_acknowledgement_three : items (take 3 (rows Samples.one_acknowledgement)) ≡ Opened Samples.h ∷ GroupOpened (Samples.gr "ACK") ∷ []
 unfolding digits rows items_behind
 one_acknowledgement_three = refl
 

@@ -7,7 +7,8 @@ use Rattle.cwr_layouts.specs.Layouts.{FieldLayout, layout}
 use Rattle.cwr_layouts.specs.Records.{RecordValue}
 use Rattle.cwr_values.specs.Values.{TransmissionValue}
 use Rattle.cwr_values.specs.Rows.{trailer, rows}
-use Rattle.cwr_decode.specs.Items.{ItemValue, opened, group_opened, transaction, group_closed, ended}
+use Rattle.cwr_values.specs.declared.items.Item.{Item}
+use Rattle.cwr_values.specs.declared.items.Item.TheVariants.{Opened, GroupOpened, Transaction, GroupClosed, Ended}
 use Rattle.cwr_levels.specs.Findings.{findings}
 use Rattle.cwr_shape.specs.declared.limits.LimitKind.{LimitKind}
 use Rattle.cwr_levels.specs.Lines.{refusal_line, truncated_line, good_line, finding_line, limit_text}
@@ -15,18 +16,18 @@ use Rattle.cwr_tools.specs.declared.verdicts.Verdict.{Verdict}
 use Rattle.cwr_tools.specs.declared.verdicts.Verdict.TheVariants.{Good, Refused, Truncated}
 
 -- the item is a GRH
-abbrev pub opens_group : ItemValue → Bool
-opens_group (group_opened r) = true
+abbrev pub opens_group : Item → Bool
+opens_group (GroupOpened r) = true
 opens_group item = false
 
 -- the item is a transaction
-abbrev pub is_transaction : ItemValue → Bool
-is_transaction (transaction t) = true
+abbrev pub is_transaction : Item → Bool
+is_transaction (Transaction t) = true
 is_transaction item = false
 
 -- the finding lines of an item, by the items before it: its group's ID, and its sequence in the group
-abbrev pub finding_lines : List ItemValue → ItemValue → List ℕ
-finding_lines before (transaction t) = flat_map (finding_line (count_by opens_group before) (count_by is_transaction (after_last opens_group before))) (findings t)
+abbrev pub finding_lines : List Item → Item → List ℕ
+finding_lines before (Transaction t) = flat_map (finding_line (count_by opens_group before) (count_by is_transaction (after_last opens_group before))) (findings t)
 finding_lines before item = []
 
 -- the line that tells how a text ended
@@ -40,20 +41,20 @@ abbrev pub good_verdict : TransmissionValue → Verdict
 good_verdict v = Good (length v.groups) (sum_by (λ g. length g.transactions) v.groups) (length (rows v))
 
 -- what `check` writes for items
-unfoldable pub check_lines : List ItemValue → List ℕ
+unfoldable pub check_lines : List Item → List ℕ
 check_lines items = flat_map (λ p. finding_lines (take p.0 items) p.1) (enumerate_from 0 items)
 
 -- what `check` writes
-abbrev pub check_text : List ItemValue → Verdict → List ℕ
+abbrev pub check_text : List Item → Verdict → List ℕ
 check_text items verdict = check_lines items ++ verdict_line verdict
 
 -- the records of an item
-abbrev pub item_records : ItemValue → List RecordValue
-item_records (opened r) = r ∷ []
-item_records (group_opened r) = r ∷ []
-item_records (transaction t) = t
-item_records (group_closed r) = r ∷ []
-item_records ended = trailer ∷ []
+abbrev pub item_records : Item → List RecordValue
+item_records (Opened r) = r ∷ []
+item_records (GroupOpened r) = r ∷ []
+item_records (Transaction t) = t
+item_records (GroupClosed r) = r ∷ []
+item_records Ended = trailer ∷ []
 
 -- a carried cell under its field's number and name, unless it is blank
 abbrev pub cell_line : ℕ → FieldLayout → List ℕ → List ℕ
@@ -65,11 +66,11 @@ record_lines n r = decimal n ++ codes " " ++ letters r.kind ++ 10 ∷ []
     ++ flat_map (λ p. cell_line p.0.0 p.0.1 p.1) (zip (filter (λ q. not q.1.derived) (enumerate_from 1 (layout r.kind))) r.cells)
 
 -- what `show` writes for items
-unfoldable pub show_lines : List ItemValue → List ℕ
+unfoldable pub show_lines : List Item → List ℕ
 show_lines items = flat_map (λ p. record_lines p.0 p.1) (enumerate_from 1 (flat_map item_records items))
 
 -- what `show` writes
-abbrev pub show_text : List ItemValue → Verdict → List ℕ
+abbrev pub show_text : List Item → Verdict → List ℕ
 show_text items verdict = show_lines items ++ verdict_line verdict
 
 -- ---- the lines of split and join

@@ -160,14 +160,14 @@ pub rows_are_rows : (v : TransmissionValue) → IsTransmission v → AllByRecurs
 unfolding rows
 rows_are_rows v h = rows_well (numbers_of (lengths_of_value v)) (records_of v) (records_in_order v h)
 
-lines_without_lf : (rs : List Row) (ks : List (List ℕ)) → AllZip IsLineOf rs ks → AllByRecursion NoLf ks
+pub lines_without_lf : (rs : List Row) (ks : List (List ℕ)) → AllZip IsLineOf rs ks → AllByRecursion NoLf ks
 lines_without_lf [] [] h = tt
 lines_without_lf [] (k ∷ ks) h = absurd h
 lines_without_lf (r ∷ rs) [] h = absurd h
 lines_without_lf (r ∷ rs) (k ∷ ks) h = (h.0.0, lines_without_lf rs ks h.1)
 
 -- rows of lines of which some begin with others
-rows_begin : (rs ss : List Row) (ks more : List (List ℕ)) → AllByRecursion IsRow rs → AllByRecursion IsRow ss → AllZip IsLineOf rs ks → AllZip IsLineOf ss (ks ++ more)
+pub rows_begin : (rs ss : List Row) (ks more : List (List ℕ)) → AllByRecursion IsRow rs → AllByRecursion IsRow ss → AllZip IsLineOf rs ks → AllZip IsLineOf ss (ks ++ more)
     → (back : List Row) × (ss ≡ rs ++ back) × AllZip IsLineOf back more
 rows_begin [] ss [] more h j p q = (ss, refl, q)
 rows_begin [] ss (k ∷ ks) more h j p q = absurd p

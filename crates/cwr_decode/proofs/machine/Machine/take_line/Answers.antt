@@ -1,14 +1,28 @@
-use Rattle.std.proofs.Common.{subst}
-use Rattle.cwr_layouts.specs.Held.{HeldLine}
-use Rattle.cwr_decode.specs.Judged.{IsNext}
-use Rattle.cwr_decode.proofs.Ready.{admitted, has_record, never_over}
+use Rattle.std.proofs.Common.{ap, subst, Some}
+use Rattle.cwr_decode.specs.declared.outcomes.Outcome.TheVariants as outcomes
+use Rattle.cwr_decode.specs.declared.machine.State.TheVariants as states
+use Rattle.cwr_values.specs.declared.items.Item.TheVariants as items
+use Rattle.cwr_decode.specs.Machines.{Standing, Judges}
+use Rattle.cwr_decode.proofs.Steps.{refused_line, waits_now, enters_now}
 use Rattle.cwr_decode.proofs.machine.Machine.take_line.Goals as goal
 
-pub step-requires : goal.step-requires
-step-requires c = admitted c.args.self.now.tally c.args.self.now.line c.in-Ok.found.0 c.in-Ok.found.1 c.transactions-begun.ensures.kept (λ xs st. subst (λ (h : HeldLine). IsNext c.args.self.now.tally.limits xs h c.in-Ok.found.0 c.in-Ok.found.1) c.cut-cut.ensures (c.in-Ok.ensures.ok xs st))
+pub returns-in-Err : goal.returns-in-Err
+returns-in-Err c =
+    refused_line c.args.self.now c.self.inside.tally c.self.inside.line c.cut-cut.result c.kind-kind.result c.in-Err.fault c.refuse.result c.refuse.new.self
+    (ap (λ (d : Standing). d.tally) c.self.view_is) (ap (λ (d : Standing). d.line) c.self.view_is) c.cut-cut.ensures c.kind-kind.ensures c.in-Err.ensures.err c.in-Err.ensures.first c.refuse.ensures
 
-pub returns-in-Some-clause-ready : goal.returns-in-Some-clause-ready
-returns-in-Some-clause-ready c = has_record c.args.self.now.tally c.args.self.now.line c.in-Ok.found.0 c.in-Ok.found.1 c.transactions-begun.ensures.kept (λ xs st. subst (λ (h : HeldLine). IsNext c.args.self.now.tally.limits xs h c.in-Ok.found.0 c.in-Ok.found.1) c.cut-cut.ensures (c.in-Ok.ensures.ok xs st)) c.requires
+pub returns-in-Some : goal.returns-in-Some
+returns-in-Some c =
+    let i = c.self.inside in
+    let d : Standing = record { line = i.line; tally = i.tally; held = i.held; state = i.state; finished = i.finished } in
+    subst (λ (q : Standing). Judges q (Some (outcomes.Item (items.Transaction c.in-Some.whole))) (record { line = i.line; tally = c.goes_on-goes_on.new.tally; held = c.hand_out.new.held; state = states.Pending; finished = i.finished })) c.self.view_is
+    (waits_now d c.goes_on-goes_on.new.tally c.cut-cut.result c.in-Ok.found.0 c.in-Ok.found.1 c.goes_on-goes_on.result c.in-Some.whole c.hand_out.result c.hand_out.new.held c.cut-cut.ensures c.in-Ok.ensures.carried c.in-Ok.ensures.ok c.goes_on-goes_on.ensures.limits c.goes_on-goes_on.ensures.stands
+    c.goes_on-goes_on.ensures.same c.hand_out.ensures c.in-Some.is)
 
-pub returns-clause-over : goal.returns-clause-over
-returns-clause-over c = λ o. absurd (never_over c.args.self.now.tally c.args.self.now.line c.in-Ok.found.0 c.in-Ok.found.1 c.transactions-begun.ensures.kept (λ xs st. subst (λ (h : HeldLine). IsNext c.args.self.now.tally.limits xs h c.in-Ok.found.0 c.in-Ok.found.1) c.cut-cut.ensures (c.in-Ok.ensures.ok xs st)) o)
+pub returns : goal.returns
+returns c =
+    let i = c.self.inside in
+    let d : Standing = record { line = i.line; tally = i.tally; held = i.held; state = i.state; finished = i.finished } in
+    subst (λ (q : Standing). Judges q c.go_on.result c.go_on.new.self) c.self.view_is
+    (enters_now d c.goes_on-goes_on.new.tally c.cut-cut.result c.in-Ok.found.0 c.in-Ok.found.1 c.goes_on-goes_on.result c.hand_out.result c.hand_out.new.held c.entered-outcome.result c.entered-outcome.new.held c.go_on.result c.go_on.new.self
+    c.cut-cut.ensures c.in-Ok.ensures.carried c.in-Ok.ensures.ok c.goes_on-goes_on.ensures.limits c.goes_on-goes_on.ensures.stands c.goes_on-goes_on.ensures.same c.hand_out.ensures c.in_default.is c.entered-outcome.ensures c.go_on.ensures)

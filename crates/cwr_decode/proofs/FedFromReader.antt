@@ -1,0 +1,191 @@
+-- What a decoder answers to bytes of a reader, as what is read.
+use Rattle.std.proofs.Common.{◌≡◌, ℕ, zero, suc, ◌≤◌, Bool, true, false, List, [], ◌++◌, length, take, drop, Option, Some, None, refl, sym, ap, subst, ◌∙◌, append-nil, true≢false}
+use Rattle.std.specs.Prelude.{Result, Err, IfSome, IfNone}
+use Rattle.std.proofs.KnownBytes.{starts_with_rest, Consumes-nil, Consumes-kept}
+use Rattle.std.specs.Io.{StartsWith}
+use Rattle.std.specs.Io.KnownBytes.{Consumes, IsAtEnd, Keeps}
+use Rattle.cwr_values.specs.declared.items.Item.{Item}
+use Rattle.cwr_decode.specs.declared.outcomes.Outcome.{Outcome}
+use Rattle.cwr_decode.specs.declared.outcomes.Outcome.TheVariants as outcomes
+use Rattle.cwr_decode.specs.declared.machine.State.{State}
+use Rattle.cwr_decode.specs.declared.machine.State.TheVariants as states
+use Rattle.cwr_decode.specs.declared.readings.ReadFault.{ReadFault}
+use Rattle.cwr_decode.specs.declared.readings.ReadFault.TheVariants as faults
+use Rattle.cwr_decode.specs.Machines.{Standing, Leaves, again}
+use Rattle.cwr_decode.specs.Stands.{StandsFor, IsRight, MayFollow, items_out}
+use Rattle.cwr_decode.specs.Calls.{IsLive, seen}
+use Rattle.cwr_decode.specs.Readings.{answer_of, IsUnderWay, IsSpent, FeedsOn, Reads}
+use Rattle.cwr_decode.proofs.FromReader.{needs_more, reads_called}
+
+abbrev Answer : Type 0
+Answer = Result (Option Item) ReadFault
+
+-- ---- where more is needed
+
+live_by : (state : State) → IfSome (again state) (λ o. outcomes.More ≡ o) → IsLive state
+live_by states.Reading h = refl
+live_by states.Pending h = refl
+live_by states.Ended h = absurd (cc h)
+live_by (states.Refused refusal) h = absurd (cc h)
+live_by (states.Truncated records) h = absurd (cc h)
+live_by states.Memory h = absurd (cc h)
+
+pub feeds_called : (n : ℕ) (old : Standing) (left : Option (List ℕ)) (outcome : Outcome) (new : Standing) (after : Option (List ℕ)) (bytes : List ℕ) → answer_of outcome ≡ None
+    → n ≤ length bytes → Consumes left after bytes
+    → ((input : List ℕ) (given : List Item) → StandsFor old input given → StandsFor new (input ++ bytes) (given ++ items_out outcome))
+    → Leaves outcome new.state → IfSome (again old.state) (λ o. outcome ≡ o) → new.finished ≡ false → new.tally.limits ≡ old.tally.limits → FeedsOn n old left new after
+feeds_called n old left outcome new after bytes e count consumed stands leaves same fresh limits =
+    let more : outcome ≡ outcomes.More = needs_more outcome e in
+    record {
+      bytes = bytes;
+      count = count;
+      consumed = consumed;
+      stands = λ input given h. subst (λ (l : List Item). StandsFor new (input ++ bytes) l) (ap (λ (o : Outcome). given ++ items_out o) more ∙ append-nil given) (stands input given h);
+      live = live_by old.state (subst (λ (x : Outcome). IfSome (again old.state) (λ o. x ≡ o)) more same);
+      reading = subst (λ (x : Outcome). Leaves x new.state) more leaves;
+      fresh = fresh;
+      limits = limits;
+    }
+
+-- ---- an empty piece
+
+take_none : (n : ℕ) → let none : List ℕ = [] in take n none ≡ none
+take_none zero = refl
+take_none (suc n) = refl
+
+pub keeps_none : (n : ℕ) (left : Option (List ℕ)) → Consumes left left (take n [])
+keeps_none n left = subst (Consumes left left) (sym (take_none n)) (Consumes-nil left)
+
+seen_none : (over : Bool) (input : List ℕ) → seen over input [] ≡ input ++ []
+seen_none false input = refl
+seen_none true input = sym (append-nil input)
+
+behind_none : (over : Bool) (left : Option (List ℕ)) → (over ≡ true → IsAtEnd left) → IfSome left (λ rest. (more : List ℕ) × MayFollow over more × (rest ≡ [] ++ more))
+behind_none over None h = tt
+behind_none false (Some rest) h = (rest, tt, refl)
+behind_none true (Some rest) h = (rest, h refl, refl)
+
+pub reads_settled : (old new : Standing) (used : ℕ) (outcome : Outcome) (answer : Answer) → answer_of outcome ≡ Some answer
+    → ((input : List ℕ) (given : List Item) → StandsFor old input given → StandsFor new (input ++ take used []) (given ++ items_out outcome))
+    → (IsLive old.state → (input : List ℕ) (given : List Item) → StandsFor old input given → IsRight old.tally.limits outcome old.finished (input ++ take used []) (seen old.finished input []) (given ++ items_out outcome))
+    → Leaves outcome new.state → IfSome (again old.state) (λ o. outcome ≡ o) → new.finished ≡ old.finished → new.tally.limits ≡ old.tally.limits
+    → IsUnderWay old → (left : Option (List ℕ)) → Reads old left answer new left
+reads_settled old new used outcome answer e stands right leaves same finished limits way left = reads_called old left outcome answer new left e way (record {
+  bytes = take used [];
+  ahead = [];
+  over = old.finished;
+  consumed = keeps_none used left;
+  stands = stands;
+  right = λ live input given h. subst (λ (l : List ℕ). IsRight old.tally.limits outcome old.finished (input ++ take used []) l (given ++ items_out outcome)) (seen_none old.finished input) (right live input given h);
+  behind = behind_none old.finished left;
+  leaves = leaves;
+  again = same;
+  at_end = λ spent. still_spent left spent;
+  limits = limits;
+}) where
+  still_spent : (l : Option (List ℕ)) → IsSpent old l → IfSome l (λ _. IsSpent new l)
+  still_spent None spent = tt
+  still_spent (Some xs) spent = λ is. spent (sym finished ∙ is)
+
+-- ---- a piece that the reader showed
+
+behind_piece : (left : Option (List ℕ)) (piece : List ℕ) → IfSome left (λ xs. StartsWith xs piece) → IfSome left (λ rest. (more : List ℕ) × MayFollow false more × (rest ≡ piece ++ more))
+behind_piece None piece h = tt
+behind_piece (Some rest) piece h = (drop (length piece) rest, tt, starts_with_rest rest piece h)
+
+pub reads_fed : (old new : Standing) (left after : Option (List ℕ)) (piece : List ℕ) (used : ℕ) (outcome : Outcome) (answer : Answer) → answer_of outcome ≡ Some answer
+    → IsUnderWay old → old.finished ≡ false → IfSome left (λ xs. StartsWith xs piece) → Consumes left after (take used piece)
+    → ((input : List ℕ) (given : List Item) → StandsFor old input given → StandsFor new (input ++ take used piece) (given ++ items_out outcome))
+    → (IsLive old.state → (input : List ℕ) (given : List Item) → StandsFor old input given → IsRight old.tally.limits outcome old.finished (input ++ take used piece) (seen old.finished input piece) (given ++ items_out outcome))
+    → Leaves outcome new.state → IfSome (again old.state) (λ o. outcome ≡ o) → new.finished ≡ old.finished → new.tally.limits ≡ old.tally.limits → Reads old left answer new after
+reads_fed old new left after piece used outcome answer e way fresh shown consumed stands right leaves same finished limits = reads_called old left outcome answer new after e way (record {
+  bytes = take used piece;
+  ahead = piece;
+  over = false;
+  consumed = consumed;
+  stands = stands;
+  right = λ live input given h. subst (λ (b : Bool). IsRight old.tally.limits outcome b (input ++ take used piece) (seen b input piece) (given ++ items_out outcome)) fresh (right live input given h);
+  behind = λ spent. behind_piece left piece shown;
+  leaves = leaves;
+  again = same;
+  at_end = λ spent. not_over left;
+  limits = limits;
+}) where
+  not_over : (l : Option (List ℕ)) → IfSome l (λ _. IsSpent new after)
+  not_over None = tt
+  not_over (Some xs) = λ is. absurd (true≢false (sym is ∙ finished ∙ fresh))
+
+-- ---- the end of the input
+
+behind_end : (left : Option (List ℕ)) → IsAtEnd left → IfSome left (λ rest. (more : List ℕ) × MayFollow true more × (rest ≡ [] ++ more))
+behind_end None h = tt
+behind_end (Some rest) h = (rest, h, refl)
+
+kept_end : (d : Standing) (left after : Option (List ℕ)) → Keeps left after → IsAtEnd left → IfSome left (λ _. IsSpent d after)
+kept_end d None after k h = tt
+kept_end d (Some xs) None k h = absurd k
+kept_end d (Some xs) (Some ys) k h = λ is. k ∙ h
+
+pub at_end : (left : Option (List ℕ)) (piece : List ℕ) → IfSome left (λ xs. length piece ≡ 0 → xs ≡ []) → length piece ≡ 0 → IsAtEnd left
+at_end None piece h e = tt
+at_end (Some xs) piece h e = h e
+
+pub reads_finished : (old new : Standing) (left after : Option (List ℕ)) (outcome : Outcome) (answer : Answer) → answer_of outcome ≡ Some answer
+    → IsUnderWay old → IsAtEnd left → Keeps left after
+    → ((input : List ℕ) (given : List Item) → StandsFor old input given → StandsFor new input (given ++ items_out outcome))
+    → (IsLive old.state → (input : List ℕ) (given : List Item) → StandsFor old input given → IsRight old.tally.limits outcome true input input (given ++ items_out outcome))
+    → Leaves outcome new.state → IfSome (again old.state) (λ o. outcome ≡ o) → new.tally.limits ≡ old.tally.limits → Reads old left answer new after
+reads_finished old new left after outcome answer e way end kept stands right leaves same limits = reads_called old left outcome answer new after e way (record {
+  bytes = [];
+  ahead = [];
+  over = true;
+  consumed = Consumes-kept left left after [] (Consumes-nil left) kept;
+  stands = λ input given h. subst (λ (l : List ℕ). StandsFor new l (given ++ items_out outcome)) (sym (append-nil input)) (stands input given h);
+  right = λ live input given h. subst (λ (l : List ℕ). IsRight old.tally.limits outcome true l l (given ++ items_out outcome)) (sym (append-nil input)) (right live input given h);
+  behind = λ spent. behind_end left end;
+  leaves = leaves;
+  again = same;
+  at_end = λ spent. kept_end new left after kept end;
+  limits = limits;
+})
+
+-- ---- a reader that failed
+
+kept_spent : (d : Standing) (left after : Option (List ℕ)) → Keeps left after → IsSpent d left → IfSome left (λ _. IsSpent d after)
+kept_spent d None after k h = tt
+kept_spent d (Some xs) None k h = absurd k
+kept_spent d (Some xs) (Some ys) k h = λ is. k ∙ h is
+
+any_right : (left : Option (List ℕ)) → IfSome left (λ rest. Unit {0})
+any_right None = tt
+any_right (Some rest) = tt
+
+pub reads_failed : (d : Standing) (left after : Option (List ℕ)) → d.state ≡ states.Reading → Keeps left after → Reads d left (Err faults.Reader) d after
+reads_failed d left after reading kept = record {
+  bytes = [];
+  consumed = Consumes-kept left left after [] (Consumes-nil left) kept;
+  stands = λ input given h. subst (λ (l : List ℕ). StandsFor d l (given ++ [])) (sym (append-nil input)) (subst (StandsFor d input) (sym (append-nil given)) h);
+  right = λ live spent input given h. any_right left;
+  leaves = reading;
+  none = λ is. absurd (cc is);
+  over = kept_spent d left after kept;
+  limits = refl;
+}
+
+-- ---- what is told, if anything is
+
+pub told_none : (told : Option Answer) (P : Type 0) → (told ≡ None → P) → IfNone told P
+told_none None P h = h refl
+told_none (Some answer) P h = tt
+
+pub told_some : (told : Option Answer) (P : Answer → Type 0) → ((answer : Answer) → told ≡ Some answer → P answer) → IfSome told P
+told_some None P h = tt
+told_some (Some answer) P h = h answer refl
+
+pub same_fed : (o : Option Outcome) (outcome : Outcome) (B C : Type 0) → IfSome o (λ x. (outcome ≡ x) × B × C) → IfSome o (λ x. outcome ≡ x)
+same_fed None outcome B C h = tt
+same_fed (Some x) outcome B C h = h.0
+
+pub same_finished : (o : Option Outcome) (outcome : Outcome) (B : Type 0) → IfSome o (λ x. (outcome ≡ x) × B) → IfSome o (λ x. outcome ≡ x)
+same_finished None outcome B h = tt
+same_finished (Some x) outcome B h = h.0

@@ -1,0 +1,240 @@
+-- The bytes of a reader that are fed to a decoder, and what it answers.
+use Rattle.std.proofs.Common.{◌≡◌, ℕ, ◌+◌, ◌≤◌, Bool, false, List, [], ◌++◌, length, take, drop, Option, Some, None, refl, sym, ap, subst, ◌∙◌, arith, append_assoc, append-nil, take-append-drop, true≢false}
+use Rattle.std.specs.Prelude.{Result, Ok, IfSome}
+use Rattle.std.proofs.lemmas.List.{length-append, take-append-le}
+use Rattle.std.proofs.KnownBytes.{starts_with_rest, Consumes-nil, Consumes-trans}
+use Rattle.std.specs.Io.{StartsWith}
+use Rattle.std.specs.Io.KnownBytes.{Consumes, Keeps}
+use Rattle.cwr_shape.specs.Ranges.{LimitValues}
+use Rattle.cwr_values.specs.declared.items.Item.{Item}
+use Rattle.cwr_values.specs.declared.items.Item.TheVariants as items
+use Rattle.cwr_decode.specs.declared.outcomes.Outcome.{Outcome}
+use Rattle.cwr_decode.specs.declared.outcomes.Outcome.TheVariants as outcomes
+use Rattle.cwr_decode.specs.declared.machine.State.{State}
+use Rattle.cwr_decode.specs.declared.machine.State.TheVariants as states
+use Rattle.cwr_decode.specs.declared.readings.ReadFault.{ReadFault}
+use Rattle.cwr_decode.specs.Ends.{IsAccepted, IsNotAccepted}
+use Rattle.cwr_decode.specs.Machines.{Standing, Leaves, again}
+use Rattle.cwr_decode.specs.Stands.{StandsFor, IsRight, MayFollow, AcceptsNone, items_out}
+use Rattle.cwr_decode.specs.Calls.{IsLive}
+use Rattle.cwr_decode.specs.Readings.{answer_of, items_read, IsRightOf, LeavesRead, CountsReader, IsUnderWay, IsSpent, FeedsOn, Reads}
+
+abbrev Answer : Type 0
+Answer = Result (Option Item) ReadFault
+
+-- ---- bytes that a reader showed and lost
+
+front_taken : (xs piece : List ℕ) (used : ℕ) → StartsWith xs piece → used ≤ length piece → xs ≡ take used piece ++ drop used xs
+front_taken xs piece used h within
+    = sym (take-append-drop used xs) ∙ ap (λ (l : List ℕ). l ++ drop used xs) (ap (take used) (starts_with_rest xs piece h) ∙ take-append-le used piece (drop (length piece) xs) within)
+
+pub consumes_taken : (left mid after : Option (List ℕ)) (piece : List ℕ) (used : ℕ) → Keeps left mid → IfSome left (λ xs. StartsWith xs piece) → used ≤ length piece
+    → IfSome mid (λ xs. after ≡ Some (drop used xs)) → Consumes left after (take used piece)
+consumes_taken None mid after piece used k h within lost = tt
+consumes_taken (Some xs) None after piece used k h within lost = absurd k
+consumes_taken (Some xs) (Some ys) after piece used k h within lost
+    = subst (λ (o : Option (List ℕ)). Consumes (Some xs) o (take used piece)) (sym lost)
+    (front_taken xs piece used h within ∙ ap (λ (l : List ℕ). take used piece ++ drop used l) (sym k))
+
+-- ---- what an answer is told as
+
+items_same : (outcome : Outcome) → IfSome (answer_of outcome) (λ answer. items_read answer ≡ items_out outcome)
+items_same outcomes.More = tt
+items_same (outcomes.Item item) = refl
+items_same (outcomes.Refused refusal) = refl
+items_same (outcomes.Truncated records) = refl
+items_same outcomes.Memory = refl
+items_same outcomes.Done = refl
+
+leaves_same : (outcome : Outcome) (state : State) → Leaves outcome state → IfSome (answer_of outcome) (λ answer. LeavesRead answer state)
+leaves_same outcomes.More state h = tt
+leaves_same (outcomes.Item item) state h = h
+leaves_same (outcomes.Refused refusal) state h = h
+leaves_same (outcomes.Truncated records) state h = h
+leaves_same outcomes.Memory state h = h
+leaves_same outcomes.Done state h = h
+
+-- nothing is told only where more is needed
+pub needs_more : (outcome : Outcome) → answer_of outcome ≡ None → outcome ≡ outcomes.More
+needs_more outcomes.More e = refl
+needs_more (outcomes.Item item) e = absurd (cc e)
+needs_more (outcomes.Refused refusal) e = absurd (cc e)
+needs_more (outcomes.Truncated records) e = absurd (cc e)
+needs_more outcomes.Memory e = absurd (cc e)
+needs_more outcomes.Done e = absurd (cc e)
+
+-- `Ok(None)` is told for `Done`
+done_only : (outcome : Outcome) → answer_of outcome ≡ Some (Ok None) → outcome ≡ outcomes.Done
+done_only outcomes.More e = absurd (cc e)
+done_only (outcomes.Item item) e = absurd (cc e)
+done_only (outcomes.Refused refusal) e = absurd (cc e)
+done_only (outcomes.Truncated records) e = absurd (cc e)
+done_only outcomes.Memory e = absurd (cc e)
+done_only outcomes.Done e = refl
+
+-- no answer of a decoder counts a failure
+pub no_failure : (outcome : Outcome) → IfSome (answer_of outcome) (λ answer. (failures : ℕ) → CountsReader answer failures failures)
+no_failure outcomes.More = tt
+no_failure (outcomes.Item item) = λ failures. refl
+no_failure (outcomes.Refused refusal) = λ failures. refl
+no_failure (outcomes.Truncated records) = λ failures. refl
+no_failure outcomes.Memory = λ failures. refl
+no_failure outcomes.Done = λ failures. refl
+
+none_accepted : (limits : LimitValues) (over : Bool) (seen more text : List ℕ) → text ≡ seen ++ more → MayFollow over more → AcceptsNone limits over seen → IsNotAccepted limits text
+none_accepted limits over seen more text split may h = subst (IsNotAccepted limits) (sym split) (h more may)
+
+right_same : (limits : LimitValues) (outcome : Outcome) (over : Bool) (used seen more text : List ℕ) (given : List Item) → text ≡ seen ++ more → MayFollow over more
+    → IsRight limits outcome over used seen given → IfSome (answer_of outcome) (λ answer. IsRightOf limits answer (length used) text given)
+right_same limits outcomes.More over used seen more text given split may h = tt
+right_same limits (outcomes.Item items.Ended) over used seen more text given split may h
+    = record { value = h.value; given_are = h.given_are; accepted = subst (λ (t : List ℕ). IsAccepted limits t h.value (length used)) (sym split) (h.accepted more may) }
+right_same limits (outcomes.Item (items.Opened r)) over used seen more text given split may h = tt
+right_same limits (outcomes.Item (items.GroupOpened r)) over used seen more text given split may h = tt
+right_same limits (outcomes.Item (items.Transaction r)) over used seen more text given split may h = tt
+right_same limits (outcomes.Item (items.GroupClosed r)) over used seen more text given split may h = tt
+right_same limits (outcomes.Refused refusal) over used seen more text given split may h = none_accepted limits over seen more text split may h
+right_same limits (outcomes.Truncated records) over used seen more text given split may h = none_accepted limits over seen more text split may h.1
+right_same limits outcomes.Memory over used seen more text given split may h = tt
+right_same limits outcomes.Done over used seen more text given split may h = absurd h
+
+-- what answers `Done` had ended
+was_ended : (state : State) → IfSome (again state) (λ outcome. outcomes.Done ≡ outcome) → (IsLive state → ⊥) → state ≡ states.Ended
+was_ended states.Reading h live = absurd (live refl)
+was_ended states.Pending h live = absurd (live refl)
+was_ended states.Ended h live = refl
+was_ended (states.Refused refusal) h live = absurd (cc h)
+was_ended (states.Truncated records) h live = absurd (cc h)
+was_ended states.Memory h live = absurd (cc h)
+
+-- ---- a call of the decoder
+
+-- bytes were fed, of which the decoder also saw those behind them; `over` where the input was over
+pub record Calls (old : Standing) (left : Option (List ℕ)) (outcome : Outcome) (new : Standing) (after : Option (List ℕ)) : Type 0 where
+  pub bytes : List ℕ
+  pub ahead : List ℕ
+  pub over : Bool
+  pub consumed : Consumes left after bytes
+  pub stands : (input : List ℕ) (given : List Item) → StandsFor old input given → StandsFor new (input ++ bytes) (given ++ items_out outcome)
+  pub right : IsLive old.state → (input : List ℕ) (given : List Item) → StandsFor old input given → IsRight old.tally.limits outcome over (input ++ bytes) (input ++ ahead) (given ++ items_out outcome)
+  pub behind : IsSpent old left → IfSome left (λ rest. (more : List ℕ) × MayFollow over more × (rest ≡ ahead ++ more))
+  pub leaves : Leaves outcome new.state
+  pub again : IfSome (again old.state) (λ o. outcome ≡ o)
+  pub at_end : IsSpent old left → IfSome left (λ _. IsSpent new after)
+  pub limits : new.tally.limits ≡ old.tally.limits
+
+told_items : (outcome : Outcome) (answer : Answer) → answer_of outcome ≡ Some answer → items_read answer ≡ items_out outcome
+told_items outcome answer e = subst (λ (o : Option Answer). IfSome o (λ a. items_read a ≡ items_out outcome)) e (items_same outcome)
+
+told_right : (limits : LimitValues) (outcome : Outcome) (answer : Answer) (over : Bool) (used seen : List ℕ) (text : Option (List ℕ)) (before : List Item) → answer_of outcome ≡ Some answer
+    → IfSome text (λ t. (more : List ℕ) × MayFollow over more × (t ≡ seen ++ more))
+    → IsRight limits outcome over used seen (before ++ items_out outcome) → IfSome text (λ t. IsRightOf limits answer (length used) t (before ++ items_read answer))
+told_right limits outcome answer over used seen None before e split h = tt
+told_right limits outcome answer over used seen (Some text) before e split h
+    = subst (λ (l : List Item). IsRightOf limits answer (length used) text (before ++ l)) (sym (told_items outcome answer e))
+    (subst (λ (o : Option Answer). IfSome o (λ a. IsRightOf limits a (length used) text (before ++ items_out outcome))) e
+    (right_same limits outcome over used seen split.0 text (before ++ items_out outcome) split.2 split.1 h))
+
+told_none : (old : Standing) (outcome : Outcome) (over : Bool) (used seen : List ℕ) (given : List Item) → outcome ≡ outcomes.Done → IfSome (again old.state) (λ o. outcome ≡ o)
+    → (IsLive old.state → IsRight old.tally.limits outcome over used seen given) → old.state ≡ states.Ended
+told_none old outcome over used seen given e same right
+    = was_ended old.state (subst (λ (x : Outcome). IfSome (again old.state) (λ o. x ≡ o)) e same)
+    (λ live. subst (λ (x : Outcome). IsRight old.tally.limits x over used seen given) e (right live))
+
+pub reads_called : (old : Standing) (left : Option (List ℕ)) (outcome : Outcome) (answer : Answer) (new : Standing) (after : Option (List ℕ)) → answer_of outcome ≡ Some answer
+    → IsUnderWay old → Calls old left outcome new after → Reads old left answer new after
+reads_called old left outcome answer new after e way c = record {
+  bytes = c.bytes;
+  consumed = c.consumed;
+  stands = λ input given h. subst (λ (l : List Item). StandsFor new (input ++ c.bytes) (given ++ l)) (sym (told_items outcome answer e)) (c.stands input given h);
+  right = λ live spent input given h. rights left input given (c.right live input given h) (c.behind spent);
+  leaves = subst (λ (o : Option Answer). IfSome o (λ a. LeavesRead a new.state)) e (leaves_same outcome new.state c.leaves);
+  none = λ is. told_none old outcome c.over (way.input ++ c.bytes) (way.input ++ c.ahead) (way.given ++ items_out outcome) (done_only outcome (e ∙ ap (λ (a : Answer). Some a) is)) c.again
+      (λ live. c.right live way.input way.given way.stands);
+  over = c.at_end;
+  limits = c.limits;
+} where
+  rights : (l : Option (List ℕ)) (input : List ℕ) (given : List Item) → IsRight old.tally.limits outcome c.over (input ++ c.bytes) (input ++ c.ahead) (given ++ items_out outcome)
+      → IfSome l (λ rest. (more : List ℕ) × MayFollow c.over more × (rest ≡ c.ahead ++ more))
+      → IfSome l (λ rest. IsRightOf old.tally.limits answer (length (input ++ c.bytes)) (input ++ rest) (given ++ items_read answer))
+  rights None input given h behind = tt
+  rights (Some rest) input given h behind = told_right old.tally.limits outcome answer c.over (input ++ c.bytes) (input ++ c.ahead) (Some (input ++ rest)) given e
+      (behind.0, behind.1, ap (λ (l : List ℕ). input ++ l) behind.2 ∙ sym (append_assoc input c.ahead behind.0)) h
+
+-- ---- one call behind another
+
+pub under_way : (old : Standing) (left : Option (List ℕ)) (answer : Answer) (new : Standing) (after : Option (List ℕ)) → IsUnderWay old → Reads old left answer new after → IsUnderWay new
+under_way old left answer new after way r = record { input = way.input ++ r.bytes; given = way.given ++ items_read answer; stands = r.stands way.input way.given way.stands }
+
+pub still_under_way : (n : ℕ) (old : Standing) (left : Option (List ℕ)) (new : Standing) (after : Option (List ℕ)) → IsUnderWay old → FeedsOn n old left new after → IsUnderWay new
+still_under_way n old left new after way f = record { input = way.input ++ f.bytes; given = way.given; stands = f.stands way.input way.given way.stands }
+
+not_over : (d : Standing) (left : Option (List ℕ)) → d.finished ≡ false → IsSpent d left
+not_over d left fresh is = absurd (true≢false (sym is ∙ fresh))
+
+spent_behind : (p q r : Option (List ℕ)) (bytes : List ℕ) (d : Standing) → Consumes p q bytes → IfSome q (λ _. IsSpent d r) → IfSome p (λ _. IsSpent d r)
+spent_behind None q r bytes d lost h = tt
+spent_behind (Some xs) None r bytes d lost h = absurd lost
+spent_behind (Some xs) (Some ys) r bytes d lost h = h
+
+pub feeds_none : (d : Standing) (left : Option (List ℕ)) → d.state ≡ states.Reading → d.finished ≡ false → FeedsOn 0 d left d left
+feeds_none d left reading fresh = record {
+  bytes = [];
+  count = omega arith;
+  consumed = Consumes-nil left;
+  stands = λ input given h. subst (λ (l : List ℕ). StandsFor d l given) (sym (append-nil input)) h;
+  live = ap again reading;
+  reading = reading;
+  fresh = fresh;
+  limits = refl;
+}
+
+pub feeds_both : (m n : ℕ) (a : Standing) (p : Option (List ℕ)) (b : Standing) (q : Option (List ℕ)) (c : Standing) (r : Option (List ℕ)) → FeedsOn m a p b q → FeedsOn n b q c r → FeedsOn (m + n) a p c r
+feeds_both m n a p b q c r f g = record {
+  bytes = f.bytes ++ g.bytes;
+  count = omega (arith, f.count, g.count, length-append f.bytes g.bytes);
+  consumed = Consumes-trans p q r f.bytes g.bytes f.consumed g.consumed;
+  stands = λ input given h. subst (λ (l : List ℕ). StandsFor c l given) (append_assoc input f.bytes g.bytes) (g.stands (input ++ f.bytes) given (f.stands input given h));
+  live = f.live;
+  reading = g.reading;
+  fresh = g.fresh;
+  limits = g.limits ∙ f.limits;
+}
+
+right_behind : (limits after_limits : LimitValues) (answer : Answer) (p q : Option (List ℕ)) (bytes more input : List ℕ) (given : List Item) → after_limits ≡ limits → Consumes p q bytes
+    → IfSome q (λ rest. IsRightOf after_limits answer (length ((input ++ bytes) ++ more)) ((input ++ bytes) ++ rest) given)
+    → IfSome p (λ rest. IsRightOf limits answer (length (input ++ (bytes ++ more))) (input ++ rest) given)
+right_behind limits after_limits answer None q bytes more input given same lost h = tt
+right_behind limits after_limits answer (Some xs) None bytes more input given same lost h = absurd lost
+right_behind limits after_limits answer (Some xs) (Some ys) bytes more input given same lost h =
+    let texts : (input ++ bytes) ++ ys ≡ input ++ xs = append_assoc input bytes ys ∙ ap (λ (l : List ℕ). input ++ l) (sym lost) in
+    subst (λ (l : LimitValues). IsRightOf l answer (length (input ++ (bytes ++ more))) (input ++ xs) given) same
+    (subst (λ (l : List ℕ). IsRightOf after_limits answer (length l) (input ++ xs) given) (append_assoc input bytes more)
+    (subst (λ (l : List ℕ). IsRightOf after_limits answer (length ((input ++ bytes) ++ more)) l given) texts h))
+
+pub reads_behind : (n : ℕ) (answer : Answer) (a : Standing) (p : Option (List ℕ)) (b : Standing) (q : Option (List ℕ)) (c : Standing) (r : Option (List ℕ)) → FeedsOn n a p b q → Reads b q answer c r → Reads a p answer c r
+reads_behind n answer a p b q c r f g = record {
+  bytes = f.bytes ++ g.bytes;
+  consumed = Consumes-trans p q r f.bytes g.bytes f.consumed g.consumed;
+  stands = λ input given h. subst (λ (l : List ℕ). StandsFor c l (given ++ items_read answer)) (append_assoc input f.bytes g.bytes) (g.stands (input ++ f.bytes) given (f.stands input given h));
+  right = λ live spent input given h. right_behind a.tally.limits b.tally.limits answer p q f.bytes g.bytes input (given ++ items_read answer) f.limits f.consumed
+      (g.right (ap again f.reading) (not_over b q f.fresh) (input ++ f.bytes) given (f.stands input given h));
+  leaves = g.leaves;
+  none = λ is. absurd (reading_ends (sym f.reading ∙ g.none is));
+  over = λ spent. spent_behind p q r f.bytes c f.consumed (g.over (not_over b q f.fresh));
+  limits = g.limits ∙ f.limits;
+} where
+  reading_ends : states.Reading ≡ states.Ended → ⊥
+  reading_ends e = cc e
+
+-- ---- what is read first
+
+-- of a reader from which nothing was read yet
+pub first_read : (limits : LimitValues) (d : Standing) (left : Option (List ℕ)) (answer : Answer) (new : Standing) (after : Option (List ℕ)) → StandsFor d [] [] → d.state ≡ states.Reading → d.finished ≡ false → d.tally.limits ≡ limits
+    → Reads d left answer new after → (bytes : List ℕ) × Consumes left after bytes × IfSome left (λ rest. IsRightOf limits answer (length bytes) rest (items_read answer))
+first_read limits d left answer new after stands reading fresh same r = (
+  r.bytes,
+  r.consumed,
+  subst (λ (l : LimitValues). IfSome left (λ rest. IsRightOf l answer (length r.bytes) rest (items_read answer))) same
+      (r.right (ap again reading) (not_over d left fresh) [] [] stands),
+)

@@ -1,0 +1,25 @@
+-- Symbols that begin a transmission are whole exactly where the last is that of TRL.
+use Rattle.std.proofs.Common.{◌≡◌, List, [], ◌∷◌, ◌++◌, Option, Some, None, refl, sym, ap, subst, ◌∙◌, append-nil}
+use Rattle.std.specs.List.{last_or, flat_map}
+use Rattle.cwr_layouts.specs.declared.kinds.Kind.TheVariants.{Hdr, Trl}
+use Rattle.cwr_shape.specs.declared.symbols.Symbol.{Symbol}
+use Rattle.cwr_shape.specs.declared.symbols.Symbol.TheVariants.{Plain}
+use Rattle.cwr_shape.specs.declared.stages.Stage.TheVariants as stages
+use Rattle.cwr_shape.specs.Stages.{stage_by, stage_after}
+use Rattle.cwr_shape.specs.Outlines.{group_symbols, IsWhole, GoesOn}
+use Rattle.cwr_shape.specs.Left.{Any, StandsAt}
+use Rattle.cwr_shape.proofs.OneMore.{last_or-snoc}
+use Rattle.cwr_shape.proofs.StageStands.{stands_leaves}
+
+pub trailer_ends : (xs : List Symbol) → GoesOn Any (xs ++ Plain Trl ∷ []) → IsWhole (xs ++ Plain Trl ∷ [])
+trailer_ends xs g =
+    let ys : List Symbol = xs ++ Plain Trl ∷ [] in
+    let ended : stage_after ys ≡ stages.Ended = ap (λ (o : Option Symbol). stage_by o ys) (last_or-snoc None xs (Plain Trl)) in
+    let stands : StandsAt ys stages.Ended = record { begins = g; named = sym ended } in
+    subst IsWhole (append-nil ys) (((stands_leaves ys stages.Ended stands).leaves []).1 ([], refl, tt))
+
+last_is : (xs : List Symbol) (s : Symbol) → IsWhole (xs ++ s ∷ []) → Some s ≡ Some (Plain Trl)
+last_is xs s w = sym (last_or-snoc None xs s) ∙ ap (last_or None) w.2 ∙ last_or-snoc None (Plain Hdr ∷ flat_map group_symbols w.0) (Plain Trl)
+
+pub whole_ends : (xs : List Symbol) (s : Symbol) → IsWhole (xs ++ s ∷ []) → s ≡ Plain Trl
+whole_ends xs s w = let same = last_is xs s w in cc same

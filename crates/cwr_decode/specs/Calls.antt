@@ -1,0 +1,77 @@
+-- What a call of a decoder does to what the decoder stands for, and what its answer says of the input.
+use Rattle.std.specs.Prelude.{◌≡◌, ℕ, ◌<◌, ◌≤◌, Bool, true, false, List, ◌++◌, length, take, Option, Some, None, IfSome, IfNone}
+use Rattle.cwr_values.specs.declared.items.Item.{Item}
+use Rattle.cwr_decode.specs.declared.outcomes.Outcome.{Outcome}
+use Rattle.cwr_decode.specs.declared.outcomes.Outcome.TheVariants.{More}
+use Rattle.cwr_decode.specs.declared.machine.State.{State}
+use Rattle.cwr_decode.specs.declared.machine.State.TheVariants.{Reading}
+use Rattle.cwr_decode.specs.Machines.{Standing, IsReady, Leaves, again, over}
+use Rattle.cwr_decode.specs.Stands.{StandsFor, IsRight, items_in, items_out}
+
+-- nothing was answered for good
+abbrev pub IsLive : State → Type 0
+IsLive state = again state ≡ None
+
+-- a step without a further byte
+pub record Moves (old : Standing) (out : Option Outcome) (new : Standing) : Type 0 where
+  pub stands : (input : List ℕ) (given : List Item) → StandsFor old input given → StandsFor new input (given ++ items_in out)
+  pub ready : IsReady new.state new.finished new.line
+  pub leaves : IfSome out (λ outcome. Leaves outcome new.state)
+  pub none : IfNone out (IsLive old.state → new.state ≡ Reading)
+  pub finished : new.finished ≡ old.finished
+  pub limits : new.tally.limits ≡ old.tally.limits
+
+-- the bytes that the decoder has seen of the input: all that it was given, and once the input is over no more
+abbrev pub seen : Bool → List ℕ → List ℕ → List ℕ
+seen false input piece = input ++ piece
+seen true input piece = input
+
+-- the end of the input is taken, and with it a last line that had no line feed
+pub record Ends (old : Standing) (out : Option Outcome) (new : Standing) : Type 0 where
+  pub stands : (input : List ℕ) (given : List Item) → StandsFor old input given → StandsFor new input (given ++ items_in out)
+  pub right : (input : List ℕ) (given : List Item) → StandsFor old input given → IfSome out (λ outcome. IsRight old.tally.limits outcome true input input (given ++ items_out outcome))
+  pub ready : IsReady new.state new.finished new.line
+  pub leaves : IfSome out (λ outcome. Leaves outcome new.state)
+  pub more : out ≡ Some More → ⊥
+  pub none : IfNone out (IsLive old.state → IsLive new.state)
+  pub stays : IfSome (again old.state) (λ o. (out ≡ None) × (new ≡ over old))
+  pub finished : new.finished ≡ true
+  pub limits : new.tally.limits ≡ old.tally.limits
+
+-- bytes of a piece are used, up to an answer or the end of a line
+pub record Advances (old : Standing) (piece : List ℕ) (used : ℕ) (out : Option Outcome) (new : Standing) : Type 0 where
+  pub within : used ≤ length piece
+  pub some : IfNone out (0 < used)
+  pub stands : (input : List ℕ) (given : List Item) → StandsFor old input given → StandsFor new (input ++ take used piece) (given ++ items_in out)
+  pub right : (input : List ℕ) (given : List Item) → StandsFor old input given
+      → IfSome out (λ outcome. IsRight old.tally.limits outcome false (input ++ take used piece) (input ++ piece) (given ++ items_out outcome))
+  pub ready : IsReady new.state new.finished new.line
+  pub leaves : IfSome out (λ outcome. Leaves outcome new.state)
+  pub more : out ≡ Some More → used ≡ length piece
+  pub none : IfNone out (new.state ≡ Reading)
+  pub finished : new.finished ≡ old.finished
+  pub limits : new.tally.limits ≡ old.tally.limits
+
+-- a piece is fed
+pub record Feeds (old : Standing) (piece : List ℕ) (used : ℕ) (outcome : Outcome) (new : Standing) : Type 0 where
+  pub within : used ≤ length piece
+  pub stands : (input : List ℕ) (given : List Item) → StandsFor old input given → StandsFor new (input ++ take used piece) (given ++ items_out outcome)
+  pub right : IsLive old.state → (input : List ℕ) (given : List Item) → StandsFor old input given
+      → IsRight old.tally.limits outcome old.finished (input ++ take used piece) (seen old.finished input piece) (given ++ items_out outcome)
+  pub ready : IsReady new.state new.finished new.line
+  pub leaves : Leaves outcome new.state
+  pub again : IfSome (again old.state) (λ o. (outcome ≡ o) × (used ≡ 0) × (new ≡ old))
+  pub more : outcome ≡ More → (used ≡ length piece) × (old.finished ≡ false)
+  pub finished : new.finished ≡ old.finished
+  pub limits : new.tally.limits ≡ old.tally.limits
+
+-- the input is over
+pub record Finishes (old : Standing) (outcome : Outcome) (new : Standing) : Type 0 where
+  pub stands : (input : List ℕ) (given : List Item) → StandsFor old input given → StandsFor new input (given ++ items_out outcome)
+  pub right : IsLive old.state → (input : List ℕ) (given : List Item) → StandsFor old input given → IsRight old.tally.limits outcome true input input (given ++ items_out outcome)
+  pub ready : IsReady new.state new.finished new.line
+  pub leaves : Leaves outcome new.state
+  pub again : IfSome (again old.state) (λ o. (outcome ≡ o) × (new ≡ over old))
+  pub more : outcome ≡ More → ⊥
+  pub finished : new.finished ≡ true
+  pub limits : new.tally.limits ≡ old.tally.limits

@@ -1,0 +1,102 @@
+-- Reading a transmission from a reader: what is told, and what that says of the bytes that the reader had.
+use Rattle.std.specs.Prelude.{◌≡◌, ◌≢◌, ℕ, ◌≤◌, true, false, List, [], ◌∷◌, ◌++◌, length, Option, Some, None, IfSome, Result, Ok, Err}
+use Rattle.std.specs.Io.KnownBytes.{Consumes, IsAtEnd}
+use Rattle.cwr_fields.specs.Failures.{one_more_failure}
+use Rattle.cwr_shape.specs.Ranges.{LimitValues}
+use Rattle.cwr_values.specs.declared.items.Item.{Item}
+use Rattle.cwr_values.specs.declared.items.Item.TheVariants as items
+use Rattle.cwr_values.specs.Values.{TransmissionValue}
+use Rattle.cwr_decode.specs.declared.outcomes.Outcome.{Outcome}
+use Rattle.cwr_decode.specs.declared.outcomes.Outcome.TheVariants as outcomes
+use Rattle.cwr_decode.specs.declared.machine.State.{State}
+use Rattle.cwr_decode.specs.declared.machine.State.TheVariants as states
+use Rattle.cwr_decode.specs.declared.readings.ReadFault.{ReadFault}
+use Rattle.cwr_decode.specs.declared.readings.ReadFault.TheVariants as faults
+use Rattle.cwr_decode.specs.Items.{value_items}
+use Rattle.cwr_decode.specs.Ends.{IsAccepted, IsNotAccepted}
+use Rattle.cwr_decode.specs.Machines.{Standing}
+use Rattle.cwr_decode.specs.Stands.{StandsFor}
+use Rattle.cwr_decode.specs.Calls.{IsLive}
+
+-- what a decoder's answer is told as; where more is needed, nothing is told
+abbrev pub answer_of : Outcome → Option (Result (Option Item) ReadFault)
+answer_of outcomes.More = None
+answer_of (outcomes.Item item) = Some (Ok (Some item))
+answer_of (outcomes.Refused refusal) = Some (Err (faults.Refused refusal))
+answer_of (outcomes.Truncated records) = Some (Err (faults.Truncated records))
+answer_of outcomes.Memory = Some (Err faults.Memory)
+answer_of outcomes.Done = Some (Ok None)
+
+-- the items that were read
+abbrev pub items_read : Result (Option Item) ReadFault → List Item
+items_read (Ok None) = []
+items_read (Ok (Some item)) = item ∷ []
+items_read (Err fault) = []
+
+-- the input begins with a transmission that takes so many bytes, and these are its items
+pub record IsWholeInput (limits : LimitValues) (used : ℕ) (input : List ℕ) (given : List Item) : Type 0 where
+  pub value : TransmissionValue
+  pub given_are : given ≡ value_items value
+  pub accepted : IsAccepted limits input value used
+
+-- What is told of an input, of which so many bytes were used: the end comes where a transmission is accepted, and
+-- `Refused` or `Truncated` where none is. Before the end and before a fault of the input `Ok(None)` isn't told.
+abbrev pub IsRightOf : LimitValues → Result (Option Item) ReadFault → ℕ → List ℕ → List Item → Type 0
+IsRightOf limits (Ok None) used input given = ⊥
+IsRightOf limits (Ok (Some items.Ended)) used input given = IsWholeInput limits used input given
+IsRightOf limits (Ok (Some item)) used input given = Unit {0}
+IsRightOf limits (Err faults.Reader) used input given = Unit {0}
+IsRightOf limits (Err (faults.Refused refusal)) used input given = IsNotAccepted limits input
+IsRightOf limits (Err (faults.Truncated records)) used input given = IsNotAccepted limits input
+IsRightOf limits (Err faults.Memory) used input given = Unit {0}
+
+-- the state behind what is told
+abbrev pub LeavesRead : Result (Option Item) ReadFault → State → Type 0
+LeavesRead (Ok None) state = state ≡ states.Ended
+LeavesRead (Ok (Some item)) state = (item ≡ items.Ended → state ≡ states.Ended) × (item ≢ items.Ended → IsLive state)
+LeavesRead (Err faults.Reader) state = state ≡ states.Reading
+LeavesRead (Err (faults.Refused refusal)) state = state ≡ states.Refused refusal
+LeavesRead (Err (faults.Truncated records)) state = state ≡ states.Truncated records
+LeavesRead (Err faults.Memory) state = state ≡ states.Memory
+
+-- a reader's failures count one more where that is told, and else they stay
+abbrev pub CountsReader : Result (Option Item) ReadFault → ℕ → ℕ → Type 0
+CountsReader (Ok item) old new = new ≡ old
+CountsReader (Err faults.Reader) old new = new ≡ one_more_failure old
+CountsReader (Err (faults.Refused refusal)) old new = new ≡ old
+CountsReader (Err (faults.Truncated records)) old new = new ≡ old
+CountsReader (Err faults.Memory) old new = new ≡ old
+
+-- the decoder stands for some input and some items
+pub record IsUnderWay (d : Standing) : Type 0 where
+  pub input : List ℕ
+  pub given : List Item
+  pub stands : StandsFor d input given
+
+-- where the decoder was told that the input is over, the reader has nothing left
+abbrev pub IsSpent : Standing → Option (List ℕ) → Type 0
+IsSpent d left = d.finished ≡ true → IsAtEnd left
+
+-- At least so many bytes of the reader were fed, and more are needed.
+pub record FeedsOn (least : ℕ) (old : Standing) (left : Option (List ℕ)) (new : Standing) (after : Option (List ℕ)) : Type 0 where
+  pub bytes : List ℕ
+  pub count : least ≤ length bytes
+  pub consumed : Consumes left after bytes
+  pub stands : (input : List ℕ) (given : List Item) → StandsFor old input given → StandsFor new (input ++ bytes) given
+  pub live : IsLive old.state
+  pub reading : new.state ≡ states.Reading
+  pub fresh : new.finished ≡ false
+  pub limits : new.tally.limits ≡ old.tally.limits
+
+-- Something is read. Just the bytes that the reader loses are fed: whatever the decoder stood for before, with these and
+-- with the item that is read it stands for that. Where the reader's bytes are known, what is told is right of all of them.
+pub record Reads (old : Standing) (left : Option (List ℕ)) (answer : Result (Option Item) ReadFault) (new : Standing) (after : Option (List ℕ)) : Type 0 where
+  pub bytes : List ℕ
+  pub consumed : Consumes left after bytes
+  pub stands : (input : List ℕ) (given : List Item) → StandsFor old input given → StandsFor new (input ++ bytes) (given ++ items_read answer)
+  pub right : IsLive old.state → IsSpent old left → (input : List ℕ) (given : List Item) → StandsFor old input given
+      → IfSome left (λ rest. IsRightOf old.tally.limits answer (length (input ++ bytes)) (input ++ rest) (given ++ items_read answer))
+  pub leaves : LeavesRead answer new.state
+  pub none : answer ≡ Ok None → old.state ≡ states.Ended
+  pub over : IsSpent old left → IfSome left (λ _. IsSpent new after)
+  pub limits : new.tally.limits ≡ old.tally.limits

@@ -1,0 +1,171 @@
+-- What a decoder stands for: the input so far, and the items that were handed out.
+use Rattle.std.specs.Prelude.{◌≡◌, ◌≢◌, ℕ, ◌+◌, Bool, true, false, IsTrue, List, [], ◌∷◌, ◌++◌, length, map, Option, Some, None}
+use Rattle.std.specs.List.{AllZip, AllByRecursion, flat_map}
+use Rattle.cwr_layouts.specs.declared.lines.LineEnd.TheVariants as line_ends
+use Rattle.cwr_layouts.specs.Records.{RecordValue, IsRecord}
+use Rattle.cwr_layouts.specs.Lines.{IsLineOf, closed}
+use Rattle.cwr_layouts.specs.Held.{HeldLine, IsHeld, held_kind, held_text, held_record}
+use Rattle.cwr_shape.specs.declared.symbols.Symbol.{Symbol}
+use Rattle.cwr_shape.specs.Ranges.{LimitValues, AreInRange}
+use Rattle.cwr_shape.specs.Levels.{level_of}
+use Rattle.cwr_shape.specs.Outlines.{IsWhole}
+use Rattle.cwr_shape.specs.Tallies as tallies
+use Rattle.cwr_shape.specs.Tallies.{TallyValue, passed, place_after}
+use Rattle.cwr_values.specs.declared.items.Item.{Item}
+use Rattle.cwr_values.specs.declared.items.Item.TheVariants as items
+use Rattle.cwr_values.specs.Values.{TransmissionValue, symbol_of}
+use Rattle.cwr_values.specs.Begins.{rows_so_far}
+use Rattle.cwr_decode.specs.declared.outcomes.Outcome.{Outcome}
+use Rattle.cwr_decode.specs.declared.outcomes.Outcome.TheVariants as outcomes
+use Rattle.cwr_decode.specs.declared.machine.State.{State}
+use Rattle.cwr_decode.specs.declared.machine.State.TheVariants.{Reading, Pending, Ended, Refused, Truncated, Memory}
+use Rattle.cwr_decode.specs.declared.refusals.Refusal.{Refusal}
+use Rattle.cwr_decode.specs.Items.{value_items}
+use Rattle.cwr_decode.specs.Ends.{IsAccepted, IsNotAccepted}
+use Rattle.cwr_decode.specs.Judged.{IsOfNone, IsFirstFault}
+use Rattle.cwr_decode.specs.Machines.{Standing}
+use Rattle.cwr_decode.specs.Open.{items_so_far, open_of, goes_on_with, handed}
+
+-- the lines, each with its line feed
+abbrev pub text_of : List (List ℕ) → List ℕ
+text_of lines = flat_map (λ line. line ++ 10 ∷ []) lines
+
+-- the input so far is the text; once it is over, it is the text but for a line feed at its end
+abbrev pub IsInput : Bool → List ℕ → List ℕ → Type 0
+IsInput false input text = input ≡ text
+IsInput true input text = closed input ≡ text
+
+-- The lines were accepted as those of the records: a transmission begins with these, none of its limits is passed at
+-- any of them, and each line is that of its record's row.
+pub record Reads (tally : TallyValue) (lines : List (List ℕ)) (records : List RecordValue) : Type 0 where
+  pub counted : tallies.StandsFor tally (map symbol_of records)
+  pub in_order : AllByRecursion IsRecord records
+  pub rows : AllZip IsLineOf (rows_so_far records) lines
+  pub within : (front rest : List Symbol) → map symbol_of records ≡ front ++ rest → passed tally.limits front ≡ None
+
+-- the records of the open transaction as they are held
+abbrev pub held_of : List RecordValue → Option (List RecordValue)
+held_of [] = None
+held_of (r ∷ records) = Some (r ∷ records)
+
+-- all lines of the input were accepted, and the bytes behind them are those of the line that is read
+pub record IsReading (d : Standing) (input : List ℕ) (given : List Item) : Type 0 where
+  pub lines : List (List ℕ)
+  pub records : List RecordValue
+  pub read : Reads d.tally lines records
+  pub left : ¬ IsWhole (map symbol_of records)
+  pub split : IsInput d.finished input (text_of lines ++ d.line.bytes)
+  pub open_line : d.line.ended ≡ line_ends.Open
+  pub line : IsHeld d.line
+  pub held : d.held ≡ held_of (open_of records)
+  pub given_are : given ≡ items_so_far records
+
+-- the line of the last record waits: the transaction that it ends was handed out
+pub record IsPending (d : Standing) (input : List ℕ) (given : List Item) : Type 0 where
+  pub lines : List (List ℕ)
+  pub records : List RecordValue
+  pub last : RecordValue
+  pub read : Reads d.tally lines (records ++ last ∷ [])
+  pub split : IsInput d.finished input (text_of lines)
+  pub ends : goes_on_with (map symbol_of records) (symbol_of last) ≡ false
+  pub line : held_record d.line ≡ Some last
+  pub held : d.held ≡ None
+  pub given_are : given ≡ items_so_far records ++ handed (open_of records)
+
+-- all lines of the input were accepted, and all their items were handed out
+pub record IsThrough (d : Standing) (input : List ℕ) (given : List Item) : Type 0 where
+  pub lines : List (List ℕ)
+  pub records : List RecordValue
+  pub read : Reads d.tally lines records
+  pub split : IsInput d.finished input (text_of lines)
+  pub given_are : given ≡ items_so_far records
+
+-- the last record stands in a transaction, and found no memory there
+pub record IsFull (d : Standing) (input : List ℕ) (given : List Item) : Type 0 where
+  pub through : IsThrough d input given
+  pub inside : IsTrue (tallies.is_in_transaction (place_after (map symbol_of through.records)))
+
+-- the records of all lines are those of a whole transmission
+pub record IsEnded (d : Standing) (input : List ℕ) (given : List Item) : Type 0 where
+  pub through : IsThrough d input given
+  pub whole : IsWhole (map symbol_of through.records)
+
+-- the input is over, and the records of all its lines aren't a whole transmission
+pub record IsCut (d : Standing) (input : List ℕ) (given : List Item) (count : ℕ) : Type 0 where
+  pub through : IsThrough d input given
+  pub over : d.finished ≡ true
+  pub left : ¬ IsWhole (map symbol_of through.records)
+  pub counted : count ≡ length through.records
+
+-- The line behind the accepted ones is that of no record that may come next. Once the input is over, that line may have
+-- ended with it.
+pub record IsStopped (d : Standing) (input : List ℕ) (given : List Item) (refusal : Refusal) : Type 0 where
+  pub lines : List (List ℕ)
+  pub records : List RecordValue
+  pub read : Reads d.tally lines records
+  pub left : ¬ IsWhole (map symbol_of records)
+  pub line : HeldLine
+  pub ended : line.ended ≢ line_ends.Open
+  pub is_held : IsHeld line
+  pub over : Bool
+  pub late : over ≡ true → d.finished ≡ true
+  pub split : IsInput over input (text_of lines ++ held_text line)
+  pub none : IsOfNone d.tally.limits (map symbol_of records) line
+  pub first : IsFirstFault d.tally.limits (map symbol_of records) line refusal.field refusal.reason
+  pub number : refusal.rec ≡ length records + 1
+  pub level : refusal.level ≡ level_of (held_kind line) refusal.field refusal.reason (place_after (map symbol_of records))
+  pub given_are : given ≡ items_so_far records
+
+abbrev pub StandsIn : State → Standing → List ℕ → List Item → Type 0
+StandsIn Reading d input given = IsReading d input given
+StandsIn Pending d input given = IsPending d input given
+StandsIn Ended d input given = IsEnded d input given
+StandsIn (Refused refusal) d input given = IsStopped d input given refusal
+StandsIn (Truncated count) d input given = IsCut d input given count
+StandsIn Memory d input given = IsFull d input given
+
+-- the decoder stands for the input so far and the items that were handed out
+pub record StandsFor (d : Standing) (input : List ℕ) (given : List Item) : Type 0 where
+  pub in_range : AreInRange d.tally.limits
+  pub here : StandsIn d.state d input given
+
+-- ---- what an answer says of the input
+
+-- the item of an answer
+abbrev pub items_out : Outcome → List Item
+items_out outcomes.More = []
+items_out (outcomes.Item item) = item ∷ []
+items_out (outcomes.Refused refusal) = []
+items_out (outcomes.Truncated records) = []
+items_out outcomes.Memory = []
+items_out outcomes.Done = []
+
+abbrev pub items_in : Option Outcome → List Item
+items_in None = []
+items_in (Some outcome) = items_out outcome
+
+-- once the input is over, nothing goes on from it
+abbrev pub MayFollow : Bool → List ℕ → Type 0
+MayFollow false more = Unit {0}
+MayFollow true more = more ≡ []
+
+-- a transmission is accepted with these bytes used, however the input goes on, and these are its items
+pub record AcceptsAll (limits : LimitValues) (over : Bool) (used seen : List ℕ) (given : List Item) : Type 0 where
+  pub value : TransmissionValue
+  pub given_are : given ≡ value_items value
+  pub accepted : (more : List ℕ) → MayFollow over more → IsAccepted limits (seen ++ more) value (length used)
+
+-- no transmission is accepted, however the input goes on
+abbrev pub AcceptsNone : LimitValues → Bool → List ℕ → Type 0
+AcceptsNone limits over seen = (more : List ℕ) → MayFollow over more → IsNotAccepted limits (seen ++ more)
+
+-- What an answer says of the input, of which these bytes were used, and these were seen: the end of a transmission comes
+-- where one is accepted, and a refusal or the end of the input where none is.
+abbrev pub IsRight : LimitValues → Outcome → Bool → List ℕ → List ℕ → List Item → Type 0
+IsRight limits outcomes.More over used seen given = (over ≡ false) × (used ≡ seen)
+IsRight limits (outcomes.Item items.Ended) over used seen given = AcceptsAll limits over used seen given
+IsRight limits (outcomes.Item item) over used seen given = Unit {0}
+IsRight limits (outcomes.Refused refusal) over used seen given = AcceptsNone limits over seen
+IsRight limits (outcomes.Truncated records) over used seen given = (over ≡ true) × AcceptsNone limits over seen
+IsRight limits outcomes.Memory over used seen given = Unit {0}
+IsRight limits outcomes.Done over used seen given = ⊥

@@ -1,0 +1,172 @@
+//! Reading a transmission from a reader, item by item.
+
+ghost use Rattle.std.specs.Prelude.{◌≡◌, ℕ, List, [], Option, IfNone, IfSome, IsSome, Some, true, false};
+ghost use Rattle.cwr_decode.specs.Stands.{StandsFor};
+ghost use Rattle.cwr_decode.specs.Machines.{again};
+ghost use Rattle.cwr_decode.specs.Readings.{answer_of, CountsReader, FeedsOn, IsUnderWay, Reads};
+
+use crate::decoders::Decoder;
+use crate::machine::State;
+use crate::outcomes::Outcome;
+use crate::refusals::Refusal;
+use cwr_fields::Source;
+use cwr_shape::Limits;
+use cwr_values::Item;
+use std::alloc::Global;
+use std::error::Error;
+use std::fmt::{self, Display, Formatter, Write};
+
+/// Why no item was read.
+#[derive(Clone, Copy, Debug, PartialEq, Eq)]
+pub enum ReadFault {
+    /// The reader failed. What it gave before stays read, and the next call reads on.
+    Reader,
+    /// No transmission within the limits goes on so.
+    Refused(Refusal),
+    /// The input is over, and no transmission is whole.
+    Truncated {
+        /// How many lines the input has.
+        records: u32,
+    },
+    /// Memory for an accepted record was refused.
+    Memory,
+}
+
+impl Display for ReadFault {
+    fn fmt<O: Write>(&self, f: &mut Formatter<O>) -> fmt::Result {
+        match self {
+            ReadFault::Reader => f.pad("reader failed"),
+            ReadFault::Refused(refusal) => write!(
+                f,
+                "record {}, field {}: refused",
+                refusal.rec, refusal.field
+            ),
+            ReadFault::Truncated { records } => write!(f, "truncated after {records} records"),
+            ReadFault::Memory => f.pad("out of memory"),
+        }
+    }
+}
+
+impl Error for ReadFault {}
+
+/// The items of a transmission, which are read one at a time from a lent reader.
+pub struct Reading<'a, R: Source, D: Drop = Decoder> {
+    reader: &'a mut R,
+    decoder: D,
+}
+
+impl<R: Source, D: Drop> Drop for Reading<'_, R, D> {
+    fn drop(self)
+        ensures { self.exit.0.now ≡ self.entry.reader.now }
+    {
+        let Reading {
+            reader: _,
+            decoder: _,
+        } = self;
+    }
+}
+
+/// What the decoder's answer is told as. `None` where it needs more of the input.
+fn answer(outcome: Outcome) -> Option<Result<Option<Item>, ReadFault>>
+    ensures { result ≡ answer_of outcome }
+{
+    match outcome {
+        Outcome::More => None,
+        Outcome::Item(item) => Some(Ok(Some(item))),
+        Outcome::Refused(refusal) => Some(Err(ReadFault::Refused(refusal))),
+        Outcome::Truncated { records } => Some(Err(ReadFault::Truncated { records })),
+        Outcome::Memory => Some(Err(ReadFault::Memory)),
+        Outcome::Done => Some(Ok(None)),
+    }
+}
+
+/// Feeds what the reader shows next, or the end of the input. `None` where more is needed.
+fn pull<R: Source>(decoder: &mut Decoder, reader: &mut R) -> Option<Result<Option<Item>, ReadFault>>
+    requires ready { IsUnderWay decoder.old }
+    requires reading { decoder.old.state ≡ State.Reading }
+    requires fresh { decoder.old.finished ≡ false }
+    ensures goes_on { IfNone result (FeedsOn 1 decoder.old (R.remaining reader.old) decoder.new (R.remaining reader.new)) }
+    ensures reads { IfSome result (λ answer. Reads decoder.old (R.remaining reader.old) answer decoder.new (R.remaining reader.new)) }
+    ensures same { IfNone result (R.failures reader.new ≡ R.failures reader.old) }
+    ensures failures { IfSome result (λ answer. CountsReader answer (R.failures reader.old) (R.failures reader.new)) }
+{
+    let piece = match reader.fill() {
+        Ok(piece) => piece,
+        Err(_) => return Some(Err(ReadFault::Reader)),
+    };
+    if piece.is_empty() {
+        return answer(decoder.finish().outcome);
+    }
+    let step = decoder.feed(piece);
+    reader.consume(step.used);
+    answer(step.outcome)
+}
+
+/// Reads on, where the decoder needs more.
+fn read_on<R: Source>(decoder: &mut Decoder, reader: &mut R) -> Result<Option<Item>, ReadFault>
+    requires ready { IsUnderWay decoder.old }
+    requires reading { decoder.old.state ≡ State.Reading }
+    requires fresh { decoder.old.finished ≡ false }
+    ensures reads { Reads decoder.old (R.remaining reader.old) result decoder.new (R.remaining reader.new) }
+    ensures failures { CountsReader result (R.failures reader.old) (R.failures reader.new) }
+{
+    let mut pieces: u64 = 0;
+    loop {
+        if let Some(told) = pull(decoder, reader) {
+            return told;
+        }
+        pieces += 1;
+    }
+}
+
+/// What the decoder answers without a further byte. `None` where it needs one.
+fn settle(decoder: &mut Decoder) -> Option<Result<Option<Item>, ReadFault>>
+    ensures goes_on { IfNone result ((left : Option (List ℕ)) → FeedsOn 0 decoder.old left decoder.new left) }
+    ensures reads { IfSome result (λ answer. IsUnderWay decoder.old → (left : Option (List ℕ)) → Reads decoder.old left answer decoder.new left) }
+    ensures failures { IfSome result (λ answer. (failures : ℕ) → CountsReader answer failures failures) }
+    ensures again { IfSome (again decoder.old.state) (λ outcome. (result ≡ answer_of outcome) × (decoder.new ≡ decoder.old)) }
+    ensures over { decoder.old.finished ≡ true → IsSome result }
+{
+    answer(decoder.feed(&[]).outcome)
+}
+
+impl<'a, R: Source> Reading<'a, R> {
+    /// A reading of the transmission, within the limits, that the reader's next bytes are. Nothing is read yet.
+    pub fn new(alloc: Global, limits: Limits, reader: &'a mut R) -> Reading<'a, R>
+        ensures same_reference { result.reader.ghost_name ≡ reader.entry.ghost_name }
+        ensures kept { result.reader.now ≡ reader.old }
+        ensures stands { StandsFor result.decoder [] [] }
+        ensures ready { IsUnderWay result.decoder }
+        ensures limits { result.decoder.tally.limits ≡ limits }
+        ensures reading { result.decoder.state ≡ State.Reading }
+        ensures fresh { result.decoder.finished ≡ false }
+    {
+        Reading {
+            reader,
+            decoder: Decoder::new(alloc, limits),
+        }
+    }
+
+    /// Reads the next item. `Ok(None)` behind `Ended`, which is the last one. What the decoder can tell without a
+    /// further byte is told without asking the reader; else just the bytes that the decoder uses are consumed.
+    ///
+    /// It answers `ReadFault::Reader` where the reader failed, and the next call reads on; the other faults are
+    /// answered again by each later call.
+    pub fn next_item(&mut self) -> Result<Option<Item>, ReadFault>
+        requires { IsUnderWay self.old.decoder }
+        ensures same_reference { self.new.reader.ghost_name ≡ self.old.reader.ghost_name }
+        ensures reads { Reads self.old.decoder (R.remaining self.old.reader.now) result self.new.decoder (R.remaining self.new.reader.now) }
+        ensures ready { IsUnderWay self.new.decoder }
+        ensures failures { CountsReader result (R.failures self.old.reader.now) (R.failures self.new.reader.now) }
+        // Behind the end or a fault of the input, that is answered again, and nothing changes.
+        ensures again { IfSome (again self.old.decoder.state) (λ outcome. (Some result ≡ answer_of outcome)
+            × (self.new.decoder ≡ self.old.decoder) × (self.new.reader.now ≡ self.old.reader.now)) }
+        // Once the reader was at its end, it is asked no more.
+        ensures over { self.old.decoder.finished ≡ true → self.new.reader.now ≡ self.old.reader.now }
+    {
+        if let Some(told) = settle(&mut self.decoder) {
+            return told;
+        }
+        read_on(&mut self.decoder, self.reader)
+    }
+}
