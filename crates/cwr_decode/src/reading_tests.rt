@@ -2,9 +2,10 @@
 
 use crate::readings::{ReadFault, Reading};
 use crate::worked_texts::one_acknowledgement;
-use cwr_fields::Counted;
+use cwr_fields::{Counted, Source};
 use cwr_shape::Limits;
 use cwr_values::Item;
+use std::alloc::Global;
 use std::test::Fail;
 
 /// What was read, in a word.
@@ -23,19 +24,40 @@ fn told(answer: Result<Option<Item>, ReadFault>) -> &'static str {
     }
 }
 
+/// What the first seven calls of a reading tell.
+fn first_seven<R: Source>(alloc: Global, limits: Limits, reader: &mut R) -> [&'static str; 7] {
+    let mut reading = Reading::new(alloc, limits, reader);
+    let first = told(reading.next_item());
+    let second = told(reading.next_item());
+    let third = told(reading.next_item());
+    let fourth = told(reading.next_item());
+    let fifth = told(reading.next_item());
+    let sixth = told(reading.next_item());
+    let seventh = told(reading.next_item());
+    [first, second, third, fourth, fifth, sixth, seventh]
+}
+
+/// What the first call tells.
+fn first_of<R: Source>(alloc: Global, limits: Limits, reader: &mut R) -> &'static str {
+    let mut reading = Reading::new(alloc, limits, reader);
+    told(reading.next_item())
+}
+
 #[test]
 fn reads_the_items_of_one_acknowledgement(rt: HostRuntime) -> Result<(), Fail> {
     let text = one_acknowledgement(rt.alloc())?;
     let limits = Limits::new(99_999_999, 99_999, 999_999)?;
     let mut reader = Counted::new(text.bytes());
-    let mut reading = Reading::new(rt.alloc(), limits, &mut reader);
-    assert_eq!(rt; told(reading.next_item()), "opened");
-    assert_eq!(rt; told(reading.next_item()), "group opened");
-    assert_eq!(rt; told(reading.next_item()), "transaction");
-    assert_eq!(rt; told(reading.next_item()), "group closed");
-    assert_eq!(rt; told(reading.next_item()), "ended");
-    assert_eq!(rt; told(reading.next_item()), "none");
-    assert_eq!(rt; told(reading.next_item()), "none");
+    let names = [
+        "opened",
+        "group opened",
+        "transaction",
+        "group closed",
+        "ended",
+        "none",
+        "none",
+    ];
+    assert_eq!(rt; first_seven(rt.alloc(), limits, &mut reader), names);
     Ok(())
 }
 
@@ -43,9 +65,7 @@ fn reads_the_items_of_one_acknowledgement(rt: HostRuntime) -> Result<(), Fail> {
 fn an_empty_input_is_truncated(rt: HostRuntime) -> Result<(), Fail> {
     let limits = Limits::new(99_999_999, 99_999, 999_999)?;
     let mut reader = Counted::new(b"".as_slice());
-    let mut reading = Reading::new(rt.alloc(), limits, &mut reader);
-    assert_eq!(rt; told(reading.next_item()), "truncated");
-    assert_eq!(rt; told(reading.next_item()), "truncated");
+    assert_eq!(rt; first_seven(rt.alloc(), limits, &mut reader), ["truncated"; 7]);
     Ok(())
 }
 
@@ -54,12 +74,7 @@ fn a_later_reading_goes_on_behind_the_items_that_were_read(rt: HostRuntime) -> R
     let text = one_acknowledgement(rt.alloc())?;
     let limits = Limits::new(99_999_999, 99_999, 999_999)?;
     let mut reader = Counted::new(text.bytes());
-    {
-        let mut first = Reading::new(rt.alloc(), limits, &mut reader);
-        assert_eq!(rt; told(first.next_item()), "opened");
-    }
-    let mut second = Reading::new(rt.alloc(), limits, &mut reader);
-    assert_eq!(rt; told(second.next_item()), "refused");
-    assert_eq!(rt; told(second.next_item()), "refused");
+    assert_eq!(rt; first_of(rt.alloc(), limits, &mut reader), "opened");
+    assert_eq!(rt; first_seven(rt.alloc(), limits, &mut reader), ["refused"; 7]);
     Ok(())
 }
