@@ -65,7 +65,10 @@ fn reads_the_items_of_one_acknowledgement(rt: HostRuntime) -> Result<(), Fail> {
 fn an_empty_input_is_truncated(rt: HostRuntime) -> Result<(), Fail> {
     let limits = Limits::new(99_999_999, 99_999, 999_999)?;
     let mut reader = Counted::new(b"".as_slice());
-    assert_eq!(rt; first_seven(rt.alloc(), limits, &mut reader), ["truncated"; 7]);
+    assert_eq!(rt;
+        first_seven(rt.alloc(), limits, &mut reader),
+        ["truncated"; 7]
+    );
     Ok(())
 }
 
@@ -75,6 +78,9 @@ fn a_later_reading_goes_on_behind_the_items_that_were_read(rt: HostRuntime) -> R
     let limits = Limits::new(99_999_999, 99_999, 999_999)?;
     let mut reader = Counted::new(text.bytes());
     assert_eq!(rt; first_of(rt.alloc(), limits, &mut reader), "opened");
-    assert_eq!(rt; first_seven(rt.alloc(), limits, &mut reader), ["refused"; 7]);
+    assert_eq!(rt;
+        first_seven(rt.alloc(), limits, &mut reader),
+        ["refused"; 7]
+    );
     Ok(())
 }
