@@ -1,45 +1,59 @@
--- What `check` tells of a text of bare acknowledgements.
-use Rattle.std.specs.Prelude.{◌≡◌, ℕ, ◌≤◌, List, ◌++◌, length, take, drop, Option, Some, IfSome}
+-- What `check` tells of the bytes that a reader has.
+use Rattle.std.specs.Prelude.{◌≡◌, ℕ, ◌+◌, ◌≤◌, List, [], ◌∷◌, ◌++◌, count_by, length, take, drop, Option, Some, IfSome, Result, Ok, Err}
 use Rattle.std.specs.Io.KnownBytes.{Appends}
+use Rattle.cwr_fields.specs.Failures.{one_more_failure}
 use Rattle.cwr_shape.specs.declared.limits.Limits.{Limits}
+use Rattle.cwr_values.specs.declared.items.Item.{Item}
 use Rattle.cwr_values.specs.Values.{TransmissionValue, IsTransmission, FitsIn}
 use Rattle.cwr_values.specs.Rows.{canonical_text}
+use Rattle.cwr_decode.specs.declared.readings.ReadFault.{ReadFault}
+use Rattle.cwr_decode.specs.declared.readings.ReadFault.TheVariants as read_faults
 use Rattle.cwr_decode.specs.Ends.{IsAccepted}
+use Rattle.cwr_decode.specs.Items.{item_records, opens_group, is_transaction}
+use Rattle.cwr_decode.specs.Runs.{Takes, StopsRun}
 use Rattle.cwr_tools.specs.declared.verdicts.Verdict.{Verdict}
 use Rattle.cwr_tools.specs.declared.verdicts.Verdict.TheVariants.{Good, Refused, Truncated}
 use Rattle.cwr_tools.specs.declared.verdicts.ToolFault.{ToolFault}
 use Rattle.cwr_tools.specs.declared.verdicts.ToolFault.TheVariants.{Reader, Writer, Memory}
 use Rattle.cwr_tools.specs.Texts.{good_verdict, verdict_line}
-use Rattle.cwr.specs.Bare.{IsBare}
+use Rattle.cwr.specs.declared.checking.Counts.{Counts}
 
--- the text is accepted as that transmission, which is one of bare acknowledgements, and this is left of it
-pub record AcceptsBare (limits : Limits) (text : List ℕ) (v : TransmissionValue) (rest : Option (List ℕ)) : Type 0 where
-  pub taken : ℕ
-  pub accepted : IsAccepted limits text v taken
-  pub bare : IsBare v
-  pub left : rest ≡ Some (drop taken text)
+-- the numbers with those of one item more
+abbrev pub counted : Counts → Item → Counts
+counted c item = record {
+  groups = c.groups + count_by opens_group (item ∷ []);
+  transactions = c.transactions + count_by is_transaction (item ∷ []);
+  records = c.records + length (item_records item);
+}
 
--- the text isn't accepted as a transmission of bare acknowledgements
-abbrev pub AcceptsNone : Limits → List ℕ → Type 0
-AcceptsNone limits text = (v : TransmissionValue) (n : ℕ) → IsAccepted limits text v n → ¬ IsBare v
+-- The verdict is good exactly where the bytes begin with a spelling of a transmission within the limits. It then has that
+-- one's numbers, and just the spelling is consumed. Else the run stopped as the decoder did.
+abbrev pub IsToldOf : Limits → Option (List ℕ) → Verdict → Option (List ℕ) → Type 0
+IsToldOf limits before (Good groups transactions records) after = (v : TransmissionValue) × Takes limits before v after × (Good groups transactions records ≡ good_verdict v)
+IsToldOf limits before (Refused refusal) after = StopsRun limits (read_faults.Refused refusal) before after
+IsToldOf limits before (Truncated records) after = StopsRun limits (read_faults.Truncated records) before after
 
--- the verdict is good exactly where the text is accepted as a transmission of bare acknowledgements, and then has its numbers
-abbrev pub IsToldOf : Limits → List ℕ → Verdict → Option (List ℕ) → Type 0
-IsToldOf limits text (Good groups transactions records) rest = (v : TransmissionValue) × AcceptsBare limits text v rest × (Good groups transactions records ≡ good_verdict v)
-IsToldOf limits text (Refused refusal) rest = AcceptsNone limits text
-IsToldOf limits text (Truncated records) rest = AcceptsNone limits text
+-- what a fault of a reading is told as
+abbrev pub IsVerdictOf : ReadFault → Result Verdict ToolFault → Type 0
+IsVerdictOf read_faults.Reader result = result ≡ Err Reader
+IsVerdictOf (read_faults.Refused refusal) result = result ≡ Ok (Refused refusal)
+IsVerdictOf (read_faults.Truncated records) result = result ≡ Ok (Truncated records)
+IsVerdictOf read_faults.Memory result = result ≡ Err Memory
 
--- the same of a source, where its bytes are known
-abbrev pub TellsOf : Limits → Option (List ℕ) → Verdict → Option (List ℕ) → Type 0
-TellsOf limits before verdict after = IfSome before (λ text. IsToldOf limits text verdict after)
-
--- a text that is accepted as a transmission of bare acknowledgements has its verdict, and is consumed as far as it spells that
+-- a text that is accepted has its transmission's verdict, and is consumed as far as it spells that
 abbrev pub TellsAccepted : Limits → Option (List ℕ) → Verdict → Option (List ℕ) → Type 0
-TellsAccepted limits before verdict after = IfSome before (λ text. (v : TransmissionValue) (n : ℕ) → IsAccepted limits text v n → IsBare v → (verdict ≡ good_verdict v) × (after ≡ Some (drop n text)))
+TellsAccepted limits before verdict after = IfSome before (λ text. (v : TransmissionValue) (n : ℕ) → IsAccepted limits text v n → (verdict ≡ good_verdict v) × (after ≡ Some (drop n text)))
 
--- the canonical text of a transmission of bare acknowledgements within the limits is good, whatever follows it
-abbrev pub TellsCanonical : Limits → Option (List ℕ) → Verdict → Type 0
-TellsCanonical limits before verdict = (v : TransmissionValue) (more : List ℕ) → IsTransmission v → FitsIn limits v → IsBare v → before ≡ Some (canonical_text v ++ more) → verdict ≡ good_verdict v
+-- the canonical text of a transmission within the limits is good, and what follows it stays unread
+abbrev pub TellsCanonical : Limits → Option (List ℕ) → Verdict → Option (List ℕ) → Type 0
+TellsCanonical limits before verdict after = (v : TransmissionValue) (more : List ℕ) → IsTransmission v → FitsIn limits v → before ≡ Some (canonical_text v ++ more)
+    → (verdict ≡ good_verdict v) × (after ≡ Some more)
+
+-- a reading stops a run by its reader or by memory; the reader's failures count one more where it was the reader
+abbrev pub IsReadingsFault : ToolFault → ℕ → ℕ → Type 0
+IsReadingsFault Reader old new = new ≡ one_more_failure old
+IsReadingsFault Memory old new = new ≡ old
+IsReadingsFault fault old new = ⊥
 
 -- a run of `check` fails by its reader, its writer or memory alone; of the writer's fault the fact holds
 abbrev pub IsCheckFault : ToolFault → (ℕ → Type 0) → Type 0
@@ -50,4 +64,4 @@ IsCheckFault fault P = ⊥
 
 -- the first bytes of a verdict's line were written, as many as are told
 abbrev pub WritesPart : Limits → Option (List ℕ) → Option (List ℕ) → Option (List ℕ) → Option (List ℕ) → ℕ → Type 0
-WritesPart limits before after contents written_to n = (verdict : Verdict) × TellsOf limits before verdict after × (n ≤ length (verdict_line verdict)) × Appends contents written_to (take n (verdict_line verdict))
+WritesPart limits before after contents written_to n = (verdict : Verdict) × IsToldOf limits before verdict after × (n ≤ length (verdict_line verdict)) × Appends contents written_to (take n (verdict_line verdict))

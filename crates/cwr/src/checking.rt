@@ -1,87 +1,122 @@
-//! Checking a transmission of bare acknowledgements.
+//! Checking a transmission.
 
-ghost use Rattle.std.specs.Prelude.{◌≡◌, ◌⊎◌, ◌≤◌, Err, IfErr, IfOk};
+ghost use Rattle.std.specs.Prelude.{◌≡◌, ◌⊎◌, ◌+◌, ◌≤◌, length, Err, IfErr, IfOk, OnOk};
 ghost use Rattle.std.specs.Io.KnownBytes.{Appends};
-ghost use Rattle.cwr_fields.specs.Failures.{CountsFailure, one_more_failure};
+ghost use Rattle.cwr_fields.specs.Failures.{one_more_failure};
+ghost use Rattle.cwr_decode.specs.Items.{item_records};
 ghost use Rattle.cwr_tools.specs.Texts.{verdict_line};
-ghost use Rattle.cwr.specs.Told.{IsCheckFault, TellsAccepted, TellsCanonical, TellsOf, WritesPart};
+ghost use Rattle.cwr.specs.Told.{counted, IsCheckFault, IsReadingsFault, IsToldOf, IsVerdictOf, TellsAccepted, TellsCanonical, WritesPart};
 
-use crate::judging::{LineFault, judge};
-use crate::progress::{Position, Progress};
-use crate::reading::read_line;
 use crate::texts::verdict_line;
 use crate::writing::write_text;
-use cwr_decode::Refusal;
-use cwr_fields::{DeviceFault, Source, Target};
-use cwr_layouts::{Kind, LineBuf};
-use cwr_shape::{Limits, Place, level};
+use cwr_decode::{ReadFault, Reading};
+use cwr_fields::{Source, Target};
+use cwr_shape::Limits;
 use cwr_tools::{ToolFault, Verdict};
+use cwr_values::Item;
 use std::alloc::Global;
 
-/// What is open.
-fn place(progress: &Progress) -> Place {
-    match progress.position {
-        Position::InGroup => Place::Group,
-        Position::Acked => Place::Transaction,
-        _ => Place::File,
+/// How many groups, transactions and records were handed out.
+#[derive(Clone, Copy, Debug)]
+struct Counts {
+    groups: u32,
+    transactions: u32,
+    records: u32,
+}
+
+impl Counts {
+    /// Nothing was handed out.
+    fn new() -> Self
+        ensures { result ≡ record { groups = 0; transactions = 0; records = 0 } }
+    {
+        Counts {
+            groups: 0,
+            transactions: 0,
+            records: 0,
+        }
+    }
+
+    /// Counts one item more.
+    fn count(&mut self, item: &Item)
+        requires groups { self.old.groups ≤ 199999998 }
+        requires transactions { self.old.transactions ≤ 199999998 }
+        requires records { self.old.records + length (item_records item.now) ≤ 99999999 }
+        ensures { self.new ≡ counted self.old item.now }
+    {
+        match item {
+            Item::Opened(_) | Item::GroupClosed(_) | Item::Ended => self.records += 1,
+            Item::GroupOpened(_) => {
+                self.groups += 1;
+                self.records += 1;
+            }
+            Item::Transaction(transaction) => {
+                self.transactions += 1;
+                self.records += transaction.len() as u32;
+            }
+        }
     }
 }
 
-/// The refusal of a line of the kind, behind what was counted.
-fn refusal(progress: &Progress, kind: Option<Kind>, fault: LineFault) -> Refusal
-    requires { progress.now.records ≤ 99999999 }
+/// The verdict on a text that is accepted with these numbers.
+fn good(counts: &Counts) -> Verdict
+    ensures { result ≡ Verdict.Good counts.now.groups counts.now.transactions counts.now.records }
 {
-    Refusal {
-        rec: progress.records + 1,
-        field: fault.field,
-        level: level(kind, fault.field, &fault.reason, place(progress)),
-        reason: fault.reason,
+    Verdict::Good {
+        groups: counts.groups,
+        transactions: counts.transactions,
+        records: counts.records,
     }
 }
 
-/// Reads a transmission of bare acknowledgements line by line, up to TRL or the first line that is refused.
-fn read_verdict<R: Source>(limits: &Limits, reader: &mut R) -> Result<Verdict, DeviceFault>
-    ensures told { IfOk result (λ verdict. TellsOf limits.now (R.remaining reader.old) verdict (R.remaining reader.new)) }
-    ensures failures { CountsFailure result (R.failures reader.old) (R.failures reader.new) }
+/// The verdict on a text at whose reading this fault was told, or the fault that ends the run.
+fn verdict_of(fault: ReadFault) -> Result<Verdict, ToolFault>
+    ensures { IsVerdictOf fault result }
 {
-    let mut line = LineBuf::new();
-    let mut progress = Progress::new();
-    'lines: loop {
-        if !read_line(reader, &mut line)? {
-            return Ok(Verdict::Truncated {
-                records: progress.records,
-            });
-        }
-        let cut = line.cut();
-        match judge(limits, &progress, &cut) {
-            Err(fault) => return Ok(Verdict::Refused(refusal(&progress, cut.kind(), fault))),
-            Ok(kind) => progress.count(kind),
-        }
-        if let Position::Ended = progress.position {
-            return Ok(Verdict::Good {
-                groups: progress.groups,
-                transactions: progress.transactions,
-                records: progress.records,
-            });
+    match fault {
+        ReadFault::Refused(refusal) => Ok(Verdict::Refused(refusal)),
+        ReadFault::Truncated { records } => Ok(Verdict::Truncated { records }),
+        ReadFault::Reader => Err(ToolFault::Reader),
+        ReadFault::Memory => Err(ToolFault::Memory),
+    }
+}
+
+/// Reads a transmission item by item, up to its end or to where it is refused or ends too early.
+fn read_verdict<R: Source>(
+    alloc: Global,
+    limits: Limits,
+    reader: &mut R,
+) -> Result<Verdict, ToolFault>
+    ensures told { IfOk result (λ verdict. IsToldOf limits (R.remaining reader.old) verdict (R.remaining reader.new)) }
+    ensures fault { IfErr result (λ fault. IsReadingsFault fault (R.failures reader.old) (R.failures reader.new)) }
+    ensures failures { OnOk result (R.failures reader.new ≡ R.failures reader.old) }
+{
+    let mut reading = Reading::new(alloc, limits, reader);
+    let mut counts = Counts::new();
+    'items: loop {
+        match reading.next_item() {
+            Ok(Some(item)) => counts.count(&item),
+            Ok(None) => return Ok(good(&counts)),
+            Err(fault) => return verdict_of(fault),
         }
     }
 }
 
-/// Checks a transmission of bare acknowledgements: reads it up to TRL or the first line that is refused, and writes the
-/// line of the verdict. The writer comes back.
+/// Checks a transmission: reads it up to its end or to where it is refused, and writes the line of the verdict. The
+/// writer comes back.
 ///
-/// It is good exactly where the reader's bytes begin with a spelling of such a transmission within the limits. Then
-/// just that front is consumed, and the verdict has the transmission's numbers. It answers `ToolFault::Reader` or
-/// `ToolFault::Writer` where that device failed, and `ToolFault::Memory` where there was none for the line.
+/// It is good exactly where the reader's bytes begin with a spelling of a transmission within the limits. Then just that
+/// front is consumed, and the verdict has the transmission's numbers. It answers `ToolFault::Reader` or
+/// `ToolFault::Writer` where that device failed, and `ToolFault::Memory` where memory for a transaction or the line was
+/// refused.
 pub fn check<R: Source, W: Target + Drop>(
     alloc: Global,
     limits: Limits,
     reader: &mut R,
     writer: W,
 ) -> (W, Result<Verdict, ToolFault>)
-    ensures told { IfOk result.1 (λ verdict. TellsOf limits (R.remaining reader.old) verdict (R.remaining reader.new)) }
+    ensures told { IfOk result.1 (λ verdict. IsToldOf limits (R.remaining reader.old) verdict (R.remaining reader.new)) }
     ensures accepted { IfOk result.1 (λ verdict. TellsAccepted limits (R.remaining reader.old) verdict (R.remaining reader.new)) }
-    ensures canonical { IfOk result.1 (TellsCanonical limits (R.remaining reader.old)) }
+    ensures canonical { IfOk result.1 (λ verdict. TellsCanonical limits (R.remaining reader.old) verdict (R.remaining reader.new)) }
     ensures written { IfOk result.1 (λ verdict. Appends (W.contents writer) (W.contents result.0) (verdict_line verdict)) }
 
     ensures reader_failed { result.1 ≡ Err ToolFault.Reader → R.failures reader.new ≡ one_more_failure (R.failures reader.old) }
@@ -91,9 +126,9 @@ pub fn check<R: Source, W: Target + Drop>(
         (WritesPart limits (R.remaining reader.old) (R.remaining reader.new) (W.contents writer) (W.contents result.0))) }
 {
     let mut writer = writer;
-    let verdict = match read_verdict(&limits, reader) {
+    let verdict = match read_verdict(alloc, limits, reader) {
         Ok(verdict) => verdict,
-        Err(_) => return (writer, Err(ToolFault::Reader)),
+        Err(fault) => return (writer, Err(fault)),
     };
     let line = match verdict_line(alloc, &verdict) {
         Ok(line) => line,

@@ -93,9 +93,12 @@ fn perform<'a, R: Files + AllocGlobal, I: Read + Drop, O: Write + Drop>(
     output: O,
 ) -> Result<Status, Fault<'a>> {
     match task {
-        Task::Check(None) => check_one(rt.alloc(), input, output),
-        Task::Check(Some(name)) => match File::open(rt, name) {
-            Ok(file) => check_one(rt.alloc(), file, output),
+        Task::Check { file: None, limits } => check_one(rt.alloc(), limits, input, output),
+        Task::Check {
+            file: Some(name),
+            limits,
+        } => match File::open(rt, name) {
+            Ok(file) => check_one(rt.alloc(), limits, file, output),
             Err(_) => Err(Fault::Open(name)),
         },
     }
@@ -103,10 +106,10 @@ fn perform<'a, R: Files + AllocGlobal, I: Read + Drop, O: Write + Drop>(
 
 fn check_one<'a, I: Read + Drop, O: Write + Drop>(
     alloc: Global,
+    limits: Limits,
     input: I,
     output: O,
 ) -> Result<Status, Fault<'a>> {
-    let limits = Limits::new(99_999_999, 99_999, 999_999).unwrap();
     // `Counted` has the one buffer. A `BufReader` of none hands each read on, and takes no memory.
     let mut reader = Counted::new(BufReader::with_capacity(alloc, 0, input).unwrap());
     let (_output, outcome) = check(alloc, limits, &mut reader, Counted::new(output));

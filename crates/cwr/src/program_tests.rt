@@ -1,8 +1,10 @@
 //! Runs over memory, and over files that are there or missing wherever the tests run.
 
 use crate::program::run;
+use std::alloc::{AllocError, Global};
 use std::io;
 use std::io::Read;
+use std::test::Fail;
 
 /// What a run answered and wrote.
 #[derive(Drop)]
@@ -93,4 +95,148 @@ fn writer_that_is_full(rt: HostRuntime) {
     );
     assert_eq!(rt; status, 3);
     assert_eq!(rt; error.as_slice(), b"cwr: write fault\n".as_slice());
+}
+
+/// Adds a line that is filled up with spaces to the width, and its line end.
+fn put_line(text: &mut Vec<u8>, line: &[u8], width: usize) -> Result<(), AllocError> {
+    text.extend_from_slice(line)?;
+    for _ in line.len()..width {
+        text.push(b' ')?;
+    }
+    text.extend_from_slice(b"\r\n")
+}
+
+/// Adds an acknowledgement with its transaction sequence.
+fn put_acknowledgement(text: &mut Vec<u8>, sequence: &[u8]) -> Result<(), AllocError> {
+    text.extend_from_slice(b"ACK")?;
+    text.extend_from_slice(sequence)?;
+    put_line(
+        text,
+        b"00000000202401021015000000100000000NWRBLUE RIVER                                                  W0001                                   20240110AS",
+        148,
+    )
+}
+
+/// The canonical text of a transmission of one acknowledgement, or of two in one group.
+fn acknowledgements(alloc: Global, two: bool) -> Result<Vec<u8>, AllocError> {
+    let mut text = Vec::new(alloc);
+    put_line(
+        &mut text,
+        b"HDRPB123456789MUSIC HOUSE                                  01.102024010210150020240103",
+        101,
+    )?;
+    put_line(&mut text, b"GRHACK0000102.100000000001", 28)?;
+    put_acknowledgement(&mut text, b"00000000")?;
+    if two {
+        put_acknowledgement(&mut text, b"00000001")?;
+        put_line(&mut text, b"GRT000010000000200000004", 37)?;
+        put_line(&mut text, b"TRL000010000000200000006", 24)?;
+    } else {
+        put_line(&mut text, b"GRT000010000000100000003", 37)?;
+        put_line(&mut text, b"TRL000010000000100000005", 24)?;
+    }
+    Ok(text)
+}
+
+/// The words of a check within the least limits, up to the name of the file.
+const LEAST: [&str; 8] = [
+    "cwr",
+    "check",
+    "--records",
+    "5",
+    "--groups",
+    "1",
+    "--transaction",
+    "1",
+];
+
+#[test]
+fn limits_out_of_their_range(rt: HostRuntime) {
+    let table = [
+        ("--records", "4"),
+        ("--records", "100000000"),
+        ("--records", "x"),
+        ("--records", ""),
+        ("--records", "5.0"),
+        ("--groups", "0"),
+        ("--groups", "100000"),
+        ("--transaction", "0"),
+        ("--transaction", "1000000"),
+        ("--transaction", "4294967297"),
+    ];
+    for (option, number) in table {
+        let words = ["cwr", "check", option, number, "/dev/null"];
+        let ran = run_over(&rt, words.as_slice(), Failing);
+        assert_eq!(rt; ran.status, 2, "at {option} {number}");
+        assert!(rt; ran.output.is_empty(), "at {option} {number}");
+        assert!(rt; !ran.error.is_empty(), "at {option} {number}");
+    }
+}
+
+#[test]
+fn limits_at_the_ends_of_their_range(rt: HostRuntime) {
+    let largest = [
+        "cwr",
+        "check",
+        "--records=99999999",
+        "--groups=99999",
+        "--transaction=999999",
+    ];
+    for words in [LEAST.as_slice(), largest.as_slice()] {
+        let ran = run_over(&rt, words, io::empty());
+        assert_eq!(rt; ran.status, 1);
+        assert_eq!(rt; ran.output.as_slice(), b"TRUNCATED records 0\n".as_slice());
+        assert!(rt; ran.error.is_empty());
+    }
+    let words = [
+        "cwr",
+        "check",
+        "/dev/null",
+        "--transaction",
+        "1",
+        "--groups",
+        "1",
+        "--records",
+        "5",
+    ];
+    let ran = run_over(&rt, words.as_slice(), Failing);
+    assert_eq!(rt; ran.status, 1);
+    assert_eq!(rt; ran.output.as_slice(), b"TRUNCATED records 0\n".as_slice());
+}
+
+#[test]
+fn transmission_within_the_least_limits(rt: HostRuntime) -> Result<(), Fail> {
+    let text = acknowledgements(rt.alloc(), false)?;
+    assert_eq!(rt; text.len(), 359);
+    for count in [1, 2, 4, 8] {
+        let words = LEAST.get(..count).ok_or("too few words")?;
+        let ran = run_over(&rt, words, text.as_slice());
+        assert_eq!(rt; ran.status, 0, "at {count} words");
+        assert_eq!(rt;
+            ran.output.as_slice(),
+            b"GOOD groups 1 transactions 1 records 5\n".as_slice()
+        );
+        assert!(rt; ran.error.is_empty(), "at {count} words");
+    }
+    Ok(())
+}
+
+#[test]
+fn transmission_that_passes_a_limit(rt: HostRuntime) -> Result<(), Fail> {
+    let text = acknowledgements(rt.alloc(), true)?;
+    assert_eq!(rt; text.len(), 520);
+    let words = ["cwr", "check", "--records", "5"];
+    let ran = run_over(&rt, words.as_slice(), text.as_slice());
+    assert_eq!(rt; ran.status, 1);
+    assert!(rt; ran.output.as_slice().starts_with(b"REFUSED record "));
+    assert!(rt; ran.output.as_slice().ends_with(b" limit records\n"));
+    assert!(rt; ran.error.is_empty());
+    let words = ["cwr", "check", "--records", "6"];
+    let ran = run_over(&rt, words.as_slice(), text.as_slice());
+    assert_eq!(rt; ran.status, 0);
+    assert_eq!(rt;
+        ran.output.as_slice(),
+        b"GOOD groups 1 transactions 2 records 6\n".as_slice()
+    );
+    Ok(())
 }

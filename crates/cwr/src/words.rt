@@ -1,24 +1,64 @@
 //! The words of the command line.
 
-use clap::{Arg, ArgMatches, Command, Error};
+ghost use Rattle.std.specs.Prelude.{◌≡◌, ℕ, List, Some, IfSome, codes};
+ghost use Rattle.std.specs.Str.Parse.{digits_value, without_leading_plus};
+ghost use Rattle.clap.specs.Words.{found_of, one_text};
+ghost use Rattle.cwr_shape.specs.Ranges.{limit_values};
+
+use clap::error::ErrorKind;
+use clap::{Arg, ArgMatches, Command, Error, value_parser};
+use cwr_shape::Limits;
 use std::alloc::{AllocError, Global};
 use std::convert::AsStr;
 
 /// What the words ask for.
 #[derive(Clone, Copy, Debug, PartialEq, Eq)]
 pub enum Task<'a> {
-    /// To check the transmission in the file of this name, or on standard input.
-    Check(Option<&'a str>),
+    /// To check a transmission.
+    Check {
+        /// The name of its file. Without one it is read from standard input.
+        file: Option<&'a str>,
+        /// The limits that it is checked within.
+        limits: Limits,
+    },
 }
 
 /// The id of the one file of a subcommand.
 const FILE: &str = "FILE";
 
+/// The id of the most records of a transmission.
+const RECORDS: &str = "records";
+
+/// The id of the most groups of a transmission.
+const GROUPS: &str = "groups";
+
+/// The id of the most records of one transaction.
+const TRANSACTION: &str = "transaction";
+
+/// A limit, which is `--` and its id, with a whole number from `least` to `most`.
+fn limit<'a>(alloc: Global, id: &'a str, least: i64, most: i64, largest: &'a str) -> Arg<'a> {
+    Arg::new(alloc, id)
+        .long(id)
+        .value_name("NUMBER")
+        .value_parser(value_parser!(u32).range(least..=most))
+        .default_value(largest)
+}
+
+/// Adds the three limits, each with its largest number where it isn't given.
+fn with_limits<'a>(alloc: Global, command: Command<'a>) -> Result<Command<'a>, AllocError> {
+    let records = limit(alloc, RECORDS, 5, 99_999_999, "99999999");
+    let groups = limit(alloc, GROUPS, 1, 99_999, "99999");
+    let transaction = limit(alloc, TRANSACTION, 1, 999_999, "999999");
+    command
+        .arg(records.help("The most records of a transmission, 5 to 99999999"))?
+        .arg(groups.help("The most groups of a transmission, 1 to 99999"))?
+        .arg(transaction.help("The most records of one transaction, 1 to 999999"))
+}
+
 fn check<'a>(alloc: Global) -> Result<Command<'a>, AllocError> {
     let file = Arg::new(alloc, FILE).help("The transmission; without it standard input is read");
-    Command::new(alloc, "check")
-        .about("Judges a transmission")
-        .arg(file)
+    let judges = Command::new(alloc, "check").about("Judges a transmission");
+    with_limits(alloc, judges)?.arg(file)
 }
 
 fn command<'a>(alloc: Global) -> Result<Command<'a>, AllocError> {
@@ -27,15 +67,49 @@ fn command<'a>(alloc: Global) -> Result<Command<'a>, AllocError> {
         .subcommand(check(alloc)?)
 }
 
-fn asked<'a>(matches: &ArgMatches<'a>) -> Task<'a> {
+/// The largest limits.
+fn largest() -> Limits
+    ensures { result ≡ limit_values 99999999 99999 999999 }
+{
+    Limits::new(99_999_999, 99_999, 999_999).unwrap()
+}
+
+/// The limits that the words of a subcommand give. `None` where one is missing or out of its range.
+fn limits_of(matches: &ArgMatches<'_>) -> Option<Limits>
+    ensures records { IfSome result (λ limits. (text : List ℕ) → one_text (found_of matches.now) (codes "records") ≡ Some text
+        → limits.records ≡ digits_value 10 (without_leading_plus text)) }
+    ensures groups { IfSome result (λ limits. (text : List ℕ) → one_text (found_of matches.now) (codes "groups") ≡ Some text
+        → limits.groups ≡ digits_value 10 (without_leading_plus text)) }
+    ensures transaction { IfSome result (λ limits. (text : List ℕ) → one_text (found_of matches.now) (codes "transaction") ≡ Some text
+        → limits.transaction ≡ digits_value 10 (without_leading_plus text)) }
+{
+    let records = matches.get_one::<u32>(RECORDS)?;
+    let groups = matches.get_one::<u32>(GROUPS)?;
+    let transaction = matches.get_one::<u32>(TRANSACTION)?;
+    Limits::new(records, groups, transaction).ok()
+}
+
+/// What is asked for. `None` where a limit is missing or out of its range.
+fn asked<'a>(matches: &ArgMatches<'a>) -> Option<Task<'a>> {
     match matches.subcommand() {
-        Some((_check, of_check)) => Task::Check(of_check.get_str(FILE)),
-        None => Task::Check(None),
+        Some((_check, of_check)) => Some(Task::Check {
+            file: of_check.get_str(FILE),
+            limits: limits_of(of_check)?,
+        }),
+        None => Some(Task::Check {
+            file: None,
+            limits: largest(),
+        }),
     }
 }
 
 /// What the words ask for, the program's name first, or what to tell the user in its place.
 pub fn task_of<'a, S: AsStr>(alloc: Global, words: &'a [S]) -> Result<Task<'a>, Error> {
-    let matches = command(alloc)?.try_get_matches_from(words)?;
-    Ok(asked(&matches))
+    let mut command = command(alloc)?;
+    let matches = command.try_get_matches_from_mut(words)?;
+    match asked(&matches) {
+        Some(task) => Ok(task),
+        // `clap` has judged the numbers already, but its clauses don't say so of a subcommand's.
+        None => Err(command.error(ErrorKind::ValueValidation, "a limit is out of its range")?),
+    }
 }

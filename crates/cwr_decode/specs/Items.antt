@@ -8,6 +8,7 @@ use Rattle.cwr_layouts.specs.Records.{RecordValue, Row, record_of}
 use Rattle.cwr_values.specs.declared.items.Item.{Item}
 use Rattle.cwr_values.specs.declared.items.Item.TheVariants.{Opened, GroupOpened, Transaction, GroupClosed, Ended}
 use Rattle.cwr_values.specs.Values.{GroupValue, TransmissionValue}
+use Rattle.cwr_values.specs.Rows.{trailer}
 
 -- records of the kind stand inside transactions
 abbrev pub is_in_transaction : Kind → Bool
@@ -60,10 +61,38 @@ items rows = items_behind [] rows
 
 -- ---- the same of a transmission, by its parts
 
--- a group's items: it opens, each of its transactions, it closes
+-- a group's items once it is open: each of its transactions, it closes
+abbrev pub group_rest : GroupValue → List Item
+group_rest g = map Transaction g.transactions ++ GroupClosed g.foot ∷ []
+
+-- a group's items: it opens, and the others
 abbrev pub group_items : GroupValue → List Item
-group_items g = GroupOpened g.head ∷ map Transaction g.transactions ++ GroupClosed g.foot ∷ []
+group_items g = GroupOpened g.head ∷ group_rest g
 
 -- a transmission's items: it opens, each of its groups, it ends
 abbrev pub value_items : TransmissionValue → List Item
 value_items v = Opened v.opening ∷ flat_map group_items v.groups ++ Ended ∷ []
+
+-- ---- the records of items
+
+-- the records of an item
+abbrev pub item_records : Item → List RecordValue
+item_records (Opened r) = r ∷ []
+item_records (GroupOpened r) = r ∷ []
+item_records (Transaction t) = t
+item_records (GroupClosed r) = r ∷ []
+item_records Ended = trailer ∷ []
+
+-- the records of items, in order
+abbrev pub records_in : List Item → List RecordValue
+records_in given = flat_map item_records given
+
+-- the item is a GRH
+abbrev pub opens_group : Item → Bool
+opens_group (GroupOpened r) = true
+opens_group item = false
+
+-- the item is a transaction
+abbrev pub is_transaction : Item → Bool
+is_transaction (Transaction t) = true
+is_transaction item = false

@@ -59,13 +59,16 @@ LeavesRead (Err (faults.Refused refusal)) state = state ≡ states.Refused refus
 LeavesRead (Err (faults.Truncated records)) state = state ≡ states.Truncated records
 LeavesRead (Err faults.Memory) state = state ≡ states.Memory
 
--- a reader's failures count one more where that is told, and else they stay
+-- a reader's failures count one more where its fault is told, and else they stay
+abbrev pub CountsFault : ReadFault → ℕ → ℕ → Type 0
+CountsFault faults.Reader old new = new ≡ one_more_failure old
+CountsFault (faults.Refused refusal) old new = new ≡ old
+CountsFault (faults.Truncated records) old new = new ≡ old
+CountsFault faults.Memory old new = new ≡ old
+
 abbrev pub CountsReader : Result (Option Item) ReadFault → ℕ → ℕ → Type 0
 CountsReader (Ok item) old new = new ≡ old
-CountsReader (Err faults.Reader) old new = new ≡ one_more_failure old
-CountsReader (Err (faults.Refused refusal)) old new = new ≡ old
-CountsReader (Err (faults.Truncated records)) old new = new ≡ old
-CountsReader (Err faults.Memory) old new = new ≡ old
+CountsReader (Err fault) old new = CountsFault fault old new
 
 -- the decoder stands for some input and some items
 pub record IsUnderWay (d : Standing) : Type 0 where

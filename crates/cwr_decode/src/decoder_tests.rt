@@ -11,7 +11,7 @@ use std::process::Abort;
 use std::test::Fail;
 
 /// The name of an outcome.
-fn named(outcome: &Outcome) -> &'static str {
+pub(crate) fn named(outcome: &Outcome) -> &'static str {
     match outcome {
         Outcome::More => "more",
         Outcome::Item(Item::Opened(_)) => "opened",
@@ -32,7 +32,7 @@ fn largest() -> Result<Limits, Fail> {
 }
 
 /// A decoder with the largest limits.
-fn decoder(alloc: Global) -> Result<Decoder, Fail> {
+pub(crate) fn decoder(alloc: Global) -> Result<Decoder, Fail> {
     Ok(Decoder::new(alloc, largest()?))
 }
 
@@ -64,7 +64,7 @@ fn one_acknowledgement_by_items(rt: HostRuntime) -> Result<(), Fail> {
 }
 
 /// The names of the items of the transmission of one acknowledgement, and of what is answered behind them.
-const ITEMS: [&str; 6] = [
+pub(crate) const ITEMS: [&str; 6] = [
     "opened",
     "group opened",
     "transaction",
@@ -254,7 +254,7 @@ fn cut_cells(rt: HostRuntime) -> Result<(), Fail> {
 }
 
 /// A refusal at a record and a field.
-fn refusal(rec: u32, field: u8, level: Level, reason: Reason) -> Refusal {
+pub(crate) fn refusal(rec: u32, field: u8, level: Level, reason: Reason) -> Refusal {
     Refusal {
         rec,
         field,
@@ -264,7 +264,7 @@ fn refusal(rec: u32, field: u8, level: Level, reason: Reason) -> Refusal {
 }
 
 /// Checks that a text that is fed whole gives so many items and is then refused so, however often it is asked.
-fn check_refused(
+pub(crate) fn check_refused(
     rt: &impl Abort,
     mut decoder: Decoder,
     text: &Text,
@@ -321,7 +321,7 @@ fn wrong_counts(rt: HostRuntime) -> Result<(), Fail> {
 }
 
 /// H and GR(NWR).
-fn begun_works(alloc: Global) -> Result<Text, Fail> {
+pub(crate) fn begun_works(alloc: Global) -> Result<Text, Fail> {
     let mut text = Text::new(alloc);
     text.header()?;
     text.group(b"NWR", b"00001")?;
@@ -481,6 +481,15 @@ fn unknown_kinds(rt: HostRuntime) -> Result<(), Fail> {
     text.add(&[0xef, 0xbb, 0xbf])?;
     text.header()?;
     let unknown = Reason::UnknownKind;
+    check_refused(
+        &rt,
+        decoder(rt.alloc())?,
+        &text,
+        0,
+        refusal(1, 1, Level::E, unknown),
+    );
+    let mut text = Text::new(rt.alloc());
+    text.add(b"hdrPB123456789MUSIC HOUSE\n")?;
     check_refused(
         &rt,
         decoder(rt.alloc())?,

@@ -14,10 +14,16 @@ mod outcomes;
 mod reading_tests;
 mod readings;
 mod refusals;
+mod whole;
+#[cfg(test)]
+mod whole_tests;
 #[cfg(test)]
 mod worked_texts;
+#[cfg(test)]
+mod works_tests;
 
 pub use decoders::Decoder;
 pub use outcomes::{Outcome, Step};
 pub use readings::{ReadFault, Reading};
 pub use refusals::Refusal;
+pub use whole::read_all;

@@ -138,6 +138,17 @@ impl Text {
 
     /// SWR, with its sequences.
     pub(crate) fn writer(&mut self, transaction: &[u8], sequence: &[u8]) -> Result<(), AllocError> {
+        self.writer_with_share(transaction, sequence, b"")
+    }
+
+    /// SWR, with its sequences and its share in performing rights.
+    pub(crate) fn writer_with_share(
+        &mut self,
+        transaction: &[u8],
+        sequence: &[u8],
+        share: &[u8],
+    ) -> Result<(), AllocError> {
+        let mut line = [b' '; 364];
         let cells: [(u8, &[u8]); 5] = [
             (1, b"SWR"),
             (4, b"W1"),
@@ -145,7 +156,135 @@ impl Text {
             (6, b"ANNA"),
             (8, b"CA"),
         ];
-        self.inside(Kind::Swr, transaction, sequence, &cells)
+        set_all(&mut line, Kind::Swr, &cells);
+        set(&mut line, Kind::Swr, 2, transaction);
+        set(&mut line, Kind::Swr, 3, sequence);
+        set(&mut line, Kind::Swr, 12, share);
+        self.whole_line(Kind::Swr, &line)
+    }
+
+    /// Adds the line of a record of the first transaction.
+    fn of_first(
+        &mut self,
+        kind: Kind,
+        sequence: &[u8],
+        cells: &[(u8, &[u8])],
+    ) -> Result<(), AllocError> {
+        self.inside(kind, b"00000000", sequence, cells)
+    }
+
+    /// SPU of the first transaction, with its record sequence.
+    pub(crate) fn publisher(&mut self, sequence: &[u8]) -> Result<(), AllocError> {
+        let cells: [(u8, &[u8]); 8] = [
+            (1, b"SPU"),
+            (4, b"01"),
+            (5, b"P1"),
+            (6, b"MUSIC HOUSE"),
+            (8, b"E"),
+            (13, b"02500"),
+            (15, b"05000"),
+            (17, b"05000"),
+        ];
+        self.of_first(Kind::Spu, sequence, &cells)
+    }
+
+    /// SPT of the first transaction, with its record sequence.
+    pub(crate) fn publisher_territory(&mut self, sequence: &[u8]) -> Result<(), AllocError> {
+        let cells: [(u8, &[u8]); 8] = [
+            (1, b"SPT"),
+            (4, b"P1"),
+            (6, b"05000"),
+            (7, b"10000"),
+            (8, b"10000"),
+            (9, b"I"),
+            (10, b"2136"),
+            (12, b"001"),
+        ];
+        self.of_first(Kind::Spt, sequence, &cells)
+    }
+
+    /// OPU of the first transaction, with its record sequence.
+    pub(crate) fn other_publisher(&mut self, sequence: &[u8]) -> Result<(), AllocError> {
+        let cells: [(u8, &[u8]); 6] = [
+            (1, b"OPU"),
+            (4, b"02"),
+            (7, b"Y"),
+            (13, b"02500"),
+            (15, b"05000"),
+            (17, b"05000"),
+        ];
+        self.of_first(Kind::Opu, sequence, &cells)
+    }
+
+    /// SWT of the first transaction, with its record sequence.
+    pub(crate) fn writer_territory(&mut self, sequence: &[u8]) -> Result<(), AllocError> {
+        let cells: [(u8, &[u8]); 6] = [
+            (1, b"SWT"),
+            (4, b"W1"),
+            (5, b"05000"),
+            (8, b"I"),
+            (9, b"2136"),
+            (11, b"001"),
+        ];
+        self.of_first(Kind::Swt, sequence, &cells)
+    }
+
+    /// PWR of the first transaction, with its record sequence.
+    pub(crate) fn publisher_of_writer(&mut self, sequence: &[u8]) -> Result<(), AllocError> {
+        let cells: [(u8, &[u8]); 4] = [(1, b"PWR"), (4, b"P1"), (5, b"MUSIC HOUSE"), (8, b"W1")];
+        self.of_first(Kind::Pwr, sequence, &cells)
+    }
+
+    /// OWR of the first transaction, with its record sequence.
+    pub(crate) fn other_writer(&mut self, sequence: &[u8]) -> Result<(), AllocError> {
+        let cells: [(u8, &[u8]); 4] = [(1, b"OWR"), (5, b"JONES"), (8, b"A"), (12, b"02500")];
+        self.of_first(Kind::Owr, sequence, &cells)
+    }
+
+    /// ALT of the first transaction, with its record sequence.
+    pub(crate) fn other_title(&mut self, sequence: &[u8]) -> Result<(), AllocError> {
+        let cells: [(u8, &[u8]); 3] = [(1, b"ALT"), (4, b"BLUE RIVERS"), (5, b"AT")];
+        self.of_first(Kind::Alt, sequence, &cells)
+    }
+
+    /// EWT of the first transaction, with its record sequence.
+    pub(crate) fn entire_work(&mut self, sequence: &[u8]) -> Result<(), AllocError> {
+        self.of_first(Kind::Ewt, sequence, &[(1, b"EWT"), (4, b"RIVER SUITE")])
+    }
+
+    /// PER of the first transaction, with its record sequence.
+    pub(crate) fn performer(&mut self, sequence: &[u8]) -> Result<(), AllocError> {
+        let cells: [(u8, &[u8]); 3] = [(1, b"PER"), (4, b"SMITH"), (5, b"ANNA")];
+        self.of_first(Kind::Per, sequence, &cells)
+    }
+
+    /// REC of the first transaction, with its record sequence.
+    pub(crate) fn recording(&mut self, sequence: &[u8]) -> Result<(), AllocError> {
+        self.of_first(Kind::Rec, sequence, &[(1, b"REC"), (4, b"20240101")])
+    }
+
+    /// AGR, the header of the first transaction.
+    pub(crate) fn agreement(&mut self) -> Result<(), AllocError> {
+        let cells: [(u8, &[u8]); 3] = [(1, b"AGR"), (4, b"AGR0001"), (6, b"OS")];
+        self.of_first(Kind::Agr, b"00000000", &cells)
+    }
+
+    /// TER of the first transaction, with its record sequence.
+    pub(crate) fn territory(&mut self, sequence: &[u8]) -> Result<(), AllocError> {
+        let cells: [(u8, &[u8]); 3] = [(1, b"TER"), (4, b"I"), (5, b"2136")];
+        self.of_first(Kind::Ter, sequence, &cells)
+    }
+
+    /// IPA of the first transaction with the role AS, with its record sequence.
+    pub(crate) fn assignor(&mut self, sequence: &[u8]) -> Result<(), AllocError> {
+        let cells: [(u8, &[u8]); 3] = [(1, b"IPA"), (4, b"AS"), (8, b"SMITH")];
+        self.of_first(Kind::Ipa, sequence, &cells)
+    }
+
+    /// IPA of the first transaction with the role AC, with its record sequence.
+    pub(crate) fn acquirer(&mut self, sequence: &[u8]) -> Result<(), AllocError> {
+        let cells: [(u8, &[u8]); 3] = [(1, b"IPA"), (4, b"AC"), (8, b"MUSIC HOUSE")];
+        self.of_first(Kind::Ipa, sequence, &cells)
     }
 
     /// GRT, with its group ID and its counts.

@@ -6,24 +6,15 @@ use Rattle.cwr_layouts.specs.Kinds.{letters}
 use Rattle.cwr_layouts.specs.Layouts.{FieldLayout, layout}
 use Rattle.cwr_layouts.specs.Records.{RecordValue}
 use Rattle.cwr_values.specs.Values.{TransmissionValue}
-use Rattle.cwr_values.specs.Rows.{trailer, rows}
+use Rattle.cwr_values.specs.Rows.{rows}
 use Rattle.cwr_values.specs.declared.items.Item.{Item}
-use Rattle.cwr_values.specs.declared.items.Item.TheVariants.{Opened, GroupOpened, Transaction, GroupClosed, Ended}
+use Rattle.cwr_values.specs.declared.items.Item.TheVariants.{Transaction}
+use Rattle.cwr_decode.specs.Items.{item_records, opens_group, is_transaction}
 use Rattle.cwr_levels.specs.Findings.{findings}
 use Rattle.cwr_shape.specs.declared.limits.LimitKind.{LimitKind}
 use Rattle.cwr_levels.specs.Lines.{refusal_line, truncated_line, good_line, finding_line, limit_text}
 use Rattle.cwr_tools.specs.declared.verdicts.Verdict.{Verdict}
 use Rattle.cwr_tools.specs.declared.verdicts.Verdict.TheVariants.{Good, Refused, Truncated}
-
--- the item is a GRH
-abbrev pub opens_group : Item → Bool
-opens_group (GroupOpened r) = true
-opens_group item = false
-
--- the item is a transaction
-abbrev pub is_transaction : Item → Bool
-is_transaction (Transaction t) = true
-is_transaction item = false
 
 -- the finding lines of an item, by the items before it: its group's ID, and its sequence in the group
 abbrev pub finding_lines : List Item → Item → List ℕ
@@ -47,14 +38,6 @@ check_lines items = flat_map (λ p. finding_lines (take p.0 items) p.1) (enumera
 -- what `check` writes
 abbrev pub check_text : List Item → Verdict → List ℕ
 check_text items verdict = check_lines items ++ verdict_line verdict
-
--- the records of an item
-abbrev pub item_records : Item → List RecordValue
-item_records (Opened r) = r ∷ []
-item_records (GroupOpened r) = r ∷ []
-item_records (Transaction t) = t
-item_records (GroupClosed r) = r ∷ []
-item_records Ended = trailer ∷ []
 
 -- a carried cell under its field's number and name, unless it is blank
 abbrev pub cell_line : ℕ → FieldLayout → List ℕ → List ℕ

@@ -1,62 +1,79 @@
-use Rattle.std.proofs.Common.{◌≡◌, ◌+◌, refl, sym, ap, subst, ◌∙◌, arith}
-use Rattle.cwr_layouts.specs.Held.{HeldLine}
-use Rattle.cwr.specs.declared.progress.Progress.{Progress}
-use Rattle.cwr.specs.declared.progress.Position.{Position}
-use Rattle.cwr.specs.declared.progress.Position.TheVariants.{Start, Ended}
-use Rattle.cwr.specs.Walks.{HasRead, IsGoodLine, IsBadLine, counted}
-use Rattle.cwr.proofs.Checked.{counted-records, has_nothing, has_more, tells_refused, tells_truncated, tells_good}
+use Rattle.std.proofs.Common.{rules, sym, ap, subst, ◌∙◌, arith}
+use Rattle.std.specs.Prelude.{IfOk}
+use Rattle.cwr_decode.specs.Runs.{HasReadAll}
+use Rattle.cwr_decode.proofs.Running.{fault_read, none_read}
+use Rattle.cwr_tools.specs.declared.verdicts.Verdict.{Verdict}
+use Rattle.cwr.specs.declared.checking.Counts.{Counts}
+use Rattle.cwr.specs.Told.{counted, IsToldOf}
+use Rattle.cwr.proofs.Checked.{IsCounting, counts_on, fault_told, good_told, room_in, total_grows}
 use Rattle.cwr.proofs.checking.read_verdict.Goals as goal
 
-start_ends : (p : Position) → p ≡ Start → p ≡ Ended → ⊥
-start_ends p e f = let same : Start ≡ Ended = sym e ∙ f in cc same
+pub count-requires-clause-groups : goal.count-requires-clause-groups
+count-requires-clause-groups g c =
+    let room = room_in c.args.limits _ _ _ c.items.counts c.items.invariant.counting in
+    room.groups
 
-pub lines-init : goal.lines-init
-lines-init g c =
-    let e = c.new-progress.ensures.nothing in
-    let none : c.new-progress.result.records ≡ 0 = ap (λ (p : Progress). p.records) e in
+pub count-requires-clause-transactions : goal.count-requires-clause-transactions
+count-requires-clause-transactions g c =
+    let room = room_in c.args.limits _ _ _ c.items.counts c.items.invariant.counting in
+    room.transactions
+
+pub count-requires-clause-records : goal.count-requires-clause-records
+count-requires-clause-records g c =
+    let on = counts_on c.args.limits c.items.reading.decoder c.next_item.new.self.decoder (g.R.Source.remaining c.args.reader.now) _ _ c.items.counts c.in-Ok-Some.field-0 c.in-Ok-Some.item _ _
+        c.in-Ok-Some.field-0-is c.items.invariant.counting c.in-Ok-Some.ensures.reads c.in-Ok-Some.ensures.again in
+    (room_in c.args.limits _ _ _ (counted c.items.counts c.in-Ok-Some.item) on).records
+
+pub items-smaller-in-Ok-Some : goal.items-smaller-in-Ok-Some
+items-smaller-in-Ok-Some g c =
+    let on = counts_on c.args.limits c.items.reading.decoder c.next_item.new.self.decoder (g.R.Source.remaining c.args.reader.now) _ _ c.items.counts c.in-Ok-Some.field-0 c.in-Ok-Some.item _ _
+        c.in-Ok-Some.field-0-is c.items.invariant.counting c.in-Ok-Some.ensures.reads c.in-Ok-Some.ensures.again in
+    let room = room_in c.args.limits _ _ _ (counted c.items.counts c.in-Ok-Some.item) on in
+    omega (arith, room.groups, room.transactions, room.records, total_grows c.items.counts c.in-Ok-Some.item,
+    ap (λ (n : Counts). n.groups) c.count.ensures, ap (λ (n : Counts). n.transactions) c.count.ensures, ap (λ (n : Counts). n.records) c.count.ensures)
+
+pub items-preserved-in-Ok-Some : goal.items-preserved-in-Ok-Some
+items-preserved-in-Ok-Some g c =
+    let on = counts_on c.args.limits c.items.reading.decoder c.next_item.new.self.decoder (g.R.Source.remaining c.args.reader.now) _ _ c.items.counts c.in-Ok-Some.field-0 c.in-Ok-Some.item _ _
+        c.in-Ok-Some.field-0-is c.items.invariant.counting c.in-Ok-Some.ensures.reads c.in-Ok-Some.ensures.again in
     record {
-      counted = c.new-progress.ensures.counted;
-      most = omega arith;
-      going = start_ends c.new-progress.result.position (ap (λ (p : Progress). p.position) e);
-      read = subst (λ (p : Progress). HasRead c.args.limits.now (g.R.Source.remaining c.args.reader.now) (g.R.Source.remaining c.args.reader.now) p) (sym e) (has_nothing c.args.limits.now (g.R.Source.remaining c.args.reader.now));
-      failures = refl;
+      counting = subst (λ (counts : Counts). IsCounting c.args.limits c.next_item.new.self.decoder (g.R.Source.remaining c.args.reader.now) (g.R.Source.remaining c.next_item.new.self.reader.now) counts) (sym c.count.ensures) on;
+      failures = c.in-Ok-Some.ensures.failures ∙ c.items.invariant.failures;
+      same = c.in-Ok-Some.ensures.same_reference ∙ c.items.invariant.same;
     }
 
-pub returns-then-not-branch-clause-told : goal.returns-then-not-branch-clause-told
-returns-then-not-branch-clause-told g c =
-    tells_truncated c.args.limits.now _ _ _ c.lines.progress c.read_line.new.line c.in_ok-read_line.field-0 c.lines.progress.records c.lines.invariant.read c.lines.invariant.going
-    c.if-not-branch.true c.in_ok-read_line.ensures.read
+pub items-smaller : goal.items-smaller
+items-smaller g c =
+    let on = counts_on c.args.limits c.items.reading.decoder c.next_item.new.self.decoder (g.R.Source.remaining c.args.reader.now) _ _ c.items.counts c.in-Ok-Some.field-0 c.in-Ok-Some.item _ _
+        c.in-Ok-Some.field-0-is c.items.invariant.counting c.in-Ok-Some.ensures.reads c.in-Ok-Some.ensures.again in
+    let room = room_in c.args.limits _ _ _ (counted c.items.counts c.in-Ok-Some.item) on in
+    omega (arith, room.groups, room.transactions, room.records, total_grows c.items.counts c.in-Ok-Some.item,
+    ap (λ (n : Counts). n.groups) c.count.ensures, ap (λ (n : Counts). n.transactions) c.count.ensures, ap (λ (n : Counts). n.records) c.count.ensures)
+
+pub items-preserved : goal.items-preserved
+items-preserved g c =
+    let on = counts_on c.args.limits c.items.reading.decoder c.next_item.new.self.decoder (g.R.Source.remaining c.args.reader.now) _ _ c.items.counts c.in-Ok-Some.field-0 c.in-Ok-Some.item _ _
+        c.in-Ok-Some.field-0-is c.items.invariant.counting c.in-Ok-Some.ensures.reads c.in-Ok-Some.ensures.again in
+    record {
+      counting = subst (λ (counts : Counts). IsCounting c.args.limits c.next_item.new.self.decoder (g.R.Source.remaining c.args.reader.now) (g.R.Source.remaining c.next_item.new.self.reader.now) counts) (sym c.count.ensures) on;
+      failures = c.in-Ok-Some.ensures.failures ∙ c.items.invariant.failures;
+      same = c.in-Ok-Some.ensures.same_reference ∙ c.items.invariant.same;
+    }
+
+pub returns-in-Ok-None-clause-told : goal.returns-in-Ok-None-clause-told
+returns-in-Ok-None-clause-told g c =
+    let all : HasReadAll c.args.limits (g.R.Source.remaining c.args.reader.now) (g.R.Source.remaining c.next_item.new.self.reader.now) c.items.invariant.counting.given
+    = none_read c.args.limits c.items.reading.decoder c.next_item.new.self.decoder (g.R.Source.remaining c.args.reader.now) _ _ c.items.invariant.counting.given c.in-Ok-None.field-0 _ c.in-Ok-None.field-0-is
+    c.items.invariant.counting.reading c.in-Ok-None.ensures.reads c.in-Ok-None.ensures.again (λ e. ap g.R.Source.remaining e) in
+    let told : IsToldOf c.args.limits (g.R.Source.remaining c.args.reader.now) c.good.result (g.R.Source.remaining c.next_item.new.self.reader.now)
+    = subst (λ (v : Verdict). IsToldOf c.args.limits (g.R.Source.remaining c.args.reader.now) v (g.R.Source.remaining c.next_item.new.self.reader.now)) (sym c.good.ensures)
+    (good_told c.args.limits _ _ c.items.invariant.counting.given c.items.counts all c.items.invariant.counting.counts) in
+    search rules
 
 pub returns-in-Err-clause-told : goal.returns-in-Err-clause-told
 returns-in-Err-clause-told g c =
-    tells_refused c.args.limits.now _ _ _ c.lines.progress c.read_line.new.line c.in_ok-read_line.field-0 c.refusal.result c.lines.invariant.read c.lines.invariant.going
-    c.if-not-branch.false c.in_ok-read_line.ensures.read c.in_ok-read_line.ensures.held
-    (subst (λ (h : HeldLine). IsBadLine c.args.limits.now c.lines.progress h) c.cut-cut.ensures c.in-Err.ensures.err)
-
-pub count-requires-clause-room : goal.count-requires-clause-room
-count-requires-clause-room g c = let room = c.in-Ok.ensures.ok.room.records in let most = c.in-Ok.ensures.in_range.most_records in omega arith
-
--- the line in the buffer is the one that was judged
-pub lines-preserved : goal.lines-preserved
-lines-preserved g c =
-    let good : IsGoodLine c.args.limits.now c.lines.progress c.read_line.new.line c.in-Ok.kind =
-    subst (λ (h : HeldLine). IsGoodLine c.args.limits.now c.lines.progress h c.in-Ok.kind) c.cut-cut.ensures c.in-Ok.ensures.ok in
-    let records : (counted c.lines.progress c.in-Ok.kind).records ≡ c.lines.progress.records + 1 = counted-records c.lines.progress c.lines.progress.position c.in-Ok.kind good.follows in
-    let now : c.count.new.self.records ≡ (counted c.lines.progress c.in-Ok.kind).records = ap (λ (p : Progress). p.records) c.count.ensures.counts in
-    record {
-      counted = c.count.ensures.counted;
-      most = omega (arith, now, records, good.room.records);
-      going = c.in_default.not-Ended;
-      read = subst (λ (p : Progress). HasRead c.args.limits.now (g.R.Source.remaining c.args.reader.now) (g.R.Source.remaining c.read_line.new.reader) p) (sym c.count.ensures.counts)
-          (has_more c.args.limits.now _ _ _ c.lines.progress c.read_line.new.line c.in_ok-read_line.field-0 c.in-Ok.kind c.lines.invariant.read c.if-not-branch.false c.in_ok-read_line.ensures.read c.in_ok-read_line.ensures.held good);
-      failures = c.in_ok-read_line.ensures.failures.0 ∙ c.lines.invariant.failures;
-    }
-
-pub returns-in-Ended-clause-told : goal.returns-in-Ended-clause-told
-returns-in-Ended-clause-told g c =
-    let good : IsGoodLine c.args.limits.now c.lines.progress c.read_line.new.line c.in-Ok.kind =
-    subst (λ (h : HeldLine). IsGoodLine c.args.limits.now c.lines.progress h c.in-Ok.kind) c.cut-cut.ensures c.in-Ok.ensures.ok in
-    tells_good c.args.limits.now _ _ c.count.new.self c.in-Ok.ensures.in_range.least_transaction
-    (subst (λ (p : Progress). HasRead c.args.limits.now (g.R.Source.remaining c.args.reader.now) (g.R.Source.remaining c.read_line.new.reader) p) (sym c.count.ensures.counts)
-    (has_more c.args.limits.now _ _ _ c.lines.progress c.read_line.new.line c.in_ok-read_line.field-0 c.in-Ok.kind c.lines.invariant.read c.if-not-branch.false c.in_ok-read_line.ensures.read c.in_ok-read_line.ensures.held good))
-    c.in-Ended.is
+    let told : IfOk c.verdict_of.result (λ verdict. IsToldOf c.args.limits (g.R.Source.remaining c.args.reader.now) verdict (g.R.Source.remaining c.next_item.new.self.reader.now))
+    = fault_told c.args.limits _ _ c.in-Err.fault c.verdict_of.result
+    (fault_read c.args.limits c.items.reading.decoder c.next_item.new.self.decoder (g.R.Source.remaining c.args.reader.now) _ _ c.items.invariant.counting.given c.in-Err.fault _ _
+    c.items.invariant.counting.reading c.in-Err.ensures.reads c.in-Err.ensures.again) c.verdict_of.ensures in
+    search rules

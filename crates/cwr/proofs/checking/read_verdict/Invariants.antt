@@ -1,16 +1,13 @@
-use Rattle.std.proofs.Common.{◌≡◌, ◌≢◌, ◌≤◌, ◌-◌}
-use Rattle.cwr.specs.declared.progress.Position.TheVariants.{Ended}
-use Rattle.cwr.specs.Walks.{HasRead, IsCounted}
+use Rattle.std.proofs.Common.{◌≡◌, ◌+◌, ◌-◌}
+use Rattle.cwr.proofs.Checked.{IsCounting}
 use Rattle.cwr.proofs.checking.read_verdict.Given as goal
 
-abbrev pub invariant-lines : goal.invariant-lines
-invariant-lines g l = record {
-  counted : IsCounted l.progress;
-  most : l.progress.records ≤ l.limits.records;
-  going : l.progress.position ≢ Ended;
-  read : HasRead l.limits (g.R.Source.remaining l.initial.reader) (g.R.Source.remaining l.reader) l.progress;
-  failures : g.R.Source.failures l.reader ≡ g.R.Source.failures l.initial.reader;
+abbrev pub invariant-items : goal.invariant-items
+invariant-items g l = record {
+  counting : IsCounting l.fn.limits l.reading.decoder (g.R.Source.remaining l.fn.reader) (g.R.Source.remaining l.reading.reader.now) l.counts;
+  failures : g.R.Source.failures l.reading.reader.now ≡ g.R.Source.failures l.fn.reader;
+  same : l.reading.reader.ghost_name ≡ l.initial.reading.reader.ghost_name;
 }
 
-abbrev pub decreases-lines : goal.decreases-lines
-decreases-lines g l = l.limits.records - l.progress.records
+abbrev pub decreases-items : goal.decreases-items
+decreases-items g l = 600000000 - (l.counts.groups + (l.counts.transactions + l.counts.records))

@@ -1,0 +1,244 @@
+-- One call of a reading behind others: what was read so far goes on, up to all items or a fault.
+use Rattle.std.proofs.Common.{◌≡◌, ◌≢◌, ◌≤◌, ℕ, List, [], ◌∷◌, ◌++◌, length, drop, Option, Some, None, refl, sym, ap, subst, ◌∙◌, append_assoc, append-nil, inl, inr, true≢false, false}
+use Rattle.std.specs.Prelude.{Result, Ok, Err, IfSome, IfOk, IfErr, MatchResult, ◌⊎◌}
+use Rattle.std.specs.Result.{IsErrAnd}
+use Rattle.std.proofs.Math.Seq.{drop-append_seam}
+use Rattle.std.proofs.KnownBytes.{Consumes-nil, Consumes-trans}
+use Rattle.std.specs.Io.KnownBytes.{Consumes}
+use Rattle.cwr_shape.specs.Ranges.{LimitValues}
+use Rattle.cwr_values.specs.declared.items.Item.{Item}
+use Rattle.cwr_values.specs.declared.items.Item.TheVariants as items
+use Rattle.cwr_values.specs.Values.{TransmissionValue, IsTransmission, FitsIn}
+use Rattle.cwr_values.specs.Rows.{canonical_text}
+use Rattle.cwr_decode.specs.declared.outcomes.Outcome.{Outcome}
+use Rattle.cwr_decode.specs.declared.machine.State.{State}
+use Rattle.cwr_decode.specs.declared.machine.State.TheVariants as states
+use Rattle.cwr_decode.specs.declared.readings.ReadFault.{ReadFault}
+use Rattle.cwr_decode.specs.declared.readings.ReadFault.TheVariants as faults
+use Rattle.cwr_decode.specs.Items.{value_items}
+use Rattle.cwr_decode.specs.Ends.{IsAccepted}
+use Rattle.cwr_decode.specs.Machines.{Standing, again}
+use Rattle.cwr_decode.specs.Stands.{StandsFor, StandsIn}
+use Rattle.cwr_decode.specs.Calls.{IsLive}
+use Rattle.cwr_decode.specs.Readings.{answer_of, items_read, IsWholeInput, IsRightOf, LeavesRead, IsUnderWay, IsSpent, Reads}
+use Rattle.cwr_decode.specs.Runs.{HasRead, EndsWhole, HasReadAll, IsReadingOn, AreItems, Takes, IsRightFault, StopsRun, TellsAccepted, TellsCanonical}
+use Rattle.cwr_decode.proofs.Accepted.{accepted_once, canonical_accepted}
+use Rattle.cwr_decode.proofs.CountedItems.{bounded}
+use Rattle.cwr_decode.proofs.Ended.{SpellsWhole, spells_whole}
+
+abbrev Answer : Type 0
+Answer = Result (Option Item) ReadFault
+
+-- ---- what was read so far
+
+fresh_spent : (d : Standing) (left : Option (List ℕ)) → IsSpent d left → IfSome left (λ _. IsSpent d left)
+fresh_spent d None h = tt
+fresh_spent d (Some xs) h = h
+
+pub run_starts : (limits : LimitValues) (d : Standing) (left : Option (List ℕ)) → StandsFor d [] [] → IsSpent d left → d.tally.limits ≡ limits → HasRead limits d left left []
+run_starts limits d left stands spent same = record { input = []; stands = stands; consumed = Consumes-nil left; spent = fresh_spent d left spent; limits_are = same }
+
+spent_on : (before left after : Option (List ℕ)) (input : List ℕ) (old new : Standing) → Consumes before left input → IfSome before (λ _. IsSpent old left)
+    → (IsSpent old left → IfSome left (λ _. IsSpent new after)) → IfSome before (λ _. IsSpent new after)
+spent_on None left after input old new lost h on = tt
+spent_on (Some xs) None after input old new lost h on = absurd lost
+spent_on (Some xs) (Some ys) after input old new lost h on = on h
+
+pub run_reads : (limits : LimitValues) (old new : Standing) (before left after : Option (List ℕ)) (given : List Item) (answer : Answer)
+    → HasRead limits old before left given → Reads old left answer new after → HasRead limits new before after (given ++ items_read answer)
+run_reads limits old new before left after given answer h r = record {
+  input = h.input ++ r.bytes;
+  stands = r.stands h.input given h.stands;
+  consumed = Consumes-trans before left after h.input r.bytes h.consumed r.consumed;
+  spent = spent_on before left after h.input old new h.consumed h.spent r.over;
+  limits_are = r.limits ∙ h.limits_are;
+}
+
+right_on : (limits old_limits : LimitValues) (before left : Option (List ℕ)) (input : List ℕ) (n : ℕ) (given : List Item) (answer : Answer) → old_limits ≡ limits → Consumes before left input
+    → IfSome left (λ rest. IsRightOf old_limits answer n (input ++ rest) given) → IfSome before (λ text. IsRightOf limits answer n text given)
+right_on limits old_limits None left input n given answer same lost h = tt
+right_on limits old_limits (Some xs) None input n given answer same lost h = absurd lost
+right_on limits old_limits (Some xs) (Some ys) input n given answer same lost h =
+    subst (λ (l : LimitValues). IsRightOf l answer n xs given) same (subst (λ (t : List ℕ). IsRightOf old_limits answer n t given) (sym lost) h)
+
+spent_here : (before left : Option (List ℕ)) (input : List ℕ) (old : Standing) → Consumes before left input → IfSome before (λ _. IsSpent old left) → (IsSpent old left → IfSome before (λ _. Unit {0})) → IfSome before (λ _. IsSpent old left)
+spent_here before left input old lost h on = h
+
+pub run_right : (limits : LimitValues) (old new : Standing) (before left after : Option (List ℕ)) (given : List Item) (answer : Answer)
+    → (h : HasRead limits old before left given) → IsLive old.state → (r : Reads old left answer new after)
+    → IfSome before (λ text. IsRightOf limits answer (length (h.input ++ r.bytes)) text (given ++ items_read answer))
+run_right limits old new before left after given answer h live r = by before h.consumed h.spent
+  where
+    by : (b : Option (List ℕ)) → Consumes b left h.input → IfSome b (λ _. IsSpent old left) → IfSome b (λ text. IsRightOf limits answer (length (h.input ++ r.bytes)) text (given ++ items_read answer))
+    by None lost spent = tt
+    by (Some xs) lost spent = right_on limits old.tally.limits (Some xs) left h.input (length (h.input ++ r.bytes)) (given ++ items_read answer) answer h.limits_are lost
+        (r.right live spent h.input given h.stands)
+
+-- ---- one call more
+
+-- an ended decoder answers that nothing is left
+ended_answer : (state : State) (answer : Answer) (B C : Type 0) → state ≡ states.Ended → IfSome (again state) (λ o. (Some answer ≡ answer_of o) × B × C) → answer ≡ Ok None
+ended_answer state answer B C e h
+    = let told : Some answer ≡ Some (Ok None) = (subst (λ (s : State). IfSome (again s) (λ o. (Some answer ≡ answer_of o) × B × C)) e h).0 in cc told
+
+pub under_way : (limits : LimitValues) (d : Standing) (before now : Option (List ℕ)) (given : List Item) → IsReadingOn limits d before now given → IsUnderWay d
+under_way limits d before now given h = record { input = h.read.input; given = given; stands = h.read.stands }
+
+here_on : (limits : LimitValues) (state : State) (before : Option (List ℕ)) (n : ℕ) (given : List Item) (item : Item) → LeavesRead (Ok (Some item)) state
+    → IfSome before (λ text. IsRightOf limits (Ok (Some item)) n text given) → IsLive state ⊎ EndsWhole limits state before n given
+here_on limits state before n given items.Ended leaves right = inr (leaves.0 refl, right)
+here_on limits state before n given (items.Opened r) leaves right = inl (leaves.1 (λ e. absurd (cc e)))
+here_on limits state before n given (items.GroupOpened r) leaves right = inl (leaves.1 (λ e. absurd (cc e)))
+here_on limits state before n given (items.Transaction t) leaves right = inl (leaves.1 (λ e. absurd (cc e)))
+here_on limits state before n given (items.GroupClosed r) leaves right = inl (leaves.1 (λ e. absurd (cc e)))
+
+pub item_read : (limits : LimitValues) (old new : Standing) (before left after : Option (List ℕ)) (given : List Item) (item : Item) (B C : Type 0)
+    → IsReadingOn limits old before left given → Reads old left (Ok (Some item)) new after → IfSome (again old.state) (λ o. (Some (Ok (Some item)) ≡ answer_of o) × B × C)
+    → IsReadingOn limits new before after (given ++ item ∷ [])
+unfolding run_reads
+item_read limits old new before left after given item B C h r same = record {
+  read = run_reads limits old new before left after given (Ok (Some item)) h.read r;
+  here = by h.here;
+} where
+  none_left : (e : old.state ≡ states.Ended) → ⊥
+  none_left e = let told : Ok (Some item) ≡ Ok None = ended_answer old.state (Ok (Some item)) B C e same in absurd (cc told)
+
+  by : IsLive old.state ⊎ EndsWhole limits old.state before (length h.read.input) given → IsLive new.state ⊎ EndsWhole limits new.state before (length (h.read.input ++ r.bytes)) (given ++ item ∷ [])
+  by (inl live) = here_on limits new.state before (length (h.read.input ++ r.bytes)) (given ++ item ∷ []) item r.leaves (run_right limits old new before left after given (Ok (Some item)) h.read live r)
+  by (inr ended) = absurd (none_left ended.0)
+
+live_not_ended : (state : State) → IsLive state → state ≡ states.Ended → ⊥
+live_not_ended state live e = let is : Some outcomes_done ≡ None = sym (ap again e) ∙ live in absurd (cc is)
+  where
+    outcomes_done : Outcome
+    outcomes_done = Rattle.cwr_decode.specs.declared.outcomes.Outcome.TheVariants.Done
+
+pub all_read : (limits : LimitValues) (old : Standing) (before left : Option (List ℕ)) (given : List Item) → IsReadingOn limits old before left given → old.state ≡ states.Ended → HasReadAll limits before left given
+all_read limits old before left given h e = record { decoder = old; read = h.read; ends = by h.here }
+  where
+    by : IsLive old.state ⊎ EndsWhole limits old.state before (length h.read.input) given → EndsWhole limits old.state before (length h.read.input) given
+    by (inl live) = absurd (live_not_ended old.state live e)
+    by (inr ended) = ended
+
+fault_right : (limits : LimitValues) (fault : ReadFault) (before : Option (List ℕ)) (n : ℕ) (given : List Item) → IfSome before (λ text. IsRightOf limits (Err fault) n text given) → IfSome before (IsRightFault limits fault)
+fault_right limits fault None n given h = tt
+fault_right limits faults.Reader (Some text) n given h = tt
+fault_right limits (faults.Refused refusal) (Some text) n given h = h
+fault_right limits (faults.Truncated records) (Some text) n given h = h
+fault_right limits faults.Memory (Some text) n given h = tt
+
+pub fault_read : (limits : LimitValues) (old new : Standing) (before left after : Option (List ℕ)) (given : List Item) (fault : ReadFault) (B C : Type 0)
+    → IsReadingOn limits old before left given → Reads old left (Err fault) new after → IfSome (again old.state) (λ o. (Some (Err fault) ≡ answer_of o) × B × C)
+    → StopsRun limits fault before after
+unfolding run_reads
+fault_read limits old new before left after given fault B C h r same = record {
+  decoder = new;
+  given = given ++ [];
+  read = run_reads limits old new before left after given (Err fault) h.read r;
+  leaves = λ other. r.leaves;
+  right = by h.here;
+} where
+  none_left : (e : old.state ≡ states.Ended) → ⊥
+  none_left e = let told : Err fault ≡ Ok None = ended_answer old.state (Err fault) B C e same in absurd (cc told)
+
+  by : IsLive old.state ⊎ EndsWhole limits old.state before (length h.read.input) given → IfSome before (IsRightFault limits fault)
+  by (inl live) = fault_right limits fault before (length (h.read.input ++ r.bytes)) (given ++ []) (run_right limits old new before left after given (Err fault) h.read live r)
+  by (inr ended) = absurd (none_left ended.0)
+
+-- ---- all items
+
+pub all_items : (limits : LimitValues) (before now : Option (List ℕ)) (given : List Item) → HasReadAll limits before now given → AreItems given
+all_items limits before now given h =
+    let e = subst (λ (s : State). StandsIn s h.decoder h.read.input given) h.ends.0 h.read.stands.here in
+    let w = spells_whole h.decoder.tally e.through.lines e.through.records h.read.stands.in_range e.through.read e.whole in
+    record { value = w.value; whole = w.whole; given_are = e.through.given_are ∙ w.given }
+
+pub all_taken : (limits : LimitValues) (before now : Option (List ℕ)) (given : List Item) (t : TransmissionValue) → HasReadAll limits before now given
+    → ((v : TransmissionValue) → IsTransmission v → given ≡ value_items v → t ≡ v) → Takes limits before t now
+all_taken limits before now given t h same = by before now h.read.input h.read.consumed h.ends.1
+  where
+    by : (b n : Option (List ℕ)) (input : List ℕ) → Consumes b n input → IfSome b (λ text. IsWholeInput limits (length input) text given) → Takes limits b t n
+    by None n input lost whole = tt
+    by (Some xs) None input lost whole = absurd lost
+    by (Some xs) (Some ys) input lost whole = (
+      length input,
+      subst (λ (v : TransmissionValue). IsAccepted limits xs v (length input)) (sym (same whole.value whole.accepted.whole whole.given_are)) whole.accepted,
+      ap Some (sym (ap (drop (length input)) lost ∙ drop-append_seam input ys)),
+    )
+
+pub reading_starts : (limits : LimitValues) (d : Standing) (left : Option (List ℕ)) → StandsFor d [] [] → d.state ≡ states.Reading → d.finished ≡ false → d.tally.limits ≡ limits → IsReadingOn limits d left left []
+reading_starts limits d left stands reading fresh same = record {
+  read = run_starts limits d left stands (λ is. absurd (true≢false (sym is ∙ fresh))) same;
+  here = inl (ap again reading);
+}
+
+-- where memory for the items was refused
+pub memory_stops : (limits : LimitValues) (d : Standing) (before now : Option (List ℕ)) (given : List Item) → IsReadingOn limits d before now given → StopsRun limits faults.Memory before now
+memory_stops limits d before now given h = record { decoder = d; given = given; read = h.read; leaves = λ other. absurd (other refl); right = any before }
+  where
+    any : (b : Option (List ℕ)) → IfSome b (λ text. Unit {0})
+    any None = tt
+    any (Some text) = tt
+
+pub of_fault : {X : Type 0} (result : Result X ReadFault) (fault : ReadFault) (P : ReadFault → Type 0) → IsErrAnd result (λ e. e ≡ fault) → P fault → IfErr result P
+of_fault (Ok x) fault P e h = tt
+of_fault (Err f) fault P e h = subst P (sym e) h
+
+-- ---- the same of what a call told
+
+pub some_read : (limits : LimitValues) (old new : Standing) (before left after : Option (List ℕ)) (given : List Item) (told : Option Item) (item : Item) (B C : Type 0) → told ≡ Some item
+    → IsReadingOn limits old before left given → Reads old left (Ok told) new after → IfSome (again old.state) (λ o. (Some (Ok told) ≡ answer_of o) × B × C)
+    → IsReadingOn limits new before after (given ++ item ∷ [])
+some_read limits old new before left after given told item B C e h r same =
+    item_read limits old new before left after given item B C h (subst (λ (t : Option Item). Reads old left (Ok t) new after) e r)
+    (subst (λ (t : Option Item). IfSome (again old.state) (λ o. (Some (Ok t) ≡ answer_of o) × B × C)) e same)
+
+-- with that many items more come
+pub fewer_left : (limits : LimitValues) (d : Standing) (before now : Option (List ℕ)) (given : List Item) → IsReadingOn limits d before now given → length given ≤ 199999998
+fewer_left limits d before now given h = (bounded d h.read.input given h.read.stands).0
+
+same_by : (state : State) (B C : Type 0) → state ≡ states.Ended → IfSome (again state) (λ o. (Some (Ok None) ≡ answer_of o) × B × C) → B × C
+same_by state B C e h = let three = subst (λ (s : State). IfSome (again s) (λ o. (Some (Ok None) ≡ answer_of o) × B × C)) e h in (three.1, three.2)
+
+pub none_read : (limits : LimitValues) (old new : Standing) (before left after : Option (List ℕ)) (given : List Item) (told : Option Item) (C : Type 0) → told ≡ None
+    → IsReadingOn limits old before left given → Reads old left (Ok told) new after → IfSome (again old.state) (λ o. (Some (Ok told) ≡ answer_of o) × (new ≡ old) × C) → (C → after ≡ left)
+    → HasReadAll limits before after given
+none_read limits old new before left after given told C e h r same at =
+    let ended : old.state ≡ states.Ended = r.none (ap (λ (t : Option Item). Ok t) e) in
+    let stays = same_by old.state (new ≡ old) C ended (subst (λ (t : Option Item). IfSome (again old.state) (λ o. (Some (Ok t) ≡ answer_of o) × (new ≡ old) × C)) e same) in
+    subst (λ (a : Option (List ℕ)). HasReadAll limits before a given) (sym (at stays.1)) (all_read limits old before left given h ended)
+
+-- ---- what follows from how a run ends
+
+take_err : (limits : LimitValues) (text : List ℕ) (fault : ReadFault) (v : TransmissionValue) (n : ℕ) → IsRightFault limits fault text → IsAccepted limits text v n → (fault ≡ faults.Reader) ⊎ (fault ≡ faults.Memory)
+take_err limits text faults.Reader v n h a = inl refl
+take_err limits text (faults.Refused refusal) v n h a = absurd (h v n a)
+take_err limits text (faults.Truncated records) v n h a = absurd (h v n a)
+take_err limits text faults.Memory v n h a = inr refl
+
+pub tells_accepted : (limits : LimitValues) (before after : Option (List ℕ)) (result : Result TransmissionValue ReadFault)
+    → IfOk result (λ t. Takes limits before t after) → IfErr result (λ fault. StopsRun limits fault before after) → TellsAccepted limits before result after
+tells_accepted limits None after result h k = tt
+tells_accepted limits (Some text) after (Ok t) h k = λ v n a.
+    let same = accepted_once limits text t v h.0 n h.1 a in
+    (same.0, h.2 ∙ ap (λ (m : ℕ). Some (drop m text)) same.1)
+tells_accepted limits (Some text) after (Err fault) h k = λ v n a. take_err limits text fault v n k.right a
+
+pub tells_canonical : (limits : LimitValues) (before after : Option (List ℕ)) (result : Result TransmissionValue ReadFault)
+    → TellsAccepted limits before result after → TellsCanonical limits before result after
+tells_canonical limits before after result h v more whole within e =
+    told result ((subst (λ (o : Option (List ℕ)). TellsAccepted limits o result after) e h) v (length (canonical_text v)) (canonical_accepted limits v more whole within))
+  where
+    told : (r : Result TransmissionValue ReadFault) → MatchResult r (λ t. (t ≡ v) × (after ≡ Some (drop (length (canonical_text v)) (canonical_text v ++ more)))) (λ fault. (fault ≡ faults.Reader) ⊎ (fault ≡ faults.Memory))
+        → MatchResult r (λ t. (t ≡ v) × (after ≡ Some more)) (λ fault. (fault ≡ faults.Reader) ⊎ (fault ≡ faults.Memory))
+    told (Ok t) g = (g.0, g.1 ∙ ap Some (drop-append_seam (canonical_text v) more))
+    told (Err fault) g = g
+
+no_ok : (result : Result TransmissionValue ReadFault) (P : ReadFault → Type 0) (Q : TransmissionValue → Type 0) → IsErrAnd result P → IfOk result Q
+no_ok (Ok t) P Q h = absurd h
+no_ok (Err fault) P Q h = tt
+
+pub tells_stopped : (limits : LimitValues) (before after : Option (List ℕ)) (result : Result TransmissionValue ReadFault) (fault : ReadFault)
+    → IsErrAnd result (λ e. e ≡ fault) → StopsRun limits fault before after → TellsAccepted limits before result after
+tells_stopped limits before after result fault e h =
+    tells_accepted limits before after result (no_ok result (λ f. f ≡ fault) (λ t. Takes limits before t after) e) (of_fault result fault (λ f. StopsRun limits f before after) e h)

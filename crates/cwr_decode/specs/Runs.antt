@@ -1,0 +1,91 @@
+-- Reading from a reader call by call: what was read so far, and how a whole run ends.
+use Rattle.std.specs.Prelude.{◌≡◌, ◌≢◌, ◌⊎◌, ℕ, List, ◌∷◌, ◌++◌, length, map, drop, Option, Some, IfSome, Result, Err, MatchResult}
+use Rattle.std.specs.List.{AllByRecursion}
+use Rattle.std.specs.Io.KnownBytes.{Consumes}
+use Rattle.cwr_layouts.specs.declared.kinds.Kind.TheVariants as kinds
+use Rattle.cwr_shape.specs.Ranges.{LimitValues}
+use Rattle.cwr_values.specs.declared.items.Item.{Item}
+use Rattle.cwr_values.specs.declared.items.Item.TheVariants.{Transaction, GroupClosed}
+use Rattle.cwr_layouts.specs.Records.{RecordValue}
+use Rattle.cwr_values.specs.Values.{TransmissionValue, IsRecordOf, IsTransaction, IsTransmission, FitsIn, type_of}
+use Rattle.cwr_values.specs.Rows.{canonical_text}
+use Rattle.cwr_decode.specs.declared.machine.State.{State}
+use Rattle.cwr_decode.specs.declared.machine.State.TheVariants.{Ended}
+use Rattle.cwr_decode.specs.declared.readings.ReadFault.{ReadFault}
+use Rattle.cwr_decode.specs.declared.readings.ReadFault.TheVariants.{Reader, Refused, Truncated, Memory}
+use Rattle.cwr_decode.specs.Items.{value_items}
+use Rattle.cwr_decode.specs.Ends.{IsAccepted, IsNotAccepted}
+use Rattle.cwr_decode.specs.Machines.{Standing}
+use Rattle.cwr_decode.specs.Stands.{StandsFor}
+use Rattle.cwr_decode.specs.Calls.{IsLive}
+use Rattle.cwr_decode.specs.Readings.{IsSpent, IsWholeInput, LeavesRead}
+
+-- these items were read so far: the decoder stands for them and for the bytes that the reader lost
+pub record HasRead (limits : LimitValues) (d : Standing) (before now : Option (List ℕ)) (given : List Item) : Type 0 where
+  pub input : List ℕ
+  pub stands : StandsFor d input given
+  pub consumed : Consumes before now input
+  pub spent : IfSome before (λ _. IsSpent d now)
+  pub limits_are : d.tally.limits ≡ limits
+
+-- the end was read, where so many bytes of the text are a transmission with these items
+abbrev pub EndsWhole : LimitValues → State → Option (List ℕ) → ℕ → List Item → Type 0
+EndsWhole limits state before n given = (state ≡ Ended) × IfSome before (λ text. IsWholeInput limits n text given)
+
+-- all items were read
+pub record HasReadAll (limits : LimitValues) (before now : Option (List ℕ)) (given : List Item) : Type 0 where
+  pub decoder : Standing
+  pub read : HasRead limits decoder before now given
+  pub ends : EndsWhole limits decoder.state before (length read.input) given
+
+-- more items may come, or all were read
+pub record IsReadingOn (limits : LimitValues) (d : Standing) (before now : Option (List ℕ)) (given : List Item) : Type 0 where
+  pub read : HasRead limits d before now given
+  pub here : IsLive d.state ⊎ EndsWhole limits d.state before (length read.input) given
+
+-- the items are those of a transmission
+pub record AreItems (given : List Item) : Type 0 where
+  pub value : TransmissionValue
+  pub whole : IsTransmission value
+  pub given_are : given ≡ value_items value
+
+-- the items go on as those of a group of that GRH record: whole transactions of its type, and a GRT record
+pub record AreGroupItems (head : RecordValue) (given : List Item) : Type 0 where
+  pub head_is : IsRecordOf kinds.Grh head
+  pub transactions : List (List RecordValue)
+  pub each : AllByRecursion (IsTransaction (type_of head)) transactions
+  pub foot : RecordValue
+  pub foot_is : IsRecordOf kinds.Grt foot
+  pub rest : List Item
+  pub given_are : given ≡ map Transaction transactions ++ GroupClosed foot ∷ rest
+
+-- ---- how a run ends
+
+-- the reader's bytes begin with a spelling of the transmission, and it lost just that
+abbrev pub Takes : LimitValues → Option (List ℕ) → TransmissionValue → Option (List ℕ) → Type 0
+Takes limits before v after = IfSome before (λ text. (n : ℕ) × IsAccepted limits text v n × (after ≡ Some (drop n text)))
+
+-- a refused or truncated text begins with no transmission within the limits
+abbrev pub IsRightFault : LimitValues → ReadFault → List ℕ → Type 0
+IsRightFault limits Reader text = Unit {0}
+IsRightFault limits (Refused refusal) text = IsNotAccepted limits text
+IsRightFault limits (Truncated records) text = IsNotAccepted limits text
+IsRightFault limits Memory text = Unit {0}
+
+-- these items were read before the fault, and the decoder stopped for what is told
+pub record StopsRun (limits : LimitValues) (fault : ReadFault) (before after : Option (List ℕ)) : Type 0 where
+  pub decoder : Standing
+  pub given : List Item
+  pub read : HasRead limits decoder before after given
+  pub leaves : fault ≢ Memory → LeavesRead (Err fault) decoder.state
+  pub right : IfSome before (IsRightFault limits fault)
+
+-- of a text that is accepted the run tells that transmission and takes its bytes, unless the reader or memory failed
+abbrev pub TellsAccepted : LimitValues → Option (List ℕ) → Result TransmissionValue ReadFault → Option (List ℕ) → Type 0
+TellsAccepted limits before result after = IfSome before (λ text. (v : TransmissionValue) (n : ℕ) → IsAccepted limits text v n
+    → MatchResult result (λ t. (t ≡ v) × (after ≡ Some (drop n text))) (λ fault. (fault ≡ Reader) ⊎ (fault ≡ Memory)))
+
+-- the canonical text of a transmission within the limits is so read back, and what follows it stays unread
+abbrev pub TellsCanonical : LimitValues → Option (List ℕ) → Result TransmissionValue ReadFault → Option (List ℕ) → Type 0
+TellsCanonical limits before result after = (v : TransmissionValue) (more : List ℕ) → IsTransmission v → FitsIn limits v → before ≡ Some (canonical_text v ++ more)
+    → MatchResult result (λ t. (t ≡ v) × (after ≡ Some more)) (λ fault. (fault ≡ Reader) ⊎ (fault ≡ Memory))

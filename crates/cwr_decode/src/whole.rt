@@ -1,0 +1,146 @@
+//! Reading a whole transmission from a reader.
+
+ghost use Rattle.std.specs.Prelude.{◌≡◌, ◌<◌, ◌∷◌, ◌++◌, [], length, IfErr, IfOk, MatchResult, OnOk};
+ghost use Rattle.std.specs.Vec.Iter.{into_iter_items};
+ghost use Rattle.cwr_values.specs.Values.{type_of, IsTransaction};
+ghost use Rattle.cwr_decode.specs.Items.{group_rest, value_items};
+ghost use Rattle.cwr_decode.specs.Readings.{CountsFault};
+ghost use Rattle.cwr_decode.specs.Runs.{AreGroupItems, AreItems, HasReadAll, StopsRun, Takes, TellsAccepted, TellsCanonical};
+
+use crate::readings::{ReadFault, Reading};
+use cwr_fields::Source;
+use cwr_layouts::Record;
+use cwr_shape::Limits;
+use cwr_values::{Group, GroupFault, Item, Transaction, Transmission, TransmissionFault};
+use std::alloc::{AllocError, Global};
+use std::vec;
+
+/// Reads all items, up to the end of the transmission.
+fn read_items<R: Source>(
+    alloc: Global,
+    limits: Limits,
+    reader: &mut R,
+) -> Result<Vec<Item>, ReadFault>
+    ensures all { IfOk result (λ items. HasReadAll limits (R.remaining reader.old) (R.remaining reader.new) items.items) }
+    ensures stops { IfErr result (λ fault. StopsRun limits fault (R.remaining reader.old) (R.remaining reader.new)) }
+    ensures failures { MatchResult result (λ _. R.failures reader.new ≡ R.failures reader.old) (λ fault. CountsFault fault (R.failures reader.old) (R.failures reader.new)) }
+{
+    let mut reading = Reading::new(alloc, limits, reader);
+    let mut items = Vec::new(alloc);
+    'items: while let Some(item) = reading.next_item()? {
+        if items.push(item).is_err() {
+            return Err(ReadFault::Memory);
+        }
+    }
+    Ok(items)
+}
+
+/// The group of that GRH record, with the transactions and the GRT record that come next of the items.
+fn collect_group(
+    alloc: Global,
+    head: Record,
+    items: &mut vec::IntoIter<Item>,
+) -> Result<Group, AllocError>
+    requires { AreGroupItems head (into_iter_items items.old) }
+    ensures head { IfOk result (λ group. group.head ≡ head) }
+    ensures items { IfOk result (λ group. into_iter_items items.old ≡ group_rest group ++ into_iter_items items.new) }
+{
+    let Ok(mut group) = Group::new(alloc, head) else {
+        unreachable!()
+    };
+    'transactions: loop {
+        let Some(item) = items.next() else {
+            unreachable!()
+        };
+        match item {
+            Item::Transaction(transaction) => add_transaction(&mut group, transaction)?,
+            Item::GroupClosed(foot) => {
+                return match group.set_foot(foot) {
+                    Ok(()) => Ok(group),
+                    Err(_) => unreachable!(),
+                };
+            }
+            _ => unreachable!(),
+        }
+    }
+}
+
+/// Adds a whole transaction of the group's type.
+fn add_transaction(group: &mut Group, transaction: Transaction) -> Result<(), AllocError>
+    requires { IsTransaction (type_of group.old.head) transaction }
+    ensures { OnOk result (group.new ≡ record group.old { transactions = group.old.transactions ++ transaction ∷ [] }) }
+{
+    match group.push(transaction) {
+        Ok(()) => Ok(()),
+        Err((fault, _)) => match fault {
+            GroupFault::Memory => Err(AllocError),
+            GroupFault::WrongKind | GroupFault::Incomplete => unreachable!(),
+        },
+    }
+}
+
+/// Adds a group that has a transaction.
+fn add_group(transmission: &mut Transmission, group: Group) -> Result<(), AllocError>
+    requires { 0 < length group.transactions }
+    ensures { OnOk result (transmission.new ≡ record transmission.old { groups = transmission.old.groups ++ group ∷ [] }) }
+{
+    match transmission.push(group) {
+        Ok(()) => Ok(()),
+        Err((fault, _)) => match fault {
+            TransmissionFault::Memory => Err(AllocError),
+            TransmissionFault::Empty => unreachable!(),
+        },
+    }
+}
+
+/// The transmission of which these are all items.
+fn collect(alloc: Global, items: Vec<Item>) -> Result<Transmission, AllocError>
+    requires { AreItems items.items }
+    ensures { IfOk result (λ transmission. items.items ≡ value_items transmission) }
+{
+    let mut items = items.into_iter();
+    let Some(first) = items.next() else {
+        unreachable!()
+    };
+    let opening = match first {
+        Item::Opened(opening) => opening,
+        _ => unreachable!(),
+    };
+    let Ok(mut transmission) = Transmission::new(alloc, opening) else {
+        unreachable!()
+    };
+    'groups: loop {
+        let Some(item) = items.next() else {
+            unreachable!()
+        };
+        match item {
+            Item::GroupOpened(head) => {
+                let group = collect_group(alloc, head, &mut items)?;
+                add_group(&mut transmission, group)?;
+            }
+            Item::Ended => return Ok(transmission),
+            _ => unreachable!(),
+        }
+    }
+}
+
+/// Reads a whole transmission within the limits. Just the bytes that spell it are consumed.
+///
+/// A fault drops what was read, and the bytes that were used before it stay consumed.
+pub fn read_all<R: Source>(
+    alloc: Global,
+    limits: Limits,
+    reader: &mut R,
+) -> Result<Transmission, ReadFault>
+    ensures takes { IfOk result (λ transmission. Takes limits (R.remaining reader.old) transmission (R.remaining reader.new)) }
+    ensures stops { IfErr result (λ fault. StopsRun limits fault (R.remaining reader.old) (R.remaining reader.new)) }
+    ensures accepted { TellsAccepted limits (R.remaining reader.old) result (R.remaining reader.new) }
+    ensures canonical { TellsCanonical limits (R.remaining reader.old) result (R.remaining reader.new) }
+    ensures failures { MatchResult result (λ _. R.failures reader.new ≡ R.failures reader.old) (λ fault. CountsFault fault (R.failures reader.old) (R.failures reader.new)) }
+{
+    let items = read_items(alloc, limits, reader)?;
+    match collect(alloc, items) {
+        Ok(transmission) => Ok(transmission),
+        Err(_) => Err(ReadFault::Memory),
+    }
+}
