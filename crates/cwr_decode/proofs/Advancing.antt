@@ -1,13 +1,17 @@
 -- Bytes of a piece, up to the end of a line.
 use Rattle.std.proofs.Common.{◌≡◌, ℕ, zero, suc, ◌<◌, Bool, true, false, List, [], ◌∷◌, ◌++◌, length, take, drop, map, Option, Some, None, refl, sym, ap, ap₂, subst, ◌∙◌, append_assoc, append-nil, arith, inl, inr, true≢false}
-use Rattle.std.specs.Prelude.{◌≢◌, IfSome, IfNone, slice_index}
+use Rattle.std.specs.Prelude.{◌≢◌, ◌⊎◌, IfSome, IfNone, slice_index}
 use Rattle.std.proofs.Math.Seq.{take-length}
-use Rattle.std.proofs.lemmas.List.{take-append-drop}
+use Rattle.std.proofs.lemmas.List.{length-append, take-append-drop}
 use Rattle.cwr_layouts.specs.declared.lines.LineEnd.{LineEnd}
 use Rattle.cwr_layouts.specs.declared.lines.LineEnd.TheVariants.{Open, Line, Over}
 use Rattle.cwr_layouts.specs.Lines.{closed}
 use Rattle.cwr_layouts.specs.Held.{HeldLine, IsHeld, Takes, Stops, IsFull, held_text, text_by}
+use Rattle.cwr_shape.specs.declared.symbols.Symbol.{Symbol}
+use Rattle.cwr_shape.specs.declared.tallies.Counts.{Counts}
 use Rattle.cwr_shape.specs.Ranges.{LimitValues}
+use Rattle.cwr_shape.specs.Tallies as tallies
+use Rattle.cwr_shape.specs.Tallies.{TallyValue}
 use Rattle.cwr_values.specs.declared.items.Item.{Item}
 use Rattle.cwr_values.specs.declared.items.Item.TheVariants as items
 use Rattle.cwr_values.specs.Values.{symbol_of}
@@ -17,13 +21,13 @@ use Rattle.cwr_decode.specs.declared.machine.State.{State}
 use Rattle.cwr_decode.specs.declared.machine.State.TheVariants as states
 use Rattle.cwr_decode.specs.Judged.{IsOfNone}
 use Rattle.cwr_decode.specs.Machines.{Standing, IsReady, Leaves, Judges, counted, stopped}
-use Rattle.cwr_decode.specs.Stands.{StandsFor, StandsIn, IsReading, IsInput, IsRight, AcceptsNone, items_out, text_of}
-use Rattle.cwr_decode.specs.Calls.{Advances}
+use Rattle.cwr_decode.specs.Stands.{StandsFor, StandsIn, IsReading, IsInput, IsRight, AcceptsNone, EndsInLf, GoesTooFar, EndsLine, items_out, text_of}
+use Rattle.cwr_decode.specs.Calls.{Advances, Grows}
 use Rattle.cwr_decode.proofs.Accepted.{closed_begins}
 use Rattle.cwr_decode.proofs.Texts.{text_of-push, closed_more}
 use Rattle.cwr_decode.proofs.Beyond.{none_behind_line, none_behind_long}
 use Rattle.cwr_decode.proofs.Ended.{accepts_whole}
-use Rattle.cwr_decode.proofs.LineJudged.{HasLine, judged_stands, never_over}
+use Rattle.cwr_decode.proofs.LineJudged.{HasLine, judged_stands, judged_empties, never_over}
 use Rattle.cwr_decode.proofs.Moving.{IsPlain, Rest, follows_rest}
 
 -- ---- what an answer says
@@ -44,7 +48,7 @@ plain_right new (outcomes.Item (items.Opened r)) over input seen tail given f e 
 plain_right new (outcomes.Item (items.GroupOpened r)) over input seen tail given f e none s l p = tt
 plain_right new (outcomes.Item (items.Transaction t)) over input seen tail given f e none s l p = tt
 plain_right new (outcomes.Item (items.GroupClosed r)) over input seen tail given f e none s l p = tt
-plain_right new (outcomes.Item items.Ended) over input seen tail given f e none s l p = ended_right new over input seen tail given f e none s (l.0 refl)
+plain_right new (outcomes.Item items.Ended) over input seen tail given f e none s l p = ended_right new over input seen tail given f e none s l
 plain_right new (outcomes.Refused r) over input seen tail given f e none s l p = absurd p
 plain_right new (outcomes.Truncated n) over input seen tail given f e none s l p = absurd p
 plain_right new outcomes.Memory over input seen tail given f e none s l p = tt
@@ -88,6 +92,29 @@ refused_right d over input tail given h f none bad fresh behind = by d.line.ende
         c.1 ∙ append_assoc (input ++ tail) more c.0 ∙ append_assoc input tail (more ++ c.0) ∙ ap₂ (λ (t u : List ℕ). t ++ (u ++ (more ++ c.0))) input_is b.2 ∙ append_assoc (text_of h.lines) bytes (b.0 ∷ rest) in
         none_behind_long d.tally h.lines h.records bytes b.0 ((input ++ tail) ++ more) rest h.read h.left h.line.no_lf (subst (λ (x : LineEnd). IsFull x (length bytes)) q h.line.full) b.3 closed_is
 
+-- a refused line ends with the used bytes
+ends_line : (d : Standing) (over : Bool) (input tail : List ℕ) (given : List Item) → HasLine d input given → d.finished ≡ over → Stands_behind d.line.ended tail → EndsLine over input (input ++ tail)
+ends_line d true input tail given h f behind = tt
+ends_line d false input tail given h f behind = by d.line.ended refl behind
+  where
+    input_is : (e : LineEnd) → d.line.ended ≡ e → input ≡ text_of h.lines ++ text_by e d.line.bytes
+    input_is e q = subst (λ (b : Bool). IsInput b input (text_of h.lines ++ held_text d.line)) f h.split ∙ ap (λ (x : LineEnd). text_of h.lines ++ text_by x d.line.bytes) q
+
+    by : (e : LineEnd) → d.line.ended ≡ e → Stands_behind e tail → EndsInLf input ⊎ GoesTooFar input (input ++ tail)
+    by Open q b = absurd (h.ended q)
+    by Line q b = inl (text_of h.lines ++ d.line.bytes, input_is Line q ∙ sym (append_assoc (text_of h.lines) d.line.bytes (10 ∷ [])))
+    by Over q b = inr (record {
+      front = text_of h.lines;
+      line = d.line.bytes;
+      next = b.0;
+      rest = b.1;
+      split = input_is Over q;
+      longest = subst (λ (x : LineEnd). IsFull x (length d.line.bytes)) q h.line.full;
+      no_lf = h.line.no_lf;
+      more = ap (λ (t : List ℕ). input ++ t) b.2;
+      other = b.3;
+    })
+
 -- what is answered to a line
 pub judged_right : (d : Standing) (over : Bool) (input tail : List ℕ) (given : List Item) (out : Option Outcome) (new : Standing) → HasLine d input given → d.finished ≡ over → (over ≡ true → tail ≡ [])
     → (over ≡ true → d.line.ended ≡ Over → ⊥) → Stands_behind d.line.ended tail → Judges d out new → IfSome out (λ o. IsRight d.tally.limits o over input (input ++ tail) (given ++ items_out o))
@@ -97,7 +124,8 @@ judged_right d over input tail given (Some o) new h f none fresh behind (inl a) 
     subst (λ (l : LimitValues). IsRight l o over input (input ++ tail) (given ++ items_out o)) (e.rest.limits ∙ a.limits)
     (plain_right new o over input (input ++ tail) tail (given ++ items_out o) (e.rest.finished ∙ f) refl none (judged_stands d input given (Some o) new h (inl a)) e.rest.leaves e.plain)
 judged_right d over input tail given (Some o) new h f none fresh behind (inr r) =
-    let n = refused_right d over input tail given h f none (r.none (map symbol_of h.records) h.read.counted) fresh behind in
+    let n : IsRight d.tally.limits (outcomes.Refused r.tells.refusal) over input (input ++ tail) (given ++ [])
+    = (refused_right d over input tail given h f none (r.none (map symbol_of h.records) h.read.counted) fresh behind, ends_line d over input tail given h f behind) in
     subst (λ (q : Outcome). IsRight d.tally.limits q over input (input ++ tail) (given ++ items_out q)) (sym r.tells.told) n
 
 -- ---- bytes that are taken
@@ -193,6 +221,26 @@ judged_rest t new (Some o) ended (inr r) =
     let k = r.tells in
     subst (λ (q : Standing). Rest t (Some o) q) (sym k.stops) (subst (λ (x : Outcome). Rest t (Some x) (stopped t (states.Refused k.refusal))) (sym k.told) (record { ready = tt; leaves = refl; none = tt; finished = refl; limits = refl }))
 
+-- no record is forgotten by that, and want of memory comes with one more
+pub judged_grows : (t new : Standing) (out : Option Outcome) (xs : List Symbol) → t.line.ended ≢ Open → tallies.StandsFor t.tally xs → Judges t out new → Grows t.tally.counts.records out new.tally.counts.records
+judged_grows t new out xs ended st (inl a) =
+    let e = follows_rest a.goes_on t.held a.accepted (counted t a.tally) out new ended a.carried a.in_order a.follows in
+    let before : t.tally.counts.records ≡ length xs = ap (λ (c : Counts). c.records) st.counted in
+    let next : a.tally.counts.records ≡ length (xs ++ a.symbol ∷ []) = ap (λ (c : Counts). c.records) (a.stands xs st).counted in
+    let kept : new.tally.counts.records ≡ a.tally.counts.records = ap (λ (q : TallyValue). q.counts.records) e.tally in
+    let more : t.tally.counts.records < new.tally.counts.records = omega (arith, before, next, kept, length-append xs (a.symbol ∷ [])) in
+    (omega (arith, more), λ z. more)
+judged_grows t new None xs ended st (inr r) = absurd r.tells
+judged_grows t new (Some o) xs ended st (inr r) =
+    let kept : new.tally.counts.records ≡ t.tally.counts.records = ap (λ (q : Standing). q.tally.counts.records) r.tells.stops in
+    (omega (arith, kept), λ z. absurd (refused z))
+  where
+    refused : Some o ≡ Some outcomes.Memory → ⊥
+    refused z =
+        let same : o ≡ outcomes.Memory = cc z in
+        let other : outcomes.Refused r.tells.refusal ≡ outcomes.Memory = sym r.tells.told ∙ same in
+        cc other
+
 pub never_more : (t new : Standing) (out : Option Outcome) → t.line.ended ≢ Open → Judges t out new → out ≡ Some outcomes.More → ⊥
 never_more t new None ended j e = absurd (cc e)
 never_more t new (Some o) ended (inl a) e =
@@ -223,6 +271,10 @@ advanced_line d t new piece used out s fresh takes held is ended j =
       leaves = rest.leaves;
       more = λ e. absurd (never_more t new out ended j e);
       none = rest.none;
+      grows = λ input given st.
+          let h = at input given st in
+          subst (λ (n : ℕ). Grows n out new.tally.counts.records) (ap (λ (q : Standing). q.tally.counts.records) is) (judged_grows t new out (map symbol_of h.records) ended h.read.counted j);
+      empties = λ input given st. judged_empties t (input ++ take used piece) given out new (at input given st) j;
       finished = rest.finished ∙ finished;
       limits = rest.limits ∙ limits;
     }
@@ -244,6 +296,8 @@ advanced_open d t piece used s fresh takes held is ended =
       leaves = s;
       more = λ e. all;
       none = tt;
+      grows = λ input given st. (omega arith, λ e. absurd (cc e));
+      empties = λ input given st. tt;
       finished = refl;
       limits = refl;
     })

@@ -1,6 +1,6 @@
 -- What a decoder stands for behind an accepted record.
 use Rattle.std.proofs.Common.{◌≡◌, ℕ, ◌≤◌, Bool, true, false, cond, List, [], ◌∷◌, ◌++◌, length, map, Option, Some, None, refl, sym, ap, subst, ◌∙◌, append-nil, arith, true≢false}
-use Rattle.std.specs.Prelude.{MatchOption}
+use Rattle.std.specs.Prelude.{MatchOption, IfSome}
 use Rattle.cwr_layouts.specs.declared.kinds.Kind.{Kind}
 use Rattle.cwr_layouts.specs.declared.kinds.Kind.TheVariants.{Hdr, Grh, Grt, Trl}
 use Rattle.cwr_layouts.specs.Records.{RecordValue}
@@ -15,13 +15,14 @@ use Rattle.cwr_shape.specs.Tallies.{TallyValue, place_by, place_after}
 use Rattle.cwr_shape.proofs.OneMore.{last_or-snoc}
 use Rattle.cwr_shape.proofs.Within.{none_passed}
 use Rattle.cwr_values.specs.declared.items.Item.{Item}
+use Rattle.cwr_values.specs.declared.items.Item.TheVariants as items
 use Rattle.cwr_values.specs.Values.{symbol_of, symbol_by}
 use Rattle.cwr_values.proofs.Built.{plain_kind}
 use Rattle.cwr_decode.specs.declared.outcomes.Outcome.{Outcome}
 use Rattle.cwr_decode.specs.declared.outcomes.Outcome.TheVariants as outcomes
 use Rattle.cwr_decode.specs.declared.machine.State.TheVariants as states
 use Rattle.cwr_decode.specs.Items.{is_in_transaction}
-use Rattle.cwr_decode.specs.Machines.{Standing, Enters, held_list, reading, stopped}
+use Rattle.cwr_decode.specs.Machines.{Standing, Empties, Enters, held_list, reading, stopped}
 use Rattle.cwr_decode.specs.Open.{items_so_far, open_of, item_of}
 use Rattle.cwr_decode.specs.Stands.{Reads, IsInput, StandsFor, held_of, items_in, text_of}
 use Rattle.cwr_decode.proofs.Trailers.{trailer_ends, whole_ends}
@@ -94,9 +95,9 @@ around : (d : Standing) (input : List ℕ) (given : List Item) (kind : Kind) (r 
 around d input given kind r item out new m no_trailer outside own e =
     let nothing : open_of (m.records ++ r ∷ []) ≡ [] = m.open_now ∙ ap (λ (b : Bool). cond b (held_list d.held ++ r ∷ []) []) outside in
     let held : d.held ≡ held_of (open_of (m.records ++ r ∷ [])) = m.none outside ∙ sym (ap held_of nothing) in
-    let items : item_of kind r ≡ items_in out = own ∙ sym (ap items_in e.0) in
+    let own_item : item_of kind r ≡ items_in out = own ∙ sym (ap items_in e.0) in
     subst (λ (q : Standing). StandsFor q input (given ++ items_in out)) (sym e.1)
-    (subst (λ (is : List Item). StandsFor (reading d d.held) input (given ++ is)) items (reads_on d input given kind r d.held m no_trailer held))
+    (subst (λ (is : List Item). StandsFor (reading d d.held) input (given ++ is)) own_item (reads_on d input given kind r d.held m no_trailer held))
 
 -- the place behind a record inside a transaction
 inside_last : (kind : Kind) (records : List RecordValue) (r : RecordValue) → r.kind ≡ kind → is_in_transaction kind ≡ true → tallies.is_in_transaction (place_after (map symbol_of (records ++ r ∷ []))) ≡ true
@@ -121,12 +122,12 @@ inside d input given kind r None new m no_trailer within own e =
     subst (λ (q : Standing). StandsFor q input (given ++ [])) (sym e)
     (subst (λ (is : List Item). StandsFor (reading d (Some (held_list d.held ++ r ∷ []))) input (given ++ is)) own (reads_on d input given kind r (Some (held_list d.held ++ r ∷ [])) m no_trailer held))
 inside d input given kind r (Some o) new m no_trailer within own e =
-    let items : given ++ items_in (Some o) ≡ items_so_far (m.records ++ r ∷ []) = ap (λ (x : Outcome). given ++ items_in (Some x)) e.0 ∙ ap (λ (is : List Item). given ++ is) (sym own) ∙ m.given_are in
+    let all_items : given ++ items_in (Some o) ≡ items_so_far (m.records ++ r ∷ []) = ap (λ (x : Outcome). given ++ items_in (Some x)) e.0 ∙ ap (λ (is : List Item). given ++ is) (sym own) ∙ m.given_are in
     subst (λ (q : Standing). StandsFor q input (given ++ items_in (Some o))) (sym e.1)
     (record {
       in_range = m.in_range;
       here = record {
-        through = record { lines = m.lines; records = m.records ++ r ∷ []; read = m.read; split = m.split; given_are = items };
+        through = record { lines = m.lines; records = m.records ++ r ∷ []; read = m.read; split = m.split; empty = refl; nothing = refl; given_are = all_items };
         inside = inside_last kind m.records r m.of_kind within;
       };
     })
@@ -139,7 +140,7 @@ last d input given r out new m e =
     let whole : IsWhole (map symbol_of (m.records ++ r ∷ [])) = subst IsWhole (sym symbols) (trailer_ends (map symbol_of m.records) (subst (GoesOn Any) symbols m.read.counted.stands.begins)) in
     subst (λ (q : Standing). StandsFor q input (given ++ items_in out)) (sym e.1)
     (subst (λ (o : Option Outcome). StandsFor (stopped d states.Ended) input (given ++ items_in o)) (sym e.0)
-    (record { in_range = m.in_range; here = record { through = record { lines = m.lines; records = m.records ++ r ∷ []; read = m.read; split = m.split; given_are = m.given_are }; whole = whole } }))
+    (record { in_range = m.in_range; here = record { through = record { lines = m.lines; records = m.records ++ r ∷ []; read = m.read; split = m.split; empty = refl; nothing = refl; given_are = m.given_are }; whole = whole } }))
 
 pub enters_stands : (d : Standing) (input : List ℕ) (given : List Item) (kind : Kind) (r : RecordValue) (out : Option Outcome) (new : Standing) → MayEnter d input given kind r → Enters kind r d out new
     → StandsFor new input (given ++ items_in out)
@@ -148,3 +149,20 @@ enters_stands d input given Grh r out new m e = around d input given Grh r _ out
 enters_stands d input given Grt r out new m e = around d input given Grt r _ out new m (λ z. cc z) refl refl e
 enters_stands d input given Trl r out new m e = last d input given r out new m e
 enters_stands d input given kind r out new m e = inside d input given kind r out new m (λ z. cc z) refl refl e
+
+-- ---- what isn't held behind an accepted record
+
+pub empties_by : (new is : Standing) (out o : Option Outcome) → out ≡ o → new ≡ is → IfSome o (λ x. Empties x is) → IfSome out (λ x. Empties x new)
+empties_by new is out o e f h = subst (λ (q : Option Outcome). IfSome q (λ x. Empties x new)) (sym e) (subst (λ (q : Standing). IfSome o (λ x. Empties x q)) (sym f) h)
+
+inside_empties : (d new : Standing) (held : Option (List RecordValue)) (out : Option Outcome) → MatchOption out (new ≡ reading d held) (λ o. (o ≡ outcomes.Memory) × (new ≡ stopped d states.Memory)) → IfSome out (λ o. Empties o new)
+inside_empties d new held None e = tt
+inside_empties d new held (Some o) e = empties_by new (stopped d states.Memory) (Some o) (Some outcomes.Memory) (ap (λ (x : Outcome). Some x) e.0) e.1 tt
+
+pub enters_empties : (d : Standing) (input : List ℕ) (given : List Item) (kind : Kind) (r : RecordValue) (out : Option Outcome) (new : Standing) → MayEnter d input given kind r → Enters kind r d out new
+    → IfSome out (λ o. Empties o new)
+enters_empties d input given Hdr r out new m e = empties_by new (reading d d.held) out (Some (outcomes.Item (items.Opened r))) e.0 e.1 (refl, m.none refl)
+enters_empties d input given Grh r out new m e = empties_by new (reading d d.held) out (Some (outcomes.Item (items.GroupOpened r))) e.0 e.1 (refl, m.none refl)
+enters_empties d input given Grt r out new m e = empties_by new (reading d d.held) out (Some (outcomes.Item (items.GroupClosed r))) e.0 e.1 (refl, m.none refl)
+enters_empties d input given Trl r out new m e = empties_by new (stopped d states.Ended) out (Some (outcomes.Item items.Ended)) e.0 e.1 (refl, refl)
+enters_empties d input given kind r out new m e = inside_empties d new (Some (held_list d.held ++ r ∷ [])) out e

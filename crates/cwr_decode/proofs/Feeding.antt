@@ -1,5 +1,5 @@
 -- A piece, line by line, and the end of the input.
-use Rattle.std.proofs.Common.{◌≡◌, ℕ, zero, suc, ◌+◌, ◌<◌, ◌≤◌, Bool, true, false, List, [], ◌∷◌, ◌++◌, length, take, drop, map, Option, Some, None, refl, sym, ap, subst, ◌∙◌, append_assoc, append-nil, arith, true≢false}
+use Rattle.std.proofs.Common.{◌≡◌, ℕ, zero, suc, ◌+◌, ◌<◌, ◌≤◌, Bool, true, false, List, [], ◌∷◌, ◌++◌, length, take, drop, map, Option, Some, None, refl, sym, ap, subst, ◌∙◌, append_assoc, append-nil, arith, inl, inr, true≢false}
 use Rattle.std.specs.Prelude.{◌≢◌, IfSome}
 use Rattle.std.specs.List.{AllZip}
 use Rattle.std.proofs.lemmas.List.{length-drop, length-map, take-append-drop}
@@ -25,13 +25,13 @@ use Rattle.cwr_decode.specs.declared.machine.State.TheVariants as states
 use Rattle.cwr_decode.specs.Ends.{IsNotAccepted}
 use Rattle.cwr_decode.specs.Machines.{Standing, IsReady, Settles, EntersHeld, Judges, Closes, again, first, over, stopped}
 use Rattle.cwr_decode.specs.Stands.{StandsFor, StandsIn, IsReading, IsInput, IsRight, held_of, items_out, text_of}
-use Rattle.cwr_decode.specs.Calls.{IsLive, Ends, Advances, Feeds, Finishes, seen}
+use Rattle.cwr_decode.specs.Calls.{IsLive, Grows, Ends, Advances, Feeds, Finishes, seen}
 use Rattle.cwr_decode.proofs.Texts.{closed_text, closed_open}
 use Rattle.cwr_decode.proofs.Beyond.{none_behind_cut}
 use Rattle.cwr_decode.proofs.Given.{no_open, no_items}
-use Rattle.cwr_decode.proofs.LineJudged.{HasLine, judged_stands}
+use Rattle.cwr_decode.proofs.LineJudged.{HasLine, judged_stands, judged_empties}
 use Rattle.cwr_decode.proofs.Moving.{IsPlain, settled, enters_rest, if_none}
-use Rattle.cwr_decode.proofs.Advancing.{Stands_behind, plain_right, judged_right, judged_rest, never_more}
+use Rattle.cwr_decode.proofs.Advancing.{Stands_behind, plain_right, judged_right, judged_rest, judged_grows, never_more}
 
 -- ---- what is answered before the piece is looked at
 
@@ -56,6 +56,15 @@ settles_plain states.Ended d new o l e = absurd (cc l)
 settles_plain (states.Refused r) d new o l e = absurd (cc l)
 settles_plain (states.Truncated n) d new o l e = absurd (cc l)
 settles_plain states.Memory d new o l e = absurd (cc l)
+
+-- what is live and answers without a byte has a record that waits
+settles_pending : (st : State) (d new : Standing) (o : Outcome) → IsLive st → Settles st d (Some o) new → st ≡ states.Pending
+settles_pending states.Reading d new o l e = absurd (cc e.0)
+settles_pending states.Pending d new o l e = refl
+settles_pending states.Ended d new o l e = absurd (cc l)
+settles_pending (states.Refused r) d new o l e = absurd (cc l)
+settles_pending (states.Truncated n) d new o l e = absurd (cc l)
+settles_pending states.Memory d new o l e = absurd (cc l)
 
 one_outcome : (o p : Outcome) → Some o ≡ Some p → o ≡ p
 one_outcome o p e = cc e
@@ -95,8 +104,11 @@ settled_feeds old new piece o ready fresh e =
           (subst (λ (x : List ℕ). StandsFor new x (given ++ items_out o)) (sym (append-nil input)) (m.stands input given st)) m.leaves (settles_plain old.state old new o l e)));
       ready = m.ready;
       leaves = m.leaves;
+      empties = m.empties;
       again = if_some (again old.state) (λ p. (o ≡ p) × (new ≡ old)) (λ p. (o ≡ p) × (0 ≡ 0) × (new ≡ old)) (λ p h. (h.0, refl, h.1)) (settles_again old.state old new o e);
       more = λ q. absurd (settles_more old.state old new (subst (λ (x : Outcome). Settles old.state old (Some x) new) q e));
+      unused = λ z. refl;
+      memory = λ q l input given st. inl (settles_pending old.state old new o l e, refl);
       finished = m.finished;
       limits = m.limits;
     }
@@ -112,6 +124,7 @@ pub record Fed (old : Standing) (piece : List ℕ) (used : ℕ) (d : Standing) :
   pub fresh : d.finished ≡ false
   pub was_fresh : old.finished ≡ false
   pub live : IsLive old.state
+  pub grows : (input : List ℕ) (given : List Item) → StandsFor old input given → old.tally.counts.records ≤ d.tally.counts.records
   pub limits : d.tally.limits ≡ old.tally.limits
 
 pub fed_none : (old d : Standing) (piece : List ℕ) → IsReady old.state old.finished old.line → old.finished ≡ false → Settles old.state old None d → Fed old piece 0 d
@@ -126,6 +139,7 @@ fed_none old d piece ready fresh e =
       fresh = m.finished ∙ fresh;
       was_fresh = fresh;
       live = live;
+      grows = λ input given st. omega (arith, m.counts);
       limits = m.limits;
     }
 
@@ -155,6 +169,7 @@ fed_more old d new piece used n f a = record {
   fresh = a.finished ∙ f.fresh;
   was_fresh = f.was_fresh;
   live = f.live;
+  grows = λ input given st. omega (arith, f.grows input given st, (a.grows (input ++ take used piece) given (f.stands input given st)).0);
   limits = a.limits ∙ f.limits;
 }
 
@@ -170,8 +185,14 @@ fed_out old d new piece used n o f a = record {
       (a.right (input ++ take used piece) given (f.stands input given st)))));
   ready = a.ready;
   leaves = a.leaves;
+  empties = λ input given st. a.empties (input ++ take used piece) given (f.stands input given st);
   again = subst (λ (q : Option Outcome). IfSome q (λ p. (o ≡ p) × (used + n ≡ 0) × (new ≡ old))) (sym f.live) tt;
   more = λ e. (omega (arith, f.within, a.more (ap (λ (x : Outcome). Some x) e), length-drop used piece), f.was_fresh);
+  unused = λ z. absurd (true≢false (sym z ∙ f.was_fresh));
+  memory = λ q l input given st.
+      let before : old.tally.counts.records ≤ d.tally.counts.records = f.grows input given st in
+      let more : d.tally.counts.records < new.tally.counts.records = (a.grows (input ++ take used piece) given (f.stands input given st)).1 (ap (λ (x : Outcome). Some x) q) in
+      inr (omega (arith, before, more));
   finished = a.finished ∙ f.fresh ∙ sym f.was_fresh;
   limits = a.limits ∙ f.limits;
 }
@@ -186,8 +207,11 @@ finished_feeds old new piece o is_over f = record {
       (subst (λ (x : List ℕ). IsRight old.tally.limits o true x input (given ++ items_out o)) (sym (append-nil input)) (f.right l input given st));
   ready = f.ready;
   leaves = f.leaves;
+  empties = f.empties;
   again = if_some (again old.state) (λ p. (o ≡ p) × (new ≡ over old)) (λ p. (o ≡ p) × (0 ≡ 0) × (new ≡ old)) (λ p h. (h.0, refl, h.1 ∙ same)) f.again;
   more = λ e. absurd (f.more e);
+  unused = λ z. refl;
+  memory = f.memory;
   finished = f.finished ∙ sym is_over;
   limits = f.limits;
 }
@@ -228,8 +252,8 @@ over_stands d input given ready empty st = record { in_range = st.in_range; here
           held = h.held;
           given_are = h.given_are;
         }
-    by states.Pending e h = record { lines = h.lines; records = h.records; last = h.last; read = h.read; split = whole_lines d.finished h.lines h.split; ends = h.ends; line = h.line; held = h.held; given_are = h.given_are }
-    by states.Ended e h = record { through = record { lines = h.through.lines; records = h.through.records; read = h.through.read; split = whole_lines d.finished h.through.lines h.through.split; given_are = h.through.given_are }; whole = h.whole }
+    by states.Pending e h = record { lines = h.lines; earlier = h.earlier; waits = h.waits; records = h.records; last = h.last; read = h.read; split = whole_lines d.finished h.lines h.split; ends = h.ends; line = h.line; held = h.held; given_are = h.given_are }
+    by states.Ended e h = record { through = record { lines = h.through.lines; records = h.through.records; read = h.through.read; split = whole_lines d.finished h.through.lines h.through.split; empty = h.through.empty; nothing = h.through.nothing; given_are = h.through.given_are }; whole = h.whole }
     by (states.Refused r) e h = record {
       lines = h.lines;
       records = h.records;
@@ -245,16 +269,18 @@ over_stands d input given ready empty st = record { in_range = st.in_range; here
       first = h.first;
       number = h.number;
       level = h.level;
+      empty = h.empty;
+      nothing = h.nothing;
       given_are = h.given_are;
     }
     by (states.Truncated n) e h = record {
-      through = record { lines = h.through.lines; records = h.through.records; read = h.through.read; split = whole_lines d.finished h.through.lines h.through.split; given_are = h.through.given_are };
+      through = record { lines = h.through.lines; records = h.through.records; read = h.through.read; split = whole_lines d.finished h.through.lines h.through.split; empty = h.through.empty; nothing = h.through.nothing; given_are = h.through.given_are };
       over = refl;
       left = h.left;
       counted = h.counted;
     }
     by states.Memory e h = record {
-      through = record { lines = h.through.lines; records = h.through.records; read = h.through.read; split = whole_lines d.finished h.through.lines h.through.split; given_are = h.through.given_are };
+      through = record { lines = h.through.lines; records = h.through.records; read = h.through.read; split = whole_lines d.finished h.through.lines h.through.split; empty = h.through.empty; nothing = h.through.nothing; given_are = h.through.given_are };
       inside = h.inside;
     }
 
@@ -267,6 +293,9 @@ ends_without old new ready c = subst (Ends old None) (sym c.0) (record {
   leaves = tt;
   more = λ e. absurd (cc e);
   none = λ l. l;
+  waits = λ e. e;
+  grows = λ input given st. (omega arith, λ e. absurd (cc e));
+  empties = λ input given st. tt;
   stays = all_so (again old.state) (refl, refl);
   finished = refl;
   limits = refl;
@@ -333,6 +362,11 @@ ends_with old mid new out ready c j =
       leaves = rest.leaves;
       more = never_more mid new out ended j;
       none = if_none out (new.state ≡ states.Reading) (IsLive old.state → IsLive new.state) (λ e l. ap again e) rest.none;
+      waits = if_none out (new.state ≡ states.Reading) (new.state ≡ states.Pending → old.state ≡ states.Pending) (λ e p. absurd (reading_waits (sym e ∙ p))) rest.none;
+      grows = λ input given st.
+          let h = last_line old mid input given ready c st in
+          subst (λ (n : ℕ). Grows n out new.tally.counts.records) (ap (λ (q : Standing). q.tally.counts.records) c.2) (judged_grows mid new out (map symbol_of h.records) ended h.read.counted j);
+      empties = λ input given st. judged_empties mid input given out new (last_line old mid input given ready c st) j;
       stays = subst (λ (s : State). IfSome (again s) (λ o. (out ≡ None) × (new ≡ over old))) (sym c.0) tt;
       finished = rest.finished ∙ finished;
       limits = rest.limits ∙ limits;
@@ -340,6 +374,9 @@ ends_with old mid new out ready c j =
   where
     not_open : Line ≡ Open → ⊥
     not_open e = cc e
+
+    reading_waits : states.Reading ≡ states.Pending → ⊥
+    reading_waits e = cc e
 
     not_over : Line ≡ Over → ⊥
     not_over e = cc e
@@ -356,8 +393,10 @@ ends_finish old new o e = record {
   right = λ l input given st. e.right input given st;
   ready = e.ready;
   leaves = e.leaves;
+  empties = e.empties;
   again = if_some (again old.state) (λ p. (Some o ≡ None) × (new ≡ over old)) (λ p. (o ≡ p) × (new ≡ over old)) (λ p h. absurd (nothing h.0)) e.stays;
   more = λ q. e.more (ap (λ (x : Outcome). Some x) q);
+  memory = λ q l input given st. inr ((e.grows input given st).1 (ap (λ (x : Outcome). Some x) q));
   finished = e.finished;
   limits = e.limits;
 }
@@ -377,8 +416,10 @@ settles_finish old mid new o e s =
           (plain_right new o true input input [] (given ++ items_out o) (m.finished ∙ e.finished) (sym (append-nil input)) (λ z. refl) (m.stands input given (there input given st)) m.leaves (settles_plain mid.state mid new o (e.none l) s));
       ready = m.ready;
       leaves = m.leaves;
+      empties = λ input given st. m.empties input given (there input given st);
       again = by (again old.state) refl e.stays;
       more = λ q. settles_more mid.state mid new (subst (λ (x : Outcome). Settles mid.state mid (Some x) new) q s);
+      memory = λ q l input given st. inl (e.waits (settles_pending mid.state mid new o (e.none l) s), refl);
       finished = m.finished ∙ e.finished;
       limits = m.limits ∙ e.limits;
     }
@@ -408,6 +449,8 @@ is_cut d count input given st reading finished ready n =
           records = r.records;
           read = r.read;
           split = subst (λ (b : Bool). IsInput b input (text_of r.lines)) (sym finished) (closed_lines d input given r reading finished ready);
+          empty = refl;
+          nothing = refl;
           given_are = r.given_are;
         };
         over = finished;
@@ -434,8 +477,10 @@ cut_finish old mid after new count e s stop n =
       right = λ l input given st. (refl, λ more z. subst (λ (k : LimitValues). IsNotAccepted k (input ++ more)) (m.limits ∙ e.limits) (none_here after input given more (here input given st) reading finished m.ready z));
       ready = tt;
       leaves = refl;
+      empties = λ input given st. tt;
       again = by (again old.state) refl e.stays live;
       more = λ q. absurd (cc q);
+      memory = λ q. absurd (cc q);
       finished = finished;
       limits = m.limits ∙ e.limits;
     })

@@ -1,6 +1,6 @@
 -- The bytes of a reader that are fed to a decoder, and what it answers.
 use Rattle.std.proofs.Common.{◌≡◌, ℕ, ◌+◌, ◌≤◌, Bool, false, List, [], ◌++◌, length, take, drop, Option, Some, None, refl, sym, ap, subst, ◌∙◌, arith, append_assoc, append-nil, take-append-drop, true≢false}
-use Rattle.std.specs.Prelude.{Result, Ok, IfSome}
+use Rattle.std.specs.Prelude.{◌≢◌, Result, Ok, IfSome}
 use Rattle.std.proofs.lemmas.List.{length-append, take-append-le}
 use Rattle.std.proofs.KnownBytes.{starts_with_rest, Consumes-nil, Consumes-trans}
 use Rattle.std.specs.Io.{StartsWith}
@@ -14,7 +14,7 @@ use Rattle.cwr_decode.specs.declared.machine.State.{State}
 use Rattle.cwr_decode.specs.declared.machine.State.TheVariants as states
 use Rattle.cwr_decode.specs.declared.readings.ReadFault.{ReadFault}
 use Rattle.cwr_decode.specs.Ends.{IsAccepted, IsNotAccepted}
-use Rattle.cwr_decode.specs.Machines.{Standing, Leaves, again}
+use Rattle.cwr_decode.specs.Machines.{Standing, Leaves, again, state_behind}
 use Rattle.cwr_decode.specs.Stands.{StandsFor, IsRight, MayFollow, AcceptsNone, items_out}
 use Rattle.cwr_decode.specs.Calls.{IsLive}
 use Rattle.cwr_decode.specs.Readings.{answer_of, items_read, IsRightOf, LeavesRead, CountsReader, IsUnderWay, IsSpent, FeedsOn, Reads}
@@ -46,9 +46,17 @@ items_same (outcomes.Truncated records) = refl
 items_same outcomes.Memory = refl
 items_same outcomes.Done = refl
 
+-- a state behind an item other than the end is live
+live_behind : (item : Item) → item ≢ items.Ended → IsLive (state_behind item)
+live_behind (items.Opened r) other = refl
+live_behind (items.GroupOpened r) other = refl
+live_behind (items.Transaction records) other = refl
+live_behind (items.GroupClosed r) other = refl
+live_behind items.Ended other = absurd (other refl)
+
 leaves_same : (outcome : Outcome) (state : State) → Leaves outcome state → IfSome (answer_of outcome) (λ answer. LeavesRead answer state)
 leaves_same outcomes.More state h = tt
-leaves_same (outcomes.Item item) state h = h
+leaves_same (outcomes.Item item) state h = (λ e. h ∙ ap state_behind e, λ other. ap again h ∙ live_behind item other)
 leaves_same (outcomes.Refused refusal) state h = h
 leaves_same (outcomes.Truncated records) state h = h
 leaves_same outcomes.Memory state h = h
@@ -93,7 +101,7 @@ right_same limits (outcomes.Item (items.Opened r)) over used seen more text give
 right_same limits (outcomes.Item (items.GroupOpened r)) over used seen more text given split may h = tt
 right_same limits (outcomes.Item (items.Transaction r)) over used seen more text given split may h = tt
 right_same limits (outcomes.Item (items.GroupClosed r)) over used seen more text given split may h = tt
-right_same limits (outcomes.Refused refusal) over used seen more text given split may h = none_accepted limits over seen more text split may h
+right_same limits (outcomes.Refused refusal) over used seen more text given split may h = none_accepted limits over seen more text split may h.0
 right_same limits (outcomes.Truncated records) over used seen more text given split may h = none_accepted limits over seen more text split may h.1
 right_same limits outcomes.Memory over used seen more text given split may h = tt
 right_same limits outcomes.Done over used seen more text given split may h = absurd h

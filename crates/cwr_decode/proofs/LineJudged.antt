@@ -1,6 +1,6 @@
 -- What a decoder stands for behind a line that is judged.
 use Rattle.std.proofs.Common.{◌≡◌, ℕ, ◌≤◌, Bool, true, false, cond, List, [], ◌∷◌, ◌++◌, length, map, Option, Some, None, refl, sym, ap, ap₂, subst, ◌∙◌, append-nil, arith, inl, inr, true≢false}
-use Rattle.std.specs.Prelude.{◌≢◌}
+use Rattle.std.specs.Prelude.{◌≢◌, IfSome}
 use Rattle.std.specs.List.{AllZip, AllByRecursion}
 use Rattle.std.proofs.lemmas.List.{length-append, length-map}
 use Rattle.cwr_layouts.specs.declared.kinds.Kind.{Kind}
@@ -24,18 +24,19 @@ use Rattle.cwr_values.specs.Values.{symbol_of}
 use Rattle.cwr_values.specs.Begins.{row_behind, rows_so_far}
 use Rattle.cwr_values.proofs.RowAt.{rows_so_far-snoc}
 use Rattle.cwr_decode.specs.declared.outcomes.Outcome.{Outcome}
+use Rattle.cwr_decode.specs.declared.outcomes.Outcome.TheVariants as outcomes
 use Rattle.cwr_decode.specs.declared.judging.LineFault.{LineFault}
 use Rattle.cwr_decode.specs.declared.machine.State.{State}
 use Rattle.cwr_decode.specs.declared.machine.State.TheVariants as states
 use Rattle.cwr_decode.specs.Items.{is_in_transaction}
 use Rattle.cwr_decode.specs.Judged.{IsNext, IsOfNone, IsFirstFault}
-use Rattle.cwr_decode.specs.Machines.{Standing, Accepts, Refuses, Tells, Judges, EntersHeld, Follows, counted, pending, stopped, held_list}
+use Rattle.cwr_decode.specs.Machines.{Standing, Empties, Accepts, Refuses, Tells, Judges, EntersHeld, Follows, counted, pending, stopped, held_list}
 use Rattle.cwr_decode.specs.Open.{items_so_far, open_of, goes_on_with, handed, item_of}
-use Rattle.cwr_decode.specs.Stands.{Reads, IsInput, StandsFor, StandsIn, held_of, items_in, items_out, text_of}
+use Rattle.cwr_decode.specs.Stands.{Reads, IsInput, IsPending, StandsFor, StandsIn, held_of, items_in, items_out, text_of}
 use Rattle.cwr_decode.proofs.NextLines.{next_is_line}
 use Rattle.cwr_decode.proofs.Given.{goes_on_stays, ends_closes}
 use Rattle.cwr_decode.proofs.Texts.{text_of-push}
-use Rattle.cwr_decode.proofs.Entering.{enters_stands, symbols-snoc, few_records}
+use Rattle.cwr_decode.proofs.Entering.{MayEnter, enters_stands, enters_empties, empties_by, symbols-snoc, few_records}
 
 -- a line ended behind the accepted ones
 pub record HasLine (d : Standing) (input : List ℕ) (given : List Item) : Type 0 where
@@ -141,6 +142,8 @@ list_held (r ∷ records) = refl
 record Accepted (d : Standing) (input : List ℕ) (given : List Item) (next : TallyValue) (r : RecordValue) : Type 0 where
   in_range : AreInRange next.limits
   lines : List (List ℕ)
+  earlier : List (List ℕ)
+  waits : lines ≡ earlier ++ d.line.bytes ∷ []
   records : List RecordValue
   read : Reads next lines (records ++ r ∷ [])
   split : IsInput d.finished input (text_of lines)
@@ -148,11 +151,12 @@ record Accepted (d : Standing) (input : List ℕ) (given : List Item) (next : Ta
   held : d.held ≡ held_of (open_of records)
   given_are : given ≡ items_so_far records
 
-follows_stands : (d : Standing) (input : List ℕ) (given : List Item) (next : TallyValue) (r : RecordValue) (goes_on : Bool) (held : Option (List RecordValue)) (out : Option Outcome) (new : Standing) (a : Accepted d input given next r)
-    → held ≡ d.held → goes_on ≡ goes_on_with (map symbol_of a.records) (symbol_of r) → held_record d.line ≡ Some r → Follows goes_on held r (counted d next) out new → StandsFor new input (given ++ items_in out)
-follows_stands d input given next r true held out new a h g l f =
+-- the record goes on with the open transaction
+goes_in : (d : Standing) (input : List ℕ) (given : List Item) (next : TallyValue) (r : RecordValue) (a : Accepted d input given next r) → true ≡ goes_on_with (map symbol_of a.records) (symbol_of r)
+    → MayEnter (counted d next) input given r.kind r
+goes_in d input given next r a g =
     let stays = goes_on_stays a.records r a.read.in_order a.read.counted.stands.begins a.few (sym g) in
-    enters_stands (counted d next) input given r.kind r out new (record {
+    record {
       of_kind = refl;
       in_range = a.in_range;
       lines = a.lines;
@@ -162,11 +166,15 @@ follows_stands d input given next r true held out new a h g l f =
       given_are = ap (λ (is : List Item). given ++ is) (no_item r.kind r stays.inside) ∙ append-nil given ∙ a.given_are ∙ sym stays.nothing;
       open_now = stays.longer ∙ ap (λ (rs : List RecordValue). rs ++ r ∷ []) (sym (ap held_list a.held ∙ list_held (open_of a.records))) ∙ sym (ap (λ (b : Bool). cond b (held_list d.held ++ r ∷ []) []) stays.inside);
       none = λ e. absurd (true≢false (sym stays.inside ∙ e));
-    }) f
-follows_stands d input given next r false None out new a h g l f =
+    }
+
+-- no transaction is open
+goes_behind : (d : Standing) (input : List ℕ) (given : List Item) (next : TallyValue) (r : RecordValue) (a : Accepted d input given next r) → None ≡ d.held → false ≡ goes_on_with (map symbol_of a.records) (symbol_of r)
+    → MayEnter (counted d next) input given r.kind r
+goes_behind d input given next r a h g =
     let closes = ends_closes a.records r a.read.in_order a.read.counted.stands.begins a.few (sym g) in
     let nothing : open_of a.records ≡ [] = nothing_held (open_of a.records) (h ∙ a.held) in
-    enters_stands (counted d next) input given r.kind r out new (record {
+    record {
       of_kind = refl;
       in_range = a.in_range;
       lines = a.lines;
@@ -176,7 +184,18 @@ follows_stands d input given next r false None out new a h g l f =
       given_are = ap (λ (is : List Item). is ++ item_of r.kind r) (a.given_are ∙ sym (append-nil (items_so_far a.records))) ∙ sym (closes.given ∙ ap (λ (rs : List RecordValue). items_so_far a.records ++ handed rs ++ item_of r.kind r) nothing);
       open_now = closes.open_now ∙ ap (λ (o : Option (List RecordValue)). cond (is_in_transaction r.kind) (held_list o ++ r ∷ []) []) h;
       none = λ e. sym h;
-    }) f
+    }
+
+follows_empties : (d : Standing) (input : List ℕ) (given : List Item) (next : TallyValue) (r : RecordValue) (goes_on : Bool) (held : Option (List RecordValue)) (out : Option Outcome) (new : Standing) (a : Accepted d input given next r)
+    → held ≡ d.held → goes_on ≡ goes_on_with (map symbol_of a.records) (symbol_of r) → Follows goes_on held r (counted d next) out new → IfSome out (λ o. Empties o new)
+follows_empties d input given next r true held out new a h g f = enters_empties (counted d next) input given r.kind r out new (goes_in d input given next r a g) f
+follows_empties d input given next r false None out new a h g f = enters_empties (counted d next) input given r.kind r out new (goes_behind d input given next r a h g) f
+follows_empties d input given next r false (Some whole) out new a h g f = empties_by new (pending (counted d next)) out (Some (outcomes.Item (items.Transaction whole))) f.0 f.1 refl
+
+follows_stands : (d : Standing) (input : List ℕ) (given : List Item) (next : TallyValue) (r : RecordValue) (goes_on : Bool) (held : Option (List RecordValue)) (out : Option Outcome) (new : Standing) (a : Accepted d input given next r)
+    → held ≡ d.held → goes_on ≡ goes_on_with (map symbol_of a.records) (symbol_of r) → held_record d.line ≡ Some r → Follows goes_on held r (counted d next) out new → StandsFor new input (given ++ items_in out)
+follows_stands d input given next r true held out new a h g l f = enters_stands (counted d next) input given r.kind r out new (goes_in d input given next r a g) f
+follows_stands d input given next r false None out new a h g l f = enters_stands (counted d next) input given r.kind r out new (goes_behind d input given next r a h g) f
 follows_stands d input given next r false (Some whole) out new a h g l f =
     let held = something_held whole (open_of a.records) (h ∙ a.held) in
     subst (λ (q : Standing). StandsFor q input (given ++ items_in out)) (sym f.1)
@@ -185,6 +204,8 @@ follows_stands d input given next r false (Some whole) out new a h g l f =
       in_range = a.in_range;
       here = record {
         lines = a.lines;
+        earlier = a.earlier;
+        waits = a.waits;
         records = a.records;
         last = r;
         read = a.read;
@@ -200,26 +221,41 @@ follows_stands d input given next r false (Some whole) out new a h g l f =
 line_text : (line : HeldLine) → line.ended ≡ Line → held_text line ≡ line.bytes ++ 10 ∷ []
 line_text line e = ap (λ (x : LineEnd). text_by x line.bytes) e
 
-accept_stands : (d : Standing) (input : List ℕ) (given : List Item) (out : Option Outcome) (new : Standing) → HasLine d input given → Accepts d out new → StandsFor new input (given ++ items_in out)
-accept_stands d input given out new h a =
+-- the line's record and the lines up to it
+abbrev accepted_line : (d : Standing) (input : List ℕ) (given : List Item) (out : Option Outcome) (new : Standing) → HasLine d input given → (a : Accepts d out new) → Accepted d input given a.tally a.accepted
+accepted_line d input given out new h a =
     let xs : List Symbol = map symbol_of h.records in
     let n = a.next xs h.read.counted in
     let line = is_line d.tally.limits xs d.line a.symbol a.accepted n h.ended in
     let text : text_of h.lines ++ held_text d.line ≡ text_of (h.lines ++ d.line.bytes ∷ []) = ap (λ (t : List ℕ). text_of h.lines ++ t) (line_text d.line line) ∙ sym (text_of-push h.lines d.line.bytes) in
     let few : length (map symbol_of h.records) ≤ 99999999 = few_records d.tally h.lines h.records h.in_range h.read in
-    let symbol : symbol_of a.accepted ≡ a.symbol = n.symbol in
-    follows_stands d input given a.tally a.accepted a.goes_on d.held out new
-    (record {
+    record {
       in_range = subst AreInRange (sym a.limits) h.in_range;
       lines = h.lines ++ d.line.bytes ∷ [];
+      earlier = h.lines;
+      waits = refl;
       records = h.records;
       read = reads_more d.tally a.tally h.lines h.records d.line a.symbol a.accepted h.read h.line line n a.limits (a.stands xs h.read.counted);
       split = subst (IsInput d.finished input) text h.split;
       few = omega (arith, few, length-map h.records symbol_of);
       held = h.held;
       given_are = h.given_are;
-    })
-    refl (a.same xs h.read.counted ∙ ap (goes_on_with xs) (sym symbol)) n.carried a.follows
+    }
+
+-- whether the line's record goes on with the open transaction
+same_going : (d : Standing) (input : List ℕ) (given : List Item) (out : Option Outcome) (new : Standing) (h : HasLine d input given) (a : Accepts d out new) → a.goes_on ≡ goes_on_with (map symbol_of h.records) (symbol_of a.accepted)
+same_going d input given out new h a =
+    let xs : List Symbol = map symbol_of h.records in
+    let symbol : symbol_of a.accepted ≡ a.symbol = (a.next xs h.read.counted).symbol in
+    a.same xs h.read.counted ∙ ap (goes_on_with xs) (sym symbol)
+
+accept_stands : (d : Standing) (input : List ℕ) (given : List Item) (out : Option Outcome) (new : Standing) → HasLine d input given → Accepts d out new → StandsFor new input (given ++ items_in out)
+accept_stands d input given out new h a =
+    follows_stands d input given a.tally a.accepted a.goes_on d.held out new (accepted_line d input given out new h a) refl (same_going d input given out new h a) a.carried a.follows
+
+accept_empties : (d : Standing) (input : List ℕ) (given : List Item) (out : Option Outcome) (new : Standing) → HasLine d input given → Accepts d out new → IfSome out (λ o. Empties o new)
+accept_empties d input given out new h a =
+    follows_empties d input given a.tally a.accepted a.goes_on d.held out new (accepted_line d input given out new h a) refl (same_going d input given out new h a) a.follows
 
 -- ---- a refused line
 
@@ -250,6 +286,8 @@ told_stands d input given fault o new h none first t =
             (subst (λ (f : ℕ). IsFirstFault d.tally.limits xs d.line f fault.reason) (sym t.field) (first xs h.read.counted));
         number = omega (arith, t.number, count, length-map h.records symbol_of);
         level = t.level xs h.read.counted ∙ ap₂ (λ (f : ℕ) (r : Reason). level_of (held_kind d.line) f r (place_after xs)) (sym t.field) (sym t.reason);
+        empty = refl;
+        nothing = refl;
         given_are = append-nil given ∙ h.given_are;
       };
     }))
@@ -263,16 +301,22 @@ pub judged_stands : (d : Standing) (input : List ℕ) (given : List Item) (out :
 judged_stands d input given out new h (inl a) = accept_stands d input given out new h a
 judged_stands d input given out new h (inr r) = refuse_stands d input given out new h r
 
+-- what isn't held behind a line that is judged
+pub judged_empties : (d : Standing) (input : List ℕ) (given : List Item) (out : Option Outcome) (new : Standing) → HasLine d input given → Judges d out new → IfSome out (λ o. Empties o new)
+judged_empties d input given None new h j = tt
+judged_empties d input given (Some o) new h (inl a) = accept_empties d input given (Some o) new h a
+judged_empties d input given (Some o) new h (inr r) = subst (λ (q : Outcome). Empties q new) (sym r.tells.told) tt
+
 -- ---- a record that waits
 
-pub waiting_stands : (d : Standing) (input : List ℕ) (given : List Item) (out : Option Outcome) (new : Standing) → d.state ≡ states.Pending → StandsFor d input given → EntersHeld (held_record d.line) d out new → StandsFor new input (given ++ items_in out)
-waiting_stands d input given out new state s e =
-    let p = subst (λ (q : State). StandsIn q d input given) state s.here in
-    let few : length (map symbol_of (p.records ++ p.last ∷ [])) ≤ 99999999 = few_records d.tally p.lines (p.records ++ p.last ∷ []) s.in_range p.read in
+-- it is entered behind the others
+waits_in : (d : Standing) (input : List ℕ) (given : List Item) (p : IsPending d input given) → AreInRange d.tally.limits → MayEnter d input given p.last.kind p.last
+waits_in d input given p in_range =
+    let few : length (map symbol_of (p.records ++ p.last ∷ [])) ≤ 99999999 = few_records d.tally p.lines (p.records ++ p.last ∷ []) in_range p.read in
     let closes = ends_closes p.records p.last p.read.in_order p.read.counted.stands.begins (omega (arith, few, length-map (p.records ++ p.last ∷ []) symbol_of, length-append p.records (p.last ∷ []))) p.ends in
-    enters_stands d input given p.last.kind p.last out new (record {
+    record {
       of_kind = refl;
-      in_range = s.in_range;
+      in_range = in_range;
       lines = p.lines;
       records = p.records;
       read = p.read;
@@ -280,4 +324,14 @@ waiting_stands d input given out new state s e =
       given_are = ap (λ (is : List Item). is ++ item_of p.last.kind p.last) p.given_are ∙ sym closes.given;
       open_now = closes.open_now ∙ ap (λ (o : Option (List RecordValue)). cond (is_in_transaction p.last.kind) (held_list o ++ p.last ∷ []) []) (sym p.held);
       none = λ f. p.held;
-    }) (subst (λ (o : Option RecordValue). EntersHeld o d out new) p.line e)
+    }
+
+pub waiting_stands : (d : Standing) (input : List ℕ) (given : List Item) (out : Option Outcome) (new : Standing) → d.state ≡ states.Pending → StandsFor d input given → EntersHeld (held_record d.line) d out new → StandsFor new input (given ++ items_in out)
+waiting_stands d input given out new state s e =
+    let p = subst (λ (q : State). StandsIn q d input given) state s.here in
+    enters_stands d input given p.last.kind p.last out new (waits_in d input given p s.in_range) (subst (λ (o : Option RecordValue). EntersHeld o d out new) p.line e)
+
+pub waiting_empties : (d : Standing) (input : List ℕ) (given : List Item) (out : Option Outcome) (new : Standing) → d.state ≡ states.Pending → StandsFor d input given → EntersHeld (held_record d.line) d out new → IfSome out (λ o. Empties o new)
+waiting_empties d input given out new state s e =
+    let p = subst (λ (q : State). StandsIn q d input given) state s.here in
+    enters_empties d input given p.last.kind p.last out new (waits_in d input given p s.in_range) (subst (λ (o : Option RecordValue). EntersHeld o d out new) p.line e)

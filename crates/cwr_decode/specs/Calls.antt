@@ -1,16 +1,25 @@
 -- What a call of a decoder does to what the decoder stands for, and what its answer says of the input.
-use Rattle.std.specs.Prelude.{◌≡◌, ℕ, ◌<◌, ◌≤◌, Bool, true, false, List, ◌++◌, length, take, Option, Some, None, IfSome, IfNone}
+use Rattle.std.specs.Prelude.{◌≡◌, ◌⊎◌, ℕ, ◌<◌, ◌≤◌, Bool, true, false, List, ◌++◌, length, take, Option, Some, None, IfSome, IfNone}
 use Rattle.cwr_values.specs.declared.items.Item.{Item}
 use Rattle.cwr_decode.specs.declared.outcomes.Outcome.{Outcome}
-use Rattle.cwr_decode.specs.declared.outcomes.Outcome.TheVariants.{More}
+use Rattle.cwr_decode.specs.declared.outcomes.Outcome.TheVariants.{More, Memory}
 use Rattle.cwr_decode.specs.declared.machine.State.{State}
-use Rattle.cwr_decode.specs.declared.machine.State.TheVariants.{Reading}
-use Rattle.cwr_decode.specs.Machines.{Standing, IsReady, Leaves, again, over}
+use Rattle.cwr_decode.specs.declared.machine.State.TheVariants.{Reading, Pending}
+use Rattle.cwr_decode.specs.Machines.{Standing, IsReady, Leaves, Empties, again, over}
 use Rattle.cwr_decode.specs.Stands.{StandsFor, IsRight, items_in, items_out}
 
 -- nothing was answered for good
 abbrev pub IsLive : State → Type 0
 IsLive state = again state ≡ None
+
+-- no accepted record is forgotten, and want of memory comes with one more
+abbrev pub Grows : ℕ → Option Outcome → ℕ → Type 0
+Grows old out new = (old ≤ new) × (out ≡ Some Memory → old < new)
+
+-- Want of memory comes only with a record that was being added: the one that waited, with no byte used, or one that was
+-- accepted.
+abbrev pub WantsMemory : Standing → ℕ → Standing → Type 0
+WantsMemory old used new = ((old.state ≡ Pending) × (used ≡ 0)) ⊎ (old.tally.counts.records < new.tally.counts.records)
 
 -- a step without a further byte
 pub record Moves (old : Standing) (out : Option Outcome) (new : Standing) : Type 0 where
@@ -18,6 +27,8 @@ pub record Moves (old : Standing) (out : Option Outcome) (new : Standing) : Type
   pub ready : IsReady new.state new.finished new.line
   pub leaves : IfSome out (λ outcome. Leaves outcome new.state)
   pub none : IfNone out (IsLive old.state → new.state ≡ Reading)
+  pub counts : new.tally.counts.records ≡ old.tally.counts.records
+  pub empties : (input : List ℕ) (given : List Item) → StandsFor old input given → IfSome out (λ outcome. Empties outcome new)
   pub finished : new.finished ≡ old.finished
   pub limits : new.tally.limits ≡ old.tally.limits
 
@@ -34,6 +45,9 @@ pub record Ends (old : Standing) (out : Option Outcome) (new : Standing) : Type 
   pub leaves : IfSome out (λ outcome. Leaves outcome new.state)
   pub more : out ≡ Some More → ⊥
   pub none : IfNone out (IsLive old.state → IsLive new.state)
+  pub waits : IfNone out (new.state ≡ Pending → old.state ≡ Pending)
+  pub grows : (input : List ℕ) (given : List Item) → StandsFor old input given → Grows old.tally.counts.records out new.tally.counts.records
+  pub empties : (input : List ℕ) (given : List Item) → StandsFor old input given → IfSome out (λ outcome. Empties outcome new)
   pub stays : IfSome (again old.state) (λ o. (out ≡ None) × (new ≡ over old))
   pub finished : new.finished ≡ true
   pub limits : new.tally.limits ≡ old.tally.limits
@@ -49,6 +63,8 @@ pub record Advances (old : Standing) (piece : List ℕ) (used : ℕ) (out : Opti
   pub leaves : IfSome out (λ outcome. Leaves outcome new.state)
   pub more : out ≡ Some More → used ≡ length piece
   pub none : IfNone out (new.state ≡ Reading)
+  pub grows : (input : List ℕ) (given : List Item) → StandsFor old input given → Grows old.tally.counts.records out new.tally.counts.records
+  pub empties : (input : List ℕ) (given : List Item) → StandsFor old input given → IfSome out (λ outcome. Empties outcome new)
   pub finished : new.finished ≡ old.finished
   pub limits : new.tally.limits ≡ old.tally.limits
 
@@ -60,8 +76,11 @@ pub record Feeds (old : Standing) (piece : List ℕ) (used : ℕ) (outcome : Out
       → IsRight old.tally.limits outcome old.finished (input ++ take used piece) (seen old.finished input piece) (given ++ items_out outcome)
   pub ready : IsReady new.state new.finished new.line
   pub leaves : Leaves outcome new.state
+  pub empties : (input : List ℕ) (given : List Item) → StandsFor old input given → Empties outcome new
   pub again : IfSome (again old.state) (λ o. (outcome ≡ o) × (used ≡ 0) × (new ≡ old))
   pub more : outcome ≡ More → (used ≡ length piece) × (old.finished ≡ false)
+  pub unused : old.finished ≡ true → used ≡ 0
+  pub memory : outcome ≡ Memory → IsLive old.state → (input : List ℕ) (given : List Item) → StandsFor old input given → WantsMemory old used new
   pub finished : new.finished ≡ old.finished
   pub limits : new.tally.limits ≡ old.tally.limits
 
@@ -71,7 +90,9 @@ pub record Finishes (old : Standing) (outcome : Outcome) (new : Standing) : Type
   pub right : IsLive old.state → (input : List ℕ) (given : List Item) → StandsFor old input given → IsRight old.tally.limits outcome true input input (given ++ items_out outcome)
   pub ready : IsReady new.state new.finished new.line
   pub leaves : Leaves outcome new.state
+  pub empties : (input : List ℕ) (given : List Item) → StandsFor old input given → Empties outcome new
   pub again : IfSome (again old.state) (λ o. (outcome ≡ o) × (new ≡ over old))
   pub more : outcome ≡ More → ⊥
+  pub memory : outcome ≡ Memory → IsLive old.state → (input : List ℕ) (given : List Item) → StandsFor old input given → WantsMemory old 0 new
   pub finished : new.finished ≡ true
   pub limits : new.tally.limits ≡ old.tally.limits

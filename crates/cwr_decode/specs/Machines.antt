@@ -52,14 +52,29 @@ again (Refused refusal) = Some (outcomes.Refused refusal)
 again (Truncated records) = Some (outcomes.Truncated records)
 again Memory = Some outcomes.Memory
 
+-- the state behind an item: behind a transaction the record waits that ended it, and behind any other but the end a line
+-- is read
+abbrev pub state_behind : Item → State
+state_behind (items.Opened r) = Reading
+state_behind (items.GroupOpened r) = Reading
+state_behind (items.Transaction records) = Pending
+state_behind (items.GroupClosed r) = Reading
+state_behind items.Ended = Ended
+
 -- the state behind an answer
 abbrev pub Leaves : Outcome → State → Type 0
 Leaves outcomes.More state = state ≡ Reading
-Leaves (outcomes.Item item) state = (item ≡ items.Ended → state ≡ Ended) × (item ≢ items.Ended → again state ≡ None)
+Leaves (outcomes.Item item) state = state ≡ state_behind item
 Leaves (outcomes.Refused refusal) state = state ≡ Refused refusal
 Leaves (outcomes.Truncated records) state = state ≡ Truncated records
 Leaves outcomes.Memory state = state ≡ Memory
 Leaves outcomes.Done state = state ≡ Ended
+
+-- behind a transaction its records aren't held, and behind any other item neither those nor bytes of a line
+abbrev pub Empties : Outcome → Standing → Type 0
+Empties (outcomes.Item (items.Transaction records)) d = d.held ≡ None
+Empties (outcomes.Item item) d = (d.line.bytes ≡ []) × (d.held ≡ None)
+Empties outcome d = Unit {0}
 
 -- ---- one step
 

@@ -1,9 +1,9 @@
 -- What a decoder stands for: the input so far, and the items that were handed out.
-use Rattle.std.specs.Prelude.{◌≡◌, ◌≢◌, ℕ, ◌+◌, Bool, true, false, IsTrue, List, [], ◌∷◌, ◌++◌, length, map, Option, Some, None}
-use Rattle.std.specs.List.{AllZip, AllByRecursion, flat_map}
+use Rattle.std.specs.Prelude.{◌≡◌, ◌≢◌, ◌⊎◌, ℕ, ◌+◌, Bool, true, false, IsTrue, IsFalse, List, [], ◌∷◌, ◌++◌, length, map, Option, Some, None}
+use Rattle.std.specs.List.{AllZip, AllByRecursion, flat_map, list_any}
 use Rattle.cwr_layouts.specs.declared.lines.LineEnd.TheVariants as line_ends
 use Rattle.cwr_layouts.specs.Records.{RecordValue, IsRecord}
-use Rattle.cwr_layouts.specs.Lines.{IsLineOf, closed}
+use Rattle.cwr_layouts.specs.Lines.{IsLineOf, closed, is_lf, longest_line}
 use Rattle.cwr_layouts.specs.Held.{HeldLine, IsHeld, held_kind, held_text, held_record}
 use Rattle.cwr_shape.specs.declared.symbols.Symbol.{Symbol}
 use Rattle.cwr_shape.specs.Ranges.{LimitValues, AreInRange}
@@ -60,9 +60,11 @@ pub record IsReading (d : Standing) (input : List ℕ) (given : List Item) : Typ
   pub held : d.held ≡ held_of (open_of records)
   pub given_are : given ≡ items_so_far records
 
--- the line of the last record waits: the transaction that it ends was handed out
+-- the line of the last record waits, as it was read: the transaction that it ends was handed out
 pub record IsPending (d : Standing) (input : List ℕ) (given : List Item) : Type 0 where
   pub lines : List (List ℕ)
+  pub earlier : List (List ℕ)
+  pub waits : lines ≡ earlier ++ d.line.bytes ∷ []
   pub records : List RecordValue
   pub last : RecordValue
   pub read : Reads d.tally lines (records ++ last ∷ [])
@@ -72,12 +74,14 @@ pub record IsPending (d : Standing) (input : List ℕ) (given : List Item) : Typ
   pub held : d.held ≡ None
   pub given_are : given ≡ items_so_far records ++ handed (open_of records)
 
--- all lines of the input were accepted, and all their items were handed out
+-- all lines of the input were accepted, all their items were handed out, and nothing is held
 pub record IsThrough (d : Standing) (input : List ℕ) (given : List Item) : Type 0 where
   pub lines : List (List ℕ)
   pub records : List RecordValue
   pub read : Reads d.tally lines records
   pub split : IsInput d.finished input (text_of lines)
+  pub empty : d.line.bytes ≡ []
+  pub nothing : d.held ≡ None
   pub given_are : given ≡ items_so_far records
 
 -- the last record stands in a transaction, and found no memory there
@@ -97,8 +101,8 @@ pub record IsCut (d : Standing) (input : List ℕ) (given : List Item) (count : 
   pub left : ¬ IsWhole (map symbol_of through.records)
   pub counted : count ≡ length through.records
 
--- The line behind the accepted ones is that of no record that may come next. Once the input is over, that line may have
--- ended with it.
+-- The line behind the accepted ones is that of no record that may come next, and nothing is held. Once the input is over,
+-- that line may have ended with it.
 pub record IsStopped (d : Standing) (input : List ℕ) (given : List Item) (refusal : Refusal) : Type 0 where
   pub lines : List (List ℕ)
   pub records : List RecordValue
@@ -114,6 +118,8 @@ pub record IsStopped (d : Standing) (input : List ℕ) (given : List Item) (refu
   pub first : IsFirstFault d.tally.limits (map symbol_of records) line refusal.field refusal.reason
   pub number : refusal.rec ≡ length records + 1
   pub level : refusal.level ≡ level_of (held_kind line) refusal.field refusal.reason (place_after (map symbol_of records))
+  pub empty : d.line.bytes ≡ []
+  pub nothing : d.held ≡ None
   pub given_are : given ≡ items_so_far records
 
 abbrev pub StandsIn : State → Standing → List ℕ → List Item → Type 0
@@ -159,13 +165,35 @@ pub record AcceptsAll (limits : LimitValues) (over : Bool) (used seen : List ℕ
 abbrev pub AcceptsNone : LimitValues → Bool → List ℕ → Type 0
 AcceptsNone limits over seen = (more : List ℕ) → MayFollow over more → IsNotAccepted limits (seen ++ more)
 
+-- the bytes end with a line feed
+abbrev pub EndsInLf : List ℕ → Type 0
+EndsInLf used = (front : List ℕ) × (used ≡ front ++ 10 ∷ [])
+
+-- The line is too long: the used bytes end with as many bytes as a line has at most, none of them a line feed, and the next
+-- byte, which is seen and isn't used, is no line feed.
+pub record GoesTooFar (used seen : List ℕ) : Type 0 where
+  pub front : List ℕ
+  pub line : List ℕ
+  pub next : ℕ
+  pub rest : List ℕ
+  pub split : used ≡ front ++ line
+  pub longest : length line ≡ longest_line
+  pub no_lf : IsFalse (list_any is_lf line)
+  pub more : seen ≡ used ++ next ∷ rest
+  pub other : next ≢ 10
+
+-- A line ends with the used bytes: by its line feed, or before a byte too many. The end of the input ends it too.
+abbrev pub EndsLine : Bool → List ℕ → List ℕ → Type 0
+EndsLine false used seen = EndsInLf used ⊎ GoesTooFar used seen
+EndsLine true used seen = Unit {0}
+
 -- What an answer says of the input, of which these bytes were used, and these were seen: the end of a transmission comes
--- where one is accepted, and a refusal or the end of the input where none is.
+-- where one is accepted, and a refusal or the end of the input where none is. A refusal comes where the line ends.
 abbrev pub IsRight : LimitValues → Outcome → Bool → List ℕ → List ℕ → List Item → Type 0
 IsRight limits outcomes.More over used seen given = (over ≡ false) × (used ≡ seen)
 IsRight limits (outcomes.Item items.Ended) over used seen given = AcceptsAll limits over used seen given
 IsRight limits (outcomes.Item item) over used seen given = Unit {0}
-IsRight limits (outcomes.Refused refusal) over used seen given = AcceptsNone limits over seen
+IsRight limits (outcomes.Refused refusal) over used seen given = AcceptsNone limits over seen × EndsLine over used seen
 IsRight limits (outcomes.Truncated records) over used seen given = (over ≡ true) × AcceptsNone limits over seen
 IsRight limits outcomes.Memory over used seen given = Unit {0}
 IsRight limits outcomes.Done over used seen given = ⊥

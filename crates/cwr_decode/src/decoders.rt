@@ -1,8 +1,8 @@
 //! Reading a transmission in pieces of any size.
 
 ghost use Rattle.std.specs.Prelude.{◌≡◌, ◌≤◌, ◌++◌, [], List, ℕ, length, take, IfSome, true, false};
-ghost use Rattle.cwr_decode.specs.Calls.{IsLive, seen};
-ghost use Rattle.cwr_decode.specs.Machines.{Leaves, again, held_list, over};
+ghost use Rattle.cwr_decode.specs.Calls.{IsLive, WantsMemory, seen};
+ghost use Rattle.cwr_decode.specs.Machines.{Empties, Leaves, again, held_list, over};
 ghost use Rattle.cwr_decode.specs.Stands.{IsRight, StandsFor, items_out};
 ghost use Rattle.cwr_values.specs.declared.items.Item.{Item};
 
@@ -64,12 +64,21 @@ impl Decoder {
         ensures stands { (input : List ℕ) (given : List Item) → StandsFor self.old input given
             → StandsFor self.new (input ++ take result.used piece.now) (given ++ items_out result.outcome) }
         // The end of a transmission is answered where one is accepted, and a refusal or the end of the input where none is.
+        // A refusal comes with the line feed of the refused line, before its byte too many, or once the input is over.
         ensures right { IsLive self.old.state → (input : List ℕ) (given : List Item) → StandsFor self.old input given
             → IsRight self.old.tally.limits result.outcome self.old.finished (input ++ take result.used piece.now)
             (seen self.old.finished input piece.now) (given ++ items_out result.outcome) }
         ensures leaves { Leaves result.outcome self.new.state }
+        // Behind an item nothing is held, but behind a transaction the line that ended it.
+        ensures empties { (input : List ℕ) (given : List Item) → StandsFor self.old input given → Empties result.outcome self.new }
         ensures again { IfSome (again self.old.state) (λ outcome. (result.outcome ≡ outcome) × (result.used ≡ 0) × (self.new ≡ self.old)) }
         ensures more { result.outcome ≡ Outcome.More → (result.used ≡ length piece.now) × (self.old.finished ≡ false) }
+        // Once the input is over, no byte is used.
+        ensures unused { self.old.finished ≡ true → result.used ≡ 0 }
+        // Want of memory comes only with a record that was being added: the one that waited, with no byte used, or one
+        // that was accepted.
+        ensures memory { result.outcome ≡ Outcome.Memory → IsLive self.old.state → (input : List ℕ) (given : List Item) → StandsFor self.old input given
+            → WantsMemory self.old result.used self.new }
         ensures finished { self.new.finished ≡ self.old.finished }
         ensures limits { self.new.tally.limits ≡ self.old.tally.limits }
     {
@@ -85,8 +94,14 @@ impl Decoder {
         ensures right { IsLive self.old.state → (input : List ℕ) (given : List Item) → StandsFor self.old input given
             → IsRight self.old.tally.limits result.outcome true input input (given ++ items_out result.outcome) }
         ensures leaves { Leaves result.outcome self.new.state }
+        // Behind an item nothing is held, but behind a transaction the line that ended it.
+        ensures empties { (input : List ℕ) (given : List Item) → StandsFor self.old input given → Empties result.outcome self.new }
         ensures again { IfSome (again self.old.state) (λ outcome. (result.outcome ≡ outcome) × (self.new ≡ over self.old)) }
         ensures more { result.outcome ≡ Outcome.More → ⊥ }
+        // Want of memory comes only with a record that was being added: the one that waited, with no byte used, or one
+        // that was accepted.
+        ensures memory { result.outcome ≡ Outcome.Memory → IsLive self.old.state → (input : List ℕ) (given : List Item) → StandsFor self.old input given
+            → WantsMemory self.old 0 self.new }
         ensures finished { self.new.finished ≡ true }
         ensures limits { self.new.tally.limits ≡ self.old.tally.limits }
     {
