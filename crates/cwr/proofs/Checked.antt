@@ -108,7 +108,6 @@ fault_told limits before after (faults.Refused refusal) result h e = subst (λ (
 fault_told limits before after (faults.Truncated records) result h e = subst (λ (r : Result Verdict ToolFault). IfOk r (λ verdict. IsToldOf limits before verdict after)) (sym e) h
 fault_told limits before after faults.Memory result h e = subst (λ (r : Result Verdict ToolFault). IfOk r (λ verdict. IsToldOf limits before verdict after)) (sym e) tt
 
-
 pub good_told : (limits : Limits) (before after : Option (List ℕ)) (given : List Item) (c : Counts) → HasReadAll limits before after given → IsCount c given
     → IsToldOf limits before (Good c.groups c.transactions c.records) after
 good_told limits before after given c h k =

@@ -1,25 +1,23 @@
 -- The items of a transmission are put together to one, and to no other.
-use Rattle.std.proofs.Common.{◌≡◌, ◌≢◌, ◌<◌, List, [], ◌∷◌, ◌++◌, length, map, Option, Some, None, refl, sym, ap, ap₂, subst, ◌∙◌, append_assoc, append-nil, arith, inl, inr}
+use Rattle.std.proofs.Common.{◌≡◌, ◌<◌, List, [], ◌∷◌, ◌++◌, length, map, refl, sym, ap, ap₂, subst, ◌∙◌, append_assoc, append-nil, arith, inl, inr}
 use Rattle.std.specs.Prelude.{◌⊎◌}
 use Rattle.std.proofs.lemmas.List.{length-append}
 use Rattle.std.specs.List.{AllByRecursion, flat_map}
-use Rattle.std.specs.Option.{option_to_list}
 use Rattle.cwr_fields.specs.declared.codes.TransactionType.{TransactionType}
 use Rattle.cwr_fields.specs.declared.codes.TransactionType.TheVariants.{Agreement, NewWork, RevisedWork, Acknowledgement}
-use Rattle.cwr_layouts.specs.declared.kinds.Kind.{Kind}
 use Rattle.cwr_layouts.specs.declared.kinds.Kind.TheVariants as kinds
 use Rattle.cwr_layouts.specs.Records.{RecordValue}
 use Rattle.cwr_shape.specs.declared.symbols.Symbol.{Symbol}
 use Rattle.cwr_shape.specs.declared.symbols.Symbol.TheVariants.{Plain}
 use Rattle.cwr_shape.specs.Numbers.{symbol_kind}
-use Rattle.cwr_shape.specs.Shapes.{IsShape, Matches, some, many, a, block, publisher, writer, tail_record, ◌then◌}
+use Rattle.cwr_shape.specs.Shapes.{IsShape, some, many, a, block, publisher, writer, tail_record, ◌then◌}
 use Rattle.cwr_shape.specs.Tallies.{header_kind}
 use Rattle.cwr_shape.proofs.HeadFirst.{behind}
 use Rattle.cwr_values.specs.declared.groups.GroupFault.{GroupFault}
 use Rattle.cwr_values.specs.declared.groups.GroupFault.TheVariants as faults
 use Rattle.cwr_values.specs.declared.items.Item.{Item}
 use Rattle.cwr_values.specs.declared.items.Item.TheVariants.{Opened, GroupOpened, Transaction, GroupClosed, Ended}
-use Rattle.cwr_values.specs.Values.{GroupValue, TransmissionValue, symbol_of, type_of, IsTransaction, IsGroup, IsRecordOf, IsTransmission}
+use Rattle.cwr_values.specs.Values.{GroupValue, TransmissionValue, symbol_of, type_of, IsTransaction, IsGroup, IsRecordOf}
 use Rattle.cwr_values.specs.Begun.{HasHeaderOf, IsWholeTransaction}
 use Rattle.cwr_decode.specs.Items.{group_rest, group_items, value_items}
 use Rattle.cwr_decode.specs.Runs.{AreItems, AreGroupItems}

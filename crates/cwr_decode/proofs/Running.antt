@@ -1,5 +1,5 @@
 -- One call of a reading behind others: what was read so far goes on, up to all items or a fault.
-use Rattle.std.proofs.Common.{◌≡◌, ◌≢◌, ◌≤◌, ℕ, List, [], ◌∷◌, ◌++◌, length, drop, Option, Some, None, refl, sym, ap, subst, ◌∙◌, append_assoc, append-nil, inl, inr, true≢false, false}
+use Rattle.std.proofs.Common.{◌≡◌, ◌≤◌, ℕ, List, [], ◌∷◌, ◌++◌, length, drop, Option, Some, None, refl, sym, ap, subst, ◌∙◌, inl, inr, true≢false, false}
 use Rattle.std.specs.Prelude.{Result, Ok, Err, IfSome, IfOk, IfErr, MatchResult, ◌⊎◌}
 use Rattle.std.specs.Result.{IsErrAnd}
 use Rattle.std.proofs.Math.Seq.{drop-append_seam}
@@ -8,7 +8,7 @@ use Rattle.std.specs.Io.KnownBytes.{Consumes}
 use Rattle.cwr_shape.specs.Ranges.{LimitValues}
 use Rattle.cwr_values.specs.declared.items.Item.{Item}
 use Rattle.cwr_values.specs.declared.items.Item.TheVariants as items
-use Rattle.cwr_values.specs.Values.{TransmissionValue, IsTransmission, FitsIn}
+use Rattle.cwr_values.specs.Values.{TransmissionValue, IsTransmission}
 use Rattle.cwr_values.specs.Rows.{canonical_text}
 use Rattle.cwr_decode.specs.declared.outcomes.Outcome.{Outcome}
 use Rattle.cwr_decode.specs.declared.machine.State.{State}
@@ -24,7 +24,7 @@ use Rattle.cwr_decode.specs.Readings.{answer_of, items_read, IsWholeInput, IsRig
 use Rattle.cwr_decode.specs.Runs.{HasRead, EndsWhole, HasReadAll, IsReadingOn, AreItems, Takes, IsRightFault, StopsRun, TellsAccepted, TellsCanonical}
 use Rattle.cwr_decode.proofs.Accepted.{accepted_once, canonical_accepted}
 use Rattle.cwr_decode.proofs.CountedItems.{bounded}
-use Rattle.cwr_decode.proofs.Ended.{SpellsWhole, spells_whole}
+use Rattle.cwr_decode.proofs.Ended.{spells_whole}
 
 abbrev Answer : Type 0
 Answer = Result (Option Item) ReadFault

@@ -10,11 +10,16 @@ pub fn is_spaces(cell: &[u8]) -> bool
     cell.iter().all(|b| *b == b' ')
 }
 
-/// Whether some byte is a control byte: one of 0 to 31, or 127.
+/// Whether some byte is a control byte: one of 0 to 31, or 127. It goes over all bytes without a branch, so that the
+/// compiler takes many at a time.
 pub(crate) fn has_control(cell: &[u8]) -> bool
     ensures { result ≡ has_control cell.now }
 {
-    cell.iter().any(|b| *b < 32 || *b == 127)
+    let mut found = false;
+    for byte in cell {
+        found |= (*byte < 32) | (*byte == 127);
+    }
+    found
 }
 
 /// Whether every byte is a digit.

@@ -21,21 +21,29 @@ count-requires-clause-transactions g c =
 pub count-requires-clause-records : goal.count-requires-clause-records
 count-requires-clause-records g c =
     let on = counts_on c.args.limits c.items.reading.decoder c.next_item.new.self.decoder (g.R.Source.remaining c.args.reader.now) _ _ c.items.counts c.in-Ok-Some.field-0 c.in-Ok-Some.item _ _
-        c.in-Ok-Some.field-0-is c.items.invariant.counting c.in-Ok-Some.ensures.reads c.in-Ok-Some.ensures.again in
+    c.in-Ok-Some.field-0-is c.items.invariant.counting c.in-Ok-Some.ensures.reads c.in-Ok-Some.ensures.again in
     (room_in c.args.limits _ _ _ (counted c.items.counts c.in-Ok-Some.item) on).records
 
 pub items-smaller-in-Ok-Some : goal.items-smaller-in-Ok-Some
 items-smaller-in-Ok-Some g c =
     let on = counts_on c.args.limits c.items.reading.decoder c.next_item.new.self.decoder (g.R.Source.remaining c.args.reader.now) _ _ c.items.counts c.in-Ok-Some.field-0 c.in-Ok-Some.item _ _
-        c.in-Ok-Some.field-0-is c.items.invariant.counting c.in-Ok-Some.ensures.reads c.in-Ok-Some.ensures.again in
+    c.in-Ok-Some.field-0-is c.items.invariant.counting c.in-Ok-Some.ensures.reads c.in-Ok-Some.ensures.again in
     let room = room_in c.args.limits _ _ _ (counted c.items.counts c.in-Ok-Some.item) on in
-    omega (arith, room.groups, room.transactions, room.records, total_grows c.items.counts c.in-Ok-Some.item,
-    ap (λ (n : Counts). n.groups) c.count.ensures, ap (λ (n : Counts). n.transactions) c.count.ensures, ap (λ (n : Counts). n.records) c.count.ensures)
+    omega (
+      arith,
+      room.groups,
+      room.transactions,
+      room.records,
+      total_grows c.items.counts c.in-Ok-Some.item,
+      ap (λ (n : Counts). n.groups) c.count.ensures,
+      ap (λ (n : Counts). n.transactions) c.count.ensures,
+      ap (λ (n : Counts). n.records) c.count.ensures,
+    )
 
 pub items-preserved-in-Ok-Some : goal.items-preserved-in-Ok-Some
 items-preserved-in-Ok-Some g c =
     let on = counts_on c.args.limits c.items.reading.decoder c.next_item.new.self.decoder (g.R.Source.remaining c.args.reader.now) _ _ c.items.counts c.in-Ok-Some.field-0 c.in-Ok-Some.item _ _
-        c.in-Ok-Some.field-0-is c.items.invariant.counting c.in-Ok-Some.ensures.reads c.in-Ok-Some.ensures.again in
+    c.in-Ok-Some.field-0-is c.items.invariant.counting c.in-Ok-Some.ensures.reads c.in-Ok-Some.ensures.again in
     record {
       counting = subst (λ (counts : Counts). IsCounting c.args.limits c.next_item.new.self.decoder (g.R.Source.remaining c.args.reader.now) (g.R.Source.remaining c.next_item.new.self.reader.now) counts) (sym c.count.ensures) on;
       failures = c.in-Ok-Some.ensures.failures ∙ c.items.invariant.failures;
@@ -45,15 +53,23 @@ items-preserved-in-Ok-Some g c =
 pub items-smaller : goal.items-smaller
 items-smaller g c =
     let on = counts_on c.args.limits c.items.reading.decoder c.next_item.new.self.decoder (g.R.Source.remaining c.args.reader.now) _ _ c.items.counts c.in-Ok-Some.field-0 c.in-Ok-Some.item _ _
-        c.in-Ok-Some.field-0-is c.items.invariant.counting c.in-Ok-Some.ensures.reads c.in-Ok-Some.ensures.again in
+    c.in-Ok-Some.field-0-is c.items.invariant.counting c.in-Ok-Some.ensures.reads c.in-Ok-Some.ensures.again in
     let room = room_in c.args.limits _ _ _ (counted c.items.counts c.in-Ok-Some.item) on in
-    omega (arith, room.groups, room.transactions, room.records, total_grows c.items.counts c.in-Ok-Some.item,
-    ap (λ (n : Counts). n.groups) c.count.ensures, ap (λ (n : Counts). n.transactions) c.count.ensures, ap (λ (n : Counts). n.records) c.count.ensures)
+    omega (
+      arith,
+      room.groups,
+      room.transactions,
+      room.records,
+      total_grows c.items.counts c.in-Ok-Some.item,
+      ap (λ (n : Counts). n.groups) c.count.ensures,
+      ap (λ (n : Counts). n.transactions) c.count.ensures,
+      ap (λ (n : Counts). n.records) c.count.ensures,
+    )
 
 pub items-preserved : goal.items-preserved
 items-preserved g c =
     let on = counts_on c.args.limits c.items.reading.decoder c.next_item.new.self.decoder (g.R.Source.remaining c.args.reader.now) _ _ c.items.counts c.in-Ok-Some.field-0 c.in-Ok-Some.item _ _
-        c.in-Ok-Some.field-0-is c.items.invariant.counting c.in-Ok-Some.ensures.reads c.in-Ok-Some.ensures.again in
+    c.in-Ok-Some.field-0-is c.items.invariant.counting c.in-Ok-Some.ensures.reads c.in-Ok-Some.ensures.again in
     record {
       counting = subst (λ (counts : Counts). IsCounting c.args.limits c.next_item.new.self.decoder (g.R.Source.remaining c.args.reader.now) (g.R.Source.remaining c.next_item.new.self.reader.now) counts) (sym c.count.ensures) on;
       failures = c.in-Ok-Some.ensures.failures ∙ c.items.invariant.failures;

@@ -1,5 +1,4 @@
 use Rattle.std.proofs.Common.{Ok, sym, ◌∙◌}
-use Rattle.cwr_decode.specs.Runs.{Takes}
 use Rattle.cwr_decode.proofs.Collecting.{items_once}
 use Rattle.cwr_decode.proofs.Running.{all_items, all_taken, tells_accepted, tells_canonical, tells_stopped}
 use Rattle.cwr_decode.proofs.whole.read_all.Goals as goal

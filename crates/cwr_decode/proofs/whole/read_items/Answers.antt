@@ -1,4 +1,4 @@
-use Rattle.std.proofs.Common.{rules, ◌≡◌, List, length, refl, sym, ap, subst, ◌∙◌, ◌-◌, ◌++◌, ◌∷◌, [], arith}
+use Rattle.std.proofs.Common.{rules, ◌≡◌, List, length, sym, ap, subst, ◌∙◌, ◌++◌, ◌∷◌, [], arith}
 use Rattle.std.proofs.lemmas.List.{length-append}
 use Rattle.cwr_values.specs.declared.items.Item.{Item}
 use Rattle.cwr_decode.specs.declared.readings.ReadFault.TheVariants as faults
