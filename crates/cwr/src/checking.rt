@@ -1,6 +1,6 @@
 //! Checking a transmission.
 
-ghost use Rattle.std.specs.Prelude.{◌≡◌, ◌⊎◌, ◌+◌, ◌≤◌, length, Err, IfErr, IfOk, OnOk};
+ghost use Rattle.std.specs.Prelude.{◌≡◌, ◌≢◌, ◌⊎◌, ◌+◌, ◌≤◌, length, Err, IfErr, IfOk, OnOk};
 ghost use Rattle.std.specs.Io.KnownBytes.{Appends};
 ghost use Rattle.cwr_fields.specs.Failures.{one_more_failure};
 ghost use Rattle.cwr_decode.specs.Items.{item_records};
@@ -120,6 +120,9 @@ pub fn check<R: Source, W: Target + Drop>(
     ensures written { IfOk result.1 (λ verdict. Appends (W.contents writer) (W.contents result.0) (verdict_line verdict)) }
 
     ensures reader_failed { result.1 ≡ Err ToolFault.Reader → R.failures reader.new ≡ one_more_failure (R.failures reader.old) }
+    // No other failure is passed over: neither device failed but where that is told.
+    ensures reader_quiet { result.1 ≢ Err ToolFault.Reader → R.failures reader.new ≡ R.failures reader.old }
+    ensures writer_quiet { IfOk result.1 (λ _. W.failures result.0 ≡ W.failures writer) }
     ensures unwritten { (result.1 ≡ Err ToolFault.Reader) ⊎ (result.1 ≡ Err ToolFault.Memory) → result.0 ≡ writer }
     ensures writer_failed { IfErr result.1 (λ fault. IsCheckFault fault (λ _. W.failures result.0 ≡ one_more_failure (W.failures writer))) }
     ensures part { IfErr result.1 (λ fault. IsCheckFault fault

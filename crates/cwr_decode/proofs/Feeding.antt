@@ -1,8 +1,10 @@
 -- A piece, line by line, and the end of the input.
 use Rattle.std.proofs.Common.{◌≡◌, ℕ, zero, suc, ◌+◌, ◌<◌, ◌≤◌, Bool, true, false, List, [], ◌∷◌, ◌++◌, length, take, drop, map, Option, Some, None, refl, sym, ap, subst, ◌∙◌, append_assoc, append-nil, arith, inl, inr, true≢false}
-use Rattle.std.specs.Prelude.{◌≢◌, IfSome}
+use Rattle.std.specs.Prelude.{◌≢◌, IfSome, IsSomeAnd}
 use Rattle.std.specs.List.{AllZip}
 use Rattle.std.proofs.lemmas.List.{length-drop, length-map, take-append-drop}
+use Rattle.cwr_layouts.specs.declared.kinds.Kind.{Kind}
+use Rattle.cwr_layouts.specs.declared.kinds.Kind.TheVariants.{Hdr, Grh, Grt, Trl}
 use Rattle.cwr_layouts.specs.declared.lines.LineEnd.{LineEnd}
 use Rattle.cwr_layouts.specs.declared.lines.LineEnd.TheVariants.{Open, Line, Over}
 use Rattle.cwr_layouts.specs.Records.{RecordValue}
@@ -22,8 +24,9 @@ use Rattle.cwr_decode.specs.declared.outcomes.Outcome.{Outcome}
 use Rattle.cwr_decode.specs.declared.outcomes.Outcome.TheVariants as outcomes
 use Rattle.cwr_decode.specs.declared.machine.State.{State}
 use Rattle.cwr_decode.specs.declared.machine.State.TheVariants as states
+use Rattle.cwr_decode.specs.Items.{is_in_transaction}
 use Rattle.cwr_decode.specs.Ends.{IsNotAccepted}
-use Rattle.cwr_decode.specs.Machines.{Standing, IsReady, Settles, EntersHeld, Judges, Closes, again, first, over, stopped}
+use Rattle.cwr_decode.specs.Machines.{Standing, IsReady, Settles, Enters, EntersHeld, Judges, Closes, WaitsOutside, again, first, over, stopped}
 use Rattle.cwr_decode.specs.Stands.{StandsFor, StandsIn, IsReading, IsInput, IsRight, held_of, items_out, text_of}
 use Rattle.cwr_decode.specs.Calls.{IsLive, Grows, Ends, Advances, Feeds, Finishes, seen}
 use Rattle.cwr_decode.proofs.Texts.{closed_text, closed_open}
@@ -108,6 +111,7 @@ settled_feeds old new piece o ready fresh e =
       again = if_some (again old.state) (λ p. (o ≡ p) × (new ≡ old)) (λ p. (o ≡ p) × (0 ≡ 0) × (new ≡ old)) (λ p h. (h.0, refl, h.1)) (settles_again old.state old new o e);
       more = λ q. absurd (settles_more old.state old new (subst (λ (x : Outcome). Settles old.state old (Some x) new) q e));
       unused = λ z. refl;
+      alone = λ w. (refl, λ q. settles_more old.state old new (subst (λ (x : Outcome). Settles old.state old (Some x) new) q e));
       memory = λ q l input given st. inl (settles_pending old.state old new o l e, refl);
       finished = m.finished;
       limits = m.limits;
@@ -124,8 +128,24 @@ pub record Fed (old : Standing) (piece : List ℕ) (used : ℕ) (d : Standing) :
   pub fresh : d.finished ≡ false
   pub was_fresh : old.finished ≡ false
   pub live : IsLive old.state
+  pub inside : ¬ WaitsOutside old
   pub grows : (input : List ℕ) (given : List Item) → StandsFor old input given → old.tally.counts.records ≤ d.tally.counts.records
   pub limits : d.tally.limits ≡ old.tally.limits
+
+-- a record that is an item of its own isn't entered without an answer
+outside_enters : (kind : Kind) (r : RecordValue) (old new : Standing) → is_in_transaction kind ≡ false → Enters kind r old None new → ⊥
+outside_enters Hdr r old new out e = cc e.0
+outside_enters Grh r old new out e = cc e.0
+outside_enters Grt r old new out e = cc e.0
+outside_enters Trl r old new out e = cc e.0
+outside_enters kind r old new out e = cc out
+
+outside_held : (held : Option RecordValue) (old new : Standing) → IsSomeAnd held (λ r. is_in_transaction r.kind ≡ false) → EntersHeld held old None new → ⊥
+outside_held None old new w e = e
+outside_held (Some r) old new w e = outside_enters r.kind r old new w e
+
+outside_told : (old new : Standing) → Settles old.state old None new → ¬ WaitsOutside old
+outside_told old new e w = outside_held (held_record old.line) old new w.1 (subst (λ (s : State). Settles s old None new) w.0 e)
 
 pub fed_none : (old d : Standing) (piece : List ℕ) → IsReady old.state old.finished old.line → old.finished ≡ false → Settles old.state old None d → Fed old piece 0 d
 fed_none old d piece ready fresh e =
@@ -139,6 +159,7 @@ fed_none old d piece ready fresh e =
       fresh = m.finished ∙ fresh;
       was_fresh = fresh;
       live = live;
+      inside = outside_told old d e;
       grows = λ input given st. omega (arith, m.counts);
       limits = m.limits;
     }
@@ -169,6 +190,7 @@ fed_more old d new piece used n f a = record {
   fresh = a.finished ∙ f.fresh;
   was_fresh = f.was_fresh;
   live = f.live;
+  inside = f.inside;
   grows = λ input given st. omega (arith, f.grows input given st, (a.grows (input ++ take used piece) given (f.stands input given st)).0);
   limits = a.limits ∙ f.limits;
 }
@@ -189,6 +211,7 @@ fed_out old d new piece used n o f a = record {
   again = subst (λ (q : Option Outcome). IfSome q (λ p. (o ≡ p) × (used + n ≡ 0) × (new ≡ old))) (sym f.live) tt;
   more = λ e. (omega (arith, f.within, a.more (ap (λ (x : Outcome). Some x) e), length-drop used piece), f.was_fresh);
   unused = λ z. absurd (true≢false (sym z ∙ f.was_fresh));
+  alone = λ w. absurd (f.inside w);
   memory = λ q l input given st.
       let before : old.tally.counts.records ≤ d.tally.counts.records = f.grows input given st in
       let more : d.tally.counts.records < new.tally.counts.records = (a.grows (input ++ take used piece) given (f.stands input given st)).1 (ap (λ (x : Outcome). Some x) q) in
@@ -211,6 +234,7 @@ finished_feeds old new piece o is_over f = record {
   again = if_some (again old.state) (λ p. (o ≡ p) × (new ≡ over old)) (λ p. (o ≡ p) × (0 ≡ 0) × (new ≡ old)) (λ p h. (h.0, refl, h.1 ∙ same)) f.again;
   more = λ e. absurd (f.more e);
   unused = λ z. refl;
+  alone = λ w. (refl, f.more);
   memory = f.memory;
   finished = f.finished ∙ sym is_over;
   limits = f.limits;

@@ -1,11 +1,11 @@
 -- What a call of a decoder does to what the decoder stands for, and what its answer says of the input.
-use Rattle.std.specs.Prelude.{◌≡◌, ◌⊎◌, ℕ, ◌<◌, ◌≤◌, Bool, true, false, List, ◌++◌, length, take, Option, Some, None, IfSome, IfNone}
+use Rattle.std.specs.Prelude.{◌≡◌, ◌≢◌, ◌⊎◌, ℕ, ◌<◌, ◌≤◌, Bool, true, false, List, ◌++◌, length, take, Option, Some, None, IfSome, IfNone}
 use Rattle.cwr_values.specs.declared.items.Item.{Item}
 use Rattle.cwr_decode.specs.declared.outcomes.Outcome.{Outcome}
 use Rattle.cwr_decode.specs.declared.outcomes.Outcome.TheVariants.{More, Memory}
 use Rattle.cwr_decode.specs.declared.machine.State.{State}
 use Rattle.cwr_decode.specs.declared.machine.State.TheVariants.{Reading, Pending}
-use Rattle.cwr_decode.specs.Machines.{Standing, IsReady, Leaves, Empties, again, over}
+use Rattle.cwr_decode.specs.Machines.{Standing, IsReady, Leaves, Empties, WaitsOutside, again, over}
 use Rattle.cwr_decode.specs.Stands.{StandsFor, IsRight, items_in, items_out}
 
 -- nothing was answered for good
@@ -80,6 +80,7 @@ pub record Feeds (old : Standing) (piece : List ℕ) (used : ℕ) (outcome : Out
   pub again : IfSome (again old.state) (λ o. (outcome ≡ o) × (used ≡ 0) × (new ≡ old))
   pub more : outcome ≡ More → (used ≡ length piece) × (old.finished ≡ false)
   pub unused : old.finished ≡ true → used ≡ 0
+  pub alone : WaitsOutside old → (used ≡ 0) × (outcome ≢ More)
   pub memory : outcome ≡ Memory → IsLive old.state → (input : List ℕ) (given : List Item) → StandsFor old input given → WantsMemory old used new
   pub finished : new.finished ≡ old.finished
   pub limits : new.tally.limits ≡ old.tally.limits

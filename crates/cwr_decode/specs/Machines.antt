@@ -18,6 +18,7 @@ use Rattle.cwr_decode.specs.declared.machine.State.{State}
 use Rattle.cwr_decode.specs.declared.machine.State.TheVariants.{Reading, Pending, Ended, Refused, Truncated, Memory}
 use Rattle.cwr_decode.specs.declared.refusals.Refusal.{Refusal}
 use Rattle.cwr_decode.specs.Judged.{IsNext, IsOfNone, IsFirstFault}
+use Rattle.cwr_decode.specs.Items.{is_in_transaction}
 use Rattle.cwr_decode.specs.Open.{goes_on_with}
 
 -- what a decoder holds: the line that is read or waits, what is counted of the records, and the records of the open
@@ -42,6 +43,10 @@ IsReady Ended finished line = Unit {0}
 IsReady (Refused refusal) finished line = Unit {0}
 IsReady (Truncated records) finished line = Unit {0}
 IsReady Memory finished line = Unit {0}
+
+-- a record waits that is an item of its own
+abbrev pub WaitsOutside : Standing → Type 0
+WaitsOutside d = (d.state ≡ Pending) × IsSomeAnd (held_record d.line) (λ r. is_in_transaction r.kind ≡ false)
 
 -- what is answered for good, once it was answered
 abbrev pub again : State → Option Outcome

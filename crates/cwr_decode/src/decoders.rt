@@ -1,8 +1,8 @@
 //! Reading a transmission in pieces of any size.
 
-ghost use Rattle.std.specs.Prelude.{◌≡◌, ◌≤◌, ◌++◌, [], List, ℕ, length, take, IfSome, true, false};
+ghost use Rattle.std.specs.Prelude.{◌≡◌, ◌≢◌, ◌≤◌, ◌++◌, [], List, ℕ, length, take, IfSome, true, false};
 ghost use Rattle.cwr_decode.specs.Calls.{IsLive, WantsMemory, seen};
-ghost use Rattle.cwr_decode.specs.Machines.{Empties, Leaves, again, held_list, over};
+ghost use Rattle.cwr_decode.specs.Machines.{Empties, Leaves, WaitsOutside, again, held_list, over};
 ghost use Rattle.cwr_decode.specs.Stands.{IsRight, StandsFor, items_out};
 ghost use Rattle.cwr_values.specs.declared.items.Item.{Item};
 
@@ -75,6 +75,8 @@ impl Decoder {
         ensures more { result.outcome ≡ Outcome.More → (result.used ≡ length piece.now) × (self.old.finished ≡ false) }
         // Once the input is over, no byte is used.
         ensures unused { self.old.finished ≡ true → result.used ≡ 0 }
+        // A record that waits and is an item of its own is answered with no byte used.
+        ensures alone { WaitsOutside self.old → (result.used ≡ 0) × (result.outcome ≢ Outcome.More) }
         // Want of memory comes only with a record that was being added: the one that waited, with no byte used, or one
         // that was accepted.
         ensures memory { result.outcome ≡ Outcome.Memory → IsLive self.old.state → (input : List ℕ) (given : List Item) → StandsFor self.old input given

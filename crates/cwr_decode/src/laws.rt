@@ -1,9 +1,11 @@
 //! Laws over the ends of texts, and those over transmissions that they stand on.
 
 ghost use Rattle.std.specs.Prelude.{List, length, ℕ, ◌++◌, ◌≡◌, ◌≤◌};
-ghost use Rattle.cwr_decode.specs.Ends.{IsAccepted, IsRefused, IsTruncated};
+ghost use Rattle.cwr_decode.specs.Ends.{IsAccepted, IsNotAccepted, IsRefused, IsTruncated};
 ghost use Rattle.cwr_decode.specs.Items.{items, value_items};
+ghost use Rattle.cwr_decode.specs.Places.{IsFirstBad};
 ghost use Rattle.cwr_decode.specs.declared.refusals.Refusal.{Refusal};
+ghost use Rattle.cwr_layouts.specs.Lines.{closed, raw_lines};
 ghost use Rattle.cwr_shape.specs.declared.limits.Limits.{Limits};
 ghost use Rattle.cwr_values.specs.Rows.{canonical_text, rows};
 ghost use Rattle.cwr_values.specs.Values.{FitsIn, IsTransmission, TransmissionValue};
@@ -45,4 +47,11 @@ pub fn one_end_at_most()
         → IsRefused limits text refusal → IsRefused limits text other → refusal ≡ other }
     ensures truncated_once { (limits : Limits) (text : List ℕ) (records others : ℕ)
         → IsTruncated limits text records → IsTruncated limits text others → records ≡ others }
+{}
+
+/// A text has some end: one that isn't accepted, and in which no place is the first at which nothing goes on, is
+/// truncated, with as many lines as it has.
+pub fn some_end()
+    ensures { (limits : Limits) (text : List ℕ) → IsNotAccepted limits text → ((i k : ℕ) → ¬ IsFirstBad limits text i k)
+        → IsTruncated limits text (length (raw_lines (closed text))) }
 {}

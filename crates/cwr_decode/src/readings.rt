@@ -2,7 +2,7 @@
 
 ghost use Rattle.std.specs.Prelude.{◌≡◌, ℕ, List, [], Option, IfNone, IfSome, IsSome, Some, true, false};
 ghost use Rattle.cwr_decode.specs.Stands.{StandsFor};
-ghost use Rattle.cwr_decode.specs.Machines.{again};
+ghost use Rattle.cwr_decode.specs.Machines.{WaitsOutside, again};
 ghost use Rattle.cwr_decode.specs.Readings.{answer_of, CountsReader, FeedsOn, IsUnderWay, Reads};
 
 use crate::decoders::Decoder;
@@ -126,6 +126,7 @@ fn settle(decoder: &mut Decoder) -> Option<Result<Option<Item>, ReadFault>>
     ensures failures { IfSome result (λ answer. (failures : ℕ) → CountsReader answer failures failures) }
     ensures again { IfSome (again decoder.old.state) (λ outcome. (result ≡ answer_of outcome) × (decoder.new ≡ decoder.old)) }
     ensures over { decoder.old.finished ≡ true → IsSome result }
+    ensures alone { WaitsOutside decoder.old → IsSome result }
 {
     answer(decoder.feed(&[]).outcome)
 }
@@ -163,6 +164,8 @@ impl<'a, R: Source> Reading<'a, R> {
             × (self.new.decoder ≡ self.old.decoder) × (self.new.reader.now ≡ self.old.reader.now)) }
         // Once the reader was at its end, it is asked no more.
         ensures over { self.old.decoder.finished ≡ true → self.new.reader.now ≡ self.old.reader.now }
+        // Nor is it where a record waits that is an item of its own.
+        ensures alone { WaitsOutside self.old.decoder → self.new.reader.now ≡ self.old.reader.now }
     {
         if let Some(told) = settle(&mut self.decoder) {
             return told;
