@@ -43,7 +43,7 @@ nowhere_bad limits text none i k = below (suc i) i (omega arith) k
 
     below : (n i : ℕ) → i < n → (k : ℕ) → ¬ IsBadAt limits text i k
     below zero i h k bad = absurd (omega arith)
-    below (suc n) i h k = fields_below i (λ j s. below n j (omega (arith, s, h))) (suc k) k (omega arith)
+    below (suc n) i h k bad = fields_below i (λ j s. below n j (omega (arith, s, h))) (suc k) k (omega arith) bad
 
 -- a text that is neither accepted nor bad at some first place is truncated
 pub some_end : (limits : Limits) (text : List ℕ) → IsNotAccepted limits text → ((i k : ℕ) → ¬ IsFirstBad limits text i k) → IsTruncated limits text (length (raw_lines (closed text)))
