@@ -1,5 +1,5 @@
 -- A piece, line by line, and the end of the input.
-use Rattle.std.proofs.Common.{◌≡◌, ℕ, zero, suc, ◌+◌, ◌<◌, ◌≤◌, Bool, true, false, List, [], ◌∷◌, ◌++◌, length, take, drop, map, Option, Some, None, refl, sym, ap, subst, ◌∙◌, append_assoc, append-nil, arith, inl, inr, true≢false}
+use Rattle.std.proofs.Common.{◌≡◌, ℕ, zero, suc, ◌+◌, ◌-◌, ◌<◌, ◌≤◌, Bool, true, false, List, [], ◌∷◌, ◌++◌, length, take, drop, map, Option, Some, None, refl, sym, ap, subst, ◌∙◌, append_assoc, append-nil, arith, inl, inr, true≢false}
 use Rattle.std.specs.Prelude.{◌≢◌, IfSome, IsSomeAnd}
 use Rattle.std.specs.List.{AllZip}
 use Rattle.std.proofs.lemmas.List.{length-drop, length-map, take-append-drop}
@@ -194,6 +194,10 @@ fed_more old d new piece used n f a = record {
   grows = λ input given st. omega (arith, f.grows input given st, (a.grows (input ++ take used piece) given (f.stands input given st)).0);
   limits = a.limits ∙ f.limits;
 }
+
+-- what is left of the piece grows less, as long as nothing is answered
+pub rest_smaller : (piece : List ℕ) (used n : ℕ) (d new : Standing) → Advances d (drop used piece) n None new → length piece - (used + n) < length piece - used
+rest_smaller piece used n d new a = omega (arith, a.some, a.within, length-drop used piece)
 
 pub fed_out : (old d new : Standing) (piece : List ℕ) (used n : ℕ) (o : Outcome) → Fed old piece used d → Advances d (drop used piece) n (Some o) new → Feeds old piece (used + n) o new
 fed_out old d new piece used n o f a = record {

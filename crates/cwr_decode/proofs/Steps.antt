@@ -1,11 +1,11 @@
 -- The steps of a decoder, put together.
 use Rattle.std.proofs.Common.{◌≡◌, ℕ, Bool, true, false, ◌&&◌, List, [], ◌∷◌, ◌++◌, Option, Some, None, refl, sym, ap, ap₂, subst, ◌∙◌, inl, inr}
-use Rattle.std.specs.Prelude.{◌==◌, Result, Ok, Err, MatchResult, MatchOption}
+use Rattle.std.specs.Prelude.{◌==◌, Result, Ok, Err, MatchResult, MatchOption, IsSomeAnd}
 use Rattle.std.proofs.lemmas.Bool.{eq-eqb, ne_eqb}
 use Rattle.cwr_layouts.specs.declared.kinds.Kind.{Kind}
 use Rattle.cwr_layouts.specs.declared.kinds.Kind.TheVariants.{Hdr, Grh, Grt, Trl}
 use Rattle.cwr_layouts.specs.Records.{RecordValue, IsRecord}
-use Rattle.cwr_layouts.specs.Held.{HeldLine, held_excess, held_kind, held_record}
+use Rattle.cwr_layouts.specs.Held.{HeldLine, carried_by, held_cells, held_excess, held_kind, held_record}
 use Rattle.cwr_shape.specs.declared.symbols.Symbol.{Symbol}
 use Rattle.cwr_shape.specs.declared.tallies.Place.{Place}
 use Rattle.cwr_shape.specs.declared.tallies.Place.TheVariants as places
@@ -18,6 +18,7 @@ use Rattle.cwr_decode.specs.declared.judging.LineFault.{LineFault}
 use Rattle.cwr_decode.specs.Judged.{IsNext, IsOfNone, IsFirstFault}
 use Rattle.cwr_decode.specs.declared.outcomes.Outcome.TheVariants as outcomes
 use Rattle.cwr_decode.specs.declared.machine.State.TheVariants as states
+use Rattle.cwr_decode.specs.Items.{is_in_transaction as inside_kind}
 use Rattle.cwr_decode.specs.Open.{goes_on_with}
 use Rattle.cwr_decode.specs.Machines.{Standing, Adds, GoesOn, Enters, Follows, HandsOut, Judges, Tells, counted, held_list, reading, stopped}
 
@@ -149,3 +150,35 @@ enters_now d next cut s r goes_on taken left result held out new c carried ok li
       where
         something : Some whole ≡ None → ⊥
         something f = cc f
+
+-- a record of a kind that stands inside transactions is added to those that are held
+adds_inside : (kind : Kind) (r : RecordValue) (d new : Standing) → inside_kind kind ≡ true → new ≡ reading d (Some (held_list d.held ++ r ∷ [])) → Enters kind r d None new
+adds_inside Hdr r d new i e = absurd (cc i)
+adds_inside Grh r d new i e = absurd (cc i)
+adds_inside Grt r d new i e = absurd (cc i)
+adds_inside Trl r d new i e = absurd (cc i)
+adds_inside kind r d new i e = e
+
+-- the kind of the record that a line carries is the line's
+carried_kind : (h : HeldLine) (r : RecordValue) → held_record h ≡ Some r → held_kind h ≡ Some r.kind
+carried_kind h r e = by (held_kind h) e
+  where
+    by : (kind : Option Kind) → carried_by kind (held_cells h) ≡ Some r → kind ≡ Some r.kind
+    by None f = absurd (cc f)
+    by (Some kind) f = ap (λ (k : Kind). Some k) (ap (λ (q : Option RecordValue). kind_or kind q) f)
+      where
+        kind_or : Kind → Option RecordValue → Kind
+        kind_or k None = k
+        kind_or k (Some q) = q.kind
+
+-- an accepted line's record is added to those that are held
+pub added_now : (d : Standing) (next : TallyValue) (cut : HeldLine) (s : Symbol) (r : RecordValue) (goes_on : Bool) (held : List RecordValue) (new : Standing) → cut ≡ d.line → IsSomeAnd (held_kind cut) (λ kind. inside_kind kind ≡ true)
+    → (held_record cut ≡ Some r) × IsRecord r × (held_excess cut ≡ false) → ((xs : List Symbol) → StandsFor d.tally xs → IsNext d.tally.limits xs cut s r) → next.limits ≡ d.tally.limits → ((xs : List Symbol) → StandsFor d.tally xs → StandsFor next (xs ++ s ∷ []))
+    → ((xs : List Symbol) → StandsFor d.tally xs → goes_on ≡ goes_on_with xs s) → goes_on ≡ true → d.held ≡ Some held
+    → new ≡ reading (counted d next) (Some (held ++ r ∷ [])) → Judges d None new
+added_now d next cut s r goes_on held new c inside carried ok limits stands same on has e =
+    let of_kind : inside_kind r.kind ≡ true = subst (λ (q : Option Kind). IsSomeAnd q (λ kind. inside_kind kind ≡ true)) (carried_kind cut r carried.0) inside in
+    let longer : held ++ r ∷ [] ≡ held_list d.held ++ r ∷ [] = ap (λ (q : Option (List RecordValue)). held_list q ++ r ∷ []) (sym has) in
+    accepted_line d d.tally next d.line cut s r goes_on None new refl refl c carried ok limits stands same
+    (subst (λ (b : Bool). Follows b d.held r (counted d next) None new) (sym on)
+    (adds_inside r.kind r (counted d next) new of_kind (e ∙ ap (λ (xs : List RecordValue). reading (counted d next) (Some xs)) longer)))

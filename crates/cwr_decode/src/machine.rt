@@ -1,13 +1,14 @@
 //! The steps of a decoder.
 
-ghost use Rattle.std.specs.Prelude.{List, ◌∷◌, ◌++◌, [], ◌≡◌, ◌≢◌, length, false};
+ghost use Rattle.std.specs.Prelude.{List, ◌∷◌, ◌++◌, [], ◌≡◌, ◌≢◌, length, true, false, None, IsTrue, IsFalse, IsSomeAnd};
 ghost use Rattle.cwr_layouts.specs.Held.{IsHeld, Takes, held_record};
 ghost use Rattle.cwr_shape.specs.Ranges.{AreInRange};
 ghost use Rattle.cwr_shape.specs.Tallies.{IsAdmitted, StandsFor};
 ghost use Rattle.cwr_shape.specs.declared.symbols.Symbol.{Symbol};
+ghost use Rattle.cwr_decode.specs.Items.{is_in_transaction};
 ghost use Rattle.cwr_decode.specs.Open.{goes_on_with};
 ghost use Rattle.cwr_decode.specs.Machines.{Adds, Closes, EntersHeld, GoesOn, HandsOut, HasRecord, IsReady, Judges, Settles, Tells, first, held_list, reading, stopped};
-ghost use Rattle.cwr_decode.specs.Calls.{Advances, Ends, Feeds, Finishes};
+ghost use Rattle.cwr_decode.specs.Calls.{Ends, Feeds, Finishes};
 
 use crate::judging::{LineFault, judge};
 use crate::outcomes::{Outcome, Step};
@@ -33,13 +34,6 @@ pub enum State {
     Truncated(u32),
     /// Memory was refused.
     Memory,
-}
-
-/// How many bytes were used, and what is answered.
-#[derive(Drop)]
-struct Advance {
-    used: usize,
-    outcome: Option<Outcome>,
 }
 
 /// What a decoder holds: at most one line and one transaction.
@@ -74,6 +68,20 @@ fn goes_on(tally: &mut Tally, symbol: Symbol) -> bool
     let begun = tally.transactions();
     tally.step(symbol);
     tally.transactions() == begun && matches!(tally.place(), Place::Transaction)
+}
+
+/// Whether records of the kind stand inside transactions and begin none.
+fn begins_nothing(kind: Option<Kind>) -> bool
+    ensures { IsTrue result → IsSomeAnd kind (λ known. is_in_transaction known ≡ true) }
+{
+    let Some(known) = kind else {
+        return false;
+    };
+    match known {
+        Kind::Hdr | Kind::Grh | Kind::Grt | Kind::Trl => false,
+        Kind::Agr | Kind::Nwr | Kind::Rev | Kind::Ack => false,
+        _ => true,
+    }
 }
 
 /// Takes the open transaction out, unless the next record goes on with it.
@@ -210,6 +218,35 @@ impl Machine {
         self.go_on(outcome)
     }
 
+    /// Adds the record of the line that ended to the open transaction, where that goes on with it and memory is found,
+    /// and begins a new line. Else nothing changes. Most lines are such: nothing but the record is moved.
+    fn add_line(&mut self) -> bool
+        requires { self.old.line.ended ≢ LineEnd.Open }
+        ensures added { IsTrue result → Judges self.old None self.new }
+        ensures kept { IsFalse result → self.new ≡ self.old }
+    {
+        let cut = self.line.cut();
+        if !begins_nothing(cut.kind()) {
+            return false;
+        }
+        let Ok((symbol, accepted)) = judge(&self.tally, &cut) else {
+            return false;
+        };
+        let mut tally = self.tally;
+        if !goes_on(&mut tally, symbol) {
+            return false;
+        }
+        let Some(whole) = &mut self.held else {
+            return false;
+        };
+        match whole.push(accepted) {
+            Ok(()) => self.tally = tally,
+            Err(_) => return false,
+        }
+        self.read_on();
+        true
+    }
+
     /// Judges the line that ended, and accepts or refuses it. An accepted record that ends a transaction waits, since
     /// that is handed out first.
     fn take_line(&mut self) -> Option<Outcome>
@@ -283,27 +320,6 @@ impl Machine {
         None
     }
 
-    /// Takes bytes up to the end of a line, and judges that.
-    fn advance(&mut self, piece: &[u8]) -> Advance
-        requires ready { IsReady self.old.state self.old.finished self.old.line }
-        requires reading { self.old.state ≡ State.Reading }
-        requires fresh { self.old.finished ≡ false }
-        ensures { Advances self.old piece.now result.used result.outcome self.new }
-    {
-        let taken = self.take(piece);
-        if let LineEnd::Open = taken.ended {
-            return Advance {
-                used: taken.used,
-                outcome: Some(Outcome::More),
-            };
-        }
-        let outcome = self.take_line();
-        Advance {
-            used: taken.used,
-            outcome,
-        }
-    }
-
     /// Takes the next piece of the input, up to the next item.
     pub fn feed(&mut self, piece: &[u8]) -> Step
         requires { IsReady self.old.state self.old.finished self.old.line }
@@ -317,9 +333,18 @@ impl Machine {
         }
         let mut used = 0;
         loop {
-            let advance = self.advance(&piece[used..]);
-            used += advance.used;
-            if let Some(outcome) = advance.outcome {
+            let taken = self.take(&piece[used..]);
+            used += taken.used;
+            if let LineEnd::Open = taken.ended {
+                return Step {
+                    used,
+                    outcome: Outcome::More,
+                };
+            }
+            if self.add_line() {
+                continue;
+            }
+            if let Some(outcome) = self.take_line() {
                 return Step { used, outcome };
             }
         }

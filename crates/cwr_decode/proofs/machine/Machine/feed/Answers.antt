@@ -1,8 +1,10 @@
-use Rattle.std.proofs.Common.{ℕ, ap, subst, sym, ◌∙◌}
+use Rattle.std.proofs.Common.{ℕ, drop, Some, None, ap, subst, sym, ◌∙◌}
 use Rattle.std.proofs.lemmas.List.{take_rest}
-use Rattle.cwr_decode.specs.Machines.{Standing}
+use Rattle.cwr_decode.specs.Machines.{Standing, Judges}
+use Rattle.cwr_decode.specs.declared.outcomes.Outcome.TheVariants as outcomes
 use Rattle.cwr_decode.specs.Calls.{Feeds}
-use Rattle.cwr_decode.proofs.Feeding.{finished_feeds, settled_feeds, fed_none, fed_more, fed_out}
+use Rattle.cwr_decode.proofs.Advancing.{advanced_line, advanced_open}
+use Rattle.cwr_decode.proofs.Feeding.{finished_feeds, settled_feeds, fed_none, fed_more, fed_out, rest_smaller}
 use Rattle.cwr_decode.proofs.machine.Machine.feed.Goals as goal
 
 pub returns-then-self : goal.returns-then-self
@@ -13,15 +15,44 @@ returns-then-self c =
 pub returns-in-Some : goal.returns-in-Some
 returns-in-Some c = settled_feeds c.args.self.now c.settle.new.self c.args.piece.now c.in-Some.outcome c.requires (ap (λ (d : Standing). d.finished) (sym c.self.view_is) ∙ c.if-self.false) c.in-Some.ensures
 
-pub loop-outcome-init : goal.loop-outcome-init
-loop-outcome-init c = fed_none c.args.self.now c.settle.new.self c.args.piece.now c.requires (ap (λ (d : Standing). d.finished) (sym c.self.view_is) ∙ c.if-self.false) c.in_default.ensures
+pub loop-self-init : goal.loop-self-init
+loop-self-init c = fed_none c.args.self.now c.settle.new.self c.args.piece.now c.requires (ap (λ (d : Standing). d.finished) (sym c.self.view_is) ∙ c.if-self.false) c.in_default.ensures
 
-pub returns-in-Some-outcome : goal.returns-in-Some-outcome
-returns-in-Some-outcome c =
-    rw c.in-Some-outcome.outcome-is
-    (fed_out c.args.self.now c.loop-outcome.self c.advance-advance.new.self c.args.piece.now c.loop-outcome.used c.advance-advance.result.used c.in-Some-outcome.outcome c.loop-outcome.invariant
-    (rw (take_rest, c.in-Some-outcome.is) at c.advance-advance.ensures))
+pub returns-in-Open : goal.returns-in-Open
+returns-in-Open c =
+    fed_out c.args.self.now c.loop-self.self c.take-taken.new.self c.args.piece.now c.loop-self.used c.take-taken.result.used outcomes.More c.loop-self.invariant
+    (advanced_open c.loop-self.self c.take-taken.new.self (drop c.loop-self.used c.args.piece.now) c.take-taken.result.used c.loop-self.invariant.reading c.loop-self.invariant.fresh
+    (rw take_rest at c.take-taken.ensures.takes) c.take-taken.ensures.held c.take-taken.ensures.others (sym c.take-taken.ensures.ended ∙ c.in-Open.is))
 
-pub loop-outcome-preserved : goal.loop-outcome-preserved
-loop-outcome-preserved c =
-    fed_more c.args.self.now c.loop-outcome.self c.advance-advance.new.self c.args.piece.now c.loop-outcome.used c.advance-advance.result.used c.loop-outcome.invariant (rw (take_rest, c.in_default-outcome.is) at c.advance-advance.ensures)
+pub loop-self-preserved-then-add_line : goal.loop-self-preserved-then-add_line
+loop-self-preserved-then-add_line c =
+    fed_more c.args.self.now c.loop-self.self c.add_line.new.self c.args.piece.now c.loop-self.used c.take-taken.result.used c.loop-self.invariant
+    (advanced_line c.loop-self.self c.take-taken.new.self c.add_line.new.self (drop c.loop-self.used c.args.piece.now) c.take-taken.result.used None c.loop-self.invariant.reading c.loop-self.invariant.fresh
+    (rw take_rest at c.take-taken.ensures.takes) c.take-taken.ensures.held c.take-taken.ensures.others (λ e. c.in_default-ended.not-Open (c.take-taken.ensures.ended ∙ e)) (c.add_line.ensures.added c.if-add_line.true))
+
+pub loop-self-smaller-then-add_line : goal.loop-self-smaller-then-add_line
+loop-self-smaller-then-add_line c =
+    rest_smaller c.args.piece.now c.loop-self.used c.take-taken.result.used c.loop-self.self c.add_line.new.self
+    (advanced_line c.loop-self.self c.take-taken.new.self c.add_line.new.self (drop c.loop-self.used c.args.piece.now) c.take-taken.result.used None c.loop-self.invariant.reading c.loop-self.invariant.fresh
+    (rw take_rest at c.take-taken.ensures.takes) c.take-taken.ensures.held c.take-taken.ensures.others (λ e. c.in_default-ended.not-Open (c.take-taken.ensures.ended ∙ e)) (c.add_line.ensures.added c.if-add_line.true))
+
+pub returns-in-Some-take_line : goal.returns-in-Some-take_line
+returns-in-Some-take_line c =
+    fed_out c.args.self.now c.loop-self.self c.take_line.new.self c.args.piece.now c.loop-self.used c.take-taken.result.used c.in-Some-take_line.outcome c.loop-self.invariant
+    (advanced_line c.loop-self.self c.take-taken.new.self c.take_line.new.self (drop c.loop-self.used c.args.piece.now) c.take-taken.result.used (Some c.in-Some-take_line.outcome) c.loop-self.invariant.reading c.loop-self.invariant.fresh
+    (rw take_rest at c.take-taken.ensures.takes) c.take-taken.ensures.held c.take-taken.ensures.others (λ e. c.in_default-ended.not-Open (c.take-taken.ensures.ended ∙ e))
+    (subst (λ (d : Standing). Judges d (Some c.in-Some-take_line.outcome) c.take_line.new.self) (c.add_line.ensures.kept c.if-add_line.false) c.in-Some-take_line.ensures))
+
+pub loop-self-preserved : goal.loop-self-preserved
+loop-self-preserved c =
+    fed_more c.args.self.now c.loop-self.self c.take_line.new.self c.args.piece.now c.loop-self.used c.take-taken.result.used c.loop-self.invariant
+    (advanced_line c.loop-self.self c.take-taken.new.self c.take_line.new.self (drop c.loop-self.used c.args.piece.now) c.take-taken.result.used None c.loop-self.invariant.reading c.loop-self.invariant.fresh
+    (rw take_rest at c.take-taken.ensures.takes) c.take-taken.ensures.held c.take-taken.ensures.others (λ e. c.in_default-ended.not-Open (c.take-taken.ensures.ended ∙ e))
+    (subst (λ (d : Standing). Judges d None c.take_line.new.self) (c.add_line.ensures.kept c.if-add_line.false) c.in_default-take_line.ensures))
+
+pub loop-self-smaller : goal.loop-self-smaller
+loop-self-smaller c =
+    rest_smaller c.args.piece.now c.loop-self.used c.take-taken.result.used c.loop-self.self c.take_line.new.self
+    (advanced_line c.loop-self.self c.take-taken.new.self c.take_line.new.self (drop c.loop-self.used c.args.piece.now) c.take-taken.result.used None c.loop-self.invariant.reading c.loop-self.invariant.fresh
+    (rw take_rest at c.take-taken.ensures.takes) c.take-taken.ensures.held c.take-taken.ensures.others (λ e. c.in_default-ended.not-Open (c.take-taken.ensures.ended ∙ e))
+    (subst (λ (d : Standing). Judges d None c.take_line.new.self) (c.add_line.ensures.kept c.if-add_line.false) c.in_default-take_line.ensures))

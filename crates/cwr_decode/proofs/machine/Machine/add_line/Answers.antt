@@ -1,0 +1,24 @@
+use Rattle.std.proofs.Common.{◌≡◌, true, List, Option, Some, None, refl, sym, ap, subst, ◌∙◌}
+use Rattle.std.specs.Prelude.{IsSomeAnd}
+use Rattle.cwr_layouts.specs.declared.kinds.Kind.{Kind}
+use Rattle.cwr_layouts.specs.Records.{RecordValue}
+use Rattle.cwr_decode.specs.Items.{is_in_transaction}
+use Rattle.cwr_decode.specs.Machines.{Standing, Judges, counted, reading}
+use Rattle.cwr_decode.proofs.Steps.{added_now, holding}
+use Rattle.cwr_decode.proofs.machine.Machine.add_line.Goals as goal
+
+pub returns-in-Err-clause-kept : goal.returns-in-Err-clause-kept
+returns-in-Err-clause-kept c =
+    let i = c.self.inside in
+    let d : Standing = record { line = i.line; tally = i.tally; held = i.held; state = i.state; finished = i.finished } in
+    λ _. ap (holding d) (ap (λ (xs : List RecordValue). Some xs) c.in-Err.ensures.err ∙ sym c.in-Some.is) ∙ c.self.view_is
+
+pub returns-clause-added : goal.returns-clause-added
+returns-clause-added c =
+    let i = c.self.inside in
+    let d : Standing = record { line = i.line; tally = i.tally; held = i.held; state = i.state; finished = i.finished } in
+    λ _. subst (λ (q : Standing). Judges q None c.read_on.new.self) c.self.view_is
+    (added_now d c.goes_on.new.tally c.cut-cut.result c.in-Ok.symbol c.in-Ok.accepted c.goes_on.result c.in-Some.whole c.read_on.new.self c.cut-cut.ensures
+    (subst (λ (q : Option Kind). IsSomeAnd q (λ kind. is_in_transaction kind ≡ true)) c.kind.ensures (c.begins_nothing.ensures c.if-not-begins_nothing.false)) c.in-Ok.ensures.carried c.in-Ok.ensures.ok
+    c.goes_on.ensures.limits c.goes_on.ensures.stands c.goes_on.ensures.same c.if-not-goes_on.false c.in-Some.is
+    (c.read_on.ensures ∙ ap (λ (xs : List RecordValue). reading (counted d c.goes_on.new.tally) (Some xs)) c.in-Ok-push.ensures.ok))
