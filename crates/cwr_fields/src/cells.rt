@@ -16,8 +16,8 @@ use crate::tables::Table;
 use crate::times::TimeOfDay;
 use crate::typed_cells::is_cell;
 
-/// Whether no byte is a control byte.
-fn is_plain(cell: &[u8]) -> bool
+/// Whether no byte of the text is a control byte: one of 0 to 31, or 127.
+pub fn is_plain(cell: &[u8]) -> bool
     ensures { result ≡ is_plain cell.now }
 {
     !has_control(cell)
@@ -72,14 +72,27 @@ fn told_or_blank(is_one: bool, other: CellFault, cell: &[u8]) -> Result<(), Cell
     }
 }
 
+/// Judges a required cell that has no control byte.
+fn required_plain(cell: &[u8]) -> Result<(), CellFault>
+    requires { IsTrue (is_plain cell.now) }
+    ensures ok { OnOk result (Holds CellType.Required cell.now) }
+    ensures err { IfErr result (λ fault. HasFault CellType.Required cell.now fault) }
+{
+    if is_spaces(cell) {
+        Err(CellFault::Blank)
+    } else {
+        Ok(())
+    }
+}
+
 fn required(cell: &[u8]) -> Result<(), CellFault>
     ensures ok { OnOk result (Holds CellType.Required cell.now) }
     ensures err { IfErr result (λ fault. HasFault CellType.Required cell.now fault) }
 {
-    if has_control(cell) {
-        Err(CellFault::Control)
+    if is_plain(cell) {
+        required_plain(cell)
     } else {
-        told(!is_spaces(cell), CellFault::Blank)
+        Err(CellFault::Control)
     }
 }
 
@@ -119,6 +132,21 @@ pub fn fits(ty: CellType, cell: &[u8]) -> Result<(), CellFault>
         CellType::Code(table) => told_or_blank(is_code(table, cell), CellFault::NotACode, cell),
         CellType::OptCode(table) => told(is_opt_code(table, cell), CellFault::NotACode),
         CellType::Constant(word) => told(cell == word.text(), CellFault::NotConstant),
+    }
+}
+
+/// Judges a cell that has no control byte, as `fits` does: one of a text that was found plain as a whole isn't looked
+/// through again. The cell is as wide as `width_of` says.
+pub fn fits_plain(ty: CellType, cell: &[u8]) -> Result<(), CellFault>
+    requires width { ForSome (type_width ty) (λ width. length cell.now ≡ width) }
+    requires plain { IsTrue (is_plain cell.now) }
+    ensures ok { OnOk result (Holds ty cell.now) }
+    ensures err { IfErr result (λ fault. HasFault ty cell.now fault) }
+{
+    match ty {
+        CellType::Text => Ok(()),
+        CellType::Required => required_plain(cell),
+        _ => fits(ty, cell),
     }
 }
 

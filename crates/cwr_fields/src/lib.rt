@@ -32,7 +32,7 @@ pub use agreement_codes::{
 };
 pub use byte_runs::{first_control, is_spaces, spells, trimmed};
 pub use cell_types::{CellFault, CellType, Word};
-pub use cells::{fits, width_of};
+pub use cells::{fits, fits_plain, is_plain, width_of};
 pub use coded::Coded;
 pub use codes::{Role, TransactionType};
 pub use conversions::OutOfRange;

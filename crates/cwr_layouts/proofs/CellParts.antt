@@ -1,9 +1,10 @@
 -- The cells of a line are parts of the line filled up to its kind's width.
-use Rattle.std.proofs.Common.{◌≡◌, ◌≢◌, ℕ, zero, suc, ◌+◌, ◌-◌, ◌≤◌, Bool, true, false, cond, List, [], ◌∷◌, length, map, take, drop, option_map, slice_get, refl, sym, subst, ap, ◌∙◌, arith}
+use Rattle.std.proofs.Common.{◌≡◌, ◌≢◌, ℕ, zero, suc, ◌+◌, ◌-◌, ◌≤◌, Bool, true, false, not, ◌&&◌, nat_lt, cond, List, [], ◌∷◌, length, map, take, drop, option_map, slice_get, refl, sym, subst, ap, ap₂, ◌∙◌, arith}
 use Rattle.std.specs.Prelude.{◌==◌, Option, Some, None}
 use Rattle.std.proofs.lemmas.List.{drop-drop}
 use Rattle.std.proofs.lemmas.List.Sums.{sum_by-cons}
-use Rattle.cwr_fields.specs.Bytes.{filled}
+use Rattle.std.proofs.lemmas.Bool.{and_parts}
+use Rattle.cwr_fields.specs.Bytes.{filled, is_control, is_plain}
 use Rattle.cwr_layouts.specs.declared.kinds.Kind.{Kind}
 use Rattle.cwr_layouts.specs.declared.lines.LineEnd.{LineEnd}
 use Rattle.cwr_layouts.specs.declared.lines.LineEnd.TheVariants.{Open, Line, Over}
@@ -15,6 +16,20 @@ use Rattle.cwr_layouts.proofs.Filling.{length-filled}
 -- the part of a text that a field takes
 abbrev pub part : List ℕ → ℕ × FieldLayout → List ℕ
 part text p = take p.1.width (drop p.0 text)
+
+plain_take : (n : ℕ) (text : List ℕ) → is_plain text ≡ true → is_plain (take n text) ≡ true
+plain_take zero text h = refl
+plain_take (suc n) [] h = refl
+plain_take (suc n) (b ∷ text) h = let p = and_parts (nat_lt b 256 && not (is_control b)) (is_plain text) h in ap₂ (λ (x y : Bool). x && y) p.0 (plain_take n text p.1)
+
+plain_drop : (n : ℕ) (text : List ℕ) → is_plain text ≡ true → is_plain (drop n text) ≡ true
+plain_drop zero text h = h
+plain_drop (suc n) [] h = refl
+plain_drop (suc n) (b ∷ text) h = plain_drop n text (and_parts (nat_lt b 256 && not (is_control b)) (is_plain text) h).1
+
+-- the part of a text without control bytes has none
+pub plain_part : (text : List ℕ) (p : ℕ × FieldLayout) → is_plain text ≡ true → is_plain (part text p) ≡ true
+plain_part text p h = plain_take p.1.width (drop p.0 text) (plain_drop p.0 text h)
 
 -- a piece is the part that its field takes
 pub piece_is_part : (at : ℕ) (fields : List FieldLayout) (text : List ℕ) (i : ℕ)

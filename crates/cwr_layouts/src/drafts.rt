@@ -1,10 +1,10 @@
 //! Records that are made cell by cell.
 
-ghost use Rattle.std.specs.Prelude.{◌≡◌, ◌↔◌, ◌+◌, ◌++◌, ◌≤◌, length, IsOk, OnOk, OnErr, IfOk, IfErr};
+ghost use Rattle.std.specs.Prelude.{◌≡◌, IsTrue, ◌↔◌, ◌+◌, ◌++◌, ◌≤◌, length, IsOk, OnOk, OnErr, IfOk, IfErr};
 ghost use Rattle.std.specs.List.{splice};
 ghost use Rattle.std.specs.Option.{ForSome};
-ghost use Rattle.cwr_fields.specs.Bytes.{filled};
-ghost use Rattle.cwr_fields.specs.Cells.{type_width};
+ghost use Rattle.cwr_fields.specs.Bytes.{filled, is_plain};
+ghost use Rattle.cwr_fields.specs.Cells.{Holds, HasFault, type_width};
 ghost use Rattle.cwr_layouts.specs.Layouts.{line_width};
 ghost use Rattle.cwr_layouts.specs.Records.{IsRecord, blank_cell, blank_record, carried_fields};
 ghost use Rattle.cwr_layouts.specs.Carried.{Sets, IsSetFault, FitsAt, HasFaultAt, IsFirstUnfit, record_in};
@@ -15,7 +15,7 @@ use crate::lines::{fill_up, part};
 use crate::lookups::{carried, field, fields};
 use crate::records::{LineText, Record, WIDEST_LINE, kept, show_cells};
 use arrayvec::ArrayVec;
-use cwr_fields::{CellFault, CellType, fits};
+use cwr_fields::{CellFault, CellType, fits, fits_plain, is_plain};
 use std::error::Error;
 use std::fmt::{self, Debug, Display};
 use std::marker::Model;
@@ -76,14 +76,30 @@ fn filled_cell(text: &[u8], width: usize) -> LineText
     cell
 }
 
-/// Judges the cell of field `j` of a whole line. A field that isn't there, or is derived, has none.
-fn judge_cell(kind: Kind, line: &[u8], j: u8) -> Result<(), CellFault>
-    requires { length line.now ≡ line_width kind }
+/// Judges a cell, of which is told whether it is known to have no control byte.
+fn fits_known(ty: CellType, cell: &[u8], plain: bool) -> Result<(), CellFault>
+    requires width { ForSome (type_width ty) (λ width. length cell.now ≡ width) }
+    requires plain { IsTrue plain → IsTrue (is_plain cell.now) }
+    ensures ok { OnOk result (Holds ty cell.now) }
+    ensures err { IfErr result (λ fault. HasFault ty cell.now fault) }
+{
+    if plain {
+        fits_plain(ty, cell)
+    } else {
+        fits(ty, cell)
+    }
+}
+
+/// Judges the cell of field `j` of a whole line, of which is told whether it is known to have no control byte. A field
+/// that isn't there, or is derived, has none.
+fn judge_cell(kind: Kind, line: &[u8], plain: bool, j: u8) -> Result<(), CellFault>
+    requires whole { length line.now ≡ line_width kind }
+    requires plain { IsTrue plain → IsTrue (is_plain line.now) }
     ensures ok { OnOk result (FitsAt (record_in kind line.now) j) }
     ensures err { IfErr result (HasFaultAt (record_in kind line.now) j) }
 {
     match carried(kind, j) {
-        Some(place) => fits(place.ty, part(line, place)),
+        Some(place) => fits_known(place.ty, part(line, place), plain),
         None => Ok(()),
     }
 }
@@ -94,9 +110,10 @@ pub(crate) fn judge(kind: Kind, line: &[u8]) -> Result<(), DraftFault>
     ensures variant { IsOk result ↔ IsRecord (record_in kind line.now) }
     ensures err { IfErr result (IsFirstUnfit (record_in kind line.now)) }
 {
+    let plain = is_plain(line);
     for before in 0..fields(kind) {
         let field = before + 1;
-        if let Err(fault) = judge_cell(kind, line, field) {
+        if let Err(fault) = judge_cell(kind, line, plain, field) {
             return Err(DraftFault { field, fault });
         }
     }

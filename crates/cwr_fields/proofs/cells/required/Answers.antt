@@ -4,12 +4,7 @@ use Rattle.cwr_fields.specs.Bytes.{is_plain, has_control}
 use Rattle.cwr_fields.proofs.Blanks.{plain_unless_control}
 use Rattle.cwr_fields.proofs.cells.required.Goals as goal
 
-pub returns-then-has_control-clause-err : goal.returns-then-has_control-clause-err
-returns-then-has_control-clause-err c =
-    let plain : is_plain c.args.cell.now ≡ not (has_control c.args.cell.now) = plain_unless_control c.args.cell.now (λ k. omega (arith, c.type_inv.cell k)) in
-    grind (arith, common_steps, plain)
-
-pub returns-else-has_control-clause-ok : goal.returns-else-has_control-clause-ok
-returns-else-has_control-clause-ok c =
+pub returns-else-is_plain-clause-err : goal.returns-else-is_plain-clause-err
+returns-else-is_plain-clause-err c =
     let plain : is_plain c.args.cell.now ≡ not (has_control c.args.cell.now) = plain_unless_control c.args.cell.now (λ k. omega (arith, c.type_inv.cell k)) in
     grind (arith, common_steps, plain)
