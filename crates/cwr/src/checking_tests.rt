@@ -8,6 +8,7 @@ use cwr_fields::{Counted, DeviceFault, Source};
 use cwr_shape::Limits;
 use cwr_tools::{ToolFault, Verdict};
 use std::alloc::{AllocError, Global};
+use std::io::{self, ErrorKind, Write};
 use std::test::Fail;
 
 const HDR: &[u8] =
@@ -46,6 +47,23 @@ impl Source for Memory<'_> {
         let all: &[u8] = self.left;
         self.shown -= count;
         self.left = &all[count..];
+    }
+}
+
+/// A writer that takes all texts, and can't hand them on.
+#[derive(Drop)]
+struct Stuck {
+    taken: usize,
+}
+
+impl Write for Stuck {
+    fn write(&mut self, text: &[u8]) -> io::Result<usize> {
+        self.taken = self.taken.saturating_add(text.len());
+        Ok(text.len())
+    }
+
+    fn flush(&mut self) -> io::Result<()> {
+        Err(io::Error::from(ErrorKind::Other))
     }
 }
 
@@ -138,6 +156,28 @@ fn one_transmission_behind_another(rt: HostRuntime) -> Result<(), Fail> {
     }
     let (_, outcome) = check(alloc, limits, &mut reader, Counted::new(Vec::new(alloc)));
     assert_eq!(rt; outcome, Ok(Verdict::Truncated { records: 0 }));
+    Ok(())
+}
+
+#[test]
+fn writers_that_fail(rt: HostRuntime) -> Result<(), Fail> {
+    let alloc = rt.alloc();
+    let limits = Limits::new(5, 1, 1)?;
+    let text = text_with(alloc, GRT, TRL)?;
+    let mut reader = Counted::new(text.as_slice());
+    let stuck = Counted::new(Stuck { taken: 0 });
+    let (writer, outcome) = check(alloc, limits, &mut reader, stuck);
+    assert_eq!(rt; outcome, Err(ToolFault::Writer { written: 39 }));
+    assert_eq!(rt; writer.into_inner().taken, 39);
+    let mut reader = Counted::new(text.as_slice());
+    let mut place = [b' '; 38];
+    let full = Counted::new(place.as_mut_slice());
+    let (_, outcome) = check(alloc, limits, &mut reader, full);
+    assert_eq!(rt; outcome, Err(ToolFault::Writer { written: 38 }));
+    assert_eq!(rt;
+        place.as_slice(),
+        b"GOOD groups 1 transactions 1 records 5".as_slice()
+    );
     Ok(())
 }
 

@@ -1,9 +1,10 @@
 //! Runs over memory, and over files that are there or missing wherever the tests run.
 
 use crate::program::run;
+use crate::worked_records::two_groups;
 use std::alloc::{AllocError, Global};
 use std::io;
-use std::io::Read;
+use std::io::{Read, Write};
 use std::test::Fail;
 
 /// What a run answered and wrote.
@@ -20,6 +21,20 @@ struct Failing;
 
 impl Read for Failing {
     fn read(&mut self, _buf: &mut [u8]) -> io::Result<usize> {
+        Err(io::Error::from(io::ErrorKind::Other))
+    }
+}
+
+/// A writer that takes all texts, and can't hand them on.
+#[derive(Drop)]
+struct Stuck;
+
+impl Write for Stuck {
+    fn write(&mut self, text: &[u8]) -> io::Result<usize> {
+        Ok(text.len())
+    }
+
+    fn flush(&mut self) -> io::Result<()> {
         Err(io::Error::from(io::ErrorKind::Other))
     }
 }
@@ -95,6 +110,16 @@ fn writer_that_is_full(rt: HostRuntime) {
     );
     assert_eq!(rt; status, 3);
     assert_eq!(rt; error.as_slice(), b"cwr: write fault\n".as_slice());
+}
+
+#[test]
+fn writer_that_cannot_hand_on(rt: HostRuntime) -> Result<(), Fail> {
+    let text = acknowledgements(rt.alloc(), false)?;
+    let mut error = Vec::new(rt.alloc());
+    let status = run(&rt, ["cwr"].as_slice(), text.as_slice(), Stuck, &mut error);
+    assert_eq!(rt; status, 3);
+    assert_eq!(rt; error.as_slice(), b"cwr: write fault\n".as_slice());
+    Ok(())
 }
 
 /// Adds a line that is filled up with spaces to the width, and its line end.
@@ -218,6 +243,21 @@ fn transmission_within_the_least_limits(rt: HostRuntime) -> Result<(), Fail> {
         );
         assert!(rt; ran.error.is_empty(), "at {count} words");
     }
+    Ok(())
+}
+
+#[test]
+fn transmission_of_two_groups(rt: HostRuntime) -> Result<(), Fail> {
+    let text = two_groups(rt.alloc())?;
+    assert_eq!(rt; text.bytes().len(), 1599);
+    let words = ["cwr", "check"];
+    let ran = run_over(&rt, words.as_slice(), text.bytes());
+    assert_eq!(rt; ran.status, 0);
+    assert_eq!(rt;
+        ran.output.as_slice(),
+        b"GOOD groups 2 transactions 3 records 12\n".as_slice()
+    );
+    assert!(rt; ran.error.is_empty());
     Ok(())
 }
 

@@ -320,7 +320,7 @@ fn wrong_counts(rt: HostRuntime) -> Result<(), Fail> {
     Ok(())
 }
 
-/// H and GR(NWR).
+/// The header of a transmission, and that of a group of new works.
 pub(crate) fn begun_works(alloc: Global) -> Result<Text, Fail> {
     let mut text = Text::new(alloc);
     text.header()?;
@@ -329,7 +329,7 @@ pub(crate) fn begun_works(alloc: Global) -> Result<Text, Fail> {
 }
 
 #[test]
-fn misplaced_records(rt: HostRuntime) -> Result<(), Fail> {
+fn a_work_that_ends_without_writer(rt: HostRuntime) -> Result<(), Fail> {
     let mut text = begun_works(rt.alloc())?;
     text.work(b"00000000")?;
     text.group_end(b"00001", b"00000001", b"00000003")?;
@@ -340,6 +340,11 @@ fn misplaced_records(rt: HostRuntime) -> Result<(), Fail> {
         2,
         refusal(4, 1, Level::T, Reason::Misplaced),
     );
+    Ok(())
+}
+
+#[test]
+fn a_publisher_behind_a_writer(rt: HostRuntime) -> Result<(), Fail> {
     let mut text = begun_works(rt.alloc())?;
     text.work(b"00000000")?;
     text.writer(b"00000000", b"00000001")?;
@@ -354,6 +359,11 @@ fn misplaced_records(rt: HostRuntime) -> Result<(), Fail> {
         2,
         refusal(5, 1, Level::T, Reason::Misplaced),
     );
+    Ok(())
+}
+
+#[test]
+fn a_second_header(rt: HostRuntime) -> Result<(), Fail> {
     let mut text = Text::new(rt.alloc());
     text.header()?;
     text.header()?;
@@ -364,6 +374,11 @@ fn misplaced_records(rt: HostRuntime) -> Result<(), Fail> {
         1,
         refusal(2, 1, Level::E, Reason::Misplaced),
     );
+    Ok(())
+}
+
+#[test]
+fn a_revised_work_in_a_group_of_new_ones(rt: HostRuntime) -> Result<(), Fail> {
     let mut text = begun_works(rt.alloc())?;
     text.revision(b"00000000")?;
     check_refused(
@@ -434,7 +449,7 @@ fn bad_cells(rt: HostRuntime) -> Result<(), Fail> {
 }
 
 #[test]
-fn passed_limits(rt: HostRuntime) -> Result<(), Fail> {
+fn a_group_too_many(rt: HostRuntime) -> Result<(), Fail> {
     let mut text = Text::new(rt.alloc());
     text.header()?;
     text.group(b"ACK", b"00001")?;
@@ -450,19 +465,16 @@ fn passed_limits(rt: HostRuntime) -> Result<(), Fail> {
         4,
         refusal(5, 1, Level::E, groups),
     );
+    Ok(())
+}
+
+#[test]
+fn a_record_too_many(rt: HostRuntime) -> Result<(), Fail> {
     let mut text = Text::new(rt.alloc());
     text.header()?;
     text.group(b"ACK", b"00001")?;
     text.acknowledgement(b"00000000")?;
-    let cells: [(u8, &[u8]); 6] = [
-        (1, b"MSG"),
-        (2, b"00000000"),
-        (3, b"00000001"),
-        (4, b"F"),
-        (7, b"F"),
-        (9, b"TITLE CHANGED"),
-    ];
-    text.line(Kind::Msg, &cells)?;
+    text.message(b"00000001")?;
     let transaction = Reason::Limit(LimitKind::Transaction);
     let one_record = Limits::new(99_999_999, 99_999, 1)?;
     check_refused(
@@ -512,7 +524,7 @@ fn unknown_kinds(rt: HostRuntime) -> Result<(), Fail> {
     Ok(())
 }
 
-/// The line of H with the version, filled up with spaces to so many bytes.
+/// The line of the header with the version, filled up with spaces to so many bytes.
 fn long_header(alloc: Global, version: &[u8], len: usize) -> Result<Text, Fail> {
     let mut text = Text::new(alloc);
     text.add(b"HDRPB123456789MUSIC HOUSE                                  ")?;

@@ -15,11 +15,12 @@ const ACK: Symbol = Symbol::Plain(Kind::Ack);
 
 const GRH_ACK: Symbol = Symbol::Grh(TransactionType::Acknowledgement);
 
-const A1: &[u8] =
+/// An acknowledgement in full width.
+const ACKNOWLEDGEMENT: &[u8] =
     b"ACK0000000000000000202401021015000000100000000NWRBLUE RIVER                                                  W0001                                   20240110AS";
 
-/// A1 and a letter behind its last field.
-const A1_AND_X: &[u8] =
+/// The acknowledgement and a letter behind its last field.
+const ACKNOWLEDGEMENT_AND_X: &[u8] =
     b"ACK0000000000000000202401021015000000100000000NWRBLUE RIVER                                                  W0001                                   20240110ASX";
 
 /// The line that a text begins with.
@@ -71,8 +72,11 @@ fn with(text: &[u8], start: usize, bytes: &[u8]) -> [u8; 159]
 #[test]
 fn lines_behind_a_group_of_acknowledgements(rt: HostRuntime) -> Result<(), Fail> {
     let tally = behind(&[HDR, GRH_ACK], 99_999_999, 99_999, 999_999)?;
-    assert_eq!(rt; judged(&tally, A1), Ok(ACK));
-    assert_eq!(rt; judged(&tally, A1_AND_X), at(14, Reason::Excess));
+    assert_eq!(rt; judged(&tally, ACKNOWLEDGEMENT), Ok(ACK));
+    assert_eq!(rt;
+        judged(&tally, ACKNOWLEDGEMENT_AND_X),
+        at(14, Reason::Excess)
+    );
     assert_eq!(rt; judged(&tally, b"XYZ"), at(1, Reason::UnknownKind));
     assert_eq!(rt; judged(&tally, b""), at(1, Reason::UnknownKind));
     assert_eq!(rt;
@@ -92,10 +96,13 @@ fn lines_behind_a_group_of_acknowledgements(rt: HostRuntime) -> Result<(), Fail>
     ];
     for (start, bytes, field, reason) in table {
         if start + bytes.len() <= 159 {
-            assert_eq!(rt; judged(&tally, &with(A1, start, bytes)), at(field, reason));
+            assert_eq!(rt;
+                judged(&tally, &with(ACKNOWLEDGEMENT, start, bytes)),
+                at(field, reason)
+            );
         }
     }
-    let both = with(&with(A1, 11, b"00000001"), 157, b"ZZ");
+    let both = with(&with(ACKNOWLEDGEMENT, 11, b"00000001"), 157, b"ZZ");
     assert_eq!(rt;
         judged(&tally, &both),
         at(3, Reason::Number { expected: 0 })

@@ -2,6 +2,8 @@
 #![tactic(auto)]
 
 #[cfg(test)]
+mod cells_tests;
+#[cfg(test)]
 mod decoder_tests;
 mod decoders;
 mod judging;

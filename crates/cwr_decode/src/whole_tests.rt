@@ -2,11 +2,11 @@
 
 use crate::readings::ReadFault;
 use crate::whole::read_all;
-use crate::worked_texts::{Text, one_acknowledgement, two_groups};
-use cwr_fields::Counted;
+use crate::worked_texts::{Text, agreement_of_two_blocks, one_acknowledgement, two_groups};
+use cwr_fields::{Counted, trimmed};
 use cwr_layouts::Kind;
 use cwr_shape::Limits;
-use cwr_values::{Group, Transmission};
+use cwr_values::{Group, Transaction, Transmission};
 use std::process::Abort;
 use std::test::Fail;
 
@@ -36,6 +36,25 @@ fn check_acknowledgement(rt: &impl Abort, transmission: &Transmission) {
     assert_eq!(rt; group.head().view().cell(2), Some(b"ACK".as_slice()));
     assert_eq!(rt; transaction_of(group, 0), Some((Kind::Ack, 1)));
     assert_eq!(rt; group.foot().view().kind(), Kind::Grt);
+}
+
+/// Checks a cell of a record, its trailing spaces left out.
+fn check_cell(rt: &impl Abort, transaction: &Transaction, i: usize, j: u8, wanted: &[u8]) {
+    let Some(record) = transaction.record(i) else {
+        assert!(rt; false, "no record {i}");
+        return;
+    };
+    assert_eq!(rt; record.cell(j).map(trimmed), Some(wanted), "at {i}");
+}
+
+/// Checks the title and the number of a work in the group.
+fn check_work(rt: &impl Abort, group: &Group, i: usize, wanted: [&[u8]; 2]) {
+    let Some(work) = group.transaction(i) else {
+        assert!(rt; false, "no work {i}");
+        return;
+    };
+    check_cell(rt, work, 0, 4, wanted[0]);
+    check_cell(rt, work, 0, 6, wanted[1]);
 }
 
 #[test]
@@ -85,6 +104,26 @@ fn two_groups_are_read(rt: HostRuntime) -> Result<(), Fail> {
     let revisions = transmission.group(1).ok_or("no second group")?;
     assert_eq!(rt; revisions.len(), 2);
     assert_eq!(rt; transaction_of(revisions, 1), Some((Kind::Rev, 2)));
+    check_work(&rt, works, 0, [b"BLUE RIVER", b"W0001"]);
+    check_work(&rt, revisions, 0, [b"RED HILL", b"W0002"]);
+    check_work(&rt, revisions, 1, [b"GREEN SEA", b"W0003"]);
+    Ok(())
+}
+
+#[test]
+fn an_agreement_is_read(rt: HostRuntime) -> Result<(), Fail> {
+    let text = agreement_of_two_blocks(rt.alloc())?;
+    let mut reader = Counted::new(text.bytes());
+    let transmission = read_all(rt.alloc(), largest()?, &mut reader)?;
+    assert_eq!(rt; transmission.len(), 1);
+    let agreements = transmission.group(0).ok_or("no group")?;
+    assert_eq!(rt; agreements.len(), 1);
+    let agreement = agreements.transaction(0).ok_or("no agreement")?;
+    assert_eq!(rt; (agreement.kind(), agreement.len()), (Kind::Agr, 7));
+    let firsts: [&[u8]; 7] = [b"AGR0001", b"I", b"AS", b"AC", b"I", b"AC", b"AS"];
+    for (i, first) in firsts.iter().enumerate() {
+        check_cell(&rt, agreement, i, 4, first);
+    }
     Ok(())
 }
 

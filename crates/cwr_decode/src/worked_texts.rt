@@ -118,6 +118,12 @@ impl Text {
         self.inside(Kind::Ack, sequence, b"00000000", &cells)
     }
 
+    /// MSG of the first transaction, with its record sequence.
+    pub(crate) fn message(&mut self, sequence: &[u8]) -> Result<(), AllocError> {
+        let cells: [(u8, &[u8]); 4] = [(1, b"MSG"), (4, b"F"), (7, b"F"), (9, b"TITLE CHANGED")];
+        self.of_first(Kind::Msg, sequence, &cells)
+    }
+
     /// NWR, with its transaction sequence.
     pub(crate) fn work(&mut self, sequence: &[u8]) -> Result<(), AllocError> {
         let cells: [(u8, &[u8]); 5] = [
@@ -133,6 +139,12 @@ impl Text {
     /// REV, with its transaction sequence.
     pub(crate) fn revision(&mut self, sequence: &[u8]) -> Result<(), AllocError> {
         let cells: [(u8, &[u8]); 4] = [(1, b"REV"), (4, b"RED HILL"), (6, b"W0002"), (15, b"ORI")];
+        self.inside(Kind::Rev, sequence, b"00000000", &cells)
+    }
+
+    /// REV of another work, with its transaction sequence.
+    pub(crate) fn other_revision(&mut self, sequence: &[u8]) -> Result<(), AllocError> {
+        let cells: [(u8, &[u8]); 4] = [(1, b"REV"), (4, b"GREEN SEA"), (6, b"W0003"), (15, b"ORI")];
         self.inside(Kind::Rev, sequence, b"00000000", &cells)
     }
 
@@ -263,6 +275,29 @@ impl Text {
         self.of_first(Kind::Rec, sequence, &[(1, b"REC"), (4, b"20240101")])
     }
 
+    /// VER of the first transaction, with its record sequence, a title and the number of a work.
+    pub(crate) fn original_work(&mut self, sequence: &[u8]) -> Result<(), AllocError> {
+        let cells: [(u8, &[u8]); 3] = [(1, b"VER"), (4, b"RIVER SUITE"), (16, b"W0004")];
+        self.of_first(Kind::Ver, sequence, &cells)
+    }
+
+    /// ORN of the first transaction, with its record sequence, a purpose, a year and a number.
+    pub(crate) fn origin(&mut self, sequence: &[u8]) -> Result<(), AllocError> {
+        let cells: [(u8, &[u8]); 4] = [(1, b"ORN"), (4, b"LIB"), (14, b"2024"), (16, b"AV0001")];
+        self.of_first(Kind::Orn, sequence, &cells)
+    }
+
+    /// COM of the first transaction, with its record sequence, a title, a duration and the number of a writer.
+    pub(crate) fn component(&mut self, sequence: &[u8]) -> Result<(), AllocError> {
+        let cells: [(u8, &[u8]); 4] = [
+            (1, b"COM"),
+            (4, b"RIVER SONG"),
+            (7, b"000312"),
+            (15, b"I0001"),
+        ];
+        self.of_first(Kind::Com, sequence, &cells)
+    }
+
     /// AGR, the header of the first transaction.
     pub(crate) fn agreement(&mut self) -> Result<(), AllocError> {
         let cells: [(u8, &[u8]); 3] = [(1, b"AGR"), (4, b"AGR0001"), (6, b"OS")];
@@ -347,9 +382,26 @@ pub(crate) fn two_groups(alloc: Global) -> Result<Text, AllocError> {
     text.group(b"REV", b"00002")?;
     text.revision(b"00000000")?;
     text.writer(b"00000000", b"00000001")?;
-    text.revision(b"00000001")?;
+    text.other_revision(b"00000001")?;
     text.writer(b"00000001", b"00000001")?;
     text.group_end(b"00002", b"00000002", b"00000006")?;
     text.end(b"00002", b"00000003", b"00000012")?;
+    Ok(text)
+}
+
+/// A transmission of one agreement, in whose second block the parties come in the other order.
+pub(crate) fn agreement_of_two_blocks(alloc: Global) -> Result<Text, AllocError> {
+    let mut text = Text::new(alloc);
+    text.header()?;
+    text.group(b"AGR", b"00001")?;
+    text.agreement()?;
+    text.territory(b"00000001")?;
+    text.assignor(b"00000002")?;
+    text.acquirer(b"00000003")?;
+    text.territory(b"00000004")?;
+    text.acquirer(b"00000005")?;
+    text.assignor(b"00000006")?;
+    text.group_end(b"00001", b"00000001", b"00000009")?;
+    text.end(b"00001", b"00000001", b"00000011")?;
     Ok(text)
 }

@@ -1,7 +1,7 @@
 //! Tests of the decoder on works and agreements, on the worked examples of this profile.
 
 use crate::decoder_tests::{ITEMS, begun_works, check_refused, decoder, named, refusal};
-use crate::worked_texts::Text;
+use crate::worked_texts::{Text, agreement_of_two_blocks};
 use crate::{Decoder, Outcome};
 use cwr_fields::CellFault;
 use cwr_layouts::Kind;
@@ -23,7 +23,12 @@ fn check_kinds(rt: &impl Abort, transaction: &Transaction, kinds: &[Kind]) {
 
 /// Checks that a text that is fed whole gives the items of one transaction, whose records have these kinds, and that all
 /// of it is used.
-fn check_one_transaction(rt: &impl Abort, mut decoder: Decoder, text: &Text, kinds: &[Kind]) {
+pub(crate) fn check_one_transaction(
+    rt: &impl Abort,
+    mut decoder: Decoder,
+    text: &Text,
+    kinds: &[Kind],
+) {
     let mut left = text.bytes();
     for name in ITEMS {
         let step = decoder.feed(left);
@@ -110,18 +115,7 @@ fn a_work_whose_last_records_come_in_another_order(rt: HostRuntime) -> Result<()
 
 #[test]
 fn an_agreement_of_two_blocks(rt: HostRuntime) -> Result<(), Fail> {
-    let mut text = Text::new(rt.alloc());
-    text.header()?;
-    text.group(b"AGR", b"00001")?;
-    text.agreement()?;
-    text.territory(b"00000001")?;
-    text.assignor(b"00000002")?;
-    text.acquirer(b"00000003")?;
-    text.territory(b"00000004")?;
-    text.acquirer(b"00000005")?;
-    text.assignor(b"00000006")?;
-    text.group_end(b"00001", b"00000001", b"00000009")?;
-    text.end(b"00001", b"00000001", b"00000011")?;
+    let text = agreement_of_two_blocks(rt.alloc())?;
     let kinds = [
         Kind::Agr,
         Kind::Ter,

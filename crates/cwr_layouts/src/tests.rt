@@ -4,6 +4,7 @@ ghost use Rattle.std.specs.Prelude.{◌≢◌};
 
 use crate::{Kind, LineBuf, LineEnd, field, fields, width};
 use cwr_fields::{CellType, Table, Word};
+use std::process::Abort;
 use std::test::Fail;
 
 #[test]
@@ -105,48 +106,43 @@ fn line_of(text: &[u8]) -> LineBuf
     line
 }
 
+/// Checks the cells of a line of TRL, and whether its excess is bad.
+fn check_trailer(rt: &impl Abort, text: &[u8], cells: [&[u8]; 4], excess: bool) {
+    let line = line_of(text);
+    let cut = line.cut();
+    assert_eq!(rt; cut.kind(), Some(Kind::Trl));
+    assert!(rt; cut.cell(0).is_none());
+    assert_eq!(rt; cut.cell(1), Some(cells[0]));
+    assert_eq!(rt; cut.cell(2), Some(cells[1]));
+    assert_eq!(rt; cut.cell(3), Some(cells[2]));
+    assert_eq!(rt; cut.cell(4), Some(cells[3]));
+    assert!(rt; cut.cell(5).is_none());
+    assert_eq!(rt; cut.excess(), excess);
+}
+
 #[test]
-fn cells_of_known_kinds(rt: HostRuntime) {
-    let blank = b"        ";
-    let table: [(&[u8], [&[u8]; 4], bool); 6] = [
-        (
-            b"TRL000010000000100000005\r\n",
-            [b"TRL", b"00001", b"00000001", b"00000005"],
-            false,
-        ),
-        (
-            b"TRL000010000000100000005   ",
-            [b"TRL", b"00001", b"00000001", b"00000005"],
-            false,
-        ),
-        (
-            b"TRL000010000000100000005X\n",
-            [b"TRL", b"00001", b"00000001", b"00000005"],
-            true,
-        ),
-        (
-            b"TRL000010000000100000005\r\r\n",
-            [b"TRL", b"00001", b"00000001", b"00000005"],
-            true,
-        ),
-        (b"TRL00002\r\nTRL", [b"TRL", b"00002", blank, blank], false),
-        (
-            b"TRL00003   9\n",
-            [b"TRL", b"00003", b"   9    ", blank],
-            false,
-        ),
+fn cells_and_excess_of_trailers(rt: HostRuntime) {
+    let cells: [&[u8]; 4] = [b"TRL", b"00001", b"00000001", b"00000005"];
+    let table: [(&[u8], bool); 4] = [
+        (b"TRL000010000000100000005\r\n", false),
+        (b"TRL000010000000100000005   ", false),
+        (b"TRL000010000000100000005X\n", true),
+        (b"TRL000010000000100000005\r\r\n", true),
     ];
-    for (text, cells, excess) in table {
-        let line = line_of(text);
-        let cut = line.cut();
-        assert_eq!(rt; cut.kind(), Some(Kind::Trl));
-        assert!(rt; cut.cell(0).is_none());
-        assert_eq!(rt; cut.cell(1), Some(cells[0]));
-        assert_eq!(rt; cut.cell(2), Some(cells[1]));
-        assert_eq!(rt; cut.cell(3), Some(cells[2]));
-        assert_eq!(rt; cut.cell(4), Some(cells[3]));
-        assert!(rt; cut.cell(5).is_none());
-        assert_eq!(rt; cut.excess(), excess);
+    for (text, excess) in table {
+        check_trailer(&rt, text, cells, excess);
+    }
+}
+
+#[test]
+fn cells_of_short_trailers(rt: HostRuntime) {
+    let blank = b"        ";
+    let table: [(&[u8], [&[u8]; 4]); 2] = [
+        (b"TRL00002\r\nTRL", [b"TRL", b"00002", blank, blank]),
+        (b"TRL00003   9\n", [b"TRL", b"00003", b"   9    ", blank]),
+    ];
+    for (text, cells) in table {
+        check_trailer(&rt, text, cells, false);
     }
 }
 

@@ -48,7 +48,7 @@ fn come(tally: &mut Tally, symbols: &[Symbol]) -> Result<(), Bar> {
 }
 
 #[test]
-fn numbers_of_two_groups(rt: HostRuntime) -> Result<(), Fail> {
+fn numbers_before_a_first_work(rt: HostRuntime) -> Result<(), Fail> {
     let mut tally = tally()?;
     assert_eq!(rt; tally.stage(), Stage::Start);
     assert_eq!(rt; tally.place(), Place::File);
@@ -61,7 +61,13 @@ fn numbers_of_two_groups(rt: HostRuntime) -> Result<(), Fail> {
     assert_eq!(rt; tally.place(), Place::Group);
     assert_eq!(rt; tally.expects(Kind::Nwr, 2), Some(0));
     assert_eq!(rt; tally.expects(Kind::Nwr, 3), Some(0));
-    come(&mut tally, &TWO_GROUPS[2..3])?;
+    Ok(())
+}
+
+#[test]
+fn numbers_of_a_first_group(rt: HostRuntime) -> Result<(), Fail> {
+    let mut tally = tally()?;
+    come(&mut tally, &TWO_GROUPS[..3])?;
     assert_eq!(rt; tally.place(), Place::Transaction);
     assert_eq!(rt; tally.expects(Kind::Swr, 2), Some(0));
     assert_eq!(rt; tally.expects(Kind::Swr, 3), Some(1));
@@ -74,7 +80,13 @@ fn numbers_of_two_groups(rt: HostRuntime) -> Result<(), Fail> {
     assert_eq!(rt; tally.expects(Kind::Grt, 3), Some(1));
     assert_eq!(rt; tally.expects(Kind::Grt, 4), Some(4));
     assert_eq!(rt; tally.expects(Kind::Grt, 5), None);
-    come(&mut tally, &TWO_GROUPS[4..6])?;
+    Ok(())
+}
+
+#[test]
+fn numbers_of_a_second_group(rt: HostRuntime) -> Result<(), Fail> {
+    let mut tally = tally()?;
+    come(&mut tally, &TWO_GROUPS[..6])?;
     assert_eq!(rt; tally.groups(), 2);
     assert_eq!(rt; tally.expects(Kind::Rev, 2), Some(0));
     assert_eq!(rt; tally.expects(Kind::Rev, 3), Some(0));
@@ -82,7 +94,13 @@ fn numbers_of_two_groups(rt: HostRuntime) -> Result<(), Fail> {
     assert_eq!(rt; tally.expects(Kind::Grt, 2), Some(2));
     assert_eq!(rt; tally.expects(Kind::Grt, 3), Some(2));
     assert_eq!(rt; tally.expects(Kind::Grt, 4), Some(6));
-    come(&mut tally, &TWO_GROUPS[10..11])?;
+    Ok(())
+}
+
+#[test]
+fn numbers_behind_two_groups(rt: HostRuntime) -> Result<(), Fail> {
+    let mut tally = tally()?;
+    come(&mut tally, &TWO_GROUPS[..11])?;
     assert_eq!(rt; tally.place(), Place::File);
     assert_eq!(rt; tally.expects(Kind::Grh, 3), Some(3));
     assert_eq!(rt; tally.expects(Kind::Trl, 2), Some(2));
