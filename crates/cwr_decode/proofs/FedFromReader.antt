@@ -12,9 +12,9 @@ use Rattle.cwr_decode.specs.declared.machine.State.TheVariants as states
 use Rattle.cwr_decode.specs.declared.readings.ReadFault.{ReadFault}
 use Rattle.cwr_decode.specs.declared.readings.ReadFault.TheVariants as faults
 use Rattle.cwr_decode.specs.Machines.{Standing, Leaves, again}
-use Rattle.cwr_decode.specs.Stands.{StandsFor, IsRight, MayFollow, items_out}
+use Rattle.cwr_decode.specs.Stands.{StandsFor, IsUnderWay, IsRight, MayFollow, items_out}
 use Rattle.cwr_decode.specs.Calls.{IsLive, seen}
-use Rattle.cwr_decode.specs.Readings.{answer_of, IsUnderWay, IsSpent, FeedsOn, Reads}
+use Rattle.cwr_decode.specs.Readings.{answer_of, IsSpent, FeedsOn, Reads}
 use Rattle.cwr_decode.proofs.FromReader.{needs_more, reads_called}
 
 abbrev Answer : Type 0

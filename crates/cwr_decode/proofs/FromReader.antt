@@ -1,6 +1,6 @@
 -- The bytes of a reader that are fed to a decoder, and what it answers.
-use Rattle.std.proofs.Common.{◌≡◌, ℕ, ◌+◌, ◌≤◌, Bool, false, List, [], ◌++◌, length, take, drop, Option, Some, None, refl, sym, ap, subst, ◌∙◌, arith, append_assoc, append-nil, take-append-drop, true≢false}
-use Rattle.std.specs.Prelude.{◌≢◌, Result, Ok, IfSome}
+use Rattle.std.proofs.Common.{◌≡◌, ℕ, ◌+◌, ◌≤◌, Bool, false, List, [], ◌++◌, length, take, drop, Option, Some, None, refl, sym, ap, subst, ◌∙◌, arith, append_assoc, append-nil, take-append-drop, true≢false, inl, inr}
+use Rattle.std.specs.Prelude.{◌≢◌, ◌⊎◌, Result, Ok, IfSome}
 use Rattle.std.proofs.lemmas.List.{length-append, take-append-le}
 use Rattle.std.proofs.KnownBytes.{starts_with_rest, Consumes-nil, Consumes-trans}
 use Rattle.std.specs.Io.{StartsWith}
@@ -15,9 +15,9 @@ use Rattle.cwr_decode.specs.declared.machine.State.TheVariants as states
 use Rattle.cwr_decode.specs.declared.readings.ReadFault.{ReadFault}
 use Rattle.cwr_decode.specs.Ends.{IsAccepted, IsNotAccepted}
 use Rattle.cwr_decode.specs.Machines.{Standing, Leaves, again, state_behind}
-use Rattle.cwr_decode.specs.Stands.{StandsFor, IsRight, MayFollow, AcceptsNone, items_out}
+use Rattle.cwr_decode.specs.Stands.{StandsFor, IsUnderWay, IsRight, MayFollow, AcceptsNone, items_out}
 use Rattle.cwr_decode.specs.Calls.{IsLive}
-use Rattle.cwr_decode.specs.Readings.{answer_of, items_read, IsRightOf, LeavesRead, CountsReader, IsUnderWay, IsSpent, FeedsOn, Reads}
+use Rattle.cwr_decode.specs.Readings.{answer_of, items_read, IsRightOf, LeavesRead, CountsReader, IsSpent, FeedsOn, Reads}
 
 abbrev Answer : Type 0
 Answer = Result (Option Item) ReadFault
@@ -171,11 +171,10 @@ reads_called old left outcome answer new after e way c = record {
 
 -- ---- one call behind another
 
-pub under_way : (old : Standing) (left : Option (List ℕ)) (answer : Answer) (new : Standing) (after : Option (List ℕ)) → IsUnderWay old → Reads old left answer new after → IsUnderWay new
-under_way old left answer new after way r = record { input = way.input ++ r.bytes; given = way.given ++ items_read answer; stands = r.stands way.input way.given way.stands }
-
-pub still_under_way : (n : ℕ) (old : Standing) (left : Option (List ℕ)) (new : Standing) (after : Option (List ℕ)) → IsUnderWay old → FeedsOn n old left new after → IsUnderWay new
-still_under_way n old left new after way f = record { input = way.input ++ f.bytes; given = way.given; stands = f.stands way.input way.given way.stands }
+-- behind a first call, or before it
+pub was_under_way : (d first : Standing) → (d ≡ first) ⊎ IsUnderWay first → IsUnderWay d → IsUnderWay first
+was_under_way d first (inl e) way = subst IsUnderWay e way
+was_under_way d first (inr was) way = was
 
 not_over : (d : Standing) (left : Option (List ℕ)) → d.finished ≡ false → IsSpent d left
 not_over d left fresh is = absurd (true≢false (sym is ∙ fresh))

@@ -20,7 +20,7 @@ use Rattle.cwr_decode.specs.Ends.{IsAccepted}
 use Rattle.cwr_decode.specs.Machines.{Standing, again}
 use Rattle.cwr_decode.specs.Stands.{StandsFor, StandsIn}
 use Rattle.cwr_decode.specs.Calls.{IsLive}
-use Rattle.cwr_decode.specs.Readings.{answer_of, items_read, IsWholeInput, IsRightOf, LeavesRead, IsUnderWay, IsSpent, Reads}
+use Rattle.cwr_decode.specs.Readings.{answer_of, items_read, IsWholeInput, IsRightOf, LeavesRead, IsSpent, Reads}
 use Rattle.cwr_decode.specs.Runs.{HasRead, EndsWhole, HasReadAll, IsReadingOn, AreItems, Takes, IsRightFault, StopsRun, TellsAccepted, TellsCanonical}
 use Rattle.cwr_decode.proofs.Accepted.{accepted_once, canonical_accepted}
 use Rattle.cwr_decode.proofs.CountedItems.{bounded}
@@ -80,9 +80,6 @@ run_right limits old new before left after given answer h live r = by before h.c
 ended_answer : (state : State) (answer : Answer) (B C : Type 0) → state ≡ states.Ended → IfSome (again state) (λ o. (Some answer ≡ answer_of o) × B × C) → answer ≡ Ok None
 ended_answer state answer B C e h
     = let told : Some answer ≡ Some (Ok None) = (subst (λ (s : State). IfSome (again s) (λ o. (Some answer ≡ answer_of o) × B × C)) e h).0 in cc told
-
-pub under_way : (limits : LimitValues) (d : Standing) (before now : Option (List ℕ)) (given : List Item) → IsReadingOn limits d before now given → IsUnderWay d
-under_way limits d before now given h = record { input = h.read.input; given = given; stands = h.read.stands }
 
 here_on : (limits : LimitValues) (state : State) (before : Option (List ℕ)) (n : ℕ) (given : List Item) (item : Item) → LeavesRead (Ok (Some item)) state
     → IfSome before (λ text. IsRightOf limits (Ok (Some item)) n text given) → IsLive state ⊎ EndsWhole limits state before n given

@@ -70,12 +70,6 @@ abbrev pub CountsReader : Result (Option Item) ReadFault → ℕ → ℕ → Typ
 CountsReader (Ok item) old new = new ≡ old
 CountsReader (Err fault) old new = CountsFault fault old new
 
--- the decoder stands for some input and some items
-pub record IsUnderWay (d : Standing) : Type 0 where
-  pub input : List ℕ
-  pub given : List Item
-  pub stands : StandsFor d input given
-
 -- where the decoder was told that the input is over, the reader has nothing left
 abbrev pub IsSpent : Standing → Option (List ℕ) → Type 0
 IsSpent d left = d.finished ≡ true → IsAtEnd left
