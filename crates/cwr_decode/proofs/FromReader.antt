@@ -1,6 +1,6 @@
 -- The bytes of a reader that are fed to a decoder, and what it answers.
 use Rattle.std.proofs.Common.{◌≡◌, ℕ, ◌+◌, ◌≤◌, Bool, false, List, [], ◌++◌, length, take, drop, Option, Some, None, refl, sym, ap, subst, ◌∙◌, arith, append_assoc, append-nil, take-append-drop, true≢false, inl, inr}
-use Rattle.std.specs.Prelude.{◌≢◌, ◌⊎◌, Result, Ok, IfSome}
+use Rattle.std.specs.Prelude.{◌≢◌, ◌⊎◌, ◌<◌, Result, Ok, Err, IfSome}
 use Rattle.std.proofs.lemmas.List.{length-append, take-append-le}
 use Rattle.std.proofs.KnownBytes.{starts_with_rest, Consumes-nil, Consumes-trans}
 use Rattle.std.specs.Io.{StartsWith}
@@ -13,10 +13,11 @@ use Rattle.cwr_decode.specs.declared.outcomes.Outcome.TheVariants as outcomes
 use Rattle.cwr_decode.specs.declared.machine.State.{State}
 use Rattle.cwr_decode.specs.declared.machine.State.TheVariants as states
 use Rattle.cwr_decode.specs.declared.readings.ReadFault.{ReadFault}
+use Rattle.cwr_decode.specs.declared.readings.ReadFault.TheVariants as faults
 use Rattle.cwr_decode.specs.Ends.{IsAccepted, IsNotAccepted}
 use Rattle.cwr_decode.specs.Machines.{Standing, Leaves, again, state_behind}
 use Rattle.cwr_decode.specs.Stands.{StandsFor, IsUnderWay, IsRight, MayFollow, AcceptsNone, items_out}
-use Rattle.cwr_decode.specs.Calls.{IsLive}
+use Rattle.cwr_decode.specs.Calls.{IsLive, WantsMemory}
 use Rattle.cwr_decode.specs.Readings.{answer_of, items_read, IsRightOf, LeavesRead, CountsReader, IsSpent, FeedsOn, Reads}
 
 abbrev Answer : Type 0
@@ -80,6 +81,15 @@ done_only (outcomes.Truncated records) e = absurd (cc e)
 done_only outcomes.Memory e = absurd (cc e)
 done_only outcomes.Done e = refl
 
+-- want of memory is told for itself
+memory_only : (outcome : Outcome) → answer_of outcome ≡ Some (Err faults.Memory) → outcome ≡ outcomes.Memory
+memory_only outcomes.More e = absurd (cc e)
+memory_only (outcomes.Item item) e = absurd (cc e)
+memory_only (outcomes.Refused refusal) e = absurd (cc e)
+memory_only (outcomes.Truncated records) e = absurd (cc e)
+memory_only outcomes.Memory e = refl
+memory_only outcomes.Done e = absurd (cc e)
+
 -- no answer of a decoder counts a failure
 pub no_failure : (outcome : Outcome) → IfSome (answer_of outcome) (λ answer. (failures : ℕ) → CountsReader answer failures failures)
 no_failure outcomes.More = tt
@@ -128,6 +138,7 @@ pub record Calls (old : Standing) (left : Option (List ℕ)) (outcome : Outcome)
   pub behind : IsSpent old left → IfSome left (λ rest. (more : List ℕ) × MayFollow over more × (rest ≡ ahead ++ more))
   pub leaves : Leaves outcome new.state
   pub again : IfSome (again old.state) (λ o. outcome ≡ o)
+  pub memory : outcome ≡ outcomes.Memory → IsLive old.state → WantsMemory old (length bytes) new
   pub at_end : IsSpent old left → IfSome left (λ _. IsSpent new after)
   pub limits : new.tally.limits ≡ old.tally.limits
 
@@ -159,6 +170,7 @@ reads_called old left outcome answer new after e way c = record {
   leaves = subst (λ (o : Option Answer). IfSome o (λ a. LeavesRead a new.state)) e (leaves_same outcome new.state c.leaves);
   none = λ is. told_none old outcome c.over (way.input ++ c.bytes) (way.input ++ c.ahead) (way.given ++ items_out outcome) (done_only outcome (e ∙ ap (λ (a : Answer). Some a) is)) c.again
       (λ live. c.right live way.input way.given way.stands);
+  memory = λ is live. c.memory (memory_only outcome (e ∙ ap (λ (a : Answer). Some a) is)) live;
   over = c.at_end;
   limits = c.limits;
 } where
@@ -193,6 +205,7 @@ feeds_none d left reading fresh = record {
   live = ap again reading;
   reading = reading;
   fresh = fresh;
+  kept = omega arith;
   limits = refl;
 }
 
@@ -205,8 +218,22 @@ feeds_both m n a p b q c r f g = record {
   live = f.live;
   reading = g.reading;
   fresh = g.fresh;
+  kept = omega (arith, f.kept, g.kept);
   limits = g.limits ∙ f.limits;
 }
+
+-- a decoder that reads wants memory only with one more record
+pub wants_more : (d new : Standing) (used : ℕ) → d.state ≡ states.Reading → WantsMemory d used new → d.tally.counts.records < new.tally.counts.records
+wants_more d new used reading (inl waits) = absurd (not_both (sym reading ∙ waits.0))
+  where
+    not_both : states.Reading ≡ states.Pending → ⊥
+    not_both e = cc e
+wants_more d new used reading (inr more) = more
+
+-- a record that waits wants memory with what the fact says
+pub wants_waiting : (d new : Standing) (used : ℕ) (P : Type 0) → P → WantsMemory d used new → ((d.state ≡ states.Pending) × P) ⊎ (d.tally.counts.records < new.tally.counts.records)
+wants_waiting d new used P h (inl waits) = inl (waits.0, h)
+wants_waiting d new used P h (inr more) = inr more
 
 right_behind : (limits after_limits : LimitValues) (answer : Answer) (p q : Option (List ℕ)) (bytes more input : List ℕ) (given : List Item) → after_limits ≡ limits → Consumes p q bytes
     → IfSome q (λ rest. IsRightOf after_limits answer (length ((input ++ bytes) ++ more)) ((input ++ bytes) ++ rest) given)
@@ -228,6 +255,7 @@ reads_behind n answer a p b q c r f g = record {
       (g.right (ap again f.reading) (not_over b q f.fresh) (input ++ f.bytes) given (f.stands input given h));
   leaves = g.leaves;
   none = λ is. absurd (reading_ends (sym f.reading ∙ g.none is));
+  memory = λ is live. inr (omega (arith, f.kept, wants_more b c (length g.bytes) f.reading (g.memory is (ap again f.reading))));
   over = λ spent. spent_behind p q r f.bytes c f.consumed (g.over (not_over b q f.fresh));
   limits = g.limits ∙ f.limits;
 } where

@@ -16,7 +16,7 @@ use Rattle.cwr_decode.specs.Items.{value_items}
 use Rattle.cwr_decode.specs.Ends.{IsAccepted, IsNotAccepted}
 use Rattle.cwr_decode.specs.Machines.{Standing}
 use Rattle.cwr_decode.specs.Stands.{StandsFor}
-use Rattle.cwr_decode.specs.Calls.{IsLive}
+use Rattle.cwr_decode.specs.Calls.{IsLive, WantsMemory}
 
 -- what a decoder's answer is told as; where more is needed, nothing is told
 abbrev pub answer_of : Outcome → Option (Result (Option Item) ReadFault)
@@ -83,6 +83,7 @@ pub record FeedsOn (least : ℕ) (old : Standing) (left : Option (List ℕ)) (ne
   pub live : IsLive old.state
   pub reading : new.state ≡ states.Reading
   pub fresh : new.finished ≡ false
+  pub kept : old.tally.counts.records ≤ new.tally.counts.records
   pub limits : new.tally.limits ≡ old.tally.limits
 
 -- Something is read. Just the bytes that the reader loses are fed: whatever the decoder stood for before, with these and
@@ -95,5 +96,6 @@ pub record Reads (old : Standing) (left : Option (List ℕ)) (answer : Result (O
       → IfSome left (λ rest. IsRightOf old.tally.limits answer (length (input ++ bytes)) (input ++ rest) (given ++ items_read answer))
   pub leaves : LeavesRead answer new.state
   pub none : answer ≡ Ok None → old.state ≡ states.Ended
+  pub memory : answer ≡ Err faults.Memory → IsLive old.state → WantsMemory old (length bytes) new
   pub over : IsSpent old left → IfSome left (λ _. IsSpent new after)
   pub limits : new.tally.limits ≡ old.tally.limits

@@ -84,6 +84,7 @@ impl Decoder {
         // that was accepted.
         ensures memory { result.outcome ≡ Outcome.Memory → IsLive self.old.state → (input : List ℕ) (given : List Item) → StandsFor self.old input given
             → WantsMemory self.old result.used self.new }
+        ensures kept { self.old.tally.counts.records ≤ self.new.tally.counts.records }
         ensures finished { self.new.finished ≡ self.old.finished }
         ensures limits { self.new.tally.limits ≡ self.old.tally.limits }
     {
@@ -108,6 +109,7 @@ impl Decoder {
         // that was accepted.
         ensures memory { result.outcome ≡ Outcome.Memory → IsLive self.old.state → (input : List ℕ) (given : List Item) → StandsFor self.old input given
             → WantsMemory self.old 0 self.new }
+        ensures kept { self.old.tally.counts.records ≤ self.new.tally.counts.records }
         ensures finished { self.new.finished ≡ true }
         ensures limits { self.new.tally.limits ≡ self.old.tally.limits }
     {

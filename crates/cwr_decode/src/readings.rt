@@ -1,6 +1,7 @@
 //! Reading a transmission from a reader, item by item.
 
-ghost use Rattle.std.specs.Prelude.{◌≡◌, ℕ, List, [], Option, IfNone, IfSome, IsSome, Some, true, false};
+ghost use Rattle.std.specs.Prelude.{◌≡◌, ◌<◌, ◌⊎◌, ℕ, List, [], Option, Err, IfNone, IfSome, IsSome, Some, true, false};
+ghost use Rattle.cwr_decode.specs.Calls.{IsLive};
 ghost use Rattle.cwr_decode.specs.Stands.{IsUnderWay, StandsFor};
 ghost use Rattle.cwr_decode.specs.Machines.{WaitsOutside, again};
 ghost use Rattle.cwr_decode.specs.Readings.{answer_of, CountsReader, FeedsOn, Reads};
@@ -155,6 +156,11 @@ impl<'a, R: Source> Reading<'a, R> {
         ensures same_reference { self.new.reader.ghost_name ≡ self.old.reader.ghost_name }
         ensures reads { Reads self.old.decoder (R.remaining self.old.reader.now) result self.new.decoder (R.remaining self.new.reader.now) }
         ensures failures { CountsReader result (R.failures self.old.reader.now) (R.failures self.new.reader.now) }
+        // Want of memory comes only with a record that was being added: the one that waited, with the reader as it was, or
+        // one that was accepted in this call.
+        ensures memory { result ≡ Err ReadFault.Memory → IsLive self.old.decoder.state
+            → ((self.old.decoder.state ≡ State.Pending) × (self.new.reader.now ≡ self.old.reader.now))
+            ⊎ (self.old.decoder.tally.counts.records < self.new.decoder.tally.counts.records) }
         // Behind the end or a fault of the input, that is answered again, and nothing changes.
         ensures again { IfSome (again self.old.decoder.state) (λ outcome. (Some result ≡ answer_of outcome)
             × (self.new.decoder ≡ self.old.decoder) × (self.new.reader.now ≡ self.old.reader.now)) }
