@@ -85,6 +85,7 @@ reads_settled old new used outcome answer e within stands right leaves same memo
   consumed = keeps_none used left;
   stands = stands;
   right = λ live input given h. subst (λ (l : List ℕ). IsRight old.tally.limits outcome old.finished (input ++ take used []) l (given ++ items_out outcome)) (seen_none old.finished input) (right live input given h);
+  whole = λ is. take_none used;
   behind = behind_none old.finished left;
   leaves = leaves;
   again = same;
@@ -116,6 +117,7 @@ reads_fed old new left after piece used outcome answer e way fresh shown within 
   consumed = consumed;
   stands = stands;
   right = λ live input given h. subst (λ (b : Bool). IsRight old.tally.limits outcome b (input ++ take used piece) (seen b input piece) (given ++ items_out outcome)) fresh (right live input given h);
+  whole = λ is. absurd (true≢false (sym is));
   behind = λ spent. behind_piece left piece shown;
   leaves = leaves;
   again = same;
@@ -156,6 +158,7 @@ reads_finished old new left after outcome answer e way end kept stands right lea
   consumed = Consumes-kept left left after [] (Consumes-nil left) kept;
   stands = λ input given h. subst (λ (l : List ℕ). StandsFor new l (given ++ items_out outcome)) (sym (append-nil input)) (stands input given h);
   right = λ live input given h. subst (λ (l : List ℕ). IsRight old.tally.limits outcome true l l (given ++ items_out outcome)) (sym (append-nil input)) (right live input given h);
+  whole = λ is. refl;
   behind = λ spent. behind_end left end;
   leaves = leaves;
   again = same;
