@@ -2,6 +2,7 @@
 use Rattle.std.proofs.Common.{◌≡◌, ℕ, zero, suc, ◌≤◌, Bool, true, false, List, [], ◌++◌, length, take, drop, Option, Some, None, refl, sym, ap, subst, ◌∙◌, append-nil, true≢false}
 use Rattle.std.specs.Prelude.{Result, Err, IfSome, IfNone}
 use Rattle.std.proofs.KnownBytes.{starts_with_rest, Consumes-nil, Consumes-kept}
+use Rattle.std.proofs.lemmas.List.{length-take-le}
 use Rattle.std.specs.Io.{StartsWith}
 use Rattle.std.specs.Io.KnownBytes.{Consumes, IsAtEnd, Keeps}
 use Rattle.cwr_values.specs.declared.items.Item.{Item}
@@ -12,9 +13,9 @@ use Rattle.cwr_decode.specs.declared.machine.State.TheVariants as states
 use Rattle.cwr_decode.specs.declared.readings.ReadFault.{ReadFault}
 use Rattle.cwr_decode.specs.declared.readings.ReadFault.TheVariants as faults
 use Rattle.cwr_decode.specs.Machines.{Standing, Leaves, again}
-use Rattle.cwr_decode.specs.Stands.{StandsFor, IsRight, MayFollow, items_out}
-use Rattle.cwr_decode.specs.Calls.{IsLive, seen}
-use Rattle.cwr_decode.specs.Readings.{answer_of, IsUnderWay, IsSpent, FeedsOn, Reads}
+use Rattle.cwr_decode.specs.Stands.{StandsFor, IsUnderWay, IsRight, MayFollow, items_out}
+use Rattle.cwr_decode.specs.Calls.{IsLive, WantsMemory, seen}
+use Rattle.cwr_decode.specs.Readings.{answer_of, IsSpent, FeedsOn, Reads}
 use Rattle.cwr_decode.proofs.FromReader.{needs_more, reads_called}
 
 abbrev Answer : Type 0
@@ -33,8 +34,9 @@ live_by states.Memory h = absurd (cc h)
 pub feeds_called : (n : ℕ) (old : Standing) (left : Option (List ℕ)) (outcome : Outcome) (new : Standing) (after : Option (List ℕ)) (bytes : List ℕ) → answer_of outcome ≡ None
     → n ≤ length bytes → Consumes left after bytes
     → ((input : List ℕ) (given : List Item) → StandsFor old input given → StandsFor new (input ++ bytes) (given ++ items_out outcome))
-    → Leaves outcome new.state → IfSome (again old.state) (λ o. outcome ≡ o) → new.finished ≡ false → new.tally.limits ≡ old.tally.limits → FeedsOn n old left new after
-feeds_called n old left outcome new after bytes e count consumed stands leaves same fresh limits =
+    → Leaves outcome new.state → IfSome (again old.state) (λ o. outcome ≡ o) → new.finished ≡ false → old.tally.counts.records ≤ new.tally.counts.records → new.tally.limits ≡ old.tally.limits
+    → FeedsOn n old left new after
+feeds_called n old left outcome new after bytes e count consumed stands leaves same fresh kept limits =
     let more : outcome ≡ outcomes.More = needs_more outcome e in
     record {
       bytes = bytes;
@@ -44,6 +46,7 @@ feeds_called n old left outcome new after bytes e count consumed stands leaves s
       live = live_by old.state (subst (λ (x : Outcome). IfSome (again old.state) (λ o. x ≡ o)) more same);
       reading = subst (λ (x : Outcome). Leaves x new.state) more leaves;
       fresh = fresh;
+      kept = kept;
       limits = limits;
     }
 
@@ -65,21 +68,28 @@ behind_none over None h = tt
 behind_none false (Some rest) h = (rest, tt, refl)
 behind_none true (Some rest) h = (rest, h refl, refl)
 
-pub reads_settled : (old new : Standing) (used : ℕ) (outcome : Outcome) (answer : Answer) → answer_of outcome ≡ Some answer
+-- want of memory, told of the bytes that were used
+wants_of : (old new : Standing) (used : ℕ) (piece : List ℕ) → used ≤ length piece → WantsMemory old used new → WantsMemory old (length (take used piece)) new
+wants_of old new used piece within h = subst (λ (n : ℕ). WantsMemory old n new) (sym (length-take-le used piece within)) h
+
+pub reads_settled : (old new : Standing) (used : ℕ) (outcome : Outcome) (answer : Answer) → answer_of outcome ≡ Some answer → used ≤ length {A = ℕ} []
     → ((input : List ℕ) (given : List Item) → StandsFor old input given → StandsFor new (input ++ take used []) (given ++ items_out outcome))
     → (IsLive old.state → (input : List ℕ) (given : List Item) → StandsFor old input given → IsRight old.tally.limits outcome old.finished (input ++ take used []) (seen old.finished input []) (given ++ items_out outcome))
-    → Leaves outcome new.state → IfSome (again old.state) (λ o. outcome ≡ o) → new.finished ≡ old.finished → new.tally.limits ≡ old.tally.limits
-    → IsUnderWay old → (left : Option (List ℕ)) → Reads old left answer new left
-reads_settled old new used outcome answer e stands right leaves same finished limits way left = reads_called old left outcome answer new left e way (record {
+    → Leaves outcome new.state → IfSome (again old.state) (λ o. outcome ≡ o)
+    → (outcome ≡ outcomes.Memory → IsLive old.state → (input : List ℕ) (given : List Item) → StandsFor old input given → WantsMemory old used new)
+    → new.finished ≡ old.finished → new.tally.limits ≡ old.tally.limits → IsUnderWay old → (left : Option (List ℕ)) → Reads old left answer new left
+reads_settled old new used outcome answer e within stands right leaves same memory finished limits way left = reads_called old left outcome answer new left e way (record {
   bytes = take used [];
   ahead = [];
   over = old.finished;
   consumed = keeps_none used left;
   stands = stands;
   right = λ live input given h. subst (λ (l : List ℕ). IsRight old.tally.limits outcome old.finished (input ++ take used []) l (given ++ items_out outcome)) (seen_none old.finished input) (right live input given h);
+  whole = λ is. take_none used;
   behind = behind_none old.finished left;
   leaves = leaves;
   again = same;
+  memory = λ is live. wants_of old new used [] within (memory is live way.input way.given way.stands);
   at_end = λ spent. still_spent left spent;
   limits = limits;
 }) where
@@ -94,20 +104,24 @@ behind_piece None piece h = tt
 behind_piece (Some rest) piece h = (drop (length piece) rest, tt, starts_with_rest rest piece h)
 
 pub reads_fed : (old new : Standing) (left after : Option (List ℕ)) (piece : List ℕ) (used : ℕ) (outcome : Outcome) (answer : Answer) → answer_of outcome ≡ Some answer
-    → IsUnderWay old → old.finished ≡ false → IfSome left (λ xs. StartsWith xs piece) → Consumes left after (take used piece)
+    → IsUnderWay old → old.finished ≡ false → IfSome left (λ xs. StartsWith xs piece) → used ≤ length piece → Consumes left after (take used piece)
     → ((input : List ℕ) (given : List Item) → StandsFor old input given → StandsFor new (input ++ take used piece) (given ++ items_out outcome))
     → (IsLive old.state → (input : List ℕ) (given : List Item) → StandsFor old input given → IsRight old.tally.limits outcome old.finished (input ++ take used piece) (seen old.finished input piece) (given ++ items_out outcome))
-    → Leaves outcome new.state → IfSome (again old.state) (λ o. outcome ≡ o) → new.finished ≡ old.finished → new.tally.limits ≡ old.tally.limits → Reads old left answer new after
-reads_fed old new left after piece used outcome answer e way fresh shown consumed stands right leaves same finished limits = reads_called old left outcome answer new after e way (record {
+    → Leaves outcome new.state → IfSome (again old.state) (λ o. outcome ≡ o)
+    → (outcome ≡ outcomes.Memory → IsLive old.state → (input : List ℕ) (given : List Item) → StandsFor old input given → WantsMemory old used new)
+    → new.finished ≡ old.finished → new.tally.limits ≡ old.tally.limits → Reads old left answer new after
+reads_fed old new left after piece used outcome answer e way fresh shown within consumed stands right leaves same memory finished limits = reads_called old left outcome answer new after e way (record {
   bytes = take used piece;
   ahead = piece;
   over = false;
   consumed = consumed;
   stands = stands;
   right = λ live input given h. subst (λ (b : Bool). IsRight old.tally.limits outcome b (input ++ take used piece) (seen b input piece) (given ++ items_out outcome)) fresh (right live input given h);
+  whole = λ is. absurd (true≢false (sym is));
   behind = λ spent. behind_piece left piece shown;
   leaves = leaves;
   again = same;
+  memory = λ is live. wants_of old new used piece within (memory is live way.input way.given way.stands);
   at_end = λ spent. not_over left;
   limits = limits;
 }) where
@@ -134,17 +148,21 @@ pub reads_finished : (old new : Standing) (left after : Option (List ℕ)) (outc
     → IsUnderWay old → IsAtEnd left → Keeps left after
     → ((input : List ℕ) (given : List Item) → StandsFor old input given → StandsFor new input (given ++ items_out outcome))
     → (IsLive old.state → (input : List ℕ) (given : List Item) → StandsFor old input given → IsRight old.tally.limits outcome true input input (given ++ items_out outcome))
-    → Leaves outcome new.state → IfSome (again old.state) (λ o. outcome ≡ o) → new.tally.limits ≡ old.tally.limits → Reads old left answer new after
-reads_finished old new left after outcome answer e way end kept stands right leaves same limits = reads_called old left outcome answer new after e way (record {
+    → Leaves outcome new.state → IfSome (again old.state) (λ o. outcome ≡ o)
+    → (outcome ≡ outcomes.Memory → IsLive old.state → (input : List ℕ) (given : List Item) → StandsFor old input given → WantsMemory old 0 new)
+    → new.tally.limits ≡ old.tally.limits → Reads old left answer new after
+reads_finished old new left after outcome answer e way end kept stands right leaves same memory limits = reads_called old left outcome answer new after e way (record {
   bytes = [];
   ahead = [];
   over = true;
   consumed = Consumes-kept left left after [] (Consumes-nil left) kept;
   stands = λ input given h. subst (λ (l : List ℕ). StandsFor new l (given ++ items_out outcome)) (sym (append-nil input)) (stands input given h);
   right = λ live input given h. subst (λ (l : List ℕ). IsRight old.tally.limits outcome true l l (given ++ items_out outcome)) (sym (append-nil input)) (right live input given h);
+  whole = λ is. refl;
   behind = λ spent. behind_end left end;
   leaves = leaves;
   again = same;
+  memory = λ is live. memory is live way.input way.given way.stands;
   at_end = λ spent. kept_end new left after kept end;
   limits = limits;
 })
@@ -168,6 +186,7 @@ reads_failed d left after reading kept = record {
   right = λ live spent input given h. any_right left;
   leaves = reading;
   none = λ is. absurd (cc is);
+  memory = λ is. absurd (cc is);
   over = kept_spent d left after kept;
   limits = refl;
 }

@@ -113,6 +113,7 @@ settled_feeds old new piece o ready fresh e =
       unused = λ z. refl;
       alone = λ w. (refl, λ q. settles_more old.state old new (subst (λ (x : Outcome). Settles old.state old (Some x) new) q e));
       memory = λ q l input given st. inl (settles_pending old.state old new o l e, refl);
+      kept = λ input given st. omega (arith, m.counts);
       finished = m.finished;
       limits = m.limits;
     }
@@ -220,6 +221,7 @@ fed_out old d new piece used n o f a = record {
       let before : old.tally.counts.records ≤ d.tally.counts.records = f.grows input given st in
       let more : d.tally.counts.records < new.tally.counts.records = (a.grows (input ++ take used piece) given (f.stands input given st)).1 (ap (λ (x : Outcome). Some x) q) in
       inr (omega (arith, before, more));
+  kept = λ input given st. omega (arith, f.grows input given st, (a.grows (input ++ take used piece) given (f.stands input given st)).0);
   finished = a.finished ∙ f.fresh ∙ sym f.was_fresh;
   limits = a.limits ∙ f.limits;
 }
@@ -240,6 +242,7 @@ finished_feeds old new piece o is_over f = record {
   unused = λ z. refl;
   alone = λ w. (refl, f.more);
   memory = f.memory;
+  kept = f.kept;
   finished = f.finished ∙ sym is_over;
   limits = f.limits;
 }
@@ -425,6 +428,7 @@ ends_finish old new o e = record {
   again = if_some (again old.state) (λ p. (Some o ≡ None) × (new ≡ over old)) (λ p. (o ≡ p) × (new ≡ over old)) (λ p h. absurd (nothing h.0)) e.stays;
   more = λ q. e.more (ap (λ (x : Outcome). Some x) q);
   memory = λ q l input given st. inr ((e.grows input given st).1 (ap (λ (x : Outcome). Some x) q));
+  kept = λ input given st. (e.grows input given st).0;
   finished = e.finished;
   limits = e.limits;
 }
@@ -448,6 +452,7 @@ settles_finish old mid new o e s =
       again = by (again old.state) refl e.stays;
       more = λ q. settles_more mid.state mid new (subst (λ (x : Outcome). Settles mid.state mid (Some x) new) q s);
       memory = λ q l input given st. inl (e.waits (settles_pending mid.state mid new o (e.none l) s), refl);
+      kept = λ input given st. omega (arith, (e.grows input given st).0, m.counts);
       finished = m.finished ∙ e.finished;
       limits = m.limits ∙ e.limits;
     }
@@ -509,6 +514,7 @@ cut_finish old mid after new count e s stop n =
       again = by (again old.state) refl e.stays live;
       more = λ q. absurd (cc q);
       memory = λ q. absurd (cc q);
+      kept = λ input given st. omega (arith, (e.grows input given st).0, m.counts);
       finished = finished;
       limits = m.limits ∙ e.limits;
     })

@@ -1,6 +1,6 @@
 -- The bytes of a reader that are fed to a decoder, and what it answers.
-use Rattle.std.proofs.Common.{◌≡◌, ℕ, ◌+◌, ◌≤◌, Bool, false, List, [], ◌++◌, length, take, drop, Option, Some, None, refl, sym, ap, subst, ◌∙◌, arith, append_assoc, append-nil, take-append-drop, true≢false}
-use Rattle.std.specs.Prelude.{◌≢◌, Result, Ok, IfSome}
+use Rattle.std.proofs.Common.{◌≡◌, ℕ, ◌+◌, ◌≤◌, Bool, true, false, List, [], ◌∷◌, ◌++◌, length, take, drop, Option, Some, None, refl, sym, ap, subst, ◌∙◌, arith, append_assoc, append-nil, take-append-drop, true≢false, inl, inr}
+use Rattle.std.specs.Prelude.{◌≢◌, ◌⊎◌, ◌<◌, Result, Ok, Err, IfSome}
 use Rattle.std.proofs.lemmas.List.{length-append, take-append-le}
 use Rattle.std.proofs.KnownBytes.{starts_with_rest, Consumes-nil, Consumes-trans}
 use Rattle.std.specs.Io.{StartsWith}
@@ -13,11 +13,12 @@ use Rattle.cwr_decode.specs.declared.outcomes.Outcome.TheVariants as outcomes
 use Rattle.cwr_decode.specs.declared.machine.State.{State}
 use Rattle.cwr_decode.specs.declared.machine.State.TheVariants as states
 use Rattle.cwr_decode.specs.declared.readings.ReadFault.{ReadFault}
+use Rattle.cwr_decode.specs.declared.readings.ReadFault.TheVariants as faults
 use Rattle.cwr_decode.specs.Ends.{IsAccepted, IsNotAccepted}
 use Rattle.cwr_decode.specs.Machines.{Standing, Leaves, again, state_behind}
-use Rattle.cwr_decode.specs.Stands.{StandsFor, IsRight, MayFollow, AcceptsNone, items_out}
-use Rattle.cwr_decode.specs.Calls.{IsLive}
-use Rattle.cwr_decode.specs.Readings.{answer_of, items_read, IsRightOf, LeavesRead, CountsReader, IsUnderWay, IsSpent, FeedsOn, Reads}
+use Rattle.cwr_decode.specs.Stands.{StandsFor, IsUnderWay, IsRight, MayFollow, AcceptsNone, EndsLine, items_out}
+use Rattle.cwr_decode.specs.Calls.{IsLive, WantsMemory}
+use Rattle.cwr_decode.specs.Readings.{answer_of, items_read, EndsLineOf, IsRightOf, LeavesRead, CountsReader, IsSpent, FeedsOn, Reads}
 
 abbrev Answer : Type 0
 Answer = Result (Option Item) ReadFault
@@ -80,6 +81,15 @@ done_only (outcomes.Truncated records) e = absurd (cc e)
 done_only outcomes.Memory e = absurd (cc e)
 done_only outcomes.Done e = refl
 
+-- want of memory is told for itself
+memory_only : (outcome : Outcome) → answer_of outcome ≡ Some (Err faults.Memory) → outcome ≡ outcomes.Memory
+memory_only outcomes.More e = absurd (cc e)
+memory_only (outcomes.Item item) e = absurd (cc e)
+memory_only (outcomes.Refused refusal) e = absurd (cc e)
+memory_only (outcomes.Truncated records) e = absurd (cc e)
+memory_only outcomes.Memory e = refl
+memory_only outcomes.Done e = absurd (cc e)
+
 -- no answer of a decoder counts a failure
 pub no_failure : (outcome : Outcome) → IfSome (answer_of outcome) (λ answer. (failures : ℕ) → CountsReader answer failures failures)
 no_failure outcomes.More = tt
@@ -92,19 +102,35 @@ no_failure outcomes.Done = λ failures. refl
 none_accepted : (limits : LimitValues) (over : Bool) (seen more text : List ℕ) → text ≡ seen ++ more → MayFollow over more → AcceptsNone limits over seen → IsNotAccepted limits text
 none_accepted limits over seen more text split may h = subst (IsNotAccepted limits) (sym split) (h more may)
 
-right_same : (limits : LimitValues) (outcome : Outcome) (over : Bool) (used seen more text : List ℕ) (given : List Item) → text ≡ seen ++ more → MayFollow over more
-    → IsRight limits outcome over used seen given → IfSome (answer_of outcome) (λ answer. IsRightOf limits answer (length used) text given)
-right_same limits outcomes.More over used seen more text given split may h = tt
-right_same limits (outcomes.Item items.Ended) over used seen more text given split may h
+-- where a refused line ends, told of all of the input
+ends_line : (over : Bool) (used seen more text : List ℕ) → text ≡ seen ++ more → MayFollow over more → (over ≡ true → used ≡ seen) → EndsLine over used seen → EndsLineOf used text
+ends_line false used seen more text split may whole (inl feed) = inl (inl feed)
+ends_line false used seen more text split may whole (inr far) = inl (inr (record {
+  front = far.front;
+  line = far.line;
+  next = far.next;
+  rest = far.rest ++ more;
+  split = far.split;
+  longest = far.longest;
+  no_lf = far.no_lf;
+  more = split ∙ ap (λ (l : List ℕ). l ++ more) far.more ∙ append_assoc used (far.next ∷ far.rest) more;
+  other = far.other;
+}))
+ends_line true used seen more text split may whole h = inr (whole refl ∙ sym (append-nil seen) ∙ ap (λ (l : List ℕ). seen ++ l) (sym may) ∙ sym split)
+
+right_same : (limits : LimitValues) (outcome : Outcome) (over : Bool) (used seen more text : List ℕ) (given : List Item) → text ≡ seen ++ more → MayFollow over more → (over ≡ true → used ≡ seen)
+    → IsRight limits outcome over used seen given → IfSome (answer_of outcome) (λ answer. IsRightOf limits answer used text given)
+right_same limits outcomes.More over used seen more text given split may whole h = tt
+right_same limits (outcomes.Item items.Ended) over used seen more text given split may whole h
     = record { value = h.value; given_are = h.given_are; accepted = subst (λ (t : List ℕ). IsAccepted limits t h.value (length used)) (sym split) (h.accepted more may) }
-right_same limits (outcomes.Item (items.Opened r)) over used seen more text given split may h = tt
-right_same limits (outcomes.Item (items.GroupOpened r)) over used seen more text given split may h = tt
-right_same limits (outcomes.Item (items.Transaction r)) over used seen more text given split may h = tt
-right_same limits (outcomes.Item (items.GroupClosed r)) over used seen more text given split may h = tt
-right_same limits (outcomes.Refused refusal) over used seen more text given split may h = none_accepted limits over seen more text split may h.0
-right_same limits (outcomes.Truncated records) over used seen more text given split may h = none_accepted limits over seen more text split may h.1
-right_same limits outcomes.Memory over used seen more text given split may h = tt
-right_same limits outcomes.Done over used seen more text given split may h = absurd h
+right_same limits (outcomes.Item (items.Opened r)) over used seen more text given split may whole h = tt
+right_same limits (outcomes.Item (items.GroupOpened r)) over used seen more text given split may whole h = tt
+right_same limits (outcomes.Item (items.Transaction r)) over used seen more text given split may whole h = tt
+right_same limits (outcomes.Item (items.GroupClosed r)) over used seen more text given split may whole h = tt
+right_same limits (outcomes.Refused refusal) over used seen more text given split may whole h = (none_accepted limits over seen more text split may h.0, ends_line over used seen more text split may whole h.1)
+right_same limits (outcomes.Truncated records) over used seen more text given split may whole h = none_accepted limits over seen more text split may h.1
+right_same limits outcomes.Memory over used seen more text given split may whole h = tt
+right_same limits outcomes.Done over used seen more text given split may whole h = absurd h
 
 -- what answers `Done` had ended
 was_ended : (state : State) → IfSome (again state) (λ outcome. outcomes.Done ≡ outcome) → (IsLive state → ⊥) → state ≡ states.Ended
@@ -125,9 +151,11 @@ pub record Calls (old : Standing) (left : Option (List ℕ)) (outcome : Outcome)
   pub consumed : Consumes left after bytes
   pub stands : (input : List ℕ) (given : List Item) → StandsFor old input given → StandsFor new (input ++ bytes) (given ++ items_out outcome)
   pub right : IsLive old.state → (input : List ℕ) (given : List Item) → StandsFor old input given → IsRight old.tally.limits outcome over (input ++ bytes) (input ++ ahead) (given ++ items_out outcome)
+  pub whole : over ≡ true → bytes ≡ ahead
   pub behind : IsSpent old left → IfSome left (λ rest. (more : List ℕ) × MayFollow over more × (rest ≡ ahead ++ more))
   pub leaves : Leaves outcome new.state
   pub again : IfSome (again old.state) (λ o. outcome ≡ o)
+  pub memory : outcome ≡ outcomes.Memory → IsLive old.state → WantsMemory old (length bytes) new
   pub at_end : IsSpent old left → IfSome left (λ _. IsSpent new after)
   pub limits : new.tally.limits ≡ old.tally.limits
 
@@ -135,13 +163,13 @@ told_items : (outcome : Outcome) (answer : Answer) → answer_of outcome ≡ Som
 told_items outcome answer e = subst (λ (o : Option Answer). IfSome o (λ a. items_read a ≡ items_out outcome)) e (items_same outcome)
 
 told_right : (limits : LimitValues) (outcome : Outcome) (answer : Answer) (over : Bool) (used seen : List ℕ) (text : Option (List ℕ)) (before : List Item) → answer_of outcome ≡ Some answer
-    → IfSome text (λ t. (more : List ℕ) × MayFollow over more × (t ≡ seen ++ more))
-    → IsRight limits outcome over used seen (before ++ items_out outcome) → IfSome text (λ t. IsRightOf limits answer (length used) t (before ++ items_read answer))
-told_right limits outcome answer over used seen None before e split h = tt
-told_right limits outcome answer over used seen (Some text) before e split h
-    = subst (λ (l : List Item). IsRightOf limits answer (length used) text (before ++ l)) (sym (told_items outcome answer e))
-    (subst (λ (o : Option Answer). IfSome o (λ a. IsRightOf limits a (length used) text (before ++ items_out outcome))) e
-    (right_same limits outcome over used seen split.0 text (before ++ items_out outcome) split.2 split.1 h))
+    → IfSome text (λ t. (more : List ℕ) × MayFollow over more × (t ≡ seen ++ more)) → (over ≡ true → used ≡ seen)
+    → IsRight limits outcome over used seen (before ++ items_out outcome) → IfSome text (λ t. IsRightOf limits answer used t (before ++ items_read answer))
+told_right limits outcome answer over used seen None before e split whole h = tt
+told_right limits outcome answer over used seen (Some text) before e split whole h
+    = subst (λ (l : List Item). IsRightOf limits answer used text (before ++ l)) (sym (told_items outcome answer e))
+    (subst (λ (o : Option Answer). IfSome o (λ a. IsRightOf limits a used text (before ++ items_out outcome))) e
+    (right_same limits outcome over used seen split.0 text (before ++ items_out outcome) split.2 split.1 whole h))
 
 told_none : (old : Standing) (outcome : Outcome) (over : Bool) (used seen : List ℕ) (given : List Item) → outcome ≡ outcomes.Done → IfSome (again old.state) (λ o. outcome ≡ o)
     → (IsLive old.state → IsRight old.tally.limits outcome over used seen given) → old.state ≡ states.Ended
@@ -159,23 +187,23 @@ reads_called old left outcome answer new after e way c = record {
   leaves = subst (λ (o : Option Answer). IfSome o (λ a. LeavesRead a new.state)) e (leaves_same outcome new.state c.leaves);
   none = λ is. told_none old outcome c.over (way.input ++ c.bytes) (way.input ++ c.ahead) (way.given ++ items_out outcome) (done_only outcome (e ∙ ap (λ (a : Answer). Some a) is)) c.again
       (λ live. c.right live way.input way.given way.stands);
+  memory = λ is live. c.memory (memory_only outcome (e ∙ ap (λ (a : Answer). Some a) is)) live;
   over = c.at_end;
   limits = c.limits;
 } where
   rights : (l : Option (List ℕ)) (input : List ℕ) (given : List Item) → IsRight old.tally.limits outcome c.over (input ++ c.bytes) (input ++ c.ahead) (given ++ items_out outcome)
       → IfSome l (λ rest. (more : List ℕ) × MayFollow c.over more × (rest ≡ c.ahead ++ more))
-      → IfSome l (λ rest. IsRightOf old.tally.limits answer (length (input ++ c.bytes)) (input ++ rest) (given ++ items_read answer))
+      → IfSome l (λ rest. IsRightOf old.tally.limits answer (input ++ c.bytes) (input ++ rest) (given ++ items_read answer))
   rights None input given h behind = tt
   rights (Some rest) input given h behind = told_right old.tally.limits outcome answer c.over (input ++ c.bytes) (input ++ c.ahead) (Some (input ++ rest)) given e
-      (behind.0, behind.1, ap (λ (l : List ℕ). input ++ l) behind.2 ∙ sym (append_assoc input c.ahead behind.0)) h
+      (behind.0, behind.1, ap (λ (l : List ℕ). input ++ l) behind.2 ∙ sym (append_assoc input c.ahead behind.0)) (λ is. ap (λ (l : List ℕ). input ++ l) (c.whole is)) h
 
 -- ---- one call behind another
 
-pub under_way : (old : Standing) (left : Option (List ℕ)) (answer : Answer) (new : Standing) (after : Option (List ℕ)) → IsUnderWay old → Reads old left answer new after → IsUnderWay new
-under_way old left answer new after way r = record { input = way.input ++ r.bytes; given = way.given ++ items_read answer; stands = r.stands way.input way.given way.stands }
-
-pub still_under_way : (n : ℕ) (old : Standing) (left : Option (List ℕ)) (new : Standing) (after : Option (List ℕ)) → IsUnderWay old → FeedsOn n old left new after → IsUnderWay new
-still_under_way n old left new after way f = record { input = way.input ++ f.bytes; given = way.given; stands = f.stands way.input way.given way.stands }
+-- behind a first call, or before it
+pub was_under_way : (d first : Standing) → (d ≡ first) ⊎ IsUnderWay first → IsUnderWay d → IsUnderWay first
+was_under_way d first (inl e) way = subst IsUnderWay e way
+was_under_way d first (inr was) way = was
 
 not_over : (d : Standing) (left : Option (List ℕ)) → d.finished ≡ false → IsSpent d left
 not_over d left fresh is = absurd (true≢false (sym is ∙ fresh))
@@ -194,6 +222,7 @@ feeds_none d left reading fresh = record {
   live = ap again reading;
   reading = reading;
   fresh = fresh;
+  kept = omega arith;
   limits = refl;
 }
 
@@ -206,19 +235,33 @@ feeds_both m n a p b q c r f g = record {
   live = f.live;
   reading = g.reading;
   fresh = g.fresh;
+  kept = omega (arith, f.kept, g.kept);
   limits = g.limits ∙ f.limits;
 }
 
+-- a decoder that reads wants memory only with one more record
+pub wants_more : (d new : Standing) (used : ℕ) → d.state ≡ states.Reading → WantsMemory d used new → d.tally.counts.records < new.tally.counts.records
+wants_more d new used reading (inl waits) = absurd (not_both (sym reading ∙ waits.0))
+  where
+    not_both : states.Reading ≡ states.Pending → ⊥
+    not_both e = cc e
+wants_more d new used reading (inr more) = more
+
+-- a record that waits wants memory with what the fact says
+pub wants_waiting : (d new : Standing) (used : ℕ) (P : Type 0) → P → WantsMemory d used new → ((d.state ≡ states.Pending) × P) ⊎ (d.tally.counts.records < new.tally.counts.records)
+wants_waiting d new used P h (inl waits) = inl (waits.0, h)
+wants_waiting d new used P h (inr more) = inr more
+
 right_behind : (limits after_limits : LimitValues) (answer : Answer) (p q : Option (List ℕ)) (bytes more input : List ℕ) (given : List Item) → after_limits ≡ limits → Consumes p q bytes
-    → IfSome q (λ rest. IsRightOf after_limits answer (length ((input ++ bytes) ++ more)) ((input ++ bytes) ++ rest) given)
-    → IfSome p (λ rest. IsRightOf limits answer (length (input ++ (bytes ++ more))) (input ++ rest) given)
+    → IfSome q (λ rest. IsRightOf after_limits answer ((input ++ bytes) ++ more) ((input ++ bytes) ++ rest) given)
+    → IfSome p (λ rest. IsRightOf limits answer (input ++ (bytes ++ more)) (input ++ rest) given)
 right_behind limits after_limits answer None q bytes more input given same lost h = tt
 right_behind limits after_limits answer (Some xs) None bytes more input given same lost h = absurd lost
 right_behind limits after_limits answer (Some xs) (Some ys) bytes more input given same lost h =
     let texts : (input ++ bytes) ++ ys ≡ input ++ xs = append_assoc input bytes ys ∙ ap (λ (l : List ℕ). input ++ l) (sym lost) in
-    subst (λ (l : LimitValues). IsRightOf l answer (length (input ++ (bytes ++ more))) (input ++ xs) given) same
-    (subst (λ (l : List ℕ). IsRightOf after_limits answer (length l) (input ++ xs) given) (append_assoc input bytes more)
-    (subst (λ (l : List ℕ). IsRightOf after_limits answer (length ((input ++ bytes) ++ more)) l given) texts h))
+    subst (λ (l : LimitValues). IsRightOf l answer (input ++ (bytes ++ more)) (input ++ xs) given) same
+    (subst (λ (l : List ℕ). IsRightOf after_limits answer l (input ++ xs) given) (append_assoc input bytes more)
+    (subst (λ (l : List ℕ). IsRightOf after_limits answer ((input ++ bytes) ++ more) l given) texts h))
 
 pub reads_behind : (n : ℕ) (answer : Answer) (a : Standing) (p : Option (List ℕ)) (b : Standing) (q : Option (List ℕ)) (c : Standing) (r : Option (List ℕ)) → FeedsOn n a p b q → Reads b q answer c r → Reads a p answer c r
 reads_behind n answer a p b q c r f g = record {
@@ -229,6 +272,7 @@ reads_behind n answer a p b q c r f g = record {
       (g.right (ap again f.reading) (not_over b q f.fresh) (input ++ f.bytes) given (f.stands input given h));
   leaves = g.leaves;
   none = λ is. absurd (reading_ends (sym f.reading ∙ g.none is));
+  memory = λ is live. inr (omega (arith, f.kept, wants_more b c (length g.bytes) f.reading (g.memory is (ap again f.reading))));
   over = λ spent. spent_behind p q r f.bytes c f.consumed (g.over (not_over b q f.fresh));
   limits = g.limits ∙ f.limits;
 } where
@@ -239,10 +283,10 @@ reads_behind n answer a p b q c r f g = record {
 
 -- of a reader from which nothing was read yet
 pub first_read : (limits : LimitValues) (d : Standing) (left : Option (List ℕ)) (answer : Answer) (new : Standing) (after : Option (List ℕ)) → StandsFor d [] [] → d.state ≡ states.Reading → d.finished ≡ false → d.tally.limits ≡ limits
-    → Reads d left answer new after → (bytes : List ℕ) × Consumes left after bytes × IfSome left (λ rest. IsRightOf limits answer (length bytes) rest (items_read answer))
+    → Reads d left answer new after → (bytes : List ℕ) × Consumes left after bytes × IfSome left (λ rest. IsRightOf limits answer bytes rest (items_read answer))
 first_read limits d left answer new after stands reading fresh same r = (
   r.bytes,
   r.consumed,
-  subst (λ (l : LimitValues). IfSome left (λ rest. IsRightOf l answer (length r.bytes) rest (items_read answer))) same
+  subst (λ (l : LimitValues). IfSome left (λ rest. IsRightOf l answer r.bytes rest (items_read answer))) same
       (r.right (ap again reading) (not_over d left fresh) [] [] stands),
 )

@@ -20,7 +20,7 @@ use Rattle.cwr_decode.specs.Ends.{IsAccepted}
 use Rattle.cwr_decode.specs.Machines.{Standing, again}
 use Rattle.cwr_decode.specs.Stands.{StandsFor, StandsIn}
 use Rattle.cwr_decode.specs.Calls.{IsLive}
-use Rattle.cwr_decode.specs.Readings.{answer_of, items_read, IsWholeInput, IsRightOf, LeavesRead, IsUnderWay, IsSpent, Reads}
+use Rattle.cwr_decode.specs.Readings.{answer_of, items_read, IsWholeInput, IsRightOf, LeavesRead, IsSpent, Reads}
 use Rattle.cwr_decode.specs.Runs.{HasRead, EndsWhole, HasReadAll, IsReadingOn, AreItems, Takes, IsRightFault, StopsRun, TellsAccepted, TellsCanonical}
 use Rattle.cwr_decode.proofs.Accepted.{accepted_once, canonical_accepted}
 use Rattle.cwr_decode.proofs.CountedItems.{bounded}
@@ -54,24 +54,24 @@ run_reads limits old new before left after given answer h r = record {
   limits_are = r.limits ∙ h.limits_are;
 }
 
-right_on : (limits old_limits : LimitValues) (before left : Option (List ℕ)) (input : List ℕ) (n : ℕ) (given : List Item) (answer : Answer) → old_limits ≡ limits → Consumes before left input
-    → IfSome left (λ rest. IsRightOf old_limits answer n (input ++ rest) given) → IfSome before (λ text. IsRightOf limits answer n text given)
-right_on limits old_limits None left input n given answer same lost h = tt
-right_on limits old_limits (Some xs) None input n given answer same lost h = absurd lost
-right_on limits old_limits (Some xs) (Some ys) input n given answer same lost h =
-    subst (λ (l : LimitValues). IsRightOf l answer n xs given) same (subst (λ (t : List ℕ). IsRightOf old_limits answer n t given) (sym lost) h)
+right_on : (limits old_limits : LimitValues) (before left : Option (List ℕ)) (input used : List ℕ) (given : List Item) (answer : Answer) → old_limits ≡ limits → Consumes before left input
+    → IfSome left (λ rest. IsRightOf old_limits answer used (input ++ rest) given) → IfSome before (λ text. IsRightOf limits answer used text given)
+right_on limits old_limits None left input used given answer same lost h = tt
+right_on limits old_limits (Some xs) None input used given answer same lost h = absurd lost
+right_on limits old_limits (Some xs) (Some ys) input used given answer same lost h =
+    subst (λ (l : LimitValues). IsRightOf l answer used xs given) same (subst (λ (t : List ℕ). IsRightOf old_limits answer used t given) (sym lost) h)
 
 spent_here : (before left : Option (List ℕ)) (input : List ℕ) (old : Standing) → Consumes before left input → IfSome before (λ _. IsSpent old left) → (IsSpent old left → IfSome before (λ _. Unit {0})) → IfSome before (λ _. IsSpent old left)
 spent_here before left input old lost h on = h
 
 pub run_right : (limits : LimitValues) (old new : Standing) (before left after : Option (List ℕ)) (given : List Item) (answer : Answer)
     → (h : HasRead limits old before left given) → IsLive old.state → (r : Reads old left answer new after)
-    → IfSome before (λ text. IsRightOf limits answer (length (h.input ++ r.bytes)) text (given ++ items_read answer))
+    → IfSome before (λ text. IsRightOf limits answer (h.input ++ r.bytes) text (given ++ items_read answer))
 run_right limits old new before left after given answer h live r = by before h.consumed h.spent
   where
-    by : (b : Option (List ℕ)) → Consumes b left h.input → IfSome b (λ _. IsSpent old left) → IfSome b (λ text. IsRightOf limits answer (length (h.input ++ r.bytes)) text (given ++ items_read answer))
+    by : (b : Option (List ℕ)) → Consumes b left h.input → IfSome b (λ _. IsSpent old left) → IfSome b (λ text. IsRightOf limits answer (h.input ++ r.bytes) text (given ++ items_read answer))
     by None lost spent = tt
-    by (Some xs) lost spent = right_on limits old.tally.limits (Some xs) left h.input (length (h.input ++ r.bytes)) (given ++ items_read answer) answer h.limits_are lost
+    by (Some xs) lost spent = right_on limits old.tally.limits (Some xs) left h.input (h.input ++ r.bytes) (given ++ items_read answer) answer h.limits_are lost
         (r.right live spent h.input given h.stands)
 
 -- ---- one call more
@@ -81,16 +81,13 @@ ended_answer : (state : State) (answer : Answer) (B C : Type 0) → state ≡ st
 ended_answer state answer B C e h
     = let told : Some answer ≡ Some (Ok None) = (subst (λ (s : State). IfSome (again s) (λ o. (Some answer ≡ answer_of o) × B × C)) e h).0 in cc told
 
-pub under_way : (limits : LimitValues) (d : Standing) (before now : Option (List ℕ)) (given : List Item) → IsReadingOn limits d before now given → IsUnderWay d
-under_way limits d before now given h = record { input = h.read.input; given = given; stands = h.read.stands }
-
-here_on : (limits : LimitValues) (state : State) (before : Option (List ℕ)) (n : ℕ) (given : List Item) (item : Item) → LeavesRead (Ok (Some item)) state
-    → IfSome before (λ text. IsRightOf limits (Ok (Some item)) n text given) → IsLive state ⊎ EndsWhole limits state before n given
-here_on limits state before n given items.Ended leaves right = inr (leaves.0 refl, right)
-here_on limits state before n given (items.Opened r) leaves right = inl (leaves.1 (λ e. absurd (cc e)))
-here_on limits state before n given (items.GroupOpened r) leaves right = inl (leaves.1 (λ e. absurd (cc e)))
-here_on limits state before n given (items.Transaction t) leaves right = inl (leaves.1 (λ e. absurd (cc e)))
-here_on limits state before n given (items.GroupClosed r) leaves right = inl (leaves.1 (λ e. absurd (cc e)))
+here_on : (limits : LimitValues) (state : State) (before : Option (List ℕ)) (used : List ℕ) (given : List Item) (item : Item) → LeavesRead (Ok (Some item)) state
+    → IfSome before (λ text. IsRightOf limits (Ok (Some item)) used text given) → IsLive state ⊎ EndsWhole limits state before (length used) given
+here_on limits state before used given items.Ended leaves right = inr (leaves.0 refl, right)
+here_on limits state before used given (items.Opened r) leaves right = inl (leaves.1 (λ e. absurd (cc e)))
+here_on limits state before used given (items.GroupOpened r) leaves right = inl (leaves.1 (λ e. absurd (cc e)))
+here_on limits state before used given (items.Transaction t) leaves right = inl (leaves.1 (λ e. absurd (cc e)))
+here_on limits state before used given (items.GroupClosed r) leaves right = inl (leaves.1 (λ e. absurd (cc e)))
 
 pub item_read : (limits : LimitValues) (old new : Standing) (before left after : Option (List ℕ)) (given : List Item) (item : Item) (B C : Type 0)
     → IsReadingOn limits old before left given → Reads old left (Ok (Some item)) new after → IfSome (again old.state) (λ o. (Some (Ok (Some item)) ≡ answer_of o) × B × C)
@@ -104,7 +101,7 @@ item_read limits old new before left after given item B C h r same = record {
   none_left e = let told : Ok (Some item) ≡ Ok None = ended_answer old.state (Ok (Some item)) B C e same in absurd (cc told)
 
   by : IsLive old.state ⊎ EndsWhole limits old.state before (length h.read.input) given → IsLive new.state ⊎ EndsWhole limits new.state before (length (h.read.input ++ r.bytes)) (given ++ item ∷ [])
-  by (inl live) = here_on limits new.state before (length (h.read.input ++ r.bytes)) (given ++ item ∷ []) item r.leaves (run_right limits old new before left after given (Ok (Some item)) h.read live r)
+  by (inl live) = here_on limits new.state before (h.read.input ++ r.bytes) (given ++ item ∷ []) item r.leaves (run_right limits old new before left after given (Ok (Some item)) h.read live r)
   by (inr ended) = absurd (none_left ended.0)
 
 live_not_ended : (state : State) → IsLive state → state ≡ states.Ended → ⊥
@@ -120,12 +117,13 @@ all_read limits old before left given h e = record { decoder = old; read = h.rea
     by (inl live) = absurd (live_not_ended old.state live e)
     by (inr ended) = ended
 
-fault_right : (limits : LimitValues) (fault : ReadFault) (before : Option (List ℕ)) (n : ℕ) (given : List Item) → IfSome before (λ text. IsRightOf limits (Err fault) n text given) → IfSome before (IsRightFault limits fault)
-fault_right limits fault None n given h = tt
-fault_right limits faults.Reader (Some text) n given h = tt
-fault_right limits (faults.Refused refusal) (Some text) n given h = h
-fault_right limits (faults.Truncated records) (Some text) n given h = h
-fault_right limits faults.Memory (Some text) n given h = tt
+fault_right : (limits : LimitValues) (fault : ReadFault) (before : Option (List ℕ)) (used : List ℕ) (given : List Item) → IfSome before (λ text. IsRightOf limits (Err fault) used text given)
+    → IfSome before (IsRightFault limits fault used)
+fault_right limits fault None used given h = tt
+fault_right limits faults.Reader (Some text) used given h = tt
+fault_right limits (faults.Refused refusal) (Some text) used given h = h
+fault_right limits (faults.Truncated records) (Some text) used given h = h
+fault_right limits faults.Memory (Some text) used given h = tt
 
 pub fault_read : (limits : LimitValues) (old new : Standing) (before left after : Option (List ℕ)) (given : List Item) (fault : ReadFault) (B C : Type 0)
     → IsReadingOn limits old before left given → Reads old left (Err fault) new after → IfSome (again old.state) (λ o. (Some (Err fault) ≡ answer_of o) × B × C)
@@ -141,8 +139,8 @@ fault_read limits old new before left after given fault B C h r same = record {
   none_left : (e : old.state ≡ states.Ended) → ⊥
   none_left e = let told : Err fault ≡ Ok None = ended_answer old.state (Err fault) B C e same in absurd (cc told)
 
-  by : IsLive old.state ⊎ EndsWhole limits old.state before (length h.read.input) given → IfSome before (IsRightFault limits fault)
-  by (inl live) = fault_right limits fault before (length (h.read.input ++ r.bytes)) (given ++ []) (run_right limits old new before left after given (Err fault) h.read live r)
+  by : IsLive old.state ⊎ EndsWhole limits old.state before (length h.read.input) given → IfSome before (IsRightFault limits fault (h.read.input ++ r.bytes))
+  by (inl live) = fault_right limits fault before (h.read.input ++ r.bytes) (given ++ []) (run_right limits old new before left after given (Err fault) h.read live r)
   by (inr ended) = absurd (none_left ended.0)
 
 -- ---- all items
@@ -210,11 +208,11 @@ none_read limits old new before left after given told C e h r same at =
 
 -- ---- what follows from how a run ends
 
-take_err : (limits : LimitValues) (text : List ℕ) (fault : ReadFault) (v : TransmissionValue) (n : ℕ) → IsRightFault limits fault text → IsAccepted limits text v n → (fault ≡ faults.Reader) ⊎ (fault ≡ faults.Memory)
-take_err limits text faults.Reader v n h a = inl refl
-take_err limits text (faults.Refused refusal) v n h a = absurd (h v n a)
-take_err limits text (faults.Truncated records) v n h a = absurd (h v n a)
-take_err limits text faults.Memory v n h a = inr refl
+take_err : (limits : LimitValues) (used text : List ℕ) (fault : ReadFault) (v : TransmissionValue) (n : ℕ) → IsRightFault limits fault used text → IsAccepted limits text v n → (fault ≡ faults.Reader) ⊎ (fault ≡ faults.Memory)
+take_err limits used text faults.Reader v n h a = inl refl
+take_err limits used text (faults.Refused refusal) v n h a = absurd (h.0 v n a)
+take_err limits used text (faults.Truncated records) v n h a = absurd (h v n a)
+take_err limits used text faults.Memory v n h a = inr refl
 
 pub tells_accepted : (limits : LimitValues) (before after : Option (List ℕ)) (result : Result TransmissionValue ReadFault)
     → IfOk result (λ t. Takes limits before t after) → IfErr result (λ fault. StopsRun limits fault before after) → TellsAccepted limits before result after
@@ -222,7 +220,7 @@ tells_accepted limits None after result h k = tt
 tells_accepted limits (Some text) after (Ok t) h k = λ v n a.
     let same = accepted_once limits text t v h.0 n h.1 a in
     (same.0, h.2 ∙ ap (λ (m : ℕ). Some (drop m text)) same.1)
-tells_accepted limits (Some text) after (Err fault) h k = λ v n a. take_err limits text fault v n k.right a
+tells_accepted limits (Some text) after (Err fault) h k = λ v n a. take_err limits k.read.input text fault v n k.right a
 
 pub tells_canonical : (limits : LimitValues) (before after : Option (List ℕ)) (result : Result TransmissionValue ReadFault)
     → TellsAccepted limits before result after → TellsCanonical limits before result after

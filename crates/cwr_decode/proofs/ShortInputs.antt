@@ -12,8 +12,8 @@ use Rattle.cwr_values.proofs.RowAt.{length-rows_so_far}
 use Rattle.cwr_decode.specs.declared.machine.State.{State}
 use Rattle.cwr_decode.specs.declared.machine.State.TheVariants as states
 use Rattle.cwr_decode.specs.Machines.{Standing}
-use Rattle.cwr_decode.specs.Readings.{IsUnderWay, FeedsOn}
-use Rattle.cwr_decode.specs.Stands.{StandsFor, StandsIn, IsReading, IsInput, text_of}
+use Rattle.cwr_decode.specs.Readings.{FeedsOn}
+use Rattle.cwr_decode.specs.Stands.{StandsFor, IsUnderWay, StandsIn, IsReading, IsInput, text_of}
 
 text_short : (rows : List Row) (lines : List (List ℕ)) → AllZip IsLineOf rows lines → length (text_of lines) ≤ 1025 * length rows
 text_short [] [] h = omega arith

@@ -1,5 +1,5 @@
 -- A text has some end: one that isn't accepted, and in which no place is the first bad one, is truncated.
-use Rattle.std.proofs.Common.{◌≡◌, ℕ, zero, suc, ◌+◌, ◌<◌, ◌≤◌, List, length, refl, sym, subst, arith, inl, inr, ap}
+use Rattle.std.proofs.Common.{◌≡◌, ℕ, zero, suc, ◌<◌, ◌≤◌, List, length, refl, sym, subst, arith, inl, inr, ap}
 use Rattle.std.specs.Prelude.{◌⊎◌}
 use Rattle.cwr_layouts.specs.Lines.{closed, raw_lines}
 use Rattle.cwr_shape.specs.declared.limits.Limits.{Limits}

@@ -82,6 +82,7 @@ pub record Feeds (old : Standing) (piece : List ℕ) (used : ℕ) (outcome : Out
   pub unused : old.finished ≡ true → used ≡ 0
   pub alone : WaitsOutside old → (used ≡ 0) × (outcome ≢ More)
   pub memory : outcome ≡ Memory → IsLive old.state → (input : List ℕ) (given : List Item) → StandsFor old input given → WantsMemory old used new
+  pub kept : (input : List ℕ) (given : List Item) → StandsFor old input given → old.tally.counts.records ≤ new.tally.counts.records
   pub finished : new.finished ≡ old.finished
   pub limits : new.tally.limits ≡ old.tally.limits
 
@@ -95,5 +96,6 @@ pub record Finishes (old : Standing) (outcome : Outcome) (new : Standing) : Type
   pub again : IfSome (again old.state) (λ o. (outcome ≡ o) × (new ≡ over old))
   pub more : outcome ≡ More → ⊥
   pub memory : outcome ≡ Memory → IsLive old.state → (input : List ℕ) (given : List Item) → StandsFor old input given → WantsMemory old 0 new
+  pub kept : (input : List ℕ) (given : List Item) → StandsFor old input given → old.tally.counts.records ≤ new.tally.counts.records
   pub finished : new.finished ≡ true
   pub limits : new.tally.limits ≡ old.tally.limits

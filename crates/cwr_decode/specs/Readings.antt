@@ -1,5 +1,5 @@
 -- Reading a transmission from a reader: what is told, and what that says of the bytes that the reader had.
-use Rattle.std.specs.Prelude.{◌≡◌, ◌≢◌, ℕ, ◌≤◌, true, false, List, [], ◌∷◌, ◌++◌, length, Option, Some, None, IfSome, Result, Ok, Err}
+use Rattle.std.specs.Prelude.{◌≡◌, ◌≢◌, ◌⊎◌, ℕ, ◌≤◌, true, false, List, [], ◌∷◌, ◌++◌, length, Option, Some, None, IfSome, Result, Ok, Err}
 use Rattle.std.specs.Io.KnownBytes.{Consumes, IsAtEnd}
 use Rattle.cwr_fields.specs.Failures.{one_more_failure}
 use Rattle.cwr_shape.specs.Ranges.{LimitValues}
@@ -15,8 +15,8 @@ use Rattle.cwr_decode.specs.declared.readings.ReadFault.TheVariants as faults
 use Rattle.cwr_decode.specs.Items.{value_items}
 use Rattle.cwr_decode.specs.Ends.{IsAccepted, IsNotAccepted}
 use Rattle.cwr_decode.specs.Machines.{Standing}
-use Rattle.cwr_decode.specs.Stands.{StandsFor}
-use Rattle.cwr_decode.specs.Calls.{IsLive}
+use Rattle.cwr_decode.specs.Stands.{EndsInLf, GoesTooFar, StandsFor}
+use Rattle.cwr_decode.specs.Calls.{IsLive, WantsMemory}
 
 -- what a decoder's answer is told as; where more is needed, nothing is told
 abbrev pub answer_of : Outcome → Option (Result (Option Item) ReadFault)
@@ -39,14 +39,19 @@ pub record IsWholeInput (limits : LimitValues) (used : ℕ) (input : List ℕ) (
   pub given_are : given ≡ value_items value
   pub accepted : IsAccepted limits input value used
 
--- What is told of an input, of which so many bytes were used: the end comes where a transmission is accepted, and
--- `Refused` or `Truncated` where none is. Before the end and before a fault of the input `Ok(None)` isn't told.
-abbrev pub IsRightOf : LimitValues → Result (Option Item) ReadFault → ℕ → List ℕ → List Item → Type 0
+-- a line of the input ends with the used bytes: by its line feed, before a byte too many, or with the input
+abbrev pub EndsLineOf : List ℕ → List ℕ → Type 0
+EndsLineOf used input = (EndsInLf used ⊎ GoesTooFar used input) ⊎ (used ≡ input)
+
+-- What is told of an input, of which these bytes were used: the end comes where a transmission is accepted, and
+-- `Refused` or `Truncated` where none is. `Refused` comes where the line ends. Before the end and before a fault of the
+-- input `Ok(None)` isn't told.
+abbrev pub IsRightOf : LimitValues → Result (Option Item) ReadFault → List ℕ → List ℕ → List Item → Type 0
 IsRightOf limits (Ok None) used input given = ⊥
-IsRightOf limits (Ok (Some items.Ended)) used input given = IsWholeInput limits used input given
+IsRightOf limits (Ok (Some items.Ended)) used input given = IsWholeInput limits (length used) input given
 IsRightOf limits (Ok (Some item)) used input given = Unit {0}
 IsRightOf limits (Err faults.Reader) used input given = Unit {0}
-IsRightOf limits (Err (faults.Refused refusal)) used input given = IsNotAccepted limits input
+IsRightOf limits (Err (faults.Refused refusal)) used input given = IsNotAccepted limits input × EndsLineOf used input
 IsRightOf limits (Err (faults.Truncated records)) used input given = IsNotAccepted limits input
 IsRightOf limits (Err faults.Memory) used input given = Unit {0}
 
@@ -70,12 +75,6 @@ abbrev pub CountsReader : Result (Option Item) ReadFault → ℕ → ℕ → Typ
 CountsReader (Ok item) old new = new ≡ old
 CountsReader (Err fault) old new = CountsFault fault old new
 
--- the decoder stands for some input and some items
-pub record IsUnderWay (d : Standing) : Type 0 where
-  pub input : List ℕ
-  pub given : List Item
-  pub stands : StandsFor d input given
-
 -- where the decoder was told that the input is over, the reader has nothing left
 abbrev pub IsSpent : Standing → Option (List ℕ) → Type 0
 IsSpent d left = d.finished ≡ true → IsAtEnd left
@@ -89,6 +88,7 @@ pub record FeedsOn (least : ℕ) (old : Standing) (left : Option (List ℕ)) (ne
   pub live : IsLive old.state
   pub reading : new.state ≡ states.Reading
   pub fresh : new.finished ≡ false
+  pub kept : old.tally.counts.records ≤ new.tally.counts.records
   pub limits : new.tally.limits ≡ old.tally.limits
 
 -- Something is read. Just the bytes that the reader loses are fed: whatever the decoder stood for before, with these and
@@ -98,8 +98,9 @@ pub record Reads (old : Standing) (left : Option (List ℕ)) (answer : Result (O
   pub consumed : Consumes left after bytes
   pub stands : (input : List ℕ) (given : List Item) → StandsFor old input given → StandsFor new (input ++ bytes) (given ++ items_read answer)
   pub right : IsLive old.state → IsSpent old left → (input : List ℕ) (given : List Item) → StandsFor old input given
-      → IfSome left (λ rest. IsRightOf old.tally.limits answer (length (input ++ bytes)) (input ++ rest) (given ++ items_read answer))
+      → IfSome left (λ rest. IsRightOf old.tally.limits answer (input ++ bytes) (input ++ rest) (given ++ items_read answer))
   pub leaves : LeavesRead answer new.state
   pub none : answer ≡ Ok None → old.state ≡ states.Ended
+  pub memory : answer ≡ Err faults.Memory → IsLive old.state → WantsMemory old (length bytes) new
   pub over : IsSpent old left → IfSome left (λ _. IsSpent new after)
   pub limits : new.tally.limits ≡ old.tally.limits

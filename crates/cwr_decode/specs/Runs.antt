@@ -18,7 +18,7 @@ use Rattle.cwr_decode.specs.Ends.{IsAccepted, IsNotAccepted}
 use Rattle.cwr_decode.specs.Machines.{Standing}
 use Rattle.cwr_decode.specs.Stands.{StandsFor}
 use Rattle.cwr_decode.specs.Calls.{IsLive}
-use Rattle.cwr_decode.specs.Readings.{IsSpent, IsWholeInput, LeavesRead}
+use Rattle.cwr_decode.specs.Readings.{EndsLineOf, IsSpent, IsWholeInput, LeavesRead}
 
 -- these items were read so far: the decoder stands for them and for the bytes that the reader lost
 pub record HasRead (limits : LimitValues) (d : Standing) (before now : Option (List ℕ)) (given : List Item) : Type 0 where
@@ -65,12 +65,12 @@ pub record AreGroupItems (head : RecordValue) (given : List Item) : Type 0 where
 abbrev pub Takes : LimitValues → Option (List ℕ) → TransmissionValue → Option (List ℕ) → Type 0
 Takes limits before v after = IfSome before (λ text. (n : ℕ) × IsAccepted limits text v n × (after ≡ Some (drop n text)))
 
--- a refused or truncated text begins with no transmission within the limits
-abbrev pub IsRightFault : LimitValues → ReadFault → List ℕ → Type 0
-IsRightFault limits Reader text = Unit {0}
-IsRightFault limits (Refused refusal) text = IsNotAccepted limits text
-IsRightFault limits (Truncated records) text = IsNotAccepted limits text
-IsRightFault limits Memory text = Unit {0}
+-- a refused or truncated text begins with no transmission within the limits, and a refused line ends with the used bytes
+abbrev pub IsRightFault : LimitValues → ReadFault → List ℕ → List ℕ → Type 0
+IsRightFault limits Reader used text = Unit {0}
+IsRightFault limits (Refused refusal) used text = IsNotAccepted limits text × EndsLineOf used text
+IsRightFault limits (Truncated records) used text = IsNotAccepted limits text
+IsRightFault limits Memory used text = Unit {0}
 
 -- these items were read before the fault, and the decoder stopped for what is told
 pub record StopsRun (limits : LimitValues) (fault : ReadFault) (before after : Option (List ℕ)) : Type 0 where
@@ -78,7 +78,7 @@ pub record StopsRun (limits : LimitValues) (fault : ReadFault) (before after : O
   pub given : List Item
   pub read : HasRead limits decoder before after given
   pub leaves : fault ≢ Memory → LeavesRead (Err fault) decoder.state
-  pub right : IfSome before (IsRightFault limits fault)
+  pub right : IfSome before (IsRightFault limits fault read.input)
 
 -- of a text that is accepted the run tells that transmission and takes its bytes, unless the reader or memory failed
 abbrev pub TellsAccepted : LimitValues → Option (List ℕ) → Result TransmissionValue ReadFault → Option (List ℕ) → Type 0

@@ -23,7 +23,7 @@ use Rattle.cwr_decode.specs.declared.refusals.Refusal.{Refusal}
 use Rattle.cwr_decode.specs.Items.{value_items}
 use Rattle.cwr_decode.specs.Ends.{IsAccepted, IsNotAccepted}
 use Rattle.cwr_decode.specs.Judged.{IsOfNone, IsFirstFault}
-use Rattle.cwr_decode.specs.Machines.{Standing}
+use Rattle.cwr_decode.specs.Machines.{Standing, IsReady}
 use Rattle.cwr_decode.specs.Open.{items_so_far, open_of, goes_on_with, handed}
 
 -- the lines, each with its line feed
@@ -134,6 +134,17 @@ StandsIn Memory d input given = IsFull d input given
 pub record StandsFor (d : Standing) (input : List ℕ) (given : List Item) : Type 0 where
   pub in_range : AreInRange d.tally.limits
   pub here : StandsIn d.state d input given
+
+-- the decoder stands for some input and some items
+pub record IsUnderWay (d : Standing) : Type 0 where
+  pub input : List ℕ
+  pub given : List Item
+  pub stands : StandsFor d input given
+
+-- what a decoder is at each time
+pub record IsSound (d : Standing) : Type 0 where
+  pub ready : IsReady d.state d.finished d.line
+  pub under_way : IsUnderWay d
 
 -- ---- what an answer says of the input
 

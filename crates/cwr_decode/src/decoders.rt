@@ -3,7 +3,7 @@
 ghost use Rattle.std.specs.Prelude.{◌≡◌, ◌≢◌, ◌≤◌, ◌++◌, [], List, ℕ, length, take, IfSome, true, false};
 ghost use Rattle.cwr_decode.specs.Calls.{IsLive, WantsMemory, seen};
 ghost use Rattle.cwr_decode.specs.Machines.{Empties, Leaves, WaitsOutside, again, held_list, over};
-ghost use Rattle.cwr_decode.specs.Stands.{IsRight, StandsFor, items_out};
+ghost use Rattle.cwr_decode.specs.Stands.{IsRight, IsUnderWay, StandsFor, items_out};
 ghost use Rattle.cwr_values.specs.declared.items.Item.{Item};
 
 use crate::machine::{Machine, State};
@@ -19,13 +19,14 @@ pub struct Decoder {
 }
 
 impl Model for Decoder {
-    ghost use Rattle.cwr_decode.specs.Machines.{Standing, IsReady};
+    ghost use Rattle.cwr_decode.specs.Machines.{Standing};
+    ghost use Rattle.cwr_decode.specs.Stands.{IsSound};
 
     ghost Value = { Standing };
 
     ghost view = { λ d. d.machine };
 
-    ghost invariant = { λ d. IsReady d.machine.state d.machine.finished d.machine.line };
+    ghost invariant = { λ d. IsSound d.machine };
 }
 
 impl Decoder {
@@ -60,7 +61,9 @@ impl Decoder {
     /// Takes the next piece of the input, up to the next item. `feed` after `finish` uses nothing and answers as that.
     pub fn feed(&mut self, piece: &[u8]) -> Step
         ensures used { result.used ≤ length piece.now }
-        // Whatever it stood for before, with the bytes that were used and the item that is answered it stands for that.
+        // It stood for some input and some items. Whatever it stood for, with the bytes that were used and the item that is
+        // answered it stands for that.
+        ensures stood { IsUnderWay self.old }
         ensures stands { (input : List ℕ) (given : List Item) → StandsFor self.old input given
             → StandsFor self.new (input ++ take result.used piece.now) (given ++ items_out result.outcome) }
         // The end of a transmission is answered where one is accepted, and a refusal or the end of the input where none is.
@@ -81,6 +84,7 @@ impl Decoder {
         // that was accepted.
         ensures memory { result.outcome ≡ Outcome.Memory → IsLive self.old.state → (input : List ℕ) (given : List Item) → StandsFor self.old input given
             → WantsMemory self.old result.used self.new }
+        ensures kept { self.old.tally.counts.records ≤ self.new.tally.counts.records }
         ensures finished { self.new.finished ≡ self.old.finished }
         ensures limits { self.new.tally.limits ≡ self.old.tally.limits }
     {
@@ -91,6 +95,7 @@ impl Decoder {
     /// called again. A last line without its line feed is one that has it. No byte is used.
     pub fn finish(&mut self) -> Step
         ensures used { result.used ≡ 0 }
+        ensures stood { IsUnderWay self.old }
         ensures stands { (input : List ℕ) (given : List Item) → StandsFor self.old input given
             → StandsFor self.new input (given ++ items_out result.outcome) }
         ensures right { IsLive self.old.state → (input : List ℕ) (given : List Item) → StandsFor self.old input given
@@ -104,6 +109,7 @@ impl Decoder {
         // that was accepted.
         ensures memory { result.outcome ≡ Outcome.Memory → IsLive self.old.state → (input : List ℕ) (given : List Item) → StandsFor self.old input given
             → WantsMemory self.old 0 self.new }
+        ensures kept { self.old.tally.counts.records ≤ self.new.tally.counts.records }
         ensures finished { self.new.finished ≡ true }
         ensures limits { self.new.tally.limits ≡ self.old.tally.limits }
     {

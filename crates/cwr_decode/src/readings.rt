@@ -1,9 +1,10 @@
 //! Reading a transmission from a reader, item by item.
 
-ghost use Rattle.std.specs.Prelude.{◌≡◌, ℕ, List, [], Option, IfNone, IfSome, IsSome, Some, true, false};
-ghost use Rattle.cwr_decode.specs.Stands.{StandsFor};
+ghost use Rattle.std.specs.Prelude.{◌≡◌, ◌<◌, ◌⊎◌, ℕ, List, [], Option, Err, IfNone, IfSome, IsSome, Some, true, false};
+ghost use Rattle.cwr_decode.specs.Calls.{IsLive};
+ghost use Rattle.cwr_decode.specs.Stands.{IsUnderWay, StandsFor};
 ghost use Rattle.cwr_decode.specs.Machines.{WaitsOutside, again};
-ghost use Rattle.cwr_decode.specs.Readings.{answer_of, CountsReader, FeedsOn, IsUnderWay, Reads};
+ghost use Rattle.cwr_decode.specs.Readings.{answer_of, CountsReader, FeedsOn, Reads};
 
 use crate::decoders::Decoder;
 use crate::machine::State;
@@ -82,9 +83,9 @@ fn answer(outcome: Outcome) -> Option<Result<Option<Item>, ReadFault>>
 
 /// Feeds what the reader shows next, or the end of the input. `None` where more is needed.
 fn pull<R: Source>(decoder: &mut Decoder, reader: &mut R) -> Option<Result<Option<Item>, ReadFault>>
-    requires ready { IsUnderWay decoder.old }
     requires reading { decoder.old.state ≡ State.Reading }
     requires fresh { decoder.old.finished ≡ false }
+    ensures stood { IfNone result (IsUnderWay decoder.old) }
     ensures goes_on { IfNone result (FeedsOn 1 decoder.old (R.remaining reader.old) decoder.new (R.remaining reader.new)) }
     ensures reads { IfSome result (λ answer. Reads decoder.old (R.remaining reader.old) answer decoder.new (R.remaining reader.new)) }
     ensures same { IfNone result (R.failures reader.new ≡ R.failures reader.old) }
@@ -104,7 +105,6 @@ fn pull<R: Source>(decoder: &mut Decoder, reader: &mut R) -> Option<Result<Optio
 
 /// Reads on, where the decoder needs more.
 fn read_on<R: Source>(decoder: &mut Decoder, reader: &mut R) -> Result<Option<Item>, ReadFault>
-    requires ready { IsUnderWay decoder.old }
     requires reading { decoder.old.state ≡ State.Reading }
     requires fresh { decoder.old.finished ≡ false }
     ensures reads { Reads decoder.old (R.remaining reader.old) result decoder.new (R.remaining reader.new) }
@@ -122,7 +122,7 @@ fn read_on<R: Source>(decoder: &mut Decoder, reader: &mut R) -> Result<Option<It
 /// What the decoder answers without a further byte. `None` where it needs one.
 fn settle(decoder: &mut Decoder) -> Option<Result<Option<Item>, ReadFault>>
     ensures goes_on { IfNone result ((left : Option (List ℕ)) → FeedsOn 0 decoder.old left decoder.new left) }
-    ensures reads { IfSome result (λ answer. IsUnderWay decoder.old → (left : Option (List ℕ)) → Reads decoder.old left answer decoder.new left) }
+    ensures reads { IfSome result (λ answer. (left : Option (List ℕ)) → Reads decoder.old left answer decoder.new left) }
     ensures failures { IfSome result (λ answer. (failures : ℕ) → CountsReader answer failures failures) }
     ensures again { IfSome (again decoder.old.state) (λ outcome. (result ≡ answer_of outcome) × (decoder.new ≡ decoder.old)) }
     ensures over { decoder.old.finished ≡ true → IsSome result }
@@ -137,7 +137,6 @@ impl<'a, R: Source> Reading<'a, R> {
         ensures same_reference { result.reader.ghost_name ≡ reader.entry.ghost_name }
         ensures kept { result.reader.now ≡ reader.old }
         ensures stands { StandsFor result.decoder [] [] }
-        ensures ready { IsUnderWay result.decoder }
         ensures limits { result.decoder.tally.limits ≡ limits }
         ensures reading { result.decoder.state ≡ State.Reading }
         ensures fresh { result.decoder.finished ≡ false }
@@ -154,11 +153,14 @@ impl<'a, R: Source> Reading<'a, R> {
     /// It answers `ReadFault::Reader` where the reader failed, and the next call reads on; the other faults are
     /// answered again by each later call.
     pub fn next_item(&mut self) -> Result<Option<Item>, ReadFault>
-        requires { IsUnderWay self.old.decoder }
         ensures same_reference { self.new.reader.ghost_name ≡ self.old.reader.ghost_name }
         ensures reads { Reads self.old.decoder (R.remaining self.old.reader.now) result self.new.decoder (R.remaining self.new.reader.now) }
-        ensures ready { IsUnderWay self.new.decoder }
         ensures failures { CountsReader result (R.failures self.old.reader.now) (R.failures self.new.reader.now) }
+        // Want of memory comes only with a record that was being added: the one that waited, with the reader as it was, or
+        // one that was accepted in this call.
+        ensures memory { result ≡ Err ReadFault.Memory → IsLive self.old.decoder.state
+            → ((self.old.decoder.state ≡ State.Pending) × (self.new.reader.now ≡ self.old.reader.now))
+            ⊎ (self.old.decoder.tally.counts.records < self.new.decoder.tally.counts.records) }
         // Behind the end or a fault of the input, that is answered again, and nothing changes.
         ensures again { IfSome (again self.old.decoder.state) (λ outcome. (Some result ≡ answer_of outcome)
             × (self.new.decoder ≡ self.old.decoder) × (self.new.reader.now ≡ self.old.reader.now)) }

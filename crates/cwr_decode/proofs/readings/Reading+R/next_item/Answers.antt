@@ -1,12 +1,7 @@
-use Rattle.std.proofs.Common.{None}
-use Rattle.cwr_decode.proofs.FromReader.{reads_behind, still_under_way, under_way}
+use Rattle.std.proofs.Common.{None, inr, ap, refl, arith}
+use Rattle.cwr_decode.specs.Machines.{again}
+use Rattle.cwr_decode.proofs.FromReader.{reads_behind, wants_more, wants_waiting}
 use Rattle.cwr_decode.proofs.readings.Reading+R.next_item.Goals as goal
-
-pub returns-in-Some-clause-ready : goal.returns-in-Some-clause-ready
-returns-in-Some-clause-ready g c = under_way _ None _ _ None c.requires (c.in-Some.ensures.reads c.requires None)
-
-pub read_on-requires-clause-ready : goal.read_on-requires-clause-ready
-read_on-requires-clause-ready g c = still_under_way 0 _ None _ None c.requires (c.in_default.ensures.goes_on None)
 
 pub read_on-requires-clause-reading : goal.read_on-requires-clause-reading
 read_on-requires-clause-reading g c = (c.in_default.ensures.goes_on None).reading
@@ -17,5 +12,10 @@ read_on-requires-clause-fresh g c = (c.in_default.ensures.goes_on None).fresh
 pub returns-clause-reads : goal.returns-clause-reads
 returns-clause-reads g c = reads_behind 0 _ _ _ _ _ _ _ (c.in_default.ensures.goes_on _) c.read_on.ensures.reads
 
-pub returns-clause-ready : goal.returns-clause-ready
-returns-clause-ready g c = under_way _ _ _ _ _ (still_under_way 0 _ None _ None c.requires (c.in_default.ensures.goes_on None)) c.read_on.ensures.reads
+pub returns-in-Some-clause-memory : goal.returns-in-Some-clause-memory
+returns-in-Some-clause-memory g c = λ is live. wants_waiting c.args.self.now.decoder c.settle.new.decoder _ _ refl ((c.in-Some.ensures.reads None).memory is live)
+
+pub returns-clause-memory : goal.returns-clause-memory
+returns-clause-memory g c = λ is live.
+    let on = c.in_default.ensures.goes_on None in
+    inr (omega (arith, on.kept, wants_more c.settle.new.decoder c.read_on.new.decoder _ on.reading (c.read_on.ensures.reads.memory is (ap again on.reading))))

@@ -1,0 +1,17 @@
+use Rattle.std.proofs.Common.{◌≡◌, ◌≤◌, subst}
+use Rattle.std.specs.Prelude.{IfSome}
+use Rattle.cwr_decode.specs.Machines.{Standing, again, over}
+use Rattle.cwr_decode.specs.Stands.{IsUnderWay}
+use Rattle.cwr_decode.proofs.decoders.Decoder.finish.Goals as goal
+
+pub returns-clause-stood : goal.returns-clause-stood
+returns-clause-stood c = subst IsUnderWay c.self.view_is c.self.invariant.under_way
+
+pub returns-clause-again : goal.returns-clause-again
+returns-clause-again c =
+    subst (λ (d : Standing). IfSome (again d.state) (λ o. (c.finish.result.outcome ≡ o) × (c.finish.new.self ≡ over d))) c.self.view_is c.finish.ensures.finishes.again
+
+pub returns-clause-kept : goal.returns-clause-kept
+returns-clause-kept c =
+    let was = c.self.invariant.under_way in
+    subst (λ (d : Standing). d.tally.counts.records ≤ c.finish.new.self.tally.counts.records) c.self.view_is (c.finish.ensures.finishes.kept was.input was.given was.stands)
