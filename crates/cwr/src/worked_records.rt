@@ -217,10 +217,19 @@ fn set_all(line: &mut [u8], kind: Kind, cells: &[(u8, &[u8])]) {
     }
 }
 
-/// The number with so many digits.
-fn digits<const W: usize>(number: u64) -> [u8; W] {
-    let mut digits = [b'0'; W];
-    if let Some(number) = Number::<W>::new(number) {
+/// The number in five digits.
+fn five_digits(number: u64) -> [u8; 5] {
+    let mut digits = [b'0'; 5];
+    if let Some(number) = Number::<5>::new(number) {
+        number.write(&mut digits);
+    }
+    digits
+}
+
+/// The number in eight digits.
+fn eight_digits(number: u64) -> [u8; 8] {
+    let mut digits = [b'0'; 8];
+    if let Some(number) = Number::<8>::new(number) {
         number.write(&mut digits);
     }
     digits
@@ -261,7 +270,7 @@ impl Text {
         let mut line = [b' '; 364];
         set_all(&mut line, Kind::Grh, &cells);
         set(&mut line, Kind::Grh, 2, ty);
-        set(&mut line, Kind::Grh, 3, &digits::<5>(id));
+        set(&mut line, Kind::Grh, 3, &five_digits(id));
         self.whole_line(Kind::Grh, &line)
     }
 
@@ -274,8 +283,8 @@ impl Text {
     ) -> Result<(), AllocError> {
         let (kind, cells) = record;
         let mut line = [b' '; 364];
-        set(&mut line, kind, 2, &digits::<8>(transaction));
-        set(&mut line, kind, 3, &digits::<8>(sequence));
+        set(&mut line, kind, 2, &eight_digits(transaction));
+        set(&mut line, kind, 3, &eight_digits(sequence));
         set_all(&mut line, kind, cells);
         self.whole_line(kind, &line)
     }
@@ -303,9 +312,9 @@ impl Text {
     ) -> Result<(), AllocError> {
         let mut line = [b' '; 364];
         set(&mut line, kind, 1, letters);
-        set(&mut line, kind, 2, &digits::<5>(first));
-        set(&mut line, kind, 3, &digits::<8>(transactions));
-        set(&mut line, kind, 4, &digits::<8>(records));
+        set(&mut line, kind, 2, &five_digits(first));
+        set(&mut line, kind, 3, &eight_digits(transactions));
+        set(&mut line, kind, 4, &eight_digits(records));
         self.whole_line(kind, &line)
     }
 
