@@ -7,6 +7,7 @@ use std::alloc::{AllocError, Global};
 /// The kind of a record, and its cells by their fields.
 pub(crate) type Worked = (Kind, &'static [(u8, &'static [u8])]);
 
+/// ACK of a new work.
 pub(crate) const ACKNOWLEDGEMENT: Worked = (
     Kind::Ack,
     &[
@@ -23,11 +24,13 @@ pub(crate) const ACKNOWLEDGEMENT: Worked = (
     ],
 );
 
+/// MSG.
 pub(crate) const MESSAGE: Worked = (
     Kind::Msg,
     &[(1, b"MSG"), (4, b"F"), (7, b"F"), (9, b"TITLE CHANGED")],
 );
 
+/// NWR.
 pub(crate) const WORK: Worked = (
     Kind::Nwr,
     &[
@@ -39,6 +42,7 @@ pub(crate) const WORK: Worked = (
     ],
 );
 
+/// NWR with a category that isn't in the table.
 pub(crate) const WORK_OF_UNKNOWN_CATEGORY: Worked = (
     Kind::Nwr,
     &[
@@ -50,16 +54,19 @@ pub(crate) const WORK_OF_UNKNOWN_CATEGORY: Worked = (
     ],
 );
 
+/// REV.
 pub(crate) const RED_HILL: Worked = (
     Kind::Rev,
     &[(1, b"REV"), (4, b"RED HILL"), (6, b"W0002"), (15, b"ORI")],
 );
 
+/// REV of another work.
 pub(crate) const GREEN_SEA: Worked = (
     Kind::Rev,
     &[(1, b"REV"), (4, b"GREEN SEA"), (6, b"W0003"), (15, b"ORI")],
 );
 
+/// SPU.
 pub(crate) const PUBLISHER: Worked = (
     Kind::Spu,
     &[
@@ -74,6 +81,7 @@ pub(crate) const PUBLISHER: Worked = (
     ],
 );
 
+/// SPT.
 pub(crate) const PUBLISHER_TERRITORY: Worked = (
     Kind::Spt,
     &[
@@ -88,6 +96,7 @@ pub(crate) const PUBLISHER_TERRITORY: Worked = (
     ],
 );
 
+/// OPU.
 pub(crate) const OTHER_PUBLISHER: Worked = (
     Kind::Opu,
     &[
@@ -100,6 +109,7 @@ pub(crate) const OTHER_PUBLISHER: Worked = (
     ],
 );
 
+/// SWR.
 pub(crate) const WRITER: Worked = (
     Kind::Swr,
     &[
@@ -111,6 +121,7 @@ pub(crate) const WRITER: Worked = (
     ],
 );
 
+/// SWR with its share in performing rights.
 pub(crate) const WRITER_WITH_SHARE: Worked = (
     Kind::Swr,
     &[
@@ -123,6 +134,7 @@ pub(crate) const WRITER_WITH_SHARE: Worked = (
     ],
 );
 
+/// SWR whose share in performing rights is over the whole.
 pub(crate) const WRITER_OVER_THE_WHOLE: Worked = (
     Kind::Swr,
     &[
@@ -135,12 +147,13 @@ pub(crate) const WRITER_OVER_THE_WHOLE: Worked = (
     ],
 );
 
+/// SWR without a last name.
 pub(crate) const WRITER_WITHOUT_NAME: Worked = (
     Kind::Swr,
     &[(1, b"SWR"), (4, b"W1"), (6, b"ANNA"), (8, b"CA")],
 );
 
-/// It carries 3 as its record sequence.
+/// SWR with its share in performing rights, and 3 as its record sequence.
 pub(crate) const WRITER_NUMBERED_3: Worked = (
     Kind::Swr,
     &[
@@ -154,6 +167,7 @@ pub(crate) const WRITER_NUMBERED_3: Worked = (
     ],
 );
 
+/// SWT.
 pub(crate) const WRITER_TERRITORY: Worked = (
     Kind::Swt,
     &[
@@ -166,30 +180,40 @@ pub(crate) const WRITER_TERRITORY: Worked = (
     ],
 );
 
+/// PWR.
 pub(crate) const PUBLISHER_OF_WRITER: Worked = (
     Kind::Pwr,
     &[(1, b"PWR"), (4, b"P1"), (5, b"MUSIC HOUSE"), (8, b"W1")],
 );
 
+/// OWR.
 pub(crate) const OTHER_WRITER: Worked = (
     Kind::Owr,
     &[(1, b"OWR"), (5, b"JONES"), (8, b"A"), (12, b"02500")],
 );
 
+/// ALT.
 pub(crate) const OTHER_TITLE: Worked = (Kind::Alt, &[(1, b"ALT"), (4, b"BLUE RIVERS"), (5, b"AT")]);
 
+/// EWT.
 pub(crate) const ENTIRE_WORK: Worked = (Kind::Ewt, &[(1, b"EWT"), (4, b"RIVER SUITE")]);
 
+/// PER.
 pub(crate) const PERFORMER: Worked = (Kind::Per, &[(1, b"PER"), (4, b"SMITH"), (5, b"ANNA")]);
 
+/// REC.
 pub(crate) const RECORDING: Worked = (Kind::Rec, &[(1, b"REC"), (4, b"20240101")]);
 
+/// AGR.
 pub(crate) const AGREEMENT: Worked = (Kind::Agr, &[(1, b"AGR"), (4, b"AGR0001"), (6, b"OS")]);
 
+/// TER.
 pub(crate) const TERRITORY: Worked = (Kind::Ter, &[(1, b"TER"), (4, b"I"), (5, b"2136")]);
 
+/// IPA with the role AS.
 pub(crate) const ASSIGNOR: Worked = (Kind::Ipa, &[(1, b"IPA"), (4, b"AS"), (8, b"SMITH")]);
 
+/// IPA with the role AC.
 pub(crate) const ACQUIRER: Worked = (Kind::Ipa, &[(1, b"IPA"), (4, b"AC"), (8, b"MUSIC HOUSE")]);
 
 /// A text that is written line by line, in full width.
@@ -217,10 +241,19 @@ fn set_all(line: &mut [u8], kind: Kind, cells: &[(u8, &[u8])]) {
     }
 }
 
-/// The number with so many digits.
-fn digits<const W: usize>(number: u64) -> [u8; W] {
-    let mut digits = [b'0'; W];
-    if let Some(number) = Number::<W>::new(number) {
+/// The number in five digits.
+fn five_digits(number: u64) -> [u8; 5] {
+    let mut digits = [b'0'; 5];
+    if let Some(number) = Number::<5>::new(number) {
+        number.write(&mut digits);
+    }
+    digits
+}
+
+/// The number in eight digits.
+fn eight_digits(number: u64) -> [u8; 8] {
+    let mut digits = [b'0'; 8];
+    if let Some(number) = Number::<8>::new(number) {
         number.write(&mut digits);
     }
     digits
@@ -261,11 +294,11 @@ impl Text {
         let mut line = [b' '; 364];
         set_all(&mut line, Kind::Grh, &cells);
         set(&mut line, Kind::Grh, 2, ty);
-        set(&mut line, Kind::Grh, 3, &digits::<5>(id));
+        set(&mut line, Kind::Grh, 3, &five_digits(id));
         self.whole_line(Kind::Grh, &line)
     }
 
-    /// Adds a record inside a transaction. Its own cells go before its sequences.
+    /// Adds a record inside a transaction, with these sequences unless its cells have another.
     fn record(
         &mut self,
         record: Worked,
@@ -274,8 +307,8 @@ impl Text {
     ) -> Result<(), AllocError> {
         let (kind, cells) = record;
         let mut line = [b' '; 364];
-        set(&mut line, kind, 2, &digits::<8>(transaction));
-        set(&mut line, kind, 3, &digits::<8>(sequence));
+        set(&mut line, kind, 2, &eight_digits(transaction));
+        set(&mut line, kind, 3, &eight_digits(sequence));
         set_all(&mut line, kind, cells);
         self.whole_line(kind, &line)
     }
@@ -303,9 +336,9 @@ impl Text {
     ) -> Result<(), AllocError> {
         let mut line = [b' '; 364];
         set(&mut line, kind, 1, letters);
-        set(&mut line, kind, 2, &digits::<5>(first));
-        set(&mut line, kind, 3, &digits::<8>(transactions));
-        set(&mut line, kind, 4, &digits::<8>(records));
+        set(&mut line, kind, 2, &five_digits(first));
+        set(&mut line, kind, 3, &eight_digits(transactions));
+        set(&mut line, kind, 4, &eight_digits(records));
         self.whole_line(kind, &line)
     }
 
