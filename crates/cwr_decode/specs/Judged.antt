@@ -107,11 +107,11 @@ abbrev pub MayComeOf : LimitValues → List Symbol → Kind → Type 0
 MayComeOf limits xs kind = (s : Symbol) × IsAmong (candidates (Some kind) []) s × MayCome limits xs s
 
 -- what is wrong at a field of a line of the kind: none of its records may come; or one of them may, and the reason holds
--- of a cell, or the field is the one behind the last
+-- of a cell, or the field is the one behind the last and the line's excess is bad
 pub data IsWrongAt (limits : LimitValues) (xs : List Symbol) (h : HeldLine) (kind : Kind) : ℕ → Reason → Type 0 where
   barred : (bar : Bar) → IsBarredAmong limits xs (candidates (Some kind) []) bar → IsWrongAt limits xs h kind 1 (bar_reason bar)
   cell : (j : ℕ) (reason : Reason) → 2 ≤ j → MayComeOf limits xs kind → HasFaultAt limits xs h kind j reason → IsWrongAt limits xs h kind j reason
-  behind : MayComeOf limits xs kind → IsWrongAt limits xs h kind (length (layout kind) + 1) Excess
+  behind : MayComeOf limits xs kind → held_excess h ≡ true → IsWrongAt limits xs h kind (length (layout kind) + 1) Excess
 
 -- the field is wrong for the reason, and each one before it is good
 pub record IsFirstWrong (limits : LimitValues) (xs : List Symbol) (h : HeldLine) (kind : Kind) (field : ℕ) (reason : Reason) : Type 0 where

@@ -170,7 +170,8 @@ fn judge_field(tally: &Tally, line: &CutLine<'_>, kind: Kind, j: u8) -> Result<(
 
 /// The first field that is wrong of a line that may not come next, and why.
 fn first_fault(tally: &Tally, line: &CutLine<'_>) -> LineFault
-    ensures { (xs : List Symbol) → StandsFor tally.now xs → IsFirstFault tally.now.limits xs line.now result.field result.reason }
+    ensures { (xs : List Symbol) → StandsFor tally.now xs → IsOfNone tally.now.limits xs line.now
+        → IsFirstFault tally.now.limits xs line.now result.field result.reason }
 {
     let Some(kind) = line.kind() else {
         return LineFault {
