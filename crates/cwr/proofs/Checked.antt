@@ -34,9 +34,6 @@ pub record IsCount (c : Counts) (given : List Item) : Type 0 where
   pub transactions : c.transactions ≡ count_by is_transaction given
   pub records : c.records ≡ length (records_in given)
 
-pub count_none : IsCount (record { groups = 0; transactions = 0; records = 0 }) []
-count_none = record { groups = refl; transactions = refl; records = refl }
-
 count_by-snoc : (p : Item → Bool) (given : List Item) (item : Item) → count_by p (given ++ item ∷ []) ≡ count_by p given + count_by p (item ∷ [])
 count_by-snoc p given item = sum_by-append (λ (x : Item). cond (p x) 1 0) given (item ∷ [])
 

@@ -12,15 +12,3 @@ appends_both (Some x) (Some y) (Some z) xs ys h k = k ∙ ap (λ l. l ++ ys) h �
 -- some bytes more of the text
 pub writes_on : (a b c : Option (List ℕ)) (text : List ℕ) (i n : ℕ) → Appends a b (take i text) → Appends b c (take n (drop i text)) → Appends a c (take (i + n) text)
 writes_on a b c text i n h k = subst (Appends a c) (sym (take-add i n text)) (appends_both a b c (take i text) (take n (drop i text)) h k)
-
--- nothing yet
-pub writes_none : (a : Option (List ℕ)) (text : List ℕ) → Appends a a (take 0 text)
-writes_none None text = tt
-writes_none (Some x) text = sym (append-nil x)
-
--- what keeps its bytes adds none
-pub appends_kept : (a b c : Option (List ℕ)) (xs : List ℕ) → Appends a b xs → Keeps b c → Appends a c xs
-appends_kept None b c xs h k = tt
-appends_kept (Some x) None c xs h k = absurd h
-appends_kept (Some x) (Some y) None xs h k = absurd k
-appends_kept (Some x) (Some y) (Some z) xs h k = k ∙ h

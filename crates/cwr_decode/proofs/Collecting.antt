@@ -16,11 +16,11 @@ use Rattle.cwr_shape.proofs.HeadFirst.{behind}
 use Rattle.cwr_values.specs.declared.groups.GroupFault.{GroupFault}
 use Rattle.cwr_values.specs.declared.groups.GroupFault.TheVariants as faults
 use Rattle.cwr_values.specs.declared.items.Item.{Item}
-use Rattle.cwr_values.specs.declared.items.Item.TheVariants.{Opened, GroupOpened, Transaction, GroupClosed, Ended}
+use Rattle.cwr_values.specs.declared.items.Item.TheVariants.{GroupOpened, Transaction, GroupClosed, Ended}
 use Rattle.cwr_values.specs.Values.{GroupValue, TransmissionValue, symbol_of, type_of, IsTransaction, IsGroup, IsRecordOf}
 use Rattle.cwr_values.specs.Begun.{HasHeaderOf, IsWholeTransaction}
 use Rattle.cwr_decode.specs.Items.{group_rest, group_items, value_items}
-use Rattle.cwr_decode.specs.Runs.{AreItems, AreGroupItems}
+use Rattle.cwr_decode.specs.Runs.{AreGroupItems}
 use Rattle.cwr_decode.proofs.NumberCells.{symbol_kind-of}
 
 -- ---- a whole transaction begins with its header
@@ -62,9 +62,6 @@ next_foot head foot given h = by h.transactions h.given_are
     by [] e = let same : foot ≡ h.foot = cc e in ap (λ (r : RecordValue). r.kind) same ∙ h.foot_is.0
     by (u ∷ ts) e = absurd (cc e)
 
-pub never_last : (head : RecordValue) (given : List Item) → AreGroupItems head given → length given ≡ 0 → ⊥
-never_last head given h e = omega (arith, e, ap length h.given_are, length-append (map Transaction h.transactions) (GroupClosed h.foot ∷ h.rest))
-
 pub next_in_group : (head : RecordValue) (item : Item) (given : List Item) → AreGroupItems head (item ∷ given)
     → ((t : List RecordValue) → item ≡ Transaction t → ⊥) → ((r : RecordValue) → item ≡ GroupClosed r → ⊥) → ⊥
 next_in_group head item given h is_no_transaction is_no_foot = by h.transactions h.given_are
@@ -101,12 +98,6 @@ pub record AreGroups (given : List Item) : Type 0 where
   pub groups : List GroupValue
   pub each : AllByRecursion IsGroup groups
   pub given_are : given ≡ flat_map group_items groups ++ Ended ∷ []
-
-pub first_item : (given : List Item) (item : Item) (rest : List Item) → AreItems given → given ≡ item ∷ rest
-    → (r : RecordValue) × (item ≡ Opened r) × (r.kind ≡ kinds.Hdr) × AreGroups rest
-first_item given item rest h e =
-    let same : item ∷ rest ≡ Opened h.value.opening ∷ (flat_map group_items h.value.groups ++ Ended ∷ []) = sym e ∙ h.given_are in
-    (h.value.opening, cc same, h.whole.opening.0, record { groups = h.value.groups; each = h.whole.each; given_are = cc same })
 
 group_next : (g : GroupValue) (gs : List GroupValue) → flat_map group_items (g ∷ gs) ++ Ended ∷ [] ≡ GroupOpened g.head ∷ (group_rest g ++ (flat_map group_items gs ++ Ended ∷ []))
 group_next g gs = append_assoc (group_items g) (flat_map group_items gs) (Ended ∷ [])

@@ -1,7 +1,7 @@
 -- The items so far have just the records that were read, but for those of the open transaction, and so there are no more
 -- items than records. A transmission's items have as many records as it has rows, and as many groups and transactions as
 -- it has itself.
-use Rattle.std.proofs.Common.{◌≡◌, ℕ, ◌+◌, ◌*◌, ◌≤◌, Bool, true, false, cond, List, [], ◌∷◌, ◌++◌, length, map, refl, sym, ap, ap₂, subst, ◌∙◌, arith, append_assoc, append-nil}
+use Rattle.std.proofs.Common.{◌≡◌, ℕ, ◌+◌, ◌≤◌, Bool, true, false, cond, List, [], ◌∷◌, ◌++◌, length, map, refl, sym, ap, ap₂, subst, ◌∙◌, arith, append_assoc, append-nil}
 use Rattle.std.specs.Prelude.{sum_by, count_by}
 use Rattle.std.specs.List.{AllByRecursion, flat_map}
 use Rattle.std.proofs.lemmas.Grind.{flat_map-append}
@@ -144,14 +144,6 @@ counts records h g few = walk [] records h g few (record {
   all = ap₂ (λ (is : List Item) (rs : List RecordValue). records_in is ++ rs) no_items no_open;
   few = omega (arith, ap length no_items, ap (λ (rs : List RecordValue). length (handed rs)) no_open);
 })
-
--- the items so far have all records but those of the open transaction
-pub all_counted : (records : List RecordValue) → AllByRecursion IsRecord records → GoesOn Any (map symbol_of records) → length records ≤ 99999999 → records_in (items_so_far records) ++ open_of records ≡ records
-all_counted records h g few = (counts records h g few).all
-
--- and are few
-pub few_items : (records : List RecordValue) → AllByRecursion IsRecord records → GoesOn Any (map symbol_of records) → length records ≤ 99999999 → length (items_so_far records) ≤ 2 * length records
-few_items records h g few = let c = counts records h g few in omega (arith, c.few)
 
 -- ---- what a decoder stands for
 

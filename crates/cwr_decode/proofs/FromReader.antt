@@ -18,7 +18,7 @@ use Rattle.cwr_decode.specs.Ends.{IsAccepted, IsNotAccepted}
 use Rattle.cwr_decode.specs.Machines.{Standing, Leaves, again, state_behind}
 use Rattle.cwr_decode.specs.Stands.{StandsFor, IsUnderWay, IsRight, MayFollow, AcceptsNone, EndsLine, items_out}
 use Rattle.cwr_decode.specs.Calls.{IsLive, WantsMemory}
-use Rattle.cwr_decode.specs.Readings.{answer_of, items_read, EndsLineOf, IsRightOf, LeavesRead, CountsReader, IsSpent, FeedsOn, Reads}
+use Rattle.cwr_decode.specs.Readings.{answer_of, items_read, EndsLineOf, IsRightOf, LeavesRead, IsSpent, FeedsOn, Reads}
 
 abbrev Answer : Type 0
 Answer = Result (Option Item) ReadFault
@@ -89,15 +89,6 @@ memory_only (outcomes.Refused refusal) e = absurd (cc e)
 memory_only (outcomes.Truncated records) e = absurd (cc e)
 memory_only outcomes.Memory e = refl
 memory_only outcomes.Done e = absurd (cc e)
-
--- no answer of a decoder counts a failure
-pub no_failure : (outcome : Outcome) → IfSome (answer_of outcome) (λ answer. (failures : ℕ) → CountsReader answer failures failures)
-no_failure outcomes.More = tt
-no_failure (outcomes.Item item) = λ failures. refl
-no_failure (outcomes.Refused refusal) = λ failures. refl
-no_failure (outcomes.Truncated records) = λ failures. refl
-no_failure outcomes.Memory = λ failures. refl
-no_failure outcomes.Done = λ failures. refl
 
 none_accepted : (limits : LimitValues) (over : Bool) (seen more text : List ℕ) → text ≡ seen ++ more → MayFollow over more → AcceptsNone limits over seen → IsNotAccepted limits text
 none_accepted limits over seen more text split may h = subst (IsNotAccepted limits) (sym split) (h more may)
@@ -280,13 +271,3 @@ reads_behind n answer a p b q c r f g = record {
   reading_ends e = cc e
 
 -- ---- what is read first
-
--- of a reader from which nothing was read yet
-pub first_read : (limits : LimitValues) (d : Standing) (left : Option (List ℕ)) (answer : Answer) (new : Standing) (after : Option (List ℕ)) → StandsFor d [] [] → d.state ≡ states.Reading → d.finished ≡ false → d.tally.limits ≡ limits
-    → Reads d left answer new after → (bytes : List ℕ) × Consumes left after bytes × IfSome left (λ rest. IsRightOf limits answer bytes rest (items_read answer))
-first_read limits d left answer new after stands reading fresh same r = (
-  r.bytes,
-  r.consumed,
-  subst (λ (l : LimitValues). IfSome left (λ rest. IsRightOf l answer r.bytes rest (items_read answer))) same
-      (r.right (ap again reading) (not_over d left fresh) [] [] stands),
-)

@@ -418,10 +418,6 @@ goes_on_stays records r h g few e =
 
 -- ---- the open transaction
 
--- it has no more records than there are
-pub open_short : (records : List RecordValue) → length (open_of records) ≤ length records
-open_short records = omega (arith, length-drop (length records - open_records (map symbol_of records)) records)
-
 -- before the first record none is open
 pub no_open : open_of [] ≡ []
 no_open = refl

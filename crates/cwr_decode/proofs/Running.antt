@@ -1,9 +1,9 @@
 -- One call of a reading behind others: what was read so far goes on, up to all items or a fault.
-use Rattle.std.proofs.Common.{◌≡◌, ◌≤◌, ℕ, List, [], ◌∷◌, ◌++◌, length, drop, Option, Some, None, refl, sym, ap, subst, ◌∙◌, inl, inr, true≢false, false}
+use Rattle.std.proofs.Common.{◌≡◌, ◌≤◌, ℕ, List, [], ◌∷◌, ◌++◌, length, drop, Option, Some, None, refl, sym, ap, subst, ◌∙◌, inl, inr}
 use Rattle.std.specs.Prelude.{Result, Ok, Err, IfSome, IfOk, IfErr, MatchResult, ◌⊎◌}
 use Rattle.std.specs.Result.{IsErrAnd}
 use Rattle.std.proofs.Math.Seq.{drop-append_seam}
-use Rattle.std.proofs.KnownBytes.{Consumes-nil, Consumes-trans}
+use Rattle.std.proofs.KnownBytes.{Consumes-trans}
 use Rattle.std.specs.Io.KnownBytes.{Consumes}
 use Rattle.cwr_shape.specs.Ranges.{LimitValues}
 use Rattle.cwr_values.specs.declared.items.Item.{Item}
@@ -18,7 +18,7 @@ use Rattle.cwr_decode.specs.declared.readings.ReadFault.TheVariants as faults
 use Rattle.cwr_decode.specs.Items.{value_items}
 use Rattle.cwr_decode.specs.Ends.{IsAccepted}
 use Rattle.cwr_decode.specs.Machines.{Standing, again}
-use Rattle.cwr_decode.specs.Stands.{StandsFor, StandsIn}
+use Rattle.cwr_decode.specs.Stands.{StandsIn}
 use Rattle.cwr_decode.specs.Calls.{IsLive}
 use Rattle.cwr_decode.specs.Readings.{answer_of, items_read, IsWholeInput, IsRightOf, LeavesRead, IsSpent, Reads}
 use Rattle.cwr_decode.specs.Runs.{HasRead, EndsWhole, HasReadAll, IsReadingOn, AreItems, Takes, IsRightFault, StopsRun, TellsAccepted, TellsCanonical}
@@ -30,13 +30,6 @@ abbrev Answer : Type 0
 Answer = Result (Option Item) ReadFault
 
 -- ---- what was read so far
-
-fresh_spent : (d : Standing) (left : Option (List ℕ)) → IsSpent d left → IfSome left (λ _. IsSpent d left)
-fresh_spent d None h = tt
-fresh_spent d (Some xs) h = h
-
-pub run_starts : (limits : LimitValues) (d : Standing) (left : Option (List ℕ)) → StandsFor d [] [] → IsSpent d left → d.tally.limits ≡ limits → HasRead limits d left left []
-run_starts limits d left stands spent same = record { input = []; stands = stands; consumed = Consumes-nil left; spent = fresh_spent d left spent; limits_are = same }
 
 spent_on : (before left after : Option (List ℕ)) (input : List ℕ) (old new : Standing) → Consumes before left input → IfSome before (λ _. IsSpent old left)
     → (IsSpent old left → IfSome left (λ _. IsSpent new after)) → IfSome before (λ _. IsSpent new after)
@@ -60,9 +53,6 @@ right_on limits old_limits None left input used given answer same lost h = tt
 right_on limits old_limits (Some xs) None input used given answer same lost h = absurd lost
 right_on limits old_limits (Some xs) (Some ys) input used given answer same lost h =
     subst (λ (l : LimitValues). IsRightOf l answer used xs given) same (subst (λ (t : List ℕ). IsRightOf old_limits answer used t given) (sym lost) h)
-
-spent_here : (before left : Option (List ℕ)) (input : List ℕ) (old : Standing) → Consumes before left input → IfSome before (λ _. IsSpent old left) → (IsSpent old left → IfSome before (λ _. Unit {0})) → IfSome before (λ _. IsSpent old left)
-spent_here before left input old lost h on = h
 
 pub run_right : (limits : LimitValues) (old new : Standing) (before left after : Option (List ℕ)) (given : List Item) (answer : Answer)
     → (h : HasRead limits old before left given) → IsLive old.state → (r : Reads old left answer new after)
@@ -163,12 +153,6 @@ all_taken limits before now given t h same = by before now h.read.input h.read.c
       subst (λ (v : TransmissionValue). IsAccepted limits xs v (length input)) (sym (same whole.value whole.accepted.whole whole.given_are)) whole.accepted,
       ap Some (sym (ap (drop (length input)) lost ∙ drop-append_seam input ys)),
     )
-
-pub reading_starts : (limits : LimitValues) (d : Standing) (left : Option (List ℕ)) → StandsFor d [] [] → d.state ≡ states.Reading → d.finished ≡ false → d.tally.limits ≡ limits → IsReadingOn limits d left left []
-reading_starts limits d left stands reading fresh same = record {
-  read = run_starts limits d left stands (λ is. absurd (true≢false (sym is ∙ fresh))) same;
-  here = inl (ap again reading);
-}
 
 -- where memory for the items was refused
 pub memory_stops : (limits : LimitValues) (d : Standing) (before now : Option (List ℕ)) (given : List Item) → IsReadingOn limits d before now given → StopsRun limits faults.Memory before now

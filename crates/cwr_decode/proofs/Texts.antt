@@ -92,14 +92,3 @@ pub closed_open : (lines : List (List ℕ)) (bytes : List ℕ) → NoLf bytes �
 closed_open lines bytes h some = closed_more lines bytes ∙ ap (λ (t : List ℕ). text_of lines ++ t) (closed_line bytes h some)
 
 -- ---- closing twice
-
-closed_by-twice : (front : List ℕ) (last : ℕ) → closed (closed (front ++ last ∷ [])) ≡ closed (front ++ last ∷ [])
-closed_by-twice front last = ap closed (closed_last front last) ∙ by (bytes_eq (last ∷ []) (10 ∷ []) || false) refl ∙ sym (closed_last front last)
-  where
-    by : (b : Bool) → (bytes_eq (last ∷ []) (10 ∷ []) || false) ≡ b → closed (cond b (front ++ last ∷ []) ((front ++ last ∷ []) ++ 10 ∷ [])) ≡ cond b (front ++ last ∷ []) ((front ++ last ∷ []) ++ 10 ∷ [])
-    by true e = closed_last front last ∙ ap (λ (b : Bool). cond b (front ++ last ∷ []) ((front ++ last ∷ []) ++ 10 ∷ [])) e
-    by false e = closed_last (front ++ last ∷ []) 10
-
-pub closed_twice : (text : List ℕ) → closed (closed text) ≡ closed text
-closed_twice [] = refl
-closed_twice (b ∷ text) = let s = snoc b text in ap (λ (t : List ℕ). closed (closed t)) s.whole ∙ closed_by-twice s.front s.last ∙ sym (ap closed s.whole)

@@ -3,7 +3,7 @@ use Rattle.std.proofs.Common.{◌≡◌, ℕ, ◌+◌, ◌-◌, ◌*◌, ◌<◌
 use Rattle.std.specs.List.{sum_by, zip}
 use Rattle.std.proofs.Math.Nat.{mul-le-mul}
 use Rattle.std.proofs.lemmas.Bool.{leb-true}
-use Rattle.std.proofs.lemmas.List.{get_or-map, length-map, take_all}
+use Rattle.std.proofs.lemmas.List.{get_or-map, length-map}
 use Rattle.std.proofs.lemmas.List.Sums.{sum_by_more, AllPass-from_list_all}
 use Rattle.std.proofs.lemmas.Slice.Zip.{length-zip, get_or-zip}
 use Rattle.cwr_fields.specs.Bytes.{are_digits, is_digit}
@@ -28,11 +28,6 @@ weight-more count cell few inside =
     sum_by_more (λ (p : ℕ × ℕ). p.0 * p.1) (pairs cell) count (0, 0) there
     ∙ ap (λ (p : ℕ × ℕ). weight count cell + p.0 * p.1) pair
     ∙ ap (λ n. weight count cell + get_or factors count 0 * n) digit
-
--- the pairs are no more than ten
-pub weight-all : (cell : List ℕ) → length cell ≡ 10 → weight 10 cell ≡ sum_by (λ p. p.0 * p.1) (pairs cell)
-weight-all cell wide =
-    ap (sum_by (λ (p : ℕ × ℕ). p.0 * p.1)) (take_all 10 (pairs cell) (omega (arith, length-zip factors (map (λ b. b - 48) cell))))
 
 factor_at_most : (count : ℕ) → count < 10 → get_or factors count 0 ≤ 9
 factor_at_most count few = leb-true (get_or factors count 0) 9 (AllPass-from_list_all (λ f. leb f 9) factors refl count 0 few)

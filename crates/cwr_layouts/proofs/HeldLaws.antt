@@ -1,8 +1,8 @@
 -- What was taken of a line is cut as the line is, and each cell has its field's width.
-use Rattle.std.proofs.Common.{◌≡◌, ℕ, suc, ◌+◌, ◌-◌, ◌≤◌, ◌<◌, Bool, true, false, List, [], ◌∷◌, ◌++◌, length, map, take, drop, option_map, slice_get, refl, sym, subst, ap, ap₂, ◌∙◌, arith, nat_eq, ne_eqb}
+use Rattle.std.proofs.Common.{◌≡◌, ℕ, suc, ◌+◌, ◌-◌, ◌≤◌, ◌<◌, Bool, true, false, List, [], ◌∷◌, length, map, take, drop, option_map, slice_get, refl, sym, subst, ap, ap₂, ◌∙◌, arith, nat_eq, ne_eqb}
 use Rattle.std.specs.Prelude.{Option, Some, None}
 use Rattle.std.proofs.lemmas.Bool.{lt-ltb}
-use Rattle.std.proofs.lemmas.List.{length-take, length-drop, length-append, length-map, take_at}
+use Rattle.std.proofs.lemmas.List.{length-take, length-drop, length-map}
 use Rattle.cwr_fields.specs.Bytes.{filled}
 use Rattle.cwr_layouts.specs.declared.kinds.Kind.{Kind}
 use Rattle.cwr_layouts.specs.declared.lines.LineEnd.{LineEnd}
@@ -41,10 +41,6 @@ held_line_is_cut h line k s = by_end h.bytes h.ended k.short s
     by_end bytes Open n o = absurd o
     by_end bytes Line n o = subst (λ (x : List ℕ). IsCutAs (record { bytes = x; ended = Line }) line) (sym o) (whole_line_is_cut line (subst (λ (x : List ℕ). length x ≤ longest_line) o n))
     by_end bytes Over n o = subst (λ (x : List ℕ). IsCutAs (record { bytes = x; ended = Over }) line) (sym o.1) (long_line_is_cut line o.0)
-
--- a line that stopped before a byte too many is the first part of each line that goes on with that byte
-pub over_holds : (bytes rest : List ℕ) (byte : ℕ) → IsHeld (record { bytes = bytes; ended = Over }) → HoldsLine (record { bytes = bytes; ended = Over }) (bytes ++ byte ∷ rest)
-over_holds bytes rest byte h = (omega (arith, h.full, length-append bytes (byte ∷ rest)), sym (take_at bytes (byte ∷ rest) longest_line h.full))
 
 -- ---- the widths of cells
 

@@ -8,7 +8,7 @@ use Rattle.cwr_layouts.specs.Layouts.{FieldLayout, layout, total_width, line_wid
 use Rattle.cwr_layouts.specs.Lines.{pieces, cells_as}
 use Rattle.cwr_layouts.specs.Records.{RecordValue, IsRecord, record_of}
 use Rattle.cwr_layouts.specs.Carried.{carried_cells, record_in}
-use Rattle.cwr_layouts.specs.Held.{HeldLine, held_body, held_kind, carried_by, held_record, IsFilled}
+use Rattle.cwr_layouts.specs.Held.{HeldLine, held_body, carried_by, held_record, IsFilled}
 use Rattle.cwr_layouts.proofs.Filling.{length-filled}
 
 -- pieces of a text lie within its first bytes
@@ -42,9 +42,6 @@ pub record_value : (text : List ℕ) (kind : Kind) (h : HeldLine) (o : Option Re
     → IfSome o (λ found. held_record h ≡ Some found)
 record_value text kind h None k e = tt
 record_value text kind h (Some found) k e = record_held text kind h k ∙ ap Some (sym e)
-
-pub no_record : (h : HeldLine) → held_kind h ≡ None → held_record h ≡ None
-no_record h e = ap (λ (o : Option Kind). carried_by o (cells_as o (held_body h))) e
 
 -- as many bytes of the filled text as the kind is wide
 pub first_bytes : (text slice : List ℕ) (kind : Kind) (width : ℕ) (h : HeldLine) → IsFilled text (Some kind) h → slice ≡ text → width ≡ line_width kind → length (take width slice) ≡ width

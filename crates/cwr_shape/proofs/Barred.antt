@@ -1,6 +1,6 @@
 -- What bars a symbol, and what bars all of some.
-use Rattle.std.proofs.Common.{◌≡◌, ℕ, zero, suc, ◌+◌, ◌≤◌, ◌<◌, Bool, true, false, cond, not, List, [], ◌∷◌, ◌++◌, length, Option, Some, None, refl, sym, ap, subst, ◌∙◌, inl, inr, arith, true≢false, leb-false, leb-true, ltb-false}
-use Rattle.std.specs.Prelude.{◌↔◌, ◌⊎◌, IsSome, is_some, nat_lt, nat_le, Result, Ok, Err, slice_index_or}
+use Rattle.std.proofs.Common.{◌≡◌, ℕ, zero, suc, ◌+◌, ◌≤◌, ◌<◌, Bool, true, false, cond, not, List, [], ◌∷◌, ◌++◌, length, Option, Some, None, refl, sym, ap, subst, ◌∙◌, inl, inr, arith, leb-false, leb-true, ltb-false}
+use Rattle.std.specs.Prelude.{◌⊎◌, nat_lt, nat_le, Result, Ok, Err, slice_index_or}
 use Rattle.std.specs.List.{list_any, last_or, after_last, count_by, IsAmong}
 use Rattle.std.proofs.lemmas.List.{length-append}
 use Rattle.cwr_fields.specs.declared.codes.TransactionType.{TransactionType}
@@ -68,9 +68,6 @@ may_come limits t xs s next c p st on e f n = (on.begins, passed_next limits t x
 pub is_barred : (limits : LimitValues) (t : TallyValue) (xs : List Symbol) (s : Symbol) (next : Stage) (c : Counts) (p : Option LimitKind) (limit : LimitKind) → StandsFor t xs → StandsAt (xs ++ s ∷ []) next
     → c ≡ counts_with (stage_type t.stage) t.counts s → p ≡ passed_by limits next c → p ≡ Some limit → IsBarred limits xs s (Limit limit)
 is_barred limits t xs s next c p limit st on e f n = (on.begins, passed_next limits t xs s next c st on on.begins e ∙ sym f ∙ n)
-
-pub is_misplaced : (limits : LimitValues) (xs : List Symbol) (s : Symbol) (o : Option Stage) → o ≡ None → IsSome o ↔ GoesOn Any (xs ++ s ∷ []) → IsBarred limits xs s Misplaced
-is_misplaced limits xs s o e t g = true≢false (sym (sym (ap is_some e) ∙ t.1 g))
 
 -- ---- some symbols
 

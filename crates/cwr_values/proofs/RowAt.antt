@@ -99,15 +99,6 @@ pub record RowAt (v : TransmissionValue) (before : List RecordValue) (r : Record
   pub split : rows v ≡ front ++ row_behind before r ∷ rest
   pub as_many : length front ≡ length before
 
-pub row_at : (v : TransmissionValue) (before after : List RecordValue) (r : RecordValue) → IsTransmission v → records_of v ≡ before ++ r ∷ after → RowAt v before r
-unfolding rows_behind
-row_at v before after r h e = record {
-  front = rows_so_far before;
-  rest = rows_behind (before ++ r ∷ []) after;
-  split = rows_split v before (r ∷ after) h e;
-  as_many = length-rows_so_far before;
-}
-
 -- transmissions that begin with the same records begin with the same rows
 pub same_rows : (v w : TransmissionValue) (before rest others : List RecordValue) → IsTransmission v → IsTransmission w → records_of v ≡ before ++ rest → records_of w ≡ before ++ others
     → take (length before) (rows v) ≡ take (length before) (rows w)
