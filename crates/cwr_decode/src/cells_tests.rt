@@ -40,8 +40,11 @@ fn check_cells(
         return;
     };
     assert_eq!(rt; record.kind(), kind);
-    for (j, cell) in cells {
-        assert_eq!(rt; record.cell(*j).map(trimmed), Some(*cell), "at {j}");
+    for (j, wanted) in cells {
+        match record.cell(*j) {
+            Some(cell) => assert_eq!(rt; trimmed(cell), *wanted, "at {j}"),
+            None => assert!(rt; false, "no cell {j}"),
+        }
     }
 }
 

@@ -44,7 +44,10 @@ fn check_cell(rt: &impl Abort, transaction: &Transaction, i: usize, j: u8, wante
         assert!(rt; false, "no record {i}");
         return;
     };
-    assert_eq!(rt; record.cell(j).map(trimmed), Some(wanted), "at {i}");
+    match record.cell(j) {
+        Some(cell) => assert_eq!(rt; trimmed(cell), wanted, "at {i}"),
+        None => assert!(rt; false, "no cell {j}"),
+    }
 }
 
 /// Checks the title and the number of a work in the group.
