@@ -1,8 +1,8 @@
 //! The words of the command line.
 
-ghost use Rattle.std.specs.Prelude.{◌≡◌, ℕ, List, Some, IfSome, codes};
+ghost use Rattle.std.specs.Prelude.{◌≡◌, ℕ, List, None, Some, IfSome, codes, false};
 ghost use Rattle.std.specs.Str.Parse.{digits_value, without_leading_plus};
-ghost use Rattle.clap.specs.Words.{found_of, one_text};
+ghost use Rattle.clap.specs.Words.{found_of, has_subcommand, one_text};
 ghost use Rattle.cwr_shape.specs.Ranges.{limit_values};
 
 use clap::error::ErrorKind;
@@ -90,7 +90,10 @@ fn limits_of(matches: &ArgMatches<'_>) -> Option<Limits>
 }
 
 /// What is asked for. `None` where a limit is missing or out of its range.
-fn asked<'a>(matches: &ArgMatches<'a>) -> Option<Task<'a>> {
+fn asked<'a>(matches: &ArgMatches<'a>) -> Option<Task<'a>>
+    // Without a subcommand it is a check of standard input within the largest limits.
+    ensures { has_subcommand matches.now ≡ false → result ≡ Some (Task.Check None (limit_values 99999999 99999 999999)) }
+{
     match matches.subcommand() {
         Some((_check, of_check)) => Some(Task::Check {
             file: of_check.get_str(FILE),

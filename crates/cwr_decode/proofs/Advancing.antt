@@ -22,12 +22,12 @@ use Rattle.cwr_decode.specs.declared.machine.State.TheVariants as states
 use Rattle.cwr_decode.specs.Judged.{IsOfNone}
 use Rattle.cwr_decode.specs.Machines.{Standing, IsReady, Leaves, Judges, counted, stopped}
 use Rattle.cwr_decode.specs.Stands.{StandsFor, StandsIn, IsReading, IsInput, IsRight, AcceptsNone, EndsInLf, GoesTooFar, EndsLine, items_out, text_of}
-use Rattle.cwr_decode.specs.Calls.{Advances, Grows}
+use Rattle.cwr_decode.specs.Calls.{RefusesLast, Advances, Grows}
 use Rattle.cwr_decode.proofs.Accepted.{closed_begins}
 use Rattle.cwr_decode.proofs.Texts.{text_of-push, closed_more}
 use Rattle.cwr_decode.proofs.Beyond.{none_behind_line, none_behind_long}
 use Rattle.cwr_decode.proofs.Ended.{accepts_whole}
-use Rattle.cwr_decode.proofs.LineJudged.{HasLine, judged_stands, judged_empties, never_over}
+use Rattle.cwr_decode.proofs.LineJudged.{HasLine, told_last, judged_stands, judged_empties, never_over}
 use Rattle.cwr_decode.proofs.Moving.{IsPlain, Rest, follows_rest}
 
 -- ---- what an answer says
@@ -251,6 +251,23 @@ never_more t new (Some o) ended (inr r) e =
     let same : o ≡ outcomes.More = cc e in
     let not_so : outcomes.Refused r.tells.refusal ≡ outcomes.More = sym r.tells.told ∙ same in
     absurd (cc not_so)
+
+-- an item and want of memory refuse nothing
+pub plain_last : (o : Outcome) (new : Standing) (input : List ℕ) (given : List Item) → IsPlain o → RefusesLast o new input given
+plain_last outcomes.More new input given p = absurd p
+plain_last (outcomes.Item item) new input given p = tt
+plain_last (outcomes.Refused refusal) new input given p = absurd p
+plain_last (outcomes.Truncated records) new input given p = absurd p
+plain_last outcomes.Memory new input given p = tt
+plain_last outcomes.Done new input given p = absurd p
+
+-- what refuses a line that isn't too long
+pub judged_last : (d : Standing) (input : List ℕ) (given : List Item) (out : Option Outcome) (new : Standing) → HasLine d input given → d.line.ended ≡ Line → d.line.ended ≢ Open → Judges d out new
+    → IfSome out (λ o. RefusesLast o new input (given ++ items_out o))
+judged_last d input given None new h whole ended j = tt
+judged_last d input given (Some o) new h whole ended (inl a) =
+    plain_last o new input (given ++ items_out o) (follows_rest a.goes_on d.held a.accepted (counted d a.tally) (Some o) new ended a.carried a.in_order a.follows).plain
+judged_last d input given (Some o) new h whole ended (inr r) = told_last d input given r.fault o new h r.none r.first r.tells whole
 
 -- a line that ended is judged
 pub advanced_line : (d t new : Standing) (piece : List ℕ) (used : ℕ) (out : Option Outcome) → d.state ≡ states.Reading → d.finished ≡ false → Takes d.line piece used t.line → IsHeld t.line → t ≡ with_line d t.line → t.line.ended ≢ Open

@@ -34,7 +34,7 @@ use Rattle.cwr_decode.proofs.Beyond.{none_behind_cut}
 use Rattle.cwr_decode.proofs.Given.{no_open, no_items}
 use Rattle.cwr_decode.proofs.LineJudged.{HasLine, judged_stands, judged_empties}
 use Rattle.cwr_decode.proofs.Moving.{IsPlain, settled, enters_rest, if_none}
-use Rattle.cwr_decode.proofs.Advancing.{Stands_behind, plain_right, judged_right, judged_rest, judged_grows, never_more}
+use Rattle.cwr_decode.proofs.Advancing.{Stands_behind, plain_right, judged_right, judged_rest, judged_grows, never_more, plain_last, judged_last}
 
 -- ---- what is answered before the piece is looked at
 
@@ -320,6 +320,7 @@ pub ends_without : (old new : Standing) → IsReady old.state old.finished old.l
 ends_without old new ready c = subst (Ends old None) (sym c.0) (record {
   stands = λ input given st. subst (StandsFor (over old) input) (sym (append-nil given)) (over_stands old input given ready c.1 st);
   right = λ input given st. tt;
+  last = λ input given st. tt;
   ready = ready_over old.state ready c.1;
   leaves = tt;
   more = λ e. absurd (cc e);
@@ -389,6 +390,7 @@ ends_with old mid new out ready c j =
           subst (λ (l : LimitValues). IfSome out (λ o. IsRight l o true input input (given ++ items_out o))) limits
           (subst (λ (x : List ℕ). IfSome out (λ o. IsRight mid.tally.limits o true input x (given ++ items_out o))) (append-nil input)
           (judged_right mid true input [] given out new (last_line old mid input given ready c st) finished (λ z. refl) (λ z o. absurd (not_over (sym (line_there old mid c) ∙ o))) (behind mid.line.ended (line_there old mid c)) j));
+      last = λ input given st. judged_last mid input given out new (last_line old mid input given ready c st) (line_there old mid c) ended j;
       ready = rest.ready;
       leaves = rest.leaves;
       more = never_more mid new out ended j;
@@ -422,6 +424,7 @@ pub ends_finish : (old new : Standing) (o : Outcome) → Ends old (Some o) new �
 ends_finish old new o e = record {
   stands = e.stands;
   right = λ l input given st. e.right input given st;
+  last = λ l input given st. e.last input given st;
   ready = e.ready;
   leaves = e.leaves;
   empties = e.empties;
@@ -448,6 +451,7 @@ settles_finish old mid new o e s =
           (plain_right new o true input input [] (given ++ items_out o) (m.finished ∙ e.finished) (sym (append-nil input)) (λ z. refl) (m.stands input given (there input given st)) m.leaves (settles_plain mid.state mid new o (e.none l) s));
       ready = m.ready;
       leaves = m.leaves;
+      last = λ l input given st. plain_last o new input (given ++ items_out o) (settles_plain mid.state mid new o (e.none l) s);
       empties = λ input given st. m.empties input given (there input given st);
       again = by (again old.state) refl e.stays;
       more = λ q. settles_more mid.state mid new (subst (λ (x : Outcome). Settles mid.state mid (Some x) new) q s);
@@ -508,6 +512,7 @@ cut_finish old mid after new count e s stop n =
     subst (Finishes old (outcomes.Truncated count)) (sym stop) (record {
       stands = λ input given st. subst (StandsFor (stopped after (states.Truncated count)) input) (sym (append-nil given)) (is_cut after count input given (here input given st) reading finished m.ready n);
       right = λ l input given st. (refl, λ more z. subst (λ (k : LimitValues). IsNotAccepted k (input ++ more)) (m.limits ∙ e.limits) (none_here after input given more (here input given st) reading finished m.ready z));
+      last = λ l input given st. tt;
       ready = tt;
       leaves = refl;
       empties = λ input given st. tt;

@@ -32,7 +32,8 @@ use Rattle.cwr_decode.specs.Items.{is_in_transaction}
 use Rattle.cwr_decode.specs.Judged.{IsNext, IsOfNone, IsFirstFault}
 use Rattle.cwr_decode.specs.Machines.{Standing, Empties, Accepts, Refuses, Tells, Judges, EntersHeld, Follows, counted, pending, stopped, held_list}
 use Rattle.cwr_decode.specs.Open.{items_so_far, open_of, goes_on_with, handed, item_of}
-use Rattle.cwr_decode.specs.Stands.{Reads, IsInput, IsPending, StandsFor, StandsIn, held_of, items_in, items_out, text_of}
+use Rattle.cwr_decode.specs.Calls.{RefusesLast}
+use Rattle.cwr_decode.specs.Stands.{Reads, IsInput, IsPending, IsStopped, StandsFor, StandsIn, held_of, items_in, items_out, text_of}
 use Rattle.cwr_decode.proofs.NextLines.{next_is_line}
 use Rattle.cwr_decode.proofs.Given.{goes_on_stays, ends_closes}
 use Rattle.cwr_decode.proofs.Texts.{text_of-push}
@@ -259,38 +260,52 @@ accept_empties d input given out new h a =
 
 -- ---- a refused line
 
+told_stopped : (d : Standing) (input : List ℕ) (given : List Item) (fault : LineFault) (o : Outcome) (new : Standing) → HasLine d input given
+    → ((xs : List Symbol) → tallies.StandsFor d.tally xs → IsOfNone d.tally.limits xs d.line)
+    → ((xs : List Symbol) → tallies.StandsFor d.tally xs → IsFirstFault d.tally.limits xs d.line fault.field fault.reason) → (t : Tells d (held_kind d.line) fault o new)
+    → IsStopped (stopped d (states.Refused t.refusal)) input (given ++ []) t.refusal
+told_stopped d input given fault o new h none first t =
+    let xs : List Symbol = map symbol_of h.records in
+    let counts : d.tally.counts ≡ counts_of xs = h.read.counted.counted in
+    let count : d.tally.counts.records ≡ length xs = ap (λ (c : Counts). c.records) counts in
+    record {
+      lines = h.lines;
+      records = h.records;
+      read = h.read;
+      left = h.left;
+      line = d.line;
+      ended = h.ended;
+      is_held = h.line;
+      over = d.finished;
+      late = λ e. e;
+      split = h.split;
+      none = none xs h.read.counted;
+      first = subst (λ (r : Reason). IsFirstFault d.tally.limits xs d.line t.refusal.field r) (sym t.reason)
+          (subst (λ (f : ℕ). IsFirstFault d.tally.limits xs d.line f fault.reason) (sym t.field) (first xs h.read.counted));
+      number = omega (arith, t.number, count, length-map h.records symbol_of);
+      level = t.level xs h.read.counted ∙ ap₂ (λ (f : ℕ) (r : Reason). level_of (held_kind d.line) f r (place_after xs)) (sym t.field) (sym t.reason);
+      empty = refl;
+      nothing = refl;
+      given_are = append-nil given ∙ h.given_are;
+    }
+
 told_stands : (d : Standing) (input : List ℕ) (given : List Item) (fault : LineFault) (o : Outcome) (new : Standing) → HasLine d input given
     → ((xs : List Symbol) → tallies.StandsFor d.tally xs → IsOfNone d.tally.limits xs d.line)
     → ((xs : List Symbol) → tallies.StandsFor d.tally xs → IsFirstFault d.tally.limits xs d.line fault.field fault.reason) → Tells d (held_kind d.line) fault o new → StandsFor new input (given ++ items_out o)
 told_stands d input given fault o new h none first t =
-    let xs : List Symbol = map symbol_of h.records in
-    let counts : d.tally.counts ≡ counts_of xs = h.read.counted.counted in
-    let count : d.tally.counts.records ≡ length xs = ap (λ (c : Counts). c.records) counts in
     subst (λ (q : Standing). StandsFor q input (given ++ items_out o)) (sym t.stops)
     (subst (λ (q : Outcome). StandsFor (stopped d (states.Refused t.refusal)) input (given ++ items_out q)) (sym t.told)
-    (record {
-      in_range = h.in_range;
-      here = record {
-        lines = h.lines;
-        records = h.records;
-        read = h.read;
-        left = h.left;
-        line = d.line;
-        ended = h.ended;
-        is_held = h.line;
-        over = d.finished;
-        late = λ e. e;
-        split = h.split;
-        none = none xs h.read.counted;
-        first = subst (λ (r : Reason). IsFirstFault d.tally.limits xs d.line t.refusal.field r) (sym t.reason)
-            (subst (λ (f : ℕ). IsFirstFault d.tally.limits xs d.line f fault.reason) (sym t.field) (first xs h.read.counted));
-        number = omega (arith, t.number, count, length-map h.records symbol_of);
-        level = t.level xs h.read.counted ∙ ap₂ (λ (f : ℕ) (r : Reason). level_of (held_kind d.line) f r (place_after xs)) (sym t.field) (sym t.reason);
-        empty = refl;
-        nothing = refl;
-        given_are = append-nil given ∙ h.given_are;
-      };
-    }))
+    (record { in_range = h.in_range; here = told_stopped d input given fault o new h none first t }))
+
+pub told_last : (d : Standing) (input : List ℕ) (given : List Item) (fault : LineFault) (o : Outcome) (new : Standing) → HasLine d input given
+    → ((xs : List Symbol) → tallies.StandsFor d.tally xs → IsOfNone d.tally.limits xs d.line)
+    → ((xs : List Symbol) → tallies.StandsFor d.tally xs → IsFirstFault d.tally.limits xs d.line fault.field fault.reason) → Tells d (held_kind d.line) fault o new → d.line.ended ≡ Line
+    → RefusesLast o new input (given ++ items_out o)
+unfolding told_stopped
+told_last d input given fault o new h none first t whole =
+    subst (λ (q : Standing). RefusesLast o q input (given ++ items_out o)) (sym t.stops)
+    (subst (λ (q : Outcome). RefusesLast q (stopped d (states.Refused t.refusal)) input (given ++ items_out q)) (sym t.told)
+    (told_stopped d input given fault o new h none first t, whole))
 
 refuse_stands : (d : Standing) (input : List ℕ) (given : List Item) (out : Option Outcome) (new : Standing) → HasLine d input given → Refuses d out new → StandsFor new input (given ++ items_in out)
 refuse_stands d input given None new h r = absurd r.tells

@@ -1,12 +1,14 @@
 -- What a call of a decoder does to what the decoder stands for, and what its answer says of the input.
 use Rattle.std.specs.Prelude.{◌≡◌, ◌≢◌, ◌⊎◌, ℕ, ◌<◌, ◌≤◌, Bool, true, false, List, ◌++◌, length, take, Option, Some, None, IfSome, IfNone}
+use Rattle.cwr_layouts.specs.declared.lines.LineEnd.TheVariants as line_ends
 use Rattle.cwr_values.specs.declared.items.Item.{Item}
 use Rattle.cwr_decode.specs.declared.outcomes.Outcome.{Outcome}
 use Rattle.cwr_decode.specs.declared.outcomes.Outcome.TheVariants.{More, Memory}
+use Rattle.cwr_decode.specs.declared.outcomes.Outcome.TheVariants as outcomes
 use Rattle.cwr_decode.specs.declared.machine.State.{State}
 use Rattle.cwr_decode.specs.declared.machine.State.TheVariants.{Reading, Pending}
 use Rattle.cwr_decode.specs.Machines.{Standing, IsReady, Leaves, Empties, WaitsOutside, again, over}
-use Rattle.cwr_decode.specs.Stands.{StandsFor, IsRight, items_in, items_out}
+use Rattle.cwr_decode.specs.Stands.{StandsFor, IsStopped, IsRight, items_in, items_out}
 
 -- nothing was answered for good
 abbrev pub IsLive : State → Type 0
@@ -20,6 +22,11 @@ Grows old out new = (old ≤ new) × (out ≡ Some Memory → old < new)
 -- accepted.
 abbrev pub WantsMemory : Standing → ℕ → Standing → Type 0
 WantsMemory old used new = ((old.state ≡ Pending) × (used ≡ 0)) ⊎ (old.tally.counts.records < new.tally.counts.records)
+
+-- what the end of the input refuses is the last line, which ended there and isn't too long
+abbrev pub RefusesLast : Outcome → Standing → List ℕ → List Item → Type 0
+RefusesLast (outcomes.Refused refusal) d input given = (s : IsStopped d input given refusal) × (s.line.ended ≡ line_ends.Line)
+RefusesLast outcome d input given = Unit {0}
 
 -- a step without a further byte
 pub record Moves (old : Standing) (out : Option Outcome) (new : Standing) : Type 0 where
@@ -41,6 +48,7 @@ seen true input piece = input
 pub record Ends (old : Standing) (out : Option Outcome) (new : Standing) : Type 0 where
   pub stands : (input : List ℕ) (given : List Item) → StandsFor old input given → StandsFor new input (given ++ items_in out)
   pub right : (input : List ℕ) (given : List Item) → StandsFor old input given → IfSome out (λ outcome. IsRight old.tally.limits outcome true input input (given ++ items_out outcome))
+  pub last : (input : List ℕ) (given : List Item) → StandsFor old input given → IfSome out (λ outcome. RefusesLast outcome new input (given ++ items_out outcome))
   pub ready : IsReady new.state new.finished new.line
   pub leaves : IfSome out (λ outcome. Leaves outcome new.state)
   pub more : out ≡ Some More → ⊥
@@ -90,6 +98,7 @@ pub record Feeds (old : Standing) (piece : List ℕ) (used : ℕ) (outcome : Out
 pub record Finishes (old : Standing) (outcome : Outcome) (new : Standing) : Type 0 where
   pub stands : (input : List ℕ) (given : List Item) → StandsFor old input given → StandsFor new input (given ++ items_out outcome)
   pub right : IsLive old.state → (input : List ℕ) (given : List Item) → StandsFor old input given → IsRight old.tally.limits outcome true input input (given ++ items_out outcome)
+  pub last : IsLive old.state → (input : List ℕ) (given : List Item) → StandsFor old input given → RefusesLast outcome new input (given ++ items_out outcome)
   pub ready : IsReady new.state new.finished new.line
   pub leaves : Leaves outcome new.state
   pub empties : (input : List ℕ) (given : List Item) → StandsFor old input given → Empties outcome new

@@ -1,7 +1,7 @@
 //! Reading a transmission in pieces of any size.
 
 ghost use Rattle.std.specs.Prelude.{◌≡◌, ◌≢◌, ◌≤◌, ◌++◌, [], List, ℕ, length, take, IfSome, true, false};
-ghost use Rattle.cwr_decode.specs.Calls.{IsLive, WantsMemory, seen};
+ghost use Rattle.cwr_decode.specs.Calls.{IsLive, RefusesLast, WantsMemory, seen};
 ghost use Rattle.cwr_decode.specs.Machines.{Empties, Leaves, WaitsOutside, again, held_list, over};
 ghost use Rattle.cwr_decode.specs.Stands.{IsRight, IsUnderWay, StandsFor, items_out};
 ghost use Rattle.cwr_values.specs.declared.items.Item.{Item};
@@ -100,6 +100,9 @@ impl Decoder {
             → StandsFor self.new input (given ++ items_out result.outcome) }
         ensures right { IsLive self.old.state → (input : List ℕ) (given : List Item) → StandsFor self.old input given
             → IsRight self.old.tally.limits result.outcome true input input (given ++ items_out result.outcome) }
+        // What it refuses is the last line, which ended with the input and isn't too long.
+        ensures last { IsLive self.old.state → (input : List ℕ) (given : List Item) → StandsFor self.old input given
+            → RefusesLast result.outcome self.new input (given ++ items_out result.outcome) }
         ensures leaves { Leaves result.outcome self.new.state }
         // Behind an item nothing is held, but behind a transaction the line that ended it.
         ensures empties { (input : List ℕ) (given : List Item) → StandsFor self.old input given → Empties result.outcome self.new }
