@@ -24,7 +24,7 @@ use Rattle.cwr_tools.specs.declared.verdicts.Verdict.TheVariants.{Good, Refused,
 use Rattle.cwr_tools.specs.declared.verdicts.ToolFault.{ToolFault}
 use Rattle.cwr_tools.specs.Texts.{good_verdict}
 use Rattle.cwr.specs.declared.checking.Counts.{Counts}
-use Rattle.cwr.specs.Told.{counted, IsToldOf, IsVerdictOf, TellsAccepted, TellsCanonical}
+use Rattle.cwr.specs.Told.{counted, IsToldOf, IsVerdictOf, JudgesAccepted, JudgesCanonical}
 
 -- ---- the numbers of items
 
@@ -120,7 +120,7 @@ good_told limits before after given c h k =
 
 -- ---- what follows from what is told
 
-pub tells_accepted : (limits : Limits) (before : Option (List ℕ)) (verdict : Verdict) (after : Option (List ℕ)) → IsToldOf limits before verdict after → TellsAccepted limits before verdict after
+pub tells_accepted : (limits : Limits) (before : Option (List ℕ)) (verdict : Verdict) (after : Option (List ℕ)) → IsToldOf limits before verdict after → JudgesAccepted limits before verdict after
 tells_accepted limits None verdict after t = tt
 tells_accepted limits (Some text) (Good groups transactions records) after t = λ v n a.
     let same = accepted_once limits text t.0 v t.1.0 n t.1.1 a in
@@ -128,8 +128,8 @@ tells_accepted limits (Some text) (Good groups transactions records) after t = �
 tells_accepted limits (Some text) (Refused refusal) after t = λ v n a. absurd (t.right.0 v n a)
 tells_accepted limits (Some text) (Truncated records) after t = λ v n a. absurd (t.right v n a)
 
-pub tells_canonical : (limits : Limits) (before : Option (List ℕ)) (verdict : Verdict) (after : Option (List ℕ)) → IsToldOf limits before verdict after → TellsCanonical limits before verdict after
+pub tells_canonical : (limits : Limits) (before : Option (List ℕ)) (verdict : Verdict) (after : Option (List ℕ)) → IsToldOf limits before verdict after → JudgesCanonical limits before verdict after
 tells_canonical limits before verdict after t v more whole within e =
-    let told : TellsAccepted limits (Some (canonical_text v ++ more)) verdict after = subst (λ (o : Option (List ℕ)). TellsAccepted limits o verdict after) e (tells_accepted limits before verdict after t) in
+    let told : JudgesAccepted limits (Some (canonical_text v ++ more)) verdict after = subst (λ (o : Option (List ℕ)). JudgesAccepted limits o verdict after) e (tells_accepted limits before verdict after t) in
     let both = told v (length (canonical_text v)) (canonical_accepted limits v more whole within) in
     (both.0, both.1 ∙ ap Some (drop-append_seam (canonical_text v) more))

@@ -10,7 +10,7 @@ use Rattle.cwr_decode.specs.declared.readings.ReadFault.{ReadFault}
 use Rattle.cwr_decode.specs.declared.readings.ReadFault.TheVariants as read_faults
 use Rattle.cwr_decode.specs.Ends.{IsAccepted}
 use Rattle.cwr_decode.specs.Items.{item_records, opens_group, is_transaction}
-use Rattle.cwr_decode.specs.Runs.{Takes, StopsRun}
+use Rattle.cwr_decode.specs.Runs.{TakesFront, StopsRun}
 use Rattle.cwr_tools.specs.declared.verdicts.Verdict.{Verdict}
 use Rattle.cwr_tools.specs.declared.verdicts.Verdict.TheVariants.{Good, Refused, Truncated}
 use Rattle.cwr_tools.specs.declared.verdicts.ToolFault.{ToolFault}
@@ -29,7 +29,7 @@ counted c item = record {
 -- The verdict is good exactly where the bytes begin with a spelling of a transmission within the limits. It then has that
 -- one's numbers, and just the spelling is consumed. Else the run stopped as the decoder did.
 abbrev pub IsToldOf : Limits → Option (List ℕ) → Verdict → Option (List ℕ) → Type 0
-IsToldOf limits before (Good groups transactions records) after = (v : TransmissionValue) × Takes limits before v after × (Good groups transactions records ≡ good_verdict v)
+IsToldOf limits before (Good groups transactions records) after = (v : TransmissionValue) × TakesFront limits before v after × (Good groups transactions records ≡ good_verdict v)
 IsToldOf limits before (Refused refusal) after = StopsRun limits (read_faults.Refused refusal) before after
 IsToldOf limits before (Truncated records) after = StopsRun limits (read_faults.Truncated records) before after
 
@@ -41,12 +41,12 @@ IsVerdictOf (read_faults.Truncated records) result = result ≡ Ok (Truncated re
 IsVerdictOf read_faults.Memory result = result ≡ Err Memory
 
 -- a text that is accepted has its transmission's verdict, and is consumed as far as it spells that
-abbrev pub TellsAccepted : Limits → Option (List ℕ) → Verdict → Option (List ℕ) → Type 0
-TellsAccepted limits before verdict after = IfSome before (λ text. (v : TransmissionValue) (n : ℕ) → IsAccepted limits text v n → (verdict ≡ good_verdict v) × (after ≡ Some (drop n text)))
+abbrev pub JudgesAccepted : Limits → Option (List ℕ) → Verdict → Option (List ℕ) → Type 0
+JudgesAccepted limits before verdict after = IfSome before (λ text. (v : TransmissionValue) (n : ℕ) → IsAccepted limits text v n → (verdict ≡ good_verdict v) × (after ≡ Some (drop n text)))
 
 -- the canonical text of a transmission within the limits is good, and what follows it stays unread
-abbrev pub TellsCanonical : Limits → Option (List ℕ) → Verdict → Option (List ℕ) → Type 0
-TellsCanonical limits before verdict after = (v : TransmissionValue) (more : List ℕ) → IsTransmission v → FitsIn limits v → before ≡ Some (canonical_text v ++ more)
+abbrev pub JudgesCanonical : Limits → Option (List ℕ) → Verdict → Option (List ℕ) → Type 0
+JudgesCanonical limits before verdict after = (v : TransmissionValue) (more : List ℕ) → IsTransmission v → FitsIn limits v → before ≡ Some (canonical_text v ++ more)
     → (verdict ≡ good_verdict v) × (after ≡ Some more)
 
 -- a reading stops a run by its reader or by memory; the reader's failures count one more where it was the reader

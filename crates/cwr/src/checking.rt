@@ -5,7 +5,7 @@ ghost use Rattle.std.specs.Io.KnownBytes.{Appends};
 ghost use Rattle.cwr_fields.specs.Failures.{one_more_failure};
 ghost use Rattle.cwr_decode.specs.Items.{item_records};
 ghost use Rattle.cwr_tools.specs.Texts.{verdict_line};
-ghost use Rattle.cwr.specs.Told.{counted, IsCheckFault, IsReadingsFault, IsToldOf, IsVerdictOf, TellsAccepted, TellsCanonical, WritesPart};
+ghost use Rattle.cwr.specs.Told.{counted, IsCheckFault, IsReadingsFault, IsToldOf, IsVerdictOf, JudgesAccepted, JudgesCanonical, WritesPart};
 
 use crate::texts::verdict_line;
 use crate::writing::write_text;
@@ -115,8 +115,8 @@ pub fn check<R: Source, W: Target + Drop>(
     writer: W,
 ) -> (W, Result<Verdict, ToolFault>)
     ensures told { IfOk result.1 (λ verdict. IsToldOf limits (R.remaining reader.old) verdict (R.remaining reader.new)) }
-    ensures accepted { IfOk result.1 (λ verdict. TellsAccepted limits (R.remaining reader.old) verdict (R.remaining reader.new)) }
-    ensures canonical { IfOk result.1 (λ verdict. TellsCanonical limits (R.remaining reader.old) verdict (R.remaining reader.new)) }
+    ensures accepted { IfOk result.1 (λ verdict. JudgesAccepted limits (R.remaining reader.old) verdict (R.remaining reader.new)) }
+    ensures canonical { IfOk result.1 (λ verdict. JudgesCanonical limits (R.remaining reader.old) verdict (R.remaining reader.new)) }
     ensures written { IfOk result.1 (λ verdict. Appends (W.contents writer) (W.contents result.0) (verdict_line verdict)) }
 
     ensures reader_failed { result.1 ≡ Err ToolFault.Reader → R.failures reader.new ≡ one_more_failure (R.failures reader.old) }

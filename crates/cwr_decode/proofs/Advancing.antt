@@ -20,7 +20,7 @@ use Rattle.cwr_decode.specs.declared.outcomes.Outcome.TheVariants as outcomes
 use Rattle.cwr_decode.specs.declared.machine.State.{State}
 use Rattle.cwr_decode.specs.declared.machine.State.TheVariants as states
 use Rattle.cwr_decode.specs.Judged.{IsOfNone}
-use Rattle.cwr_decode.specs.Machines.{Standing, IsReady, Leaves, Judges, counted, stopped}
+use Rattle.cwr_decode.specs.Machines.{Standing, IsReady, Leaves, Judges, with_tally, stopped}
 use Rattle.cwr_decode.specs.Stands.{StandsFor, StandsIn, IsReading, IsInput, IsRight, AcceptsNone, EndsInLf, GoesTooFar, EndsLine, items_out, text_of}
 use Rattle.cwr_decode.specs.Calls.{RefusesLast, Advances, Grows}
 use Rattle.cwr_decode.proofs.Accepted.{closed_begins}
@@ -120,7 +120,7 @@ pub judged_right : (d : Standing) (over : Bool) (input tail : List ℕ) (given :
     → (over ≡ true → d.line.ended ≡ Over → ⊥) → Stands_behind d.line.ended tail → Judges d out new → IfSome out (λ o. IsRight d.tally.limits o over input (input ++ tail) (given ++ items_out o))
 judged_right d over input tail given None new h f none fresh behind j = tt
 judged_right d over input tail given (Some o) new h f none fresh behind (inl a) =
-    let e = follows_rest a.goes_on d.held a.accepted (counted d a.tally) (Some o) new h.ended a.carried a.in_order a.follows in
+    let e = follows_rest a.goes_on d.held a.accepted (with_tally d a.tally) (Some o) new h.ended a.carried a.in_order a.follows in
     subst (λ (l : LimitValues). IsRight l o over input (input ++ tail) (given ++ items_out o)) (e.rest.limits ∙ a.limits)
     (plain_right new o over input (input ++ tail) tail (given ++ items_out o) (e.rest.finished ∙ f) refl none (judged_stands d input given (Some o) new h (inl a)) e.rest.leaves e.plain)
 judged_right d over input tail given (Some o) new h f none fresh behind (inr r) =
@@ -214,7 +214,7 @@ some_used t new old piece used None takes ended (inl a) = by t.line.ended ended 
 -- what is left behind a line that is judged
 pub judged_rest : (t new : Standing) (out : Option Outcome) → t.line.ended ≢ Open → Judges t out new → Rest t out new
 judged_rest t new out ended (inl a) =
-    let e = follows_rest a.goes_on t.held a.accepted (counted t a.tally) out new ended a.carried a.in_order a.follows in
+    let e = follows_rest a.goes_on t.held a.accepted (with_tally t a.tally) out new ended a.carried a.in_order a.follows in
     record { ready = e.rest.ready; leaves = e.rest.leaves; none = e.rest.none; finished = e.rest.finished; limits = e.rest.limits ∙ a.limits }
 judged_rest t new None ended (inr r) = absurd r.tells
 judged_rest t new (Some o) ended (inr r) =
@@ -224,7 +224,7 @@ judged_rest t new (Some o) ended (inr r) =
 -- no record is forgotten by that, and want of memory comes with one more
 pub judged_grows : (t new : Standing) (out : Option Outcome) (xs : List Symbol) → t.line.ended ≢ Open → tallies.StandsFor t.tally xs → Judges t out new → Grows t.tally.counts.records out new.tally.counts.records
 judged_grows t new out xs ended st (inl a) =
-    let e = follows_rest a.goes_on t.held a.accepted (counted t a.tally) out new ended a.carried a.in_order a.follows in
+    let e = follows_rest a.goes_on t.held a.accepted (with_tally t a.tally) out new ended a.carried a.in_order a.follows in
     let before : t.tally.counts.records ≡ length xs = ap (λ (c : Counts). c.records) st.counted in
     let next : a.tally.counts.records ≡ length (xs ++ a.symbol ∷ []) = ap (λ (c : Counts). c.records) (a.stands xs st).counted in
     let kept : new.tally.counts.records ≡ a.tally.counts.records = ap (λ (q : TallyValue). q.counts.records) e.tally in
@@ -244,7 +244,7 @@ judged_grows t new (Some o) xs ended st (inr r) =
 pub never_more : (t new : Standing) (out : Option Outcome) → t.line.ended ≢ Open → Judges t out new → out ≡ Some outcomes.More → ⊥
 never_more t new None ended j e = absurd (cc e)
 never_more t new (Some o) ended (inl a) e =
-    let k = follows_rest a.goes_on t.held a.accepted (counted t a.tally) (Some o) new ended a.carried a.in_order a.follows in
+    let k = follows_rest a.goes_on t.held a.accepted (with_tally t a.tally) (Some o) new ended a.carried a.in_order a.follows in
     let same : o ≡ outcomes.More = cc e in
     subst IsPlain same k.plain
 never_more t new (Some o) ended (inr r) e =
@@ -266,7 +266,7 @@ pub judged_last : (d : Standing) (input : List ℕ) (given : List Item) (out : O
     → IfSome out (λ o. RefusesLast o new input (given ++ items_out o))
 judged_last d input given None new h whole ended j = tt
 judged_last d input given (Some o) new h whole ended (inl a) =
-    plain_last o new input (given ++ items_out o) (follows_rest a.goes_on d.held a.accepted (counted d a.tally) (Some o) new ended a.carried a.in_order a.follows).plain
+    plain_last o new input (given ++ items_out o) (follows_rest a.goes_on d.held a.accepted (with_tally d a.tally) (Some o) new ended a.carried a.in_order a.follows).plain
 judged_last d input given (Some o) new h whole ended (inr r) = told_last d input given r.fault o new h r.none r.first r.tells whole
 
 -- a line that ended is judged

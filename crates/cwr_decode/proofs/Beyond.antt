@@ -27,7 +27,7 @@ use Rattle.cwr_values.proofs.Unique.{symbols-outline, outline_whole, records-row
 use Rattle.cwr_values.proofs.RowAt.{rows_split}
 use Rattle.cwr_decode.specs.Ends.{IsAccepted, IsNotAccepted}
 use Rattle.cwr_decode.specs.Judged.{IsOfNone}
-use Rattle.cwr_decode.specs.Stands.{Reads, text_of}
+use Rattle.cwr_decode.specs.Stands.{AreAccepted, text_of}
 use Rattle.cwr_decode.proofs.NextLines.{line_is_next}
 use Rattle.cwr_decode.proofs.Given.{records_back}
 
@@ -75,7 +75,7 @@ same_whole : (v : TransmissionValue) (records : List RecordValue) → IsTransmis
 same_whole v records h e = (outline_of v, outline_whole v h, sym (ap (map symbol_of) e) ∙ sym (symbols-outline v h))
 
 -- the records of which a transmission is the first part, and that begin some transmission, are all in it
-longer_whole : (tally : TallyValue) (lines : List (List ℕ)) (records rest : List RecordValue) (v : TransmissionValue) → Reads tally lines records → IsTransmission v → records ≡ records_of v ++ rest
+longer_whole : (tally : TallyValue) (lines : List (List ℕ)) (records rest : List RecordValue) (v : TransmissionValue) → AreAccepted tally lines records → IsTransmission v → records ≡ records_of v ++ rest
     → IsWhole (map symbol_of records)
 longer_whole tally lines records rest v read h e =
     let begins = read.counted.stands.begins in
@@ -114,7 +114,7 @@ one_further tally lines records v others (r ∷ rest) (k ∷ more) left h fits e
 
 -- A text begins with the lines of records that aren't a whole transmission's. Where it begins with those of a
 -- transmission too, that one has a record behind these.
-pub goes_further : (tally : TallyValue) (lines : List (List ℕ)) (records : List RecordValue) (v : TransmissionValue) (others : List (List ℕ)) (u w : List ℕ) → Reads tally lines records
+pub goes_further : (tally : TallyValue) (lines : List (List ℕ)) (records : List RecordValue) (v : TransmissionValue) (others : List (List ℕ)) (u w : List ℕ) → AreAccepted tally lines records
     → ¬ IsWhole (map symbol_of records) → IsTransmission v → FitsIn tally.limits v → AllZip IsLineOf (rows v) others → text_of lines ++ u ≡ text_of others ++ w → GoesFurther tally.limits lines records others
 goes_further tally lines records v others u w read left h fits z e =
     by_lines (lines_agree lines others u w (lines_without_lf (rows_so_far records) lines read.rows) (lines_without_lf (rows v) others z) e)
@@ -158,7 +158,7 @@ text_behind lines line more u w e =
     (e ∙ ap (λ (t : List ℕ). t ++ w) (flat_map-append (λ k. k ++ 10 ∷ []) lines (line ∷ more)) ∙ append_assoc (text_of lines) (text_of (line ∷ more)) w)
     ∙ text_of-cons line more w
 
-next_line : (tally : TallyValue) (lines : List (List ℕ)) (records : List RecordValue) (text behind : List ℕ) (v : TransmissionValue) (n : ℕ) → Reads tally lines records → ¬ IsWhole (map symbol_of records)
+next_line : (tally : TallyValue) (lines : List (List ℕ)) (records : List RecordValue) (text behind : List ℕ) (v : TransmissionValue) (n : ℕ) → AreAccepted tally lines records → ¬ IsWhole (map symbol_of records)
     → closed text ≡ text_of lines ++ behind → IsAccepted tally.limits text v n → NextLine tally records behind
 next_line tally lines records text behind v n read left e a =
     let others : List (List ℕ) = a.spelled.0 in
@@ -175,7 +175,7 @@ next_line tally lines records text behind v n read left e a =
     }
 
 -- no text is accepted whose next line is that of no record that may come next
-pub none_behind_line : (tally : TallyValue) (lines : List (List ℕ)) (records : List RecordValue) (line : HeldLine) (text more : List ℕ) → Reads tally lines records → ¬ IsWhole (map symbol_of records)
+pub none_behind_line : (tally : TallyValue) (lines : List (List ℕ)) (records : List RecordValue) (line : HeldLine) (text more : List ℕ) → AreAccepted tally lines records → ¬ IsWhole (map symbol_of records)
     → IsHeld line → line.ended ≡ Line → IsOfNone tally.limits (map symbol_of records) line → closed text ≡ text_of lines ++ (held_text line ++ more) → IsNotAccepted tally.limits text
 none_behind_line tally lines records line text more read left held ended none e v n a =
     let g = next_line tally lines records text (held_text line ++ more) v n read left e a in
@@ -186,7 +186,7 @@ none_behind_line tally lines records line text more read left held ended none e 
     none (symbol_of g.next) g.next (line_is_next tally.limits (map symbol_of records) line g.line g.next held holds g.in_order g.may_come g.is_line)
 
 -- no text is accepted that ends before a transmission does
-pub none_behind_cut : (tally : TallyValue) (lines : List (List ℕ)) (records : List RecordValue) (text : List ℕ) → Reads tally lines records → ¬ IsWhole (map symbol_of records) → closed text ≡ text_of lines
+pub none_behind_cut : (tally : TallyValue) (lines : List (List ℕ)) (records : List RecordValue) (text : List ℕ) → AreAccepted tally lines records → ¬ IsWhole (map symbol_of records) → closed text ≡ text_of lines
     → IsNotAccepted tally.limits text
 none_behind_cut tally lines records text read left e v n a =
     let g = next_line tally lines records text [] v n read left (e ∙ sym (append-nil (text_of lines))) a in
@@ -207,7 +207,7 @@ no_end (b ∷ bytes) (c ∷ line) next more after h other short e =
     no_end bytes line next more after (or_parts (b == 10) (has_lf bytes) h).1 other (omega (arith, short)) (cc e)
 
 -- no text is accepted whose next line is too long
-pub none_behind_long : (tally : TallyValue) (lines : List (List ℕ)) (records : List RecordValue) (bytes : List ℕ) (next : ℕ) (text more : List ℕ) → Reads tally lines records
+pub none_behind_long : (tally : TallyValue) (lines : List (List ℕ)) (records : List RecordValue) (bytes : List ℕ) (next : ℕ) (text more : List ℕ) → AreAccepted tally lines records
     → ¬ IsWhole (map symbol_of records) → NoLf bytes → length bytes ≡ longest_line → (next ≡ 10 → ⊥) → closed text ≡ text_of lines ++ (bytes ++ next ∷ more) → IsNotAccepted tally.limits text
 none_behind_long tally lines records bytes next text more read left no_lf long other e v n a =
     let g = next_line tally lines records text (bytes ++ next ∷ more) v n read left e a in

@@ -27,7 +27,7 @@ use Rattle.cwr_decode.specs.declared.machine.State.TheVariants as states
 use Rattle.cwr_decode.specs.Items.{is_in_transaction, group_items, value_items, item_records, records_in, opens_group, is_transaction}
 use Rattle.cwr_decode.specs.Machines.{Standing}
 use Rattle.cwr_decode.specs.Open.{items_so_far, open_of, goes_on_with, handed, item_of}
-use Rattle.cwr_decode.specs.Stands.{Reads, IsThrough, StandsFor, StandsIn}
+use Rattle.cwr_decode.specs.Stands.{AreAccepted, IsThrough, StandsFor, StandsIn}
 use Rattle.cwr_decode.proofs.Entering.{few_records}
 use Rattle.cwr_decode.proofs.Given.{goes_on_stays, ends_closes, no_open, no_items}
 use Rattle.cwr_decode.proofs.ItemLaws.{all_last}
@@ -151,10 +151,10 @@ counts records h g few = walk [] records h g few (record {
 abbrev AreFew : List Item → Type 0
 AreFew given = (length given ≤ 199999998) × (length (records_in given) ≤ 99999999)
 
-few_read : (tally : TallyValue) (lines : List (List ℕ)) (records : List RecordValue) → AreInRange tally.limits → Reads tally lines records → length records ≤ 99999999
+few_read : (tally : TallyValue) (lines : List (List ℕ)) (records : List RecordValue) → AreInRange tally.limits → AreAccepted tally lines records → length records ≤ 99999999
 few_read tally lines records range read = omega (arith, few_records tally lines records range read, length-map records symbol_of)
 
-read_few : (tally : TallyValue) (lines : List (List ℕ)) (records : List RecordValue) (given : List Item) → AreInRange tally.limits → Reads tally lines records → given ≡ items_so_far records → AreFew given
+read_few : (tally : TallyValue) (lines : List (List ℕ)) (records : List RecordValue) (given : List Item) → AreInRange tally.limits → AreAccepted tally lines records → given ≡ items_so_far records → AreFew given
 read_few tally lines records given range read are =
     let few : length records ≤ 99999999 = few_read tally lines records range read in
     let c = counts records read.in_order read.counted.stands.begins few in
@@ -162,7 +162,7 @@ read_few tally lines records given range read are =
     subst AreFew (sym are) (omega (arith, few, c.few), omega (arith, few, all))
 
 -- with the last record still waiting
-waiting_few : (tally : TallyValue) (lines : List (List ℕ)) (records : List RecordValue) (last : RecordValue) (given : List Item) → AreInRange tally.limits → Reads tally lines (records ++ last ∷ [])
+waiting_few : (tally : TallyValue) (lines : List (List ℕ)) (records : List RecordValue) (last : RecordValue) (given : List Item) → AreInRange tally.limits → AreAccepted tally lines (records ++ last ∷ [])
     → given ≡ items_so_far records ++ handed (open_of records) → AreFew given
 waiting_few tally lines records last given range read are =
     let most : length (records ++ last ∷ []) ≤ 99999999 = few_read tally lines (records ++ last ∷ []) range read in

@@ -16,7 +16,7 @@ use Rattle.cwr_values.proofs.Built.{built}
 use Rattle.cwr_values.proofs.RowAt.{rows_whole}
 use Rattle.cwr_decode.specs.Items.{items, value_items}
 use Rattle.cwr_decode.specs.Open.{items_so_far}
-use Rattle.cwr_decode.specs.Stands.{text_of, IsInput, Reads, AcceptsAll}
+use Rattle.cwr_decode.specs.Stands.{text_of, IsInput, AreAccepted, AcceptsAll}
 use Rattle.cwr_decode.proofs.Accepted.{closed_begins}
 use Rattle.cwr_decode.proofs.ItemLaws.{items_of_parts}
 use Rattle.cwr_decode.proofs.Texts.{closed_more}
@@ -29,7 +29,7 @@ pub record SpellsWhole (limits : LimitValues) (lines : List (List ℕ)) (records
   pub spelled : Spells value (text_of lines)
   pub given : items_so_far records ≡ value_items value
 
-pub spells_whole : (tally : TallyValue) (lines : List (List ℕ)) (records : List RecordValue) → AreInRange tally.limits → Reads tally lines records → IsWhole (map symbol_of records) → SpellsWhole tally.limits lines records
+pub spells_whole : (tally : TallyValue) (lines : List (List ℕ)) (records : List RecordValue) → AreInRange tally.limits → AreAccepted tally lines records → IsWhole (map symbol_of records) → SpellsWhole tally.limits lines records
 spells_whole tally lines records range read (groups, outline, symbols) =
     let b = built groups records outline symbols read.in_order in
     let same : rows b.value ≡ rows_so_far records = rows_whole b.value b.whole ∙ ap rows_so_far b.records_are in
@@ -46,7 +46,7 @@ spells_whole tally lines records range read (groups, outline, symbols) =
 
 -- what was read of a whole transmission is accepted, however the input goes on
 pub accepts_whole : (tally : TallyValue) (lines : List (List ℕ)) (records : List RecordValue) (over : Bool) (used seen tail : List ℕ) (given : List Item)
-    → AreInRange tally.limits → Reads tally lines records → IsWhole (map symbol_of records) → IsInput over used (text_of lines) → seen ≡ used ++ tail → (over ≡ true → tail ≡ []) → given ≡ items_so_far records
+    → AreInRange tally.limits → AreAccepted tally lines records → IsWhole (map symbol_of records) → IsInput over used (text_of lines) → seen ≡ used ++ tail → (over ≡ true → tail ≡ []) → given ≡ items_so_far records
     → AcceptsAll tally.limits over used seen given
 accepts_whole tally lines records false used seen tail given range read whole input split late are =
     let w = spells_whole tally lines records range read whole in

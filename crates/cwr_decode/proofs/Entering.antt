@@ -24,7 +24,7 @@ use Rattle.cwr_decode.specs.declared.machine.State.TheVariants as states
 use Rattle.cwr_decode.specs.Items.{is_in_transaction}
 use Rattle.cwr_decode.specs.Machines.{Standing, Empties, Enters, held_list, reading, stopped}
 use Rattle.cwr_decode.specs.Open.{items_so_far, open_of, item_of}
-use Rattle.cwr_decode.specs.Stands.{Reads, IsInput, StandsFor, held_of, items_in, text_of}
+use Rattle.cwr_decode.specs.Stands.{AreAccepted, IsInput, StandsFor, held_of, items_in, text_of}
 use Rattle.cwr_decode.proofs.Trailers.{trailer_ends, whole_ends}
 
 -- ---- lists
@@ -37,7 +37,7 @@ pub symbols-snoc : (records : List RecordValue) (r : RecordValue) → map symbol
 symbols-snoc records r = map-snoc records r
 
 -- no more records were read than the limit allows
-pub few_records : (tally : TallyValue) (lines : List (List ℕ)) (records : List RecordValue) → AreInRange tally.limits → Reads tally lines records → length (map symbol_of records) ≤ 99999999
+pub few_records : (tally : TallyValue) (lines : List (List ℕ)) (records : List RecordValue) → AreInRange tally.limits → AreAccepted tally lines records → length (map symbol_of records) ≤ 99999999
 few_records tally lines records in_range read =
     let keeps = none_passed tally.limits (map symbol_of records) (read.within (map symbol_of records) [] (sym (append-nil (map symbol_of records)))) in
     omega (arith, keeps.records, in_range.most_records)
@@ -51,7 +51,7 @@ pub record MayEnter (d : Standing) (input : List ℕ) (given : List Item) (kind 
   pub in_range : AreInRange d.tally.limits
   pub lines : List (List ℕ)
   pub records : List RecordValue
-  pub read : Reads d.tally lines (records ++ r ∷ [])
+  pub read : AreAccepted d.tally lines (records ++ r ∷ [])
   pub split : IsInput d.finished input (text_of lines)
   pub given_are : given ++ item_of kind r ≡ items_so_far (records ++ r ∷ [])
   pub open_now : open_of (records ++ r ∷ []) ≡ cond (is_in_transaction kind) (held_list d.held ++ r ∷ []) []

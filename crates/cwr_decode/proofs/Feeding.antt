@@ -26,9 +26,9 @@ use Rattle.cwr_decode.specs.declared.machine.State.{State}
 use Rattle.cwr_decode.specs.declared.machine.State.TheVariants as states
 use Rattle.cwr_decode.specs.Items.{is_in_transaction}
 use Rattle.cwr_decode.specs.Ends.{IsNotAccepted}
-use Rattle.cwr_decode.specs.Machines.{Standing, IsReady, Settles, Enters, EntersHeld, Judges, Closes, WaitsOutside, again, first, over, stopped}
+use Rattle.cwr_decode.specs.Machines.{Standing, IsReady, Settles, Enters, EntersHeld, Judges, ClosesLine, WaitsOutside, again, first, over, stopped}
 use Rattle.cwr_decode.specs.Stands.{StandsFor, StandsIn, IsReading, IsInput, IsRight, held_of, items_out, text_of}
-use Rattle.cwr_decode.specs.Calls.{IsLive, Grows, Ends, Advances, Feeds, Finishes, seen}
+use Rattle.cwr_decode.specs.Calls.{IsLive, Grows, TakesEnd, Advances, Feeds, Finishes, seen}
 use Rattle.cwr_decode.proofs.Texts.{closed_text, closed_open}
 use Rattle.cwr_decode.proofs.Beyond.{none_behind_cut}
 use Rattle.cwr_decode.proofs.Given.{no_open, no_items}
@@ -316,8 +316,8 @@ over_stands d input given ready empty st = record { in_range = st.in_range; here
     }
 
 -- no last line is there
-pub ends_without : (old new : Standing) → IsReady old.state old.finished old.line → Closes false old new → Ends old None new
-ends_without old new ready c = subst (Ends old None) (sym c.0) (record {
+pub ends_without : (old new : Standing) → IsReady old.state old.finished old.line → ClosesLine false old new → TakesEnd old None new
+ends_without old new ready c = subst (TakesEnd old None) (sym c.0) (record {
   stands = λ input given st. subst (StandsFor (over old) input) (sym (append-nil given)) (over_stands old input given ready c.1 st);
   right = λ input given st. tt;
   last = λ input given st. tt;
@@ -346,7 +346,7 @@ ends_without old new ready c = subst (Ends old None) (sym c.0) (record {
     ready_over states.Memory r e = tt
 
 -- a last line without its line feed is there
-last_line : (old new : Standing) (input : List ℕ) (given : List Item) → IsReady old.state old.finished old.line → Closes true old new → StandsFor old input given → HasLine new input given
+last_line : (old new : Standing) (input : List ℕ) (given : List Item) → IsReady old.state old.finished old.line → ClosesLine true old new → StandsFor old input given → HasLine new input given
 last_line old new input given ready c st =
     let r = subst (λ (s : State). StandsIn s old input given) c.0 st.here in
     let is_open = subst (λ (s : State). IsReady s old.finished old.line) c.0 ready in
@@ -374,11 +374,11 @@ last_line old new input given ready c st =
     positive zero h = absurd (h refl)
     positive (suc n) h = omega arith
 
-line_there : (old new : Standing) → Closes true old new → new.line.ended ≡ Line
+line_there : (old new : Standing) → ClosesLine true old new → new.line.ended ≡ Line
 line_there old new c = ap (λ (q : Standing). q.line.ended) c.2
 
 -- that line is judged
-pub ends_with : (old mid new : Standing) (out : Option Outcome) → IsReady old.state old.finished old.line → Closes true old mid → Judges mid out new → Ends old out new
+pub ends_with : (old mid new : Standing) (out : Option Outcome) → IsReady old.state old.finished old.line → ClosesLine true old mid → Judges mid out new → TakesEnd old out new
 ends_with old mid new out ready c j =
     let ended : mid.line.ended ≢ Open = λ e. absurd (not_open (sym (line_there old mid c) ∙ e)) in
     let rest = judged_rest mid new out ended j in
@@ -420,7 +420,7 @@ ends_with old mid new out ready c j =
     behind Over e = absurd (cc e)
 
 -- it is answered to a last line
-pub ends_finish : (old new : Standing) (o : Outcome) → Ends old (Some o) new → Finishes old o new
+pub ends_finish : (old new : Standing) (o : Outcome) → TakesEnd old (Some o) new → Finishes old o new
 ends_finish old new o e = record {
   stands = e.stands;
   right = λ l input given st. e.right input given st;
@@ -440,7 +440,7 @@ ends_finish old new o e = record {
     nothing q = cc q
 
 -- it is answered without a last line
-pub settles_finish : (old mid new : Standing) (o : Outcome) → Ends old None mid → Settles mid.state mid (Some o) new → Finishes old o new
+pub settles_finish : (old mid new : Standing) (o : Outcome) → TakesEnd old None mid → Settles mid.state mid (Some o) new → Finishes old o new
 settles_finish old mid new o e s =
     let m = settled mid.state mid new (Some o) refl e.ready s in
     let there = λ (input : List ℕ) (given : List Item) (st : StandsFor old input given). subst (StandsFor mid input) (append-nil given) (e.stands input given st) in
@@ -503,7 +503,7 @@ none_here d input given more st reading finished ready z =
     subst (IsNotAccepted d.tally.limits) (sym (append-nil input) ∙ ap (λ (x : List ℕ). input ++ x) (sym z)) (none_behind_cut d.tally r.lines r.records input r.read r.left (closed_lines d input given r reading finished ready))
 
 -- it is answered that the input ended too early
-pub cut_finish : (old mid after new : Standing) (count : ℕ) → Ends old None mid → Settles mid.state mid None after → new ≡ stopped after (states.Truncated count) → count ≡ after.tally.counts.records → Finishes old (outcomes.Truncated count) new
+pub cut_finish : (old mid after new : Standing) (count : ℕ) → TakesEnd old None mid → Settles mid.state mid None after → new ≡ stopped after (states.Truncated count) → count ≡ after.tally.counts.records → Finishes old (outcomes.Truncated count) new
 cut_finish old mid after new count e s stop n =
     let live = settles_live mid.state mid after s in
     let m = settled mid.state mid after None refl e.ready s in

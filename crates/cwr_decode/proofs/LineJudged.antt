@@ -30,10 +30,10 @@ use Rattle.cwr_decode.specs.declared.machine.State.{State}
 use Rattle.cwr_decode.specs.declared.machine.State.TheVariants as states
 use Rattle.cwr_decode.specs.Items.{is_in_transaction}
 use Rattle.cwr_decode.specs.Judged.{IsNext, IsOfNone, IsFirstFault}
-use Rattle.cwr_decode.specs.Machines.{Standing, Empties, Accepts, Refuses, Tells, Judges, EntersHeld, Follows, counted, pending, stopped, held_list}
+use Rattle.cwr_decode.specs.Machines.{Standing, Empties, Accepts, Refuses, Tells, Judges, EntersHeld, Follows, with_tally, pending, stopped, held_list}
 use Rattle.cwr_decode.specs.Open.{items_so_far, open_of, goes_on_with, handed, item_of}
 use Rattle.cwr_decode.specs.Calls.{RefusesLast}
-use Rattle.cwr_decode.specs.Stands.{Reads, IsInput, IsPending, IsStopped, StandsFor, StandsIn, held_of, items_in, items_out, text_of}
+use Rattle.cwr_decode.specs.Stands.{AreAccepted, IsInput, IsPending, IsStopped, StandsFor, StandsIn, held_of, items_in, items_out, text_of}
 use Rattle.cwr_decode.proofs.NextLines.{next_is_line}
 use Rattle.cwr_decode.proofs.Given.{goes_on_stays, ends_closes}
 use Rattle.cwr_decode.proofs.Texts.{text_of-push}
@@ -44,7 +44,7 @@ pub record HasLine (d : Standing) (input : List ℕ) (given : List Item) : Type 
   pub in_range : AreInRange d.tally.limits
   pub lines : List (List ℕ)
   pub records : List RecordValue
-  pub read : Reads d.tally lines records
+  pub read : AreAccepted d.tally lines records
   pub left : IsWhole (map symbol_of records) → ⊥
   pub split : IsInput d.finished input (text_of lines ++ held_text d.line)
   pub ended : d.line.ended ≢ Open
@@ -80,8 +80,8 @@ zip_snoc (q ∷ rows) [] row line h k = absurd h
 zip_snoc (q ∷ rows) (l ∷ lines) row line h k = (h.0, zip_snoc rows lines row line h.1 k)
 
 -- the line of a record that may come next is read too
-pub reads_more : (tally next : TallyValue) (lines : List (List ℕ)) (records : List RecordValue) (line : HeldLine) (s : Symbol) (r : RecordValue) → Reads tally lines records → IsHeld line → line.ended ≡ Line
-    → IsNext tally.limits (map symbol_of records) line s r → next.limits ≡ tally.limits → tallies.StandsFor next (map symbol_of records ++ s ∷ []) → Reads next (lines ++ line.bytes ∷ []) (records ++ r ∷ [])
+pub reads_more : (tally next : TallyValue) (lines : List (List ℕ)) (records : List RecordValue) (line : HeldLine) (s : Symbol) (r : RecordValue) → AreAccepted tally lines records → IsHeld line → line.ended ≡ Line
+    → IsNext tally.limits (map symbol_of records) line s r → next.limits ≡ tally.limits → tallies.StandsFor next (map symbol_of records ++ s ∷ []) → AreAccepted next (lines ++ line.bytes ∷ []) (records ++ r ∷ [])
 reads_more tally next lines records line s r read held ended n limits stands =
     let xs : List Symbol = map symbol_of records in
     let symbols : map symbol_of (records ++ r ∷ []) ≡ xs ++ s ∷ [] = symbols-snoc records r ∙ ap (λ (x : Symbol). xs ++ x ∷ []) n.symbol in
@@ -146,7 +146,7 @@ record Accepted (d : Standing) (input : List ℕ) (given : List Item) (next : Ta
   earlier : List (List ℕ)
   waits : lines ≡ earlier ++ d.line.bytes ∷ []
   records : List RecordValue
-  read : Reads next lines (records ++ r ∷ [])
+  read : AreAccepted next lines (records ++ r ∷ [])
   split : IsInput d.finished input (text_of lines)
   few : length records ≤ 99999999
   held : d.held ≡ held_of (open_of records)
@@ -154,7 +154,7 @@ record Accepted (d : Standing) (input : List ℕ) (given : List Item) (next : Ta
 
 -- the record goes on with the open transaction
 goes_in : (d : Standing) (input : List ℕ) (given : List Item) (next : TallyValue) (r : RecordValue) (a : Accepted d input given next r) → true ≡ goes_on_with (map symbol_of a.records) (symbol_of r)
-    → MayEnter (counted d next) input given r.kind r
+    → MayEnter (with_tally d next) input given r.kind r
 goes_in d input given next r a g =
     let stays = goes_on_stays a.records r a.read.in_order a.read.counted.stands.begins a.few (sym g) in
     record {
@@ -171,7 +171,7 @@ goes_in d input given next r a g =
 
 -- no transaction is open
 goes_behind : (d : Standing) (input : List ℕ) (given : List Item) (next : TallyValue) (r : RecordValue) (a : Accepted d input given next r) → None ≡ d.held → false ≡ goes_on_with (map symbol_of a.records) (symbol_of r)
-    → MayEnter (counted d next) input given r.kind r
+    → MayEnter (with_tally d next) input given r.kind r
 goes_behind d input given next r a h g =
     let closes = ends_closes a.records r a.read.in_order a.read.counted.stands.begins a.few (sym g) in
     let nothing : open_of a.records ≡ [] = nothing_held (open_of a.records) (h ∙ a.held) in
@@ -188,19 +188,19 @@ goes_behind d input given next r a h g =
     }
 
 follows_empties : (d : Standing) (input : List ℕ) (given : List Item) (next : TallyValue) (r : RecordValue) (goes_on : Bool) (held : Option (List RecordValue)) (out : Option Outcome) (new : Standing) (a : Accepted d input given next r)
-    → held ≡ d.held → goes_on ≡ goes_on_with (map symbol_of a.records) (symbol_of r) → Follows goes_on held r (counted d next) out new → IfSome out (λ o. Empties o new)
-follows_empties d input given next r true held out new a h g f = enters_empties (counted d next) input given r.kind r out new (goes_in d input given next r a g) f
-follows_empties d input given next r false None out new a h g f = enters_empties (counted d next) input given r.kind r out new (goes_behind d input given next r a h g) f
-follows_empties d input given next r false (Some whole) out new a h g f = empties_by new (pending (counted d next)) out (Some (outcomes.Item (items.Transaction whole))) f.0 f.1 refl
+    → held ≡ d.held → goes_on ≡ goes_on_with (map symbol_of a.records) (symbol_of r) → Follows goes_on held r (with_tally d next) out new → IfSome out (λ o. Empties o new)
+follows_empties d input given next r true held out new a h g f = enters_empties (with_tally d next) input given r.kind r out new (goes_in d input given next r a g) f
+follows_empties d input given next r false None out new a h g f = enters_empties (with_tally d next) input given r.kind r out new (goes_behind d input given next r a h g) f
+follows_empties d input given next r false (Some whole) out new a h g f = empties_by new (pending (with_tally d next)) out (Some (outcomes.Item (items.Transaction whole))) f.0 f.1 refl
 
 follows_stands : (d : Standing) (input : List ℕ) (given : List Item) (next : TallyValue) (r : RecordValue) (goes_on : Bool) (held : Option (List RecordValue)) (out : Option Outcome) (new : Standing) (a : Accepted d input given next r)
-    → held ≡ d.held → goes_on ≡ goes_on_with (map symbol_of a.records) (symbol_of r) → held_record d.line ≡ Some r → Follows goes_on held r (counted d next) out new → StandsFor new input (given ++ items_in out)
-follows_stands d input given next r true held out new a h g l f = enters_stands (counted d next) input given r.kind r out new (goes_in d input given next r a g) f
-follows_stands d input given next r false None out new a h g l f = enters_stands (counted d next) input given r.kind r out new (goes_behind d input given next r a h g) f
+    → held ≡ d.held → goes_on ≡ goes_on_with (map symbol_of a.records) (symbol_of r) → held_record d.line ≡ Some r → Follows goes_on held r (with_tally d next) out new → StandsFor new input (given ++ items_in out)
+follows_stands d input given next r true held out new a h g l f = enters_stands (with_tally d next) input given r.kind r out new (goes_in d input given next r a g) f
+follows_stands d input given next r false None out new a h g l f = enters_stands (with_tally d next) input given r.kind r out new (goes_behind d input given next r a h g) f
 follows_stands d input given next r false (Some whole) out new a h g l f =
     let held = something_held whole (open_of a.records) (h ∙ a.held) in
     subst (λ (q : Standing). StandsFor q input (given ++ items_in out)) (sym f.1)
-    (subst (λ (o : Option Outcome). StandsFor (pending (counted d next)) input (given ++ items_in o)) (sym f.0)
+    (subst (λ (o : Option Outcome). StandsFor (pending (with_tally d next)) input (given ++ items_in o)) (sym f.0)
     (record {
       in_range = a.in_range;
       here = record {

@@ -21,7 +21,7 @@ use Rattle.cwr_decode.specs.Machines.{Standing, again}
 use Rattle.cwr_decode.specs.Stands.{StandsIn}
 use Rattle.cwr_decode.specs.Calls.{IsLive}
 use Rattle.cwr_decode.specs.Readings.{answer_of, items_read, IsWholeInput, IsRightOf, LeavesRead, IsSpent, Reads}
-use Rattle.cwr_decode.specs.Runs.{HasRead, EndsWhole, HasReadAll, IsReadingOn, AreItems, Takes, IsRightFault, StopsRun, TellsAccepted, TellsCanonical}
+use Rattle.cwr_decode.specs.Runs.{HasRead, EndsWhole, HasReadAll, IsReadingOn, AreItems, TakesFront, IsRightFault, StopsRun, TellsAccepted, TellsCanonical}
 use Rattle.cwr_decode.proofs.Accepted.{accepted_once, canonical_accepted}
 use Rattle.cwr_decode.proofs.CountedItems.{bounded}
 use Rattle.cwr_decode.proofs.Ended.{spells_whole}
@@ -142,10 +142,10 @@ all_items limits before now given h =
     record { value = w.value; whole = w.whole; given_are = e.through.given_are ∙ w.given }
 
 pub all_taken : (limits : LimitValues) (before now : Option (List ℕ)) (given : List Item) (t : TransmissionValue) → HasReadAll limits before now given
-    → ((v : TransmissionValue) → IsTransmission v → given ≡ value_items v → t ≡ v) → Takes limits before t now
+    → ((v : TransmissionValue) → IsTransmission v → given ≡ value_items v → t ≡ v) → TakesFront limits before t now
 all_taken limits before now given t h same = by before now h.read.input h.read.consumed h.ends.1
   where
-    by : (b n : Option (List ℕ)) (input : List ℕ) → Consumes b n input → IfSome b (λ text. IsWholeInput limits (length input) text given) → Takes limits b t n
+    by : (b n : Option (List ℕ)) (input : List ℕ) → Consumes b n input → IfSome b (λ text. IsWholeInput limits (length input) text given) → TakesFront limits b t n
     by None n input lost whole = tt
     by (Some xs) None input lost whole = absurd lost
     by (Some xs) (Some ys) input lost whole = (
@@ -199,7 +199,7 @@ take_err limits used text (faults.Truncated records) v n h a = absurd (h v n a)
 take_err limits used text faults.Memory v n h a = inr refl
 
 pub tells_accepted : (limits : LimitValues) (before after : Option (List ℕ)) (result : Result TransmissionValue ReadFault)
-    → IfOk result (λ t. Takes limits before t after) → IfErr result (λ fault. StopsRun limits fault before after) → TellsAccepted limits before result after
+    → IfOk result (λ t. TakesFront limits before t after) → IfErr result (λ fault. StopsRun limits fault before after) → TellsAccepted limits before result after
 tells_accepted limits None after result h k = tt
 tells_accepted limits (Some text) after (Ok t) h k = λ v n a.
     let same = accepted_once limits text t v h.0 n h.1 a in
@@ -223,4 +223,4 @@ no_ok (Err fault) P Q h = tt
 pub tells_stopped : (limits : LimitValues) (before after : Option (List ℕ)) (result : Result TransmissionValue ReadFault) (fault : ReadFault)
     → IsErrAnd result (λ e. e ≡ fault) → StopsRun limits fault before after → TellsAccepted limits before result after
 tells_stopped limits before after result fault e h =
-    tells_accepted limits before after result (no_ok result (λ f. f ≡ fault) (λ t. Takes limits before t after) e) (of_fault result fault (λ f. StopsRun limits f before after) e h)
+    tells_accepted limits before after result (no_ok result (λ f. f ≡ fault) (λ t. TakesFront limits before t after) e) (of_fault result fault (λ f. StopsRun limits f before after) e h)

@@ -20,7 +20,7 @@ use Rattle.cwr_decode.specs.declared.outcomes.Outcome.TheVariants as outcomes
 use Rattle.cwr_decode.specs.declared.machine.State.TheVariants as states
 use Rattle.cwr_decode.specs.Items.{is_in_transaction as inside_kind}
 use Rattle.cwr_decode.specs.Open.{goes_on_with}
-use Rattle.cwr_decode.specs.Machines.{Standing, Adds, GoesOn, Enters, Follows, HandsOut, Judges, Tells, counted, held_list, reading, stopped}
+use Rattle.cwr_decode.specs.Machines.{Standing, Adds, GoesOn, Enters, Follows, HandsOut, Judges, Tells, with_tally, held_list, reading, stopped}
 
 -- ---- whether a record goes on with the open transaction
 
@@ -95,7 +95,7 @@ refused_line d tally line cut kind fault outcome new t l c k none first tells =
 -- the line is accepted
 pub accepted_line : (d : Standing) (tally next : TallyValue) (line cut : HeldLine) (s : Symbol) (r : RecordValue) (goes_on : Bool) (out : Option Outcome) (new : Standing) → tally ≡ d.tally → line ≡ d.line → cut ≡ line
     → (held_record cut ≡ Some r) × IsRecord r × (held_excess cut ≡ false) → ((xs : List Symbol) → StandsFor tally xs → IsNext tally.limits xs cut s r) → next.limits ≡ tally.limits → ((xs : List Symbol) → StandsFor tally xs → StandsFor next (xs ++ s ∷ []))
-    → ((xs : List Symbol) → StandsFor tally xs → goes_on ≡ goes_on_with xs s) → Follows goes_on d.held r (counted d next) out new → Judges d out new
+    → ((xs : List Symbol) → StandsFor tally xs → goes_on ≡ goes_on_with xs s) → Follows goes_on d.held r (with_tally d next) out new → Judges d out new
 accepted_line d tally next line cut s r goes_on out new t l c carried is_next limits stands same follows =
     inl (record {
       symbol = s;
@@ -125,13 +125,13 @@ waits_now d next cut s r goes_on whole taken left c carried ok limits stands sam
     (by goes_on d.held taken left hands is_whole)
   where
     by : (b : Bool) (held taken left : Option (List RecordValue)) → HandsOut b held taken left → taken ≡ Some whole
-        → Follows b held r (counted d next) (Some (outcomes.Item (items.Transaction whole))) (record { line = d.line; tally = next; held = left; state = states.Pending; finished = d.finished })
+        → Follows b held r (with_tally d next) (Some (outcomes.Item (items.Transaction whole))) (record { line = d.line; tally = next; held = left; state = states.Pending; finished = d.finished })
     by true held taken left h e = absurd (nothing (sym h.0 ∙ e))
       where
         nothing : None ≡ Some whole → ⊥
         nothing f = cc f
     by false held taken left h e =
-        subst (λ (q : Option (List RecordValue)). Follows false q r (counted d next) (Some (outcomes.Item (items.Transaction whole))) (record { line = d.line; tally = next; held = left; state = states.Pending; finished = d.finished }))
+        subst (λ (q : Option (List RecordValue)). Follows false q r (with_tally d next) (Some (outcomes.Item (items.Transaction whole))) (record { line = d.line; tally = next; held = left; state = states.Pending; finished = d.finished }))
         (sym e ∙ h.0) (refl, λ i. record { line = d.line; tally = next; held = h.1 i; state = states.Pending; finished = d.finished })
 
 -- an accepted line is entered
@@ -143,9 +143,9 @@ pub enters_now : (d : Standing) (next : TallyValue) (cut : HeldLine) (s : Symbol
 enters_now d next cut s r goes_on taken left result held out new c carried ok limits stands same hands none adds goes =
     accepted_line d d.tally next d.line cut s r goes_on out new refl refl c carried ok limits stands same (by goes_on d.held taken left hands none adds)
   where
-    by : (b : Bool) (old taken left : Option (List RecordValue)) → HandsOut b old taken left → taken ≡ None → Adds r.kind r left result held → Follows b old r (holding (counted d next) old) out new
-    by true old taken left h e a = adds_enters r.kind r (holding (counted d next) old) result held out new (subst (λ (q : Option (List RecordValue)). Adds r.kind r q result held) h.1 a) goes
-    by false None taken left h e a = adds_enters r.kind r (holding (counted d next) None) result held out new (subst (λ (q : Option (List RecordValue)). Adds r.kind r q result held) h.1 a) goes
+    by : (b : Bool) (old taken left : Option (List RecordValue)) → HandsOut b old taken left → taken ≡ None → Adds r.kind r left result held → Follows b old r (holding (with_tally d next) old) out new
+    by true old taken left h e a = adds_enters r.kind r (holding (with_tally d next) old) result held out new (subst (λ (q : Option (List RecordValue)). Adds r.kind r q result held) h.1 a) goes
+    by false None taken left h e a = adds_enters r.kind r (holding (with_tally d next) None) result held out new (subst (λ (q : Option (List RecordValue)). Adds r.kind r q result held) h.1 a) goes
     by false (Some whole) taken left h e a = absurd (something (sym h.0 ∙ e))
       where
         something : Some whole ≡ None → ⊥
@@ -175,10 +175,10 @@ carried_kind h r e = by (held_kind h) e
 pub added_now : (d : Standing) (next : TallyValue) (cut : HeldLine) (s : Symbol) (r : RecordValue) (goes_on : Bool) (held : List RecordValue) (new : Standing) → cut ≡ d.line → IsSomeAnd (held_kind cut) (λ kind. inside_kind kind ≡ true)
     → (held_record cut ≡ Some r) × IsRecord r × (held_excess cut ≡ false) → ((xs : List Symbol) → StandsFor d.tally xs → IsNext d.tally.limits xs cut s r) → next.limits ≡ d.tally.limits → ((xs : List Symbol) → StandsFor d.tally xs → StandsFor next (xs ++ s ∷ []))
     → ((xs : List Symbol) → StandsFor d.tally xs → goes_on ≡ goes_on_with xs s) → goes_on ≡ true → d.held ≡ Some held
-    → new ≡ reading (counted d next) (Some (held ++ r ∷ [])) → Judges d None new
+    → new ≡ reading (with_tally d next) (Some (held ++ r ∷ [])) → Judges d None new
 added_now d next cut s r goes_on held new c inside carried ok limits stands same on has e =
     let of_kind : inside_kind r.kind ≡ true = subst (λ (q : Option Kind). IsSomeAnd q (λ kind. inside_kind kind ≡ true)) (carried_kind cut r carried.0) inside in
     let longer : held ++ r ∷ [] ≡ held_list d.held ++ r ∷ [] = ap (λ (q : Option (List RecordValue)). held_list q ++ r ∷ []) (sym has) in
     accepted_line d d.tally next d.line cut s r goes_on None new refl refl c carried ok limits stands same
-    (subst (λ (b : Bool). Follows b d.held r (counted d next) None new) (sym on)
-    (adds_inside r.kind r (counted d next) new of_kind (e ∙ ap (λ (xs : List RecordValue). reading (counted d next) (Some xs)) longer)))
+    (subst (λ (b : Bool). Follows b d.held r (with_tally d next) None new) (sym on)
+    (adds_inside r.kind r (with_tally d next) new of_kind (e ∙ ap (λ (xs : List RecordValue). reading (with_tally d next) (Some xs)) longer)))

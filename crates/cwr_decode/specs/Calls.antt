@@ -45,7 +45,7 @@ seen false input piece = input ++ piece
 seen true input piece = input
 
 -- the end of the input is taken, and with it a last line that had no line feed
-pub record Ends (old : Standing) (out : Option Outcome) (new : Standing) : Type 0 where
+pub record TakesEnd (old : Standing) (out : Option Outcome) (new : Standing) : Type 0 where
   pub stands : (input : List ℕ) (given : List Item) → StandsFor old input given → StandsFor new input (given ++ items_in out)
   pub right : (input : List ℕ) (given : List Item) → StandsFor old input given → IfSome out (λ outcome. IsRight old.tally.limits outcome true input input (given ++ items_out outcome))
   pub last : (input : List ℕ) (given : List Item) → StandsFor old input given → IfSome out (λ outcome. RefusesLast outcome new input (given ++ items_out outcome))

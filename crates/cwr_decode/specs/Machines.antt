@@ -129,8 +129,8 @@ Enters Trl r old result new = (result ≡ Some (outcomes.Item items.Ended)) × (
 Enters kind r old result new = MatchOption result (new ≡ reading old (Some (held_list old.held ++ r ∷ []))) (λ o. (o ≡ outcomes.Memory) × (new ≡ stopped old Memory))
 
 -- the same with that tally
-abbrev pub counted : Standing → TallyValue → Standing
-counted old tally = record { line = old.line; tally = tally; held = old.held; state = old.state; finished = old.finished }
+abbrev pub with_tally : Standing → TallyValue → Standing
+with_tally old tally = record { line = old.line; tally = tally; held = old.held; state = old.state; finished = old.finished }
 
 -- the record of the line waits
 abbrev pub pending : Standing → Standing
@@ -155,7 +155,7 @@ pub record Accepts (old : Standing) (result : Option Outcome) (new : Standing) :
   pub stands : (xs : List Symbol) → StandsFor old.tally xs → StandsFor tally (xs ++ symbol ∷ [])
   pub goes_on : Bool
   pub same : (xs : List Symbol) → StandsFor old.tally xs → goes_on ≡ goes_on_with xs symbol
-  pub follows : Follows goes_on old.held accepted (counted old tally) result new
+  pub follows : Follows goes_on old.held accepted (with_tally old tally) result new
 
 -- the fault of a line of the kind is told, and nothing is held from then on
 pub record Tells (old : Standing) (kind : Option Kind) (fault : LineFault) (outcome : Outcome) (new : Standing) : Type 0 where
@@ -197,7 +197,7 @@ abbrev pub over : Standing → Standing
 over old = record { line = old.line; tally = old.tally; held = old.held; state = old.state; finished = true }
 
 -- the input is over, and a last line is there that had no line feed, or not
-abbrev pub Closes : Bool → Standing → Standing → Type 0
-Closes true old new = (old.state ≡ Reading) × (0 ≢ length old.line.bytes)
+abbrev pub ClosesLine : Bool → Standing → Standing → Type 0
+ClosesLine true old new = (old.state ≡ Reading) × (0 ≢ length old.line.bytes)
     × (new ≡ record { line = record { bytes = old.line.bytes; ended = line_ends.Line }; tally = old.tally; held = old.held; state = old.state; finished = true })
-Closes false old new = (new ≡ over old) × (old.state ≡ Reading → length old.line.bytes ≡ 0)
+ClosesLine false old new = (new ≡ over old) × (old.state ≡ Reading → length old.line.bytes ≡ 0)

@@ -62,8 +62,8 @@ pub record AreGroupItems (head : RecordValue) (given : List Item) : Type 0 where
 -- ---- how a run ends
 
 -- the reader's bytes begin with a spelling of the transmission, and it lost just that
-abbrev pub Takes : LimitValues → Option (List ℕ) → TransmissionValue → Option (List ℕ) → Type 0
-Takes limits before v after = IfSome before (λ text. (n : ℕ) × IsAccepted limits text v n × (after ≡ Some (drop n text)))
+abbrev pub TakesFront : LimitValues → Option (List ℕ) → TransmissionValue → Option (List ℕ) → Type 0
+TakesFront limits before v after = IfSome before (λ text. (n : ℕ) × IsAccepted limits text v n × (after ≡ Some (drop n text)))
 
 -- a refused or truncated text begins with no transmission within the limits, and a refused line ends with the used bytes
 abbrev pub IsRightFault : LimitValues → ReadFault → List ℕ → List ℕ → Type 0

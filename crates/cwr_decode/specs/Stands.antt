@@ -37,7 +37,7 @@ IsInput true input text = closed input ≡ text
 
 -- The lines were accepted as those of the records: a transmission begins with these, none of its limits is passed at
 -- any of them, and each line is that of its record's row.
-pub record Reads (tally : TallyValue) (lines : List (List ℕ)) (records : List RecordValue) : Type 0 where
+pub record AreAccepted (tally : TallyValue) (lines : List (List ℕ)) (records : List RecordValue) : Type 0 where
   pub counted : tallies.StandsFor tally (map symbol_of records)
   pub in_order : AllByRecursion IsRecord records
   pub rows : AllZip IsLineOf (rows_so_far records) lines
@@ -52,7 +52,7 @@ held_of (r ∷ records) = Some (r ∷ records)
 pub record IsReading (d : Standing) (input : List ℕ) (given : List Item) : Type 0 where
   pub lines : List (List ℕ)
   pub records : List RecordValue
-  pub read : Reads d.tally lines records
+  pub read : AreAccepted d.tally lines records
   pub left : ¬ IsWhole (map symbol_of records)
   pub split : IsInput d.finished input (text_of lines ++ d.line.bytes)
   pub open_line : d.line.ended ≡ line_ends.Open
@@ -67,7 +67,7 @@ pub record IsPending (d : Standing) (input : List ℕ) (given : List Item) : Typ
   pub waits : lines ≡ earlier ++ d.line.bytes ∷ []
   pub records : List RecordValue
   pub last : RecordValue
-  pub read : Reads d.tally lines (records ++ last ∷ [])
+  pub read : AreAccepted d.tally lines (records ++ last ∷ [])
   pub split : IsInput d.finished input (text_of lines)
   pub ends : goes_on_with (map symbol_of records) (symbol_of last) ≡ false
   pub line : held_record d.line ≡ Some last
@@ -78,7 +78,7 @@ pub record IsPending (d : Standing) (input : List ℕ) (given : List Item) : Typ
 pub record IsThrough (d : Standing) (input : List ℕ) (given : List Item) : Type 0 where
   pub lines : List (List ℕ)
   pub records : List RecordValue
-  pub read : Reads d.tally lines records
+  pub read : AreAccepted d.tally lines records
   pub split : IsInput d.finished input (text_of lines)
   pub empty : d.line.bytes ≡ []
   pub nothing : d.held ≡ None
@@ -106,7 +106,7 @@ pub record IsCut (d : Standing) (input : List ℕ) (given : List Item) (count : 
 pub record IsStopped (d : Standing) (input : List ℕ) (given : List Item) (refusal : Refusal) : Type 0 where
   pub lines : List (List ℕ)
   pub records : List RecordValue
-  pub read : Reads d.tally lines records
+  pub read : AreAccepted d.tally lines records
   pub left : ¬ IsWhole (map symbol_of records)
   pub line : HeldLine
   pub ended : line.ended ≢ line_ends.Open

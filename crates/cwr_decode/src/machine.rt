@@ -7,8 +7,8 @@ ghost use Rattle.cwr_shape.specs.Tallies.{IsAdmitted, StandsFor};
 ghost use Rattle.cwr_shape.specs.declared.symbols.Symbol.{Symbol};
 ghost use Rattle.cwr_decode.specs.Items.{is_in_transaction};
 ghost use Rattle.cwr_decode.specs.Open.{goes_on_with};
-ghost use Rattle.cwr_decode.specs.Machines.{Adds, Closes, EntersHeld, GoesOn, HandsOut, HasRecord, IsReady, Judges, Settles, Tells, first, held_list, reading, stopped};
-ghost use Rattle.cwr_decode.specs.Calls.{Ends, Feeds, Finishes};
+ghost use Rattle.cwr_decode.specs.Machines.{Adds, ClosesLine, EntersHeld, GoesOn, HandsOut, HasRecord, IsReady, Judges, Settles, Tells, first, held_list, reading, stopped};
+ghost use Rattle.cwr_decode.specs.Calls.{TakesEnd, Feeds, Finishes};
 
 use crate::judging::{LineFault, judge};
 use crate::outcomes::{Outcome, Step};
@@ -299,7 +299,7 @@ impl Machine {
     /// Takes the end of the input, and tells whether a last line is there that had no line feed.
     fn close(&mut self) -> bool
         requires { IsReady self.old.state self.old.finished self.old.line }
-        ensures { Closes result self.old self.new }
+        ensures { ClosesLine result self.old self.new }
     {
         self.finished = true;
         let unended = matches!(self.state, State::Reading) && self.line.len() > 0;
@@ -312,7 +312,7 @@ impl Machine {
     /// Takes the end of the input, and with it a last line that had no line feed.
     fn last_line(&mut self) -> Option<Outcome>
         requires { IsReady self.old.state self.old.finished self.old.line }
-        ensures { Ends self.old result self.new }
+        ensures { TakesEnd self.old result self.new }
     {
         if self.close() {
             return self.take_line();

@@ -5,7 +5,7 @@ ghost use Rattle.std.specs.Vec.Iter.{into_iter_items};
 ghost use Rattle.cwr_values.specs.Values.{type_of, IsTransaction};
 ghost use Rattle.cwr_decode.specs.Items.{group_rest, value_items};
 ghost use Rattle.cwr_decode.specs.Readings.{CountsFault};
-ghost use Rattle.cwr_decode.specs.Runs.{AreGroupItems, AreItems, HasReadAll, StopsRun, Takes, TellsAccepted, TellsCanonical};
+ghost use Rattle.cwr_decode.specs.Runs.{AreGroupItems, AreItems, HasReadAll, StopsRun, TakesFront, TellsAccepted, TellsCanonical};
 
 use crate::readings::{ReadFault, Reading};
 use cwr_fields::Source;
@@ -132,7 +132,7 @@ pub fn read_all<R: Source>(
     limits: Limits,
     reader: &mut R,
 ) -> Result<Transmission, ReadFault>
-    ensures takes { IfOk result (λ transmission. Takes limits (R.remaining reader.old) transmission (R.remaining reader.new)) }
+    ensures takes { IfOk result (λ transmission. TakesFront limits (R.remaining reader.old) transmission (R.remaining reader.new)) }
     ensures stops { IfErr result (λ fault. StopsRun limits fault (R.remaining reader.old) (R.remaining reader.new)) }
     ensures accepted { TellsAccepted limits (R.remaining reader.old) result (R.remaining reader.new) }
     ensures canonical { TellsCanonical limits (R.remaining reader.old) result (R.remaining reader.new) }

@@ -3,7 +3,7 @@ use Rattle.std.specs.Prelude.{IsSomeAnd}
 use Rattle.cwr_layouts.specs.declared.kinds.Kind.{Kind}
 use Rattle.cwr_layouts.specs.Records.{RecordValue}
 use Rattle.cwr_decode.specs.Items.{is_in_transaction}
-use Rattle.cwr_decode.specs.Machines.{Standing, Judges, counted, reading}
+use Rattle.cwr_decode.specs.Machines.{Standing, Judges, with_tally, reading}
 use Rattle.cwr_decode.proofs.Steps.{added_now, holding}
 use Rattle.cwr_decode.proofs.machine.Machine.add_line.Goals as goal
 
@@ -21,4 +21,4 @@ returns-clause-added c =
     (added_now d c.goes_on.new.tally c.cut-cut.result c.in-Ok.symbol c.in-Ok.accepted c.goes_on.result c.in-Some.whole c.read_on.new.self c.cut-cut.ensures
     (subst (λ (q : Option Kind). IsSomeAnd q (λ kind. is_in_transaction kind ≡ true)) c.kind.ensures (c.begins_nothing.ensures c.if-not-begins_nothing.false)) c.in-Ok.ensures.carried c.in-Ok.ensures.ok
     c.goes_on.ensures.limits c.goes_on.ensures.stands c.goes_on.ensures.same c.if-not-goes_on.false c.in-Some.is
-    (c.read_on.ensures ∙ ap (λ (xs : List RecordValue). reading (counted d c.goes_on.new.tally) (Some xs)) c.in-Ok-push.ensures.ok))
+    (c.read_on.ensures ∙ ap (λ (xs : List RecordValue). reading (with_tally d c.goes_on.new.tally) (Some xs)) c.in-Ok-push.ensures.ok))
