@@ -1,6 +1,6 @@
 -- What was read so far is counted, and what a run over it tells follows from how the reading ends.
-use Rattle.std.proofs.Common.{◌≡◌, ℕ, ◌+◌, ◌≤◌, Bool, cond, List, [], ◌∷◌, ◌++◌, length, drop, Option, Some, None, refl, sym, ap, subst, ◌∙◌, arith}
-use Rattle.std.specs.Prelude.{Result, Ok, count_by, sum_by, IfSome, IfOk}
+use Rattle.std.proofs.Common.{◌≡◌, ℕ, ◌+◌, ◌≤◌, Bool, cond, List, [], ◌∷◌, ◌++◌, length, drop, Option, Some, None, sym, ap, subst, ◌∙◌, arith}
+use Rattle.std.specs.Prelude.{Result, Ok, count_by, sum_by, IfSome, IfErr, IfOk}
 use Rattle.std.proofs.lemmas.List.{length-append}
 use Rattle.std.proofs.lemmas.List.Sums.{count_by-le-length, sum_by-append}
 use Rattle.std.proofs.Math.Seq.{drop-append_seam}
@@ -24,7 +24,7 @@ use Rattle.cwr_tools.specs.declared.verdicts.Verdict.TheVariants.{Good, Refused,
 use Rattle.cwr_tools.specs.declared.verdicts.ToolFault.{ToolFault}
 use Rattle.cwr_tools.specs.Texts.{good_verdict}
 use Rattle.cwr.specs.declared.checking.Counts.{Counts}
-use Rattle.cwr.specs.Told.{counted, IsToldOf, IsVerdictOf, JudgesAccepted, JudgesCanonical}
+use Rattle.cwr.specs.Told.{counted, IsToldOf, IsVerdictOf, JudgesAccepted, JudgesCanonical, StopsReading}
 
 -- ---- the numbers of items
 
@@ -104,6 +104,13 @@ fault_told limits before after faults.Reader result h e = subst (λ (r : Result 
 fault_told limits before after (faults.Refused refusal) result h e = subst (λ (r : Result Verdict ToolFault). IfOk r (λ verdict. IsToldOf limits before verdict after)) (sym e) h
 fault_told limits before after (faults.Truncated records) result h e = subst (λ (r : Result Verdict ToolFault). IfOk r (λ verdict. IsToldOf limits before verdict after)) (sym e) h
 fault_told limits before after faults.Memory result h e = subst (λ (r : Result Verdict ToolFault). IfOk r (λ verdict. IsToldOf limits before verdict after)) (sym e) tt
+
+pub fault_stops : (limits : Limits) (before after : Option (List ℕ)) (fault : ReadFault) (result : Result Verdict ToolFault) → StopsRun limits fault before after → IsVerdictOf fault result
+    → IfErr result (λ f. StopsReading limits f before after)
+fault_stops limits before after faults.Reader result h e = subst (λ (r : Result Verdict ToolFault). IfErr r (λ f. StopsReading limits f before after)) (sym e) h
+fault_stops limits before after (faults.Refused refusal) result h e = subst (λ (r : Result Verdict ToolFault). IfErr r (λ f. StopsReading limits f before after)) (sym e) tt
+fault_stops limits before after (faults.Truncated records) result h e = subst (λ (r : Result Verdict ToolFault). IfErr r (λ f. StopsReading limits f before after)) (sym e) tt
+fault_stops limits before after faults.Memory result h e = subst (λ (r : Result Verdict ToolFault). IfErr r (λ f. StopsReading limits f before after)) (sym e) tt
 
 pub good_told : (limits : Limits) (before after : Option (List ℕ)) (given : List Item) (c : Counts) → HasReadAll limits before after given → IsCount c given
     → IsToldOf limits before (Good c.groups c.transactions c.records) after

@@ -55,6 +55,11 @@ IsReadingsFault Reader old new = new ≡ one_more_failure old
 IsReadingsFault Memory old new = new ≡ old
 IsReadingsFault fault old new = ⊥
 
+-- where the reader failed, it did so while the transmission was being read
+abbrev pub StopsReading : Limits → ToolFault → Option (List ℕ) → Option (List ℕ) → Type 0
+StopsReading limits Reader before after = StopsRun limits read_faults.Reader before after
+StopsReading limits fault before after = Unit {0}
+
 -- a run of `check` fails by its reader, its writer or memory alone; of the writer's fault the fact holds
 abbrev pub IsCheckFault : ToolFault → (ℕ → Type 0) → Type 0
 IsCheckFault Reader P = Unit {0}

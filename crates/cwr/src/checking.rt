@@ -5,7 +5,7 @@ ghost use Rattle.std.specs.Io.KnownBytes.{Appends};
 ghost use Rattle.cwr_fields.specs.Failures.{one_more_failure};
 ghost use Rattle.cwr_decode.specs.Items.{item_records};
 ghost use Rattle.cwr_tools.specs.Texts.{verdict_line};
-ghost use Rattle.cwr.specs.Told.{counted, IsCheckFault, IsReadingsFault, IsToldOf, IsVerdictOf, JudgesAccepted, JudgesCanonical, WritesPart};
+ghost use Rattle.cwr.specs.Told.{counted, IsCheckFault, IsReadingsFault, IsToldOf, IsVerdictOf, JudgesAccepted, JudgesCanonical, StopsReading, WritesPart};
 
 use crate::texts::verdict_line;
 use crate::writing::write_text;
@@ -87,6 +87,7 @@ fn read_verdict<R: Source>(
     reader: &mut R,
 ) -> Result<Verdict, ToolFault>
     ensures told { IfOk result (λ verdict. IsToldOf limits (R.remaining reader.old) verdict (R.remaining reader.new)) }
+    ensures stops { IfErr result (λ fault. StopsReading limits fault (R.remaining reader.old) (R.remaining reader.new)) }
     ensures fault { IfErr result (λ fault. IsReadingsFault fault (R.failures reader.old) (R.failures reader.new)) }
     ensures failures { OnOk result (R.failures reader.new ≡ R.failures reader.old) }
 {
@@ -118,7 +119,8 @@ pub fn check<R: Source, W: Target + Drop>(
     ensures accepted { IfOk result.1 (λ verdict. JudgesAccepted limits (R.remaining reader.old) verdict (R.remaining reader.new)) }
     ensures canonical { IfOk result.1 (λ verdict. JudgesCanonical limits (R.remaining reader.old) verdict (R.remaining reader.new)) }
     ensures written { IfOk result.1 (λ verdict. Appends (W.contents writer) (W.contents result.0) (verdict_line verdict)) }
-
+    // The reader fails only while the transmission is being read: behind its end it isn't asked.
+    ensures stops { IfErr result.1 (λ fault. StopsReading limits fault (R.remaining reader.old) (R.remaining reader.new)) }
     ensures reader_failed { result.1 ≡ Err ToolFault.Reader → R.failures reader.new ≡ one_more_failure (R.failures reader.old) }
     // No other failure is passed over: neither device failed but where that is told.
     ensures reader_quiet { result.1 ≢ Err ToolFault.Reader → R.failures reader.new ≡ R.failures reader.old }

@@ -86,6 +86,7 @@ fn tell<E: Write + Drop>(mut error: E, fault: Fault<'_>) -> Status
     Status::Fault
 }
 
+/// Does what is asked for, on the file that is named or on the input.
 fn perform<'a, R: Files + AllocGlobal, I: Read + Drop, O: Write + Drop>(
     rt: &R,
     task: Task<'a>,
@@ -104,6 +105,7 @@ fn perform<'a, R: Files + AllocGlobal, I: Read + Drop, O: Write + Drop>(
     }
 }
 
+/// Checks one transmission, and writes the verdict's line to the output.
 fn check_one<'a, I: Read + Drop, O: Write + Drop>(
     alloc: Global,
     limits: Limits,

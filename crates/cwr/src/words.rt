@@ -55,12 +55,14 @@ fn with_limits<'a>(alloc: Global, command: Command<'a>) -> Result<Command<'a>, A
         .arg(transaction.help("The most records of one transaction, 1 to 999999"))
 }
 
+/// The subcommand `check`.
 fn check<'a>(alloc: Global) -> Result<Command<'a>, AllocError> {
     let file = Arg::new(alloc, FILE).help("The transmission; without it standard input is read");
     let judges = Command::new(alloc, "check").about("Judges a transmission");
     with_limits(alloc, judges)?.arg(file)
 }
 
+/// The program's words.
 fn command<'a>(alloc: Global) -> Result<Command<'a>, AllocError> {
     Command::new(alloc, "cwr")
         .about("Reads CWR 2.1 transmissions; without words it is `cwr check`")

@@ -12,7 +12,7 @@ use Rattle.cwr_decode.specs.declared.machine.State.{State}
 use Rattle.cwr_decode.specs.declared.machine.State.TheVariants as states
 use Rattle.cwr_decode.specs.declared.readings.ReadFault.{ReadFault}
 use Rattle.cwr_decode.specs.declared.readings.ReadFault.TheVariants as faults
-use Rattle.cwr_decode.specs.Machines.{Standing, Leaves, again}
+use Rattle.cwr_decode.specs.Machines.{Standing, Leaves, Empties, again}
 use Rattle.cwr_decode.specs.Stands.{StandsFor, IsUnderWay, IsRight, MayFollow, items_out}
 use Rattle.cwr_decode.specs.Calls.{IsLive, WantsMemory, seen}
 use Rattle.cwr_decode.specs.Readings.{answer_of, IsSpent, FeedsOn, Reads}
@@ -75,10 +75,10 @@ wants_of old new used piece within h = subst (λ (n : ℕ). WantsMemory old n ne
 pub reads_settled : (old new : Standing) (used : ℕ) (outcome : Outcome) (answer : Answer) → answer_of outcome ≡ Some answer → used ≤ length {A = ℕ} []
     → ((input : List ℕ) (given : List Item) → StandsFor old input given → StandsFor new (input ++ take used []) (given ++ items_out outcome))
     → (IsLive old.state → (input : List ℕ) (given : List Item) → StandsFor old input given → IsRight old.tally.limits outcome old.finished (input ++ take used []) (seen old.finished input []) (given ++ items_out outcome))
-    → Leaves outcome new.state → IfSome (again old.state) (λ o. outcome ≡ o)
+    → Leaves outcome new.state → ((input : List ℕ) (given : List Item) → StandsFor old input given → Empties outcome new) → IfSome (again old.state) (λ o. outcome ≡ o)
     → (outcome ≡ outcomes.Memory → IsLive old.state → (input : List ℕ) (given : List Item) → StandsFor old input given → WantsMemory old used new)
     → new.finished ≡ old.finished → new.tally.limits ≡ old.tally.limits → IsUnderWay old → (left : Option (List ℕ)) → Reads old left answer new left
-reads_settled old new used outcome answer e within stands right leaves same memory finished limits way left = reads_called old left outcome answer new left e way (record {
+reads_settled old new used outcome answer e within stands right leaves empties same memory finished limits way left = reads_called old left outcome answer new left e way (record {
   bytes = take used [];
   ahead = [];
   over = old.finished;
@@ -88,6 +88,7 @@ reads_settled old new used outcome answer e within stands right leaves same memo
   whole = λ is. take_none used;
   behind = behind_none old.finished left;
   leaves = leaves;
+  empties = empties;
   again = same;
   memory = λ is live. wants_of old new used [] within (memory is live way.input way.given way.stands);
   at_end = λ spent. still_spent left spent;
@@ -107,10 +108,10 @@ pub reads_fed : (old new : Standing) (left after : Option (List ℕ)) (piece : L
     → IsUnderWay old → old.finished ≡ false → IfSome left (λ xs. StartsWith xs piece) → used ≤ length piece → Consumes left after (take used piece)
     → ((input : List ℕ) (given : List Item) → StandsFor old input given → StandsFor new (input ++ take used piece) (given ++ items_out outcome))
     → (IsLive old.state → (input : List ℕ) (given : List Item) → StandsFor old input given → IsRight old.tally.limits outcome old.finished (input ++ take used piece) (seen old.finished input piece) (given ++ items_out outcome))
-    → Leaves outcome new.state → IfSome (again old.state) (λ o. outcome ≡ o)
+    → Leaves outcome new.state → ((input : List ℕ) (given : List Item) → StandsFor old input given → Empties outcome new) → IfSome (again old.state) (λ o. outcome ≡ o)
     → (outcome ≡ outcomes.Memory → IsLive old.state → (input : List ℕ) (given : List Item) → StandsFor old input given → WantsMemory old used new)
     → new.finished ≡ old.finished → new.tally.limits ≡ old.tally.limits → Reads old left answer new after
-reads_fed old new left after piece used outcome answer e way fresh shown within consumed stands right leaves same memory finished limits = reads_called old left outcome answer new after e way (record {
+reads_fed old new left after piece used outcome answer e way fresh shown within consumed stands right leaves empties same memory finished limits = reads_called old left outcome answer new after e way (record {
   bytes = take used piece;
   ahead = piece;
   over = false;
@@ -120,6 +121,7 @@ reads_fed old new left after piece used outcome answer e way fresh shown within 
   whole = λ is. absurd (true≢false (sym is));
   behind = λ spent. behind_piece left piece shown;
   leaves = leaves;
+  empties = empties;
   again = same;
   memory = λ is live. wants_of old new used piece within (memory is live way.input way.given way.stands);
   at_end = λ spent. not_over left;
@@ -148,10 +150,10 @@ pub reads_finished : (old new : Standing) (left after : Option (List ℕ)) (outc
     → IsUnderWay old → IsAtEnd left → Keeps left after
     → ((input : List ℕ) (given : List Item) → StandsFor old input given → StandsFor new input (given ++ items_out outcome))
     → (IsLive old.state → (input : List ℕ) (given : List Item) → StandsFor old input given → IsRight old.tally.limits outcome true input input (given ++ items_out outcome))
-    → Leaves outcome new.state → IfSome (again old.state) (λ o. outcome ≡ o)
+    → Leaves outcome new.state → ((input : List ℕ) (given : List Item) → StandsFor old input given → Empties outcome new) → IfSome (again old.state) (λ o. outcome ≡ o)
     → (outcome ≡ outcomes.Memory → IsLive old.state → (input : List ℕ) (given : List Item) → StandsFor old input given → WantsMemory old 0 new)
     → new.tally.limits ≡ old.tally.limits → Reads old left answer new after
-reads_finished old new left after outcome answer e way end kept stands right leaves same memory limits = reads_called old left outcome answer new after e way (record {
+reads_finished old new left after outcome answer e way end kept stands right leaves empties same memory limits = reads_called old left outcome answer new after e way (record {
   bytes = [];
   ahead = [];
   over = true;
@@ -161,6 +163,7 @@ reads_finished old new left after outcome answer e way end kept stands right lea
   whole = λ is. refl;
   behind = λ spent. behind_end left end;
   leaves = leaves;
+  empties = empties;
   again = same;
   memory = λ is live. memory is live way.input way.given way.stands;
   at_end = λ spent. kept_end new left after kept end;
@@ -185,6 +188,7 @@ reads_failed d left after reading kept = record {
   stands = λ input given h. subst (λ (l : List ℕ). StandsFor d l (given ++ [])) (sym (append-nil input)) (subst (StandsFor d input) (sym (append-nil given)) h);
   right = λ live spent input given h. any_right left;
   leaves = reading;
+  empties = tt;
   none = λ is. absurd (cc is);
   memory = λ is. absurd (cc is);
   over = kept_spent d left after kept;

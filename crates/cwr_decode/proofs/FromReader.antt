@@ -1,6 +1,6 @@
 -- The bytes of a reader that are fed to a decoder, and what it answers.
 use Rattle.std.proofs.Common.{◌≡◌, ℕ, ◌+◌, ◌≤◌, Bool, true, false, List, [], ◌∷◌, ◌++◌, length, take, drop, Option, Some, None, refl, sym, ap, subst, ◌∙◌, arith, append_assoc, append-nil, take-append-drop, true≢false, inl, inr}
-use Rattle.std.specs.Prelude.{◌≢◌, ◌⊎◌, ◌<◌, Result, Ok, Err, IfSome}
+use Rattle.std.specs.Prelude.{◌⊎◌, ◌<◌, Result, Ok, Err, IfSome}
 use Rattle.std.proofs.lemmas.List.{length-append, take-append-le}
 use Rattle.std.proofs.KnownBytes.{starts_with_rest, Consumes-nil, Consumes-trans}
 use Rattle.std.specs.Io.{StartsWith}
@@ -15,10 +15,10 @@ use Rattle.cwr_decode.specs.declared.machine.State.TheVariants as states
 use Rattle.cwr_decode.specs.declared.readings.ReadFault.{ReadFault}
 use Rattle.cwr_decode.specs.declared.readings.ReadFault.TheVariants as faults
 use Rattle.cwr_decode.specs.Ends.{IsAccepted, IsNotAccepted}
-use Rattle.cwr_decode.specs.Machines.{Standing, Leaves, again, state_behind}
+use Rattle.cwr_decode.specs.Machines.{Standing, Leaves, Empties, again}
 use Rattle.cwr_decode.specs.Stands.{StandsFor, IsUnderWay, IsRight, MayFollow, AcceptsNone, EndsLine, items_out}
 use Rattle.cwr_decode.specs.Calls.{IsLive, WantsMemory}
-use Rattle.cwr_decode.specs.Readings.{answer_of, items_read, EndsLineOf, IsRightOf, LeavesRead, IsSpent, FeedsOn, Reads}
+use Rattle.cwr_decode.specs.Readings.{answer_of, items_read, EmptiesRead, EndsLineOf, IsRightOf, LeavesRead, IsSpent, FeedsOn, Reads}
 
 abbrev Answer : Type 0
 Answer = Result (Option Item) ReadFault
@@ -47,21 +47,21 @@ items_same (outcomes.Truncated records) = refl
 items_same outcomes.Memory = refl
 items_same outcomes.Done = refl
 
--- a state behind an item other than the end is live
-live_behind : (item : Item) → item ≢ items.Ended → IsLive (state_behind item)
-live_behind (items.Opened r) other = refl
-live_behind (items.GroupOpened r) other = refl
-live_behind (items.Transaction records) other = refl
-live_behind (items.GroupClosed r) other = refl
-live_behind items.Ended other = absurd (other refl)
-
 leaves_same : (outcome : Outcome) (state : State) → Leaves outcome state → IfSome (answer_of outcome) (λ answer. LeavesRead answer state)
 leaves_same outcomes.More state h = tt
-leaves_same (outcomes.Item item) state h = (λ e. h ∙ ap state_behind e, λ other. ap again h ∙ live_behind item other)
+leaves_same (outcomes.Item item) state h = h
 leaves_same (outcomes.Refused refusal) state h = h
 leaves_same (outcomes.Truncated records) state h = h
 leaves_same outcomes.Memory state h = h
 leaves_same outcomes.Done state h = h
+
+empties_same : (outcome : Outcome) (d : Standing) → Empties outcome d → IfSome (answer_of outcome) (λ answer. EmptiesRead answer d)
+empties_same outcomes.More d h = tt
+empties_same (outcomes.Item item) d h = h
+empties_same (outcomes.Refused refusal) d h = tt
+empties_same (outcomes.Truncated records) d h = tt
+empties_same outcomes.Memory d h = tt
+empties_same outcomes.Done d h = tt
 
 -- nothing is told only where more is needed
 pub needs_more : (outcome : Outcome) → answer_of outcome ≡ None → outcome ≡ outcomes.More
@@ -145,6 +145,7 @@ pub record Calls (old : Standing) (left : Option (List ℕ)) (outcome : Outcome)
   pub whole : over ≡ true → bytes ≡ ahead
   pub behind : IsSpent old left → IfSome left (λ rest. (more : List ℕ) × MayFollow over more × (rest ≡ ahead ++ more))
   pub leaves : Leaves outcome new.state
+  pub empties : (input : List ℕ) (given : List Item) → StandsFor old input given → Empties outcome new
   pub again : IfSome (again old.state) (λ o. outcome ≡ o)
   pub memory : outcome ≡ outcomes.Memory → IsLive old.state → WantsMemory old (length bytes) new
   pub at_end : IsSpent old left → IfSome left (λ _. IsSpent new after)
@@ -176,6 +177,7 @@ reads_called old left outcome answer new after e way c = record {
   stands = λ input given h. subst (λ (l : List Item). StandsFor new (input ++ c.bytes) (given ++ l)) (sym (told_items outcome answer e)) (c.stands input given h);
   right = λ live spent input given h. rights left input given (c.right live input given h) (c.behind spent);
   leaves = subst (λ (o : Option Answer). IfSome o (λ a. LeavesRead a new.state)) e (leaves_same outcome new.state c.leaves);
+  empties = subst (λ (o : Option Answer). IfSome o (λ a. EmptiesRead a new)) e (empties_same outcome new (c.empties way.input way.given way.stands));
   none = λ is. told_none old outcome c.over (way.input ++ c.bytes) (way.input ++ c.ahead) (way.given ++ items_out outcome) (done_only outcome (e ∙ ap (λ (a : Answer). Some a) is)) c.again
       (λ live. c.right live way.input way.given way.stands);
   memory = λ is live. c.memory (memory_only outcome (e ∙ ap (λ (a : Answer). Some a) is)) live;
@@ -262,6 +264,7 @@ reads_behind n answer a p b q c r f g = record {
   right = λ live spent input given h. right_behind a.tally.limits b.tally.limits answer p q f.bytes g.bytes input (given ++ items_read answer) f.limits f.consumed
       (g.right (ap again f.reading) (not_over b q f.fresh) (input ++ f.bytes) given (f.stands input given h));
   leaves = g.leaves;
+  empties = g.empties;
   none = λ is. absurd (reading_ends (sym f.reading ∙ g.none is));
   memory = λ is live. inr (omega (arith, f.kept, wants_more b c (length g.bytes) f.reading (g.memory is (ap again f.reading))));
   over = λ spent. spent_behind p q r f.bytes c f.consumed (g.over (not_over b q f.fresh));

@@ -73,11 +73,11 @@ ended_answer state answer B C e h
 
 here_on : (limits : LimitValues) (state : State) (before : Option (List ℕ)) (used : List ℕ) (given : List Item) (item : Item) → LeavesRead (Ok (Some item)) state
     → IfSome before (λ text. IsRightOf limits (Ok (Some item)) used text given) → IsLive state ⊎ EndsWhole limits state before (length used) given
-here_on limits state before used given items.Ended leaves right = inr (leaves.0 refl, right)
-here_on limits state before used given (items.Opened r) leaves right = inl (leaves.1 (λ e. absurd (cc e)))
-here_on limits state before used given (items.GroupOpened r) leaves right = inl (leaves.1 (λ e. absurd (cc e)))
-here_on limits state before used given (items.Transaction t) leaves right = inl (leaves.1 (λ e. absurd (cc e)))
-here_on limits state before used given (items.GroupClosed r) leaves right = inl (leaves.1 (λ e. absurd (cc e)))
+here_on limits state before used given items.Ended leaves right = inr (leaves, right)
+here_on limits state before used given (items.Opened r) leaves right = inl (ap again leaves)
+here_on limits state before used given (items.GroupOpened r) leaves right = inl (ap again leaves)
+here_on limits state before used given (items.Transaction t) leaves right = inl (ap again leaves)
+here_on limits state before used given (items.GroupClosed r) leaves right = inl (ap again leaves)
 
 pub item_read : (limits : LimitValues) (old new : Standing) (before left after : Option (List ℕ)) (given : List Item) (item : Item) (B C : Type 0)
     → IsReadingOn limits old before left given → Reads old left (Ok (Some item)) new after → IfSome (again old.state) (λ o. (Some (Ok (Some item)) ≡ answer_of o) × B × C)

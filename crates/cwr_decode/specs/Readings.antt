@@ -1,5 +1,5 @@
 -- Reading a transmission from a reader: what is told, and what that says of the bytes that the reader had.
-use Rattle.std.specs.Prelude.{◌≡◌, ◌≢◌, ◌⊎◌, ℕ, ◌≤◌, true, false, List, [], ◌∷◌, ◌++◌, length, Option, Some, None, IfSome, Result, Ok, Err}
+use Rattle.std.specs.Prelude.{◌≡◌, ◌⊎◌, ℕ, ◌≤◌, true, false, List, [], ◌∷◌, ◌++◌, length, Option, Some, None, IfSome, Result, Ok, Err}
 use Rattle.std.specs.Io.KnownBytes.{Consumes, IsAtEnd}
 use Rattle.cwr_fields.specs.Failures.{one_more_failure}
 use Rattle.cwr_shape.specs.Ranges.{LimitValues}
@@ -14,7 +14,7 @@ use Rattle.cwr_decode.specs.declared.readings.ReadFault.{ReadFault}
 use Rattle.cwr_decode.specs.declared.readings.ReadFault.TheVariants as faults
 use Rattle.cwr_decode.specs.Items.{value_items}
 use Rattle.cwr_decode.specs.Ends.{IsAccepted, IsNotAccepted}
-use Rattle.cwr_decode.specs.Machines.{Standing}
+use Rattle.cwr_decode.specs.Machines.{Standing, Empties, state_behind}
 use Rattle.cwr_decode.specs.Stands.{EndsInLf, GoesTooFar, StandsFor}
 use Rattle.cwr_decode.specs.Calls.{IsLive, WantsMemory}
 
@@ -58,11 +58,16 @@ IsRightOf limits (Err faults.Memory) used input given = Unit {0}
 -- the state behind what is told
 abbrev pub LeavesRead : Result (Option Item) ReadFault → State → Type 0
 LeavesRead (Ok None) state = state ≡ states.Ended
-LeavesRead (Ok (Some item)) state = (item ≡ items.Ended → state ≡ states.Ended) × (item ≢ items.Ended → IsLive state)
+LeavesRead (Ok (Some item)) state = state ≡ state_behind item
 LeavesRead (Err faults.Reader) state = state ≡ states.Reading
 LeavesRead (Err (faults.Refused refusal)) state = state ≡ states.Refused refusal
 LeavesRead (Err (faults.Truncated records)) state = state ≡ states.Truncated records
 LeavesRead (Err faults.Memory) state = state ≡ states.Memory
+
+-- behind an item nothing is held of what comes after it: no byte is fed that the item doesn't need
+abbrev pub EmptiesRead : Result (Option Item) ReadFault → Standing → Type 0
+EmptiesRead (Ok (Some item)) d = Empties (outcomes.Item item) d
+EmptiesRead answer d = Unit {0}
 
 -- a reader's failures count one more where its fault is told, and else they stay
 abbrev pub CountsFault : ReadFault → ℕ → ℕ → Type 0
@@ -100,6 +105,7 @@ pub record Reads (old : Standing) (left : Option (List ℕ)) (answer : Result (O
   pub right : IsLive old.state → IsSpent old left → (input : List ℕ) (given : List Item) → StandsFor old input given
       → IfSome left (λ rest. IsRightOf old.tally.limits answer (input ++ bytes) (input ++ rest) (given ++ items_read answer))
   pub leaves : LeavesRead answer new.state
+  pub empties : EmptiesRead answer new
   pub none : answer ≡ Ok None → old.state ≡ states.Ended
   pub memory : answer ≡ Err faults.Memory → IsLive old.state → WantsMemory old (length bytes) new
   pub over : IsSpent old left → IfSome left (λ _. IsSpent new after)

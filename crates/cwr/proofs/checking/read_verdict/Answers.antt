@@ -1,11 +1,11 @@
 use Rattle.std.proofs.Common.{rules, sym, ap, subst, ◌∙◌, arith}
-use Rattle.std.specs.Prelude.{IfOk}
+use Rattle.std.specs.Prelude.{IfErr, IfOk}
 use Rattle.cwr_decode.specs.Runs.{HasReadAll}
 use Rattle.cwr_decode.proofs.Running.{fault_read, none_read}
 use Rattle.cwr_tools.specs.declared.verdicts.Verdict.{Verdict}
 use Rattle.cwr.specs.declared.checking.Counts.{Counts}
-use Rattle.cwr.specs.Told.{counted, IsToldOf}
-use Rattle.cwr.proofs.Checked.{IsCounting, counts_on, fault_told, good_told, room_in, total_grows}
+use Rattle.cwr.specs.Told.{counted, IsToldOf, StopsReading}
+use Rattle.cwr.proofs.Checked.{IsCounting, counts_on, fault_stops, fault_told, good_told, room_in, total_grows}
 use Rattle.cwr.proofs.checking.read_verdict.Goals as goal
 
 pub count-requires-clause-groups : goal.count-requires-clause-groups
@@ -90,6 +90,14 @@ pub returns-in-Err-clause-told : goal.returns-in-Err-clause-told
 returns-in-Err-clause-told g c =
     let told : IfOk c.verdict_of.result (λ verdict. IsToldOf c.args.limits (g.R.Source.remaining c.args.reader.now) verdict (g.R.Source.remaining c.next_item.new.self.reader.now))
     = fault_told c.args.limits _ _ c.in-Err.fault c.verdict_of.result
+    (fault_read c.args.limits c.items.reading.decoder c.next_item.new.self.decoder (g.R.Source.remaining c.args.reader.now) _ _ c.items.invariant.counting.given c.in-Err.fault _ _
+    c.items.invariant.counting.reading c.in-Err.ensures.reads c.in-Err.ensures.again) c.verdict_of.ensures in
+    search rules
+
+pub returns-in-Err-clause-stops : goal.returns-in-Err-clause-stops
+returns-in-Err-clause-stops g c =
+    let stops : IfErr c.verdict_of.result (λ fault. StopsReading c.args.limits fault (g.R.Source.remaining c.args.reader.now) (g.R.Source.remaining c.next_item.new.self.reader.now))
+    = fault_stops c.args.limits _ _ c.in-Err.fault c.verdict_of.result
     (fault_read c.args.limits c.items.reading.decoder c.next_item.new.self.decoder (g.R.Source.remaining c.args.reader.now) _ _ c.items.invariant.counting.given c.in-Err.fault _ _
     c.items.invariant.counting.reading c.in-Err.ensures.reads c.in-Err.ensures.again) c.verdict_of.ensures in
     search rules

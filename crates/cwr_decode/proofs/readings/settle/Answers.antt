@@ -13,4 +13,4 @@ returns-clause-goes_on c = told_none c.answer.result _ (λ e left.
 pub returns-clause-reads : goal.returns-clause-reads
 returns-clause-reads c = told_some c.answer.result _ (λ answer e.
     reads_settled c.args.decoder.now c.feed.new.self c.feed.result.used c.feed.result.outcome answer (sym c.answer.ensures ∙ e) c.feed.ensures.used
-    c.feed.ensures.stands c.feed.ensures.right c.feed.ensures.leaves (same_fed _ _ _ _ c.feed.ensures.again) c.feed.ensures.memory c.feed.ensures.finished c.feed.ensures.limits c.feed.ensures.stood)
+    c.feed.ensures.stands c.feed.ensures.right c.feed.ensures.leaves c.feed.ensures.empties (same_fed _ _ _ _ c.feed.ensures.again) c.feed.ensures.memory c.feed.ensures.finished c.feed.ensures.limits c.feed.ensures.stood)
