@@ -70,8 +70,8 @@ fn goes_on(tally: &mut Tally, symbol: Symbol) -> bool
     tally.transactions() == begun && matches!(tally.place(), Place::Transaction)
 }
 
-/// Whether records of the kind stand inside transactions and begin none.
-fn begins_nothing(kind: Option<Kind>) -> bool
+/// Whether records of the kind stand inside transactions, behind the header.
+fn stands_behind_header(kind: Option<Kind>) -> bool
     ensures { IsTrue result → IsSomeAnd kind (λ known. is_in_transaction known ≡ true) }
 {
     let Some(known) = kind else {
@@ -219,14 +219,14 @@ impl Machine {
     }
 
     /// Adds the record of the line that ended to the open transaction, where that goes on with it and memory is found,
-    /// and begins a new line. Else nothing changes. Most lines are such: nothing but the record is moved.
+    /// and begins a new line. Else nothing changes. Most lines are such, and no answer is built for them.
     fn add_line(&mut self) -> bool
         requires { self.old.line.ended ≢ LineEnd.Open }
         ensures added { IsTrue result → Judges self.old None self.new }
         ensures kept { IsFalse result → self.new ≡ self.old }
     {
         let cut = self.line.cut();
-        if !begins_nothing(cut.kind()) {
+        if !stands_behind_header(cut.kind()) {
             return false;
         }
         let Ok((symbol, accepted)) = judge(&self.tally, &cut) else {

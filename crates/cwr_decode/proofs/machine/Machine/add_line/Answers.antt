@@ -19,6 +19,6 @@ returns-clause-added c =
     let d : Standing = record { line = i.line; tally = i.tally; held = i.held; state = i.state; finished = i.finished } in
     λ _. subst (λ (q : Standing). Judges q None c.read_on.new.self) c.self.view_is
     (added_now d c.goes_on.new.tally c.cut-cut.result c.in-Ok.symbol c.in-Ok.accepted c.goes_on.result c.in-Some.whole c.read_on.new.self c.cut-cut.ensures
-    (subst (λ (q : Option Kind). IsSomeAnd q (λ kind. is_in_transaction kind ≡ true)) c.kind.ensures (c.begins_nothing.ensures c.if-not-begins_nothing.false)) c.in-Ok.ensures.carried c.in-Ok.ensures.ok
+    (subst (λ (q : Option Kind). IsSomeAnd q (λ kind. is_in_transaction kind ≡ true)) c.kind.ensures (c.stands_behind_header.ensures c.if-not-stands_behind_header.false)) c.in-Ok.ensures.carried c.in-Ok.ensures.ok
     c.goes_on.ensures.limits c.goes_on.ensures.stands c.goes_on.ensures.same c.if-not-goes_on.false c.in-Some.is
     (c.read_on.ensures ∙ ap (λ (xs : List RecordValue). reading (with_tally d c.goes_on.new.tally) (Some xs)) c.in-Ok-push.ensures.ok))
