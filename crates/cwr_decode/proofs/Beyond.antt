@@ -18,7 +18,6 @@ use Rattle.cwr_shape.specs.Ranges.{LimitValues}
 use Rattle.cwr_shape.specs.Outlines.{symbols_of, IsWhole}
 use Rattle.cwr_shape.specs.Tallies.{TallyValue, MayCome}
 use Rattle.cwr_shape.proofs.PrefixFree.{prefix_free}
-use Rattle.cwr_shape.proofs.Within.{fits_along}
 use Rattle.cwr_values.specs.Values.{TransmissionValue, IsTransmission, FitsIn, symbol_of, outline_of}
 use Rattle.cwr_values.specs.Rows.{records_of, rows}
 use Rattle.cwr_values.specs.Begins.{row_behind, rows_behind, rows_so_far}
@@ -105,10 +104,7 @@ one_further tally lines records v others (r ∷ rest) (k ∷ more) left h fits e
       more = more;
       split = d;
       in_order = at_front IsRecord records r rest (subst (AllByRecursion IsRecord) e (records_in_order v h));
-      may_come = (
-        (outline_of v, outline_whole v h, tt, (map symbol_of rest, begins)),
-        fits_along tally.limits (outline_of v) (xs ++ s ∷ []) (map symbol_of rest) (outline_whole v h) fits begins,
-      );
+      may_come = (outline_of v, outline_whole v h, fits, (map symbol_of rest, begins));
       is_line = z.0;
     }
 

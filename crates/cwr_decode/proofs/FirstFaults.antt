@@ -33,6 +33,7 @@ use Rattle.cwr_shape.specs.Ranges.{LimitValues}
 use Rattle.cwr_shape.specs.Numbers.{symbol_kind, number_in, IsNumberAt}
 use Rattle.cwr_shape.specs.Candidates.{candidates, role_in, type_in}
 use Rattle.cwr_shape.specs.Tallies.{IsBarred, IsBarredAmong}
+use Rattle.cwr_shape.proofs.Barred.{comes_any}
 use Rattle.cwr_decode.specs.Judged.{told_symbol, bar_reason, IsTextFault, IsGoodBy, IsFaultBy, IsGoodAt, HasFaultAt, MayComeOf, IsWrongAt, barred, IsFirstWrong, IsFirstBy, IsFirstFault}
 use Rattle.cwr_decode.proofs.NumberCells.{one_number, at_place}
 use Rattle.cwr_decode.proofs.NextLines.{numbers_next, number_next, some_number}
@@ -77,7 +78,7 @@ no_role kind j cell k t other = sym (ap₂ (λ (i : Kind) (n : ℕ). told_symbol
         let text : role_code role ≡ cell = (bytes_eq-Decides (role_code role) cell).0 (find_true (λ (u : Role). bytes_eq (role_code u) cell) (Assignor ∷ Acquirer ∷ []) role e) in
         absurd (other (subst (λ (x : List ℕ). (length x ≡ 2) × Holds (types.Code tables.Role) x) text (held_role role)))
 
-candidate_kind : (kind : Kind) (s : Symbol) → IsAmong (candidates (Some kind) []) s → symbol_kind s ≡ kind
+pub candidate_kind : (kind : Kind) (s : Symbol) → IsAmong (candidates (Some kind) []) s → symbol_kind s ≡ kind
 candidate_kind kinds.Ipa s (zero, (h, e)) = ap symbol_kind e
 candidate_kind kinds.Ipa s (suc zero, (h, e)) = ap symbol_kind e
 candidate_kind kinds.Ipa s (suc (suc i), (h, e)) = absurd (omega arith)
@@ -136,7 +137,7 @@ pub no_number : (limits : LimitValues) (xs : List Symbol) (kind : Kind) (j : ℕ
     → IsNumberAt xs kind j None → ⊥
 no_number limits xs kind j place from p d (s, among, may) none =
     let some = some_number xs kind j (field_view place).1 from (at_place kind j place p) d in
-    let no : None ≡ Some some.0 = one_number xs kind j None (number_in kind j (numbers_next xs kind)) s (candidate_kind kind s among) may.0 none (number_next xs kind j) ∙ some.1 in
+    let no : None ≡ Some some.0 = one_number xs kind j None (number_in kind j (numbers_next xs kind)) s (candidate_kind kind s among) (comes_any limits xs s may) none (number_next xs kind j) ∙ some.1 in
     cc no
 
 -- ---- the first fault

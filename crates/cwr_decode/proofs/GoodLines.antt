@@ -44,7 +44,7 @@ all_cells (f ∷ fields) (c ∷ cells) l each =
     cells_by f.derived f fields c (filter (λ p. not p.0.derived) (zip fields cells)) (λ d. each 0 f c refl refl d)
     (all_cells fields cells (omega (arith, l)) (λ k g t e q d. each (suc k) g t e q d))
 
-within : {X : Type 0} (xs : List X) (i : ℕ) (x : X) → slice_get xs i ≡ Some x → i < length xs
+pub within : {X : Type 0} (xs : List X) (i : ℕ) (x : X) → slice_get xs i ≡ Some x → i < length xs
 within [] i x e = absurd (cc e)
 within (y ∷ xs) zero x e = omega arith
 within (y ∷ xs) (suc i) x e = let h : i < length xs = within xs i x e in omega (arith, h)
@@ -57,7 +57,7 @@ AllGood limits xs h kind = (i : ℕ) → 2 ≤ i → i < length (layout kind) + 
 abbrev carried_record : HeldLine → Kind → RecordValue
 carried_record h kind = record { kind = kind; cells = carried_in (layout kind) (held_cells h) }
 
-good_here : (limits : LimitValues) (xs : List Symbol) (h : HeldLine) (kind : Kind) (i : ℕ) (f : FieldLayout) (c : List ℕ) → slice_get (layout kind) i ≡ Some f → held_cell h (suc i) ≡ Some c
+pub good_here : (limits : LimitValues) (xs : List Symbol) (h : HeldLine) (kind : Kind) (i : ℕ) (f : FieldLayout) (c : List ℕ) → slice_get (layout kind) i ≡ Some f → held_cell h (suc i) ≡ Some c
     → IsGoodAt limits xs h kind (suc i) → IsGoodBy f.derived limits xs kind (suc i) f c
 good_here limits xs h kind i f c e q g =
     subst (λ (o : Option (List ℕ)). IsSomeAnd o (IsGoodBy f.derived limits xs kind (suc i) f)) q

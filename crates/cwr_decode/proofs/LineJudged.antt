@@ -17,6 +17,7 @@ use Rattle.cwr_shape.specs.Levels.{level_of}
 use Rattle.cwr_shape.specs.Outlines.{IsWhole}
 use Rattle.cwr_shape.specs.Ranges.{LimitValues, AreInRange}
 use Rattle.cwr_shape.specs.Tallies as tallies
+use Rattle.cwr_shape.proofs.Within.{fits_along}
 use Rattle.cwr_shape.specs.Tallies.{TallyValue, passed, counts_of, place_after}
 use Rattle.cwr_values.specs.declared.items.Item.{Item}
 use Rattle.cwr_values.specs.declared.items.Item.TheVariants as items
@@ -92,7 +93,7 @@ reads_more tally next lines records line s r read held ended n limits stands =
       rows = subst (λ (rows : List Row). AllZip IsLineOf rows (lines ++ line.bytes ∷ [])) (sym (rows_so_far-snoc records r)) (zip_snoc (rows_so_far records) lines (row_behind records r) line.bytes read.rows is_line);
       within = λ front rest e.
           subst (λ (l : LimitValues). passed l front ≡ None) (sym limits)
-          (fronts (λ (f : List Symbol). passed tally.limits f ≡ None) xs s read.within n.may_come.1 front rest (sym symbols ∙ e));
+          (fronts (λ (f : List Symbol). passed tally.limits f ≡ None) xs s read.within (fits_along tally.limits n.may_come.0 (xs ++ s ∷ []) n.may_come.3.0 n.may_come.1 n.may_come.2 n.may_come.3.1) front rest (sym symbols ∙ e));
     }
   where
     holds : (e : LineEnd) (bytes : List ℕ) → e ≡ Line → HoldsBy e bytes bytes

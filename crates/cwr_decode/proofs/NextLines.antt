@@ -16,7 +16,8 @@ use Rattle.cwr_layouts.specs.Held.{HeldLine, IsHeld, HoldsLine, held_kind, held_
 use Rattle.cwr_layouts.proofs.HeldLaws.{held_line_is_cut, length-held_cells, held_cell-at}
 use Rattle.cwr_layouts.proofs.CutLaws.{line_is_cut}
 use Rattle.cwr_layouts.proofs.RowLaws.{IsRow-row_of, record_of-row_of}
-use Rattle.cwr_layouts.proofs.Judged.{AreGood, carried_in, good_line, line_is_good}
+use Rattle.cwr_layouts.specs.GoodCells.{AreGood}
+use Rattle.cwr_layouts.proofs.Judged.{carried_in, good_line, line_is_good}
 use Rattle.cwr_shape.specs.declared.symbols.Symbol.{Symbol}
 use Rattle.cwr_shape.specs.declared.symbols.Symbol.TheVariants.{Plain}
 use Rattle.cwr_shape.specs.declared.tallies.Counts.{Counts}
@@ -25,6 +26,7 @@ use Rattle.cwr_shape.specs.Numbers.{symbol_kind, number_in, IsNumberAt}
 use Rattle.cwr_shape.specs.Tallies.{MayCome, open_type, counts_of, is_header_of}
 use Rattle.cwr_shape.specs.Counting.{expected, expected_inside}
 use Rattle.cwr_shape.proofs.Walks.{numbers_counted}
+use Rattle.cwr_shape.proofs.Barred.{comes_any}
 use Rattle.cwr_values.specs.Values.{symbol_of}
 use Rattle.cwr_decode.specs.Judged.{HasNumbers, IsNext}
 use Rattle.cwr_decode.proofs.NumberCells.{one_number, known_of, symbol_kind-of}
@@ -41,12 +43,12 @@ number_next xs kind j groups s rest h split k =
 -- ---- numbers by their fields, and in their order
 
 -- the number of a derived field is the next of the list
-abbrev agree_by : Bool → Option ℕ → ℕ → Type 0
+abbrev pub agree_by : Bool → Option ℕ → ℕ → Type 0
 agree_by true m n = m ≡ Some n
 agree_by false m n = Unit {0}
 
 -- each derived field has the next number of the list
-abbrev Agree : List FieldLayout → List ℕ → (ℕ → Option ℕ) → Type 0
+abbrev pub Agree : List FieldLayout → List ℕ → (ℕ → Option ℕ) → Type 0
 Agree [] ns number = Unit {0}
 Agree (f ∷ fields) ns number = agree_by f.derived (number 0) (slice_index ns 0) × Agree fields (rest_if f.derived ns) (λ k. number (suc k))
 
@@ -61,7 +63,7 @@ carried_agree (f ∷ fields) ns number h =
     by false e a = (tt, a)
 
 -- the numbers of a kind by its fields
-abbrev numbered : Kind → List ℕ → ℕ → Option ℕ
+abbrev pub numbered : Kind → List ℕ → ℕ → Option ℕ
 numbered kind ns k = number_in kind (suc (suc k)) ns
 
 inside_agree : (kind : Kind) (b : Bool) (c : Counts) → (kind ≡ kinds.Hdr → ⊥) → (kind ≡ kinds.Grh → ⊥) → (kind ≡ kinds.Grt → ⊥) → (kind ≡ kinds.Trl → ⊥)
@@ -74,7 +76,7 @@ inside_agree kind true c hdr grh grt trl = (refl, (refl, carried_agree (drop 2 (
 inside_agree kind false c hdr grh grt trl = (refl, (refl, carried_agree (drop 2 (fields_after_type kind)) [] (λ k. numbered kind (expected_inside false c) (suc (suc k))) refl))
 
 -- the numbers by their fields are those of the list
-numbers_agree : (ty : TransactionType) (c : Counts) (kind : Kind) → Agree (fields_after_type kind) (expected ty c kind) (numbered kind (expected ty c kind))
+pub numbers_agree : (ty : TransactionType) (c : Counts) (kind : Kind) → Agree (fields_after_type kind) (expected ty c kind) (numbered kind (expected ty c kind))
 numbers_agree ty c kinds.Hdr = carried_agree (fields_after_type kinds.Hdr) [] (numbered kinds.Hdr []) refl
 numbers_agree ty c kinds.Grh = (tt, (refl, carried_agree (drop 2 (fields_after_type kinds.Grh)) [] (λ k. numbered kinds.Grh (expected ty c kinds.Grh) (suc (suc k))) refl))
 numbers_agree ty c kinds.Grt = (refl, (refl, (refl, carried_agree (drop 3 (fields_after_type kinds.Grt)) [] (λ k. numbered kinds.Grt (expected ty c kinds.Grt) (suc (suc (suc k)))) refl)))
@@ -146,7 +148,7 @@ behind_first : (cells : List (List ℕ)) (k : ℕ) → slice_get (drop 1 cells) 
 behind_first [] k = refl
 behind_first (c ∷ cells) k = refl
 
-cell_behind : (h : HeldLine) (kind : Kind) (k : ℕ) → held_kind h ≡ Some kind → held_cell h (suc (suc k)) ≡ slice_get (drop 1 (held_cells h)) k
+pub cell_behind : (h : HeldLine) (kind : Kind) (k : ℕ) → held_kind h ≡ Some kind → held_cell h (suc (suc k)) ≡ slice_get (drop 1 (held_cells h)) k
 cell_behind h kind k e = held_cell-at h kind (suc k) e ∙ sym (behind_first (held_cells h) k)
 
 -- ---- both ways
@@ -185,7 +187,7 @@ next_is_line limits xs h line s r held holds no_lf n =
     let c = n.numbers (suc (suc k)) (omega arith) f e d in
     record {
       value = c.number;
-      known = one_number xs kind (suc (suc k)) (numbered kind ns k) (Some c.number) s (ap symbol_kind (sym n.symbol) ∙ symbol_kind-of r) n.may_come.0 (number_next xs kind (suc (suc k))) c.belongs;
+      known = one_number xs kind (suc (suc k)) (numbered kind ns k) (Some c.number) s (ap symbol_kind (sym n.symbol) ∙ symbol_kind-of r) (comes_any limits xs s n.may_come) (number_next xs kind (suc (suc k))) c.belongs;
       text = sym (cell_behind h kind k known) ∙ c.spelled;
     } in
     let good : AreGood (fields_after_type kind) ns cells =

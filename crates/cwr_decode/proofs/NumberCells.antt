@@ -17,12 +17,12 @@ use Rattle.cwr_layouts.proofs.HeldLaws.{length-held_cell}
 use Rattle.cwr_layouts.proofs.TypeWidths.{type_width-field}
 use Rattle.cwr_shape.specs.declared.symbols.Symbol.{Symbol}
 use Rattle.cwr_shape.specs.declared.tallies.Bar.{Bar}
-use Rattle.cwr_shape.specs.declared.tallies.Bar.TheVariants.{Misplaced, Limit}
 use Rattle.cwr_shape.specs.Ranges.{LimitValues}
 use Rattle.cwr_shape.specs.Outlines.{GoesOn}
 use Rattle.cwr_shape.specs.Left.{Any}
 use Rattle.cwr_shape.specs.Numbers.{symbol_kind, IsNumberAt}
 use Rattle.cwr_shape.specs.Tallies.{MayCome, IsBarred}
+use Rattle.cwr_shape.proofs.Barred.{comes_any, comes_unbarred}
 use Rattle.cwr_values.specs.Values.{symbol_of, symbol_by}
 use Rattle.cwr_decode.specs.Judged.{HasNumberAt, HasNumbers, Lacks, IsNext}
 
@@ -151,14 +151,11 @@ one_record h q r a b = let same : Some q ≡ Some r = sym a ∙ b in cc same
 pub lacking : (limits : LimitValues) (xs : List Symbol) (h : HeldLine) (q r : RecordValue) (s : Symbol) → held_record h ≡ Some q → Lacks xs q.kind (HasNumbers xs h q.kind) → ¬ IsNext limits xs h s r
 lacking limits xs h q r s e bad n =
     let same : q ≡ r = one_record h q r e n.carried in
-    bad s (ap symbol_kind (sym n.symbol) ∙ symbol_kind-of r ∙ ap (λ (x : RecordValue). x.kind) (sym same)) n.may_come.0 (subst (λ (x : RecordValue). HasNumbers xs h x.kind) (sym same) n.numbers)
+    bad s (ap symbol_kind (sym n.symbol) ∙ symbol_kind-of r ∙ ap (λ (x : RecordValue). x.kind) (sym same)) (comes_any limits xs s n.may_come) (subst (λ (x : RecordValue). HasNumbers xs h x.kind) (sym same) n.numbers)
 
 -- what is barred may not come
 pub barred_not : (limits : LimitValues) (xs : List Symbol) (s : Symbol) (bar : Bar) → IsBarred limits xs s bar → ¬ MayCome limits xs s
-barred_not limits xs s Misplaced b m = b m.0
-barred_not limits xs s (Limit limit) b m =
-    let no : None ≡ Some limit = sym m.1 ∙ b.1 in
-    absurd (cc no)
+barred_not limits xs s bar b m = comes_unbarred limits xs s bar b m
 
 -- nor is a line whose record is barred that of one that may
 pub barred : (limits : LimitValues) (xs : List Symbol) (h : HeldLine) (q r : RecordValue) (s : Symbol) (bar : Bar) → held_record h ≡ Some q → IsBarred limits xs (symbol_of q) bar → ¬ IsNext limits xs h s r

@@ -20,7 +20,7 @@ use Rattle.cwr_decode.specs.Ends.{IsRefused, IsTruncated, kind_behind}
 use Rattle.cwr_decode.proofs.Accepted.{one_place}
 
 -- the line behind as many others is the same
-same_line : (xs ys : List (List ℕ)) (a b : List ℕ) (us vs : List (List ℕ)) → length xs ≡ length ys → xs ++ a ∷ us ≡ ys ++ b ∷ vs → (xs ≡ ys) × (a ≡ b)
+pub same_line : (xs ys : List (List ℕ)) (a b : List ℕ) (us vs : List (List ℕ)) → length xs ≡ length ys → xs ++ a ∷ us ≡ ys ++ b ∷ vs → (xs ≡ ys) × (a ≡ b)
 same_line [] [] a b us vs l e = (refl, cc)
 same_line [] (y ∷ ys) a b us vs l e = absurd (omega arith)
 same_line (x ∷ xs) [] a b us vs l e = absurd (omega arith)

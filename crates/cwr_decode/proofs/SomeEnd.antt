@@ -19,7 +19,7 @@ compared (suc a) (suc b) = by (compared a b)
     by (inr (inr h)) = inr (inr (omega arith))
 
 -- what is bad, with nothing bad before it, is bad first
-is_first : (limits : Limits) (text : List ℕ) (i k : ℕ) → IsBadAt limits text i k → ((j : ℕ) → j < i → (l : ℕ) → ¬ IsBadAt limits text j l) → ((l : ℕ) → l < k → ¬ IsBadAt limits text i l)
+pub is_first : (limits : Limits) (text : List ℕ) (i k : ℕ) → IsBadAt limits text i k → ((j : ℕ) → j < i → (l : ℕ) → ¬ IsBadAt limits text j l) → ((l : ℕ) → l < k → ¬ IsBadAt limits text i l)
     → IsFirstBad limits text i k
 is_first limits text i k bad lines fields = (bad, λ j l other. by j l other (compared i j))
   where

@@ -79,7 +79,7 @@ no_lf_last [] last h = (or_parts (last == 10) false h).0
 no_lf_last (b ∷ front) last h = no_lf_last front last (or_parts (b == 10) (list_any (λ x. x == 10) (front ++ last ∷ [])) h).1
 
 -- a line with no line feed gets one
-closed_line : (bytes : List ℕ) → NoLf bytes → 0 < length bytes → closed bytes ≡ bytes ++ 10 ∷ []
+pub closed_line : (bytes : List ℕ) → NoLf bytes → 0 < length bytes → closed bytes ≡ bytes ++ 10 ∷ []
 closed_line [] h some = absurd (omega arith)
 closed_line (b ∷ bytes) h some =
     let s = snoc b bytes in

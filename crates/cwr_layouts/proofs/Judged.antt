@@ -16,15 +16,10 @@ use Rattle.cwr_layouts.specs.declared.kinds.Kind.{Kind}
 use Rattle.cwr_layouts.specs.Kinds.{all_kinds, letters, kind_of}
 use Rattle.cwr_layouts.specs.Layouts.{FieldLayout, layout, fields_after_type, total_width, line_width, record_type}
 use Rattle.cwr_layouts.specs.Records.{RecordValue, IsCellOf, IsRecord, rest_if, row_cells, row_of, IsGoodBy}
+use Rattle.cwr_layouts.specs.GoodCells.{AreGood}
 use Rattle.cwr_layouts.proofs.RowLaws.{IsRow-row_of}
 use Rattle.cwr_layouts.proofs.CutLaws.{line_is_cut}
 use Rattle.cwr_layouts.specs.Lines.{IsLineOf, longest_line, without_cr, is_over, line_body, pieces, line_kind, line_cells, cells_as, excess_as, has_bad_excess}
-
--- each cell is the next number, or one of its field's type
-abbrev pub AreGood : List FieldLayout → List ℕ → List (List ℕ) → Type 0
-AreGood [] ns cells = Unit {0}
-AreGood (f ∷ fields) ns [] = ⊥
-AreGood (f ∷ fields) ns (c ∷ cells) = IsGoodBy f.derived f (slice_index ns 0) c × AreGood fields (rest_if f.derived ns) cells
 
 -- what is carried in cells, by their fields
 abbrev pub carried_in : List FieldLayout → List (List ℕ) → List (List ℕ)

@@ -12,7 +12,7 @@ use Rattle.cwr_shape.specs.declared.stages.Stage.{Stage}
 use Rattle.cwr_shape.specs.declared.stages.Stage.TheVariants as stages
 use Rattle.cwr_shape.specs.declared.stages.Step.{Step}
 use Rattle.cwr_shape.specs.declared.tallies.Counts.{Counts}
-use Rattle.cwr_shape.specs.Outlines.{GoesOn}
+use Rattle.cwr_shape.specs.Outlines.{GoesOn, IsWithin}
 use Rattle.cwr_shape.specs.Numbers.{symbol_kind, number_in, numbers_of, lengths_of, IsNumberAt}
 use Rattle.cwr_shape.specs.declared.stages.Step.TheVariants as steps
 use Rattle.cwr_shape.specs.Stages.{is_grh, group_of, step_after, stage_by}
@@ -38,7 +38,7 @@ one_type : (t u : TransactionType) (p q : Step) → stages.Within t p ≡ stages
 one_type t u p q e = cc e
 
 -- what a stage says of its type
-says_type : (o : Option Symbol) (xs : List Symbol) (ty : TransactionType) (step : Step) → last_or None xs ≡ o → stages.Within ty step ≡ stage_by o xs → ty ≡ open_type xs
+pub says_type : (o : Option Symbol) (xs : List Symbol) (ty : TransactionType) (step : Step) → last_or None xs ≡ o → stages.Within ty step ≡ stage_by o xs → ty ≡ open_type xs
 says_type None xs ty step l e = absurd (cc e)
 says_type (Some (Plain kinds.Hdr)) xs ty step l e = absurd (cc e)
 says_type (Some (Plain kinds.Grt)) xs ty step l e = absurd (cc e)
@@ -93,8 +93,8 @@ pub goes_next : (t : TallyValue) (xs : List Symbol) (s : Symbol) → StandsFor t
 goes_next t xs s st g = (next_exact xs t.stage s (next_stage t.stage s) refl st.stands).1 g
 
 pub stands_next : (t next : TallyValue) (xs : List Symbol) (s : Symbol) → StandsFor t xs → StandsAt (xs ++ s ∷ []) next.stage → is_some (next_stage t.stage s) ≡ true
-    → next.counts ≡ counts_with (stage_type t.stage) t.counts s → StandsFor next (xs ++ s ∷ [])
-stands_next t next xs s st on h e = record { stands = on; counted = e ∙ counted_next t xs s st h }
+    → next.counts ≡ counts_with (stage_type t.stage) t.counts s → GoesOn (IsWithin next.limits) (xs ++ s ∷ []) → StandsFor next (xs ++ s ∷ [])
+stands_next t next xs s st on h e w = record { stands = on; counted = e ∙ counted_next t xs s st h; within = w }
 
 -- the numbers of each transmission that goes on so
 pub expects_numbers : (t : TallyValue) (xs : List Symbol) (kind : Kind) (j : ℕ) (n : Option ℕ) → StandsFor t xs → n ≡ number_in kind j (expected (stage_type t.stage) t.counts kind) → IsNumberAt xs kind j n

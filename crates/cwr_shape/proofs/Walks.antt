@@ -28,7 +28,7 @@ walk ty c [] = []
 walk ty c (s ∷ xs) = expected ty c (symbol_kind s) ∷ walk (type_behind ty s) (counts_with ty c s) xs
 
 -- the counters behind them
-abbrev counts_behind : TransactionType → Counts → List Symbol → Counts
+abbrev pub counts_behind : TransactionType → Counts → List Symbol → Counts
 counts_behind ty c [] = c
 counts_behind ty c (s ∷ xs) = counts_behind (type_behind ty s) (counts_with ty c s) xs
 
@@ -49,7 +49,7 @@ walk_at : (ty : TransactionType) (c : Counts) (xs : List Symbol) (s : Symbol) (r
 walk_at ty c [] s rest = refl
 walk_at ty c (x ∷ xs) s rest = walk_at (type_behind ty x) (counts_with ty c x) xs s rest
 
-counted_on : (ys xs : List Symbol) → counts_behind (open_type ys) (counts_of ys) xs ≡ counts_of (ys ++ xs)
+pub counted_on : (ys xs : List Symbol) → counts_behind (open_type ys) (counts_of ys) xs ≡ counts_of (ys ++ xs)
 counted_on ys [] = ap counts_of (sym (nil ys))
   where
     nil : (zs : List Symbol) → zs ++ [] ≡ zs
@@ -60,7 +60,7 @@ counted_on ys (x ∷ xs) =
     ∙ counted_on (ys ++ x ∷ []) xs ∙ ap counts_of (append_assoc ys (x ∷ []) xs)
 
 -- what counters give behind symbols is what is counted of these
-counted : (xs : List Symbol) → counts_behind Acknowledgement (counts_of []) xs ≡ counts_of xs
+pub counted : (xs : List Symbol) → counts_behind Acknowledgement (counts_of []) xs ≡ counts_of xs
 counted xs = counted_on [] xs
 
 -- ---- how far counters move

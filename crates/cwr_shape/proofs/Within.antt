@@ -14,7 +14,7 @@ use Rattle.cwr_shape.specs.declared.limits.LimitKind.TheVariants.{Records, Group
 use Rattle.cwr_shape.specs.declared.tallies.Counts.{Counts}
 use Rattle.cwr_shape.specs.Ranges.{LimitValues}
 use Rattle.cwr_shape.specs.Shapes.{IsShape, pattern_of}
-use Rattle.cwr_shape.specs.Outlines.{GroupOutline, group_symbols, symbols_of, IsGroupOutline, IsOutline, IsWithin}
+use Rattle.cwr_shape.specs.Outlines.{GroupOutline, group_symbols, symbols_of, IsGroupOutline, IsOutline, KeepsTo, IsWithin}
 use Rattle.cwr_shape.specs.Stages.{is_grh}
 use Rattle.cwr_shape.specs.Tallies.{type_behind, open_type, counts_of, place_by, is_in_transaction, open_records, passed}
 use Rattle.cwr_shape.specs.Counting.{counts_with, counts_with_group, counts_with_header, counts_with_other}
@@ -59,28 +59,28 @@ none_passed limits xs e =
 -- ---- the open transaction, one symbol after another
 
 -- the symbol is one of a transaction's
-abbrev is_inside : Symbol → Bool
+abbrev pub is_inside : Symbol → Bool
 is_inside s = is_in_transaction (place_by (Some s))
 
 -- how many records the open transaction has behind the symbol, by what is counted with it
-abbrev open_by : Symbol → Counts → ℕ
+abbrev pub open_by : Symbol → Counts → ℕ
 open_by s c = cond (is_inside s) (1 + c.behind_header) 0
 
 -- counted on from there, over symbols of which the first stands in a group of the type, the open transaction never has more than so many records
-abbrev Keeps : ℕ → TransactionType → Counts → List Symbol → Type 0
+abbrev pub Keeps : ℕ → TransactionType → Counts → List Symbol → Type 0
 Keeps limit ty c [] = Unit {0}
 Keeps limit ty c (s ∷ xs) = (open_by s (counts_with ty c s) ≤ limit) × Keeps limit (type_behind ty s) (counts_with ty c s) xs
 
-keeps_front : (limit : ℕ) (ty : TransactionType) (c : Counts) (xs ys : List Symbol) → Keeps limit ty c (xs ++ ys) → Keeps limit ty c xs
+pub keeps_front : (limit : ℕ) (ty : TransactionType) (c : Counts) (xs ys : List Symbol) → Keeps limit ty c (xs ++ ys) → Keeps limit ty c xs
 keeps_front limit ty c [] ys h = tt
 keeps_front limit ty c (s ∷ xs) ys h = (h.0, keeps_front limit (type_behind ty s) (counts_with ty c s) xs ys h.1)
 
-open_records-snoc : (xs : List Symbol) (s : Symbol) → open_records (xs ++ s ∷ []) ≡ open_by s (counts_with (open_type xs) (counts_of xs) s)
+pub open_records-snoc : (xs : List Symbol) (s : Symbol) → open_records (xs ++ s ∷ []) ≡ open_by s (counts_with (open_type xs) (counts_of xs) s)
 open_records-snoc xs s =
     ap₂ (λ (o : Option Symbol) (c : Counts). cond (is_in_transaction (place_by o)) (1 + c.behind_header) 0) (last_or-snoc None xs s) (sym (counts-snoc xs s))
 
 -- so it has no more behind the last of them
-fronts_forth : (limit : ℕ) (ys xs : List Symbol) → open_records ys ≤ limit → Keeps limit (open_type ys) (counts_of ys) xs → open_records (ys ++ xs) ≤ limit
+pub fronts_forth : (limit : ℕ) (ys xs : List Symbol) → open_records ys ≤ limit → Keeps limit (open_type ys) (counts_of ys) xs → open_records (ys ++ xs) ≤ limit
 fronts_forth limit ys [] h k = subst (λ (l : List Symbol). open_records l ≤ limit) (sym (append-nil ys)) h
 fronts_forth limit ys (s ∷ xs) h k =
     let here : open_records (ys ++ s ∷ []) ≤ limit = subst (λ (n : ℕ). n ≤ limit) (sym (open_records-snoc ys s)) k.0 in
@@ -90,7 +90,7 @@ fronts_forth limit ys (s ∷ xs) h k =
     subst (λ (l : List Symbol). open_records l ≤ limit) (append_assoc ys (s ∷ []) xs) (fronts_forth limit (ys ++ s ∷ []) xs here next)
 
 -- and it keeps to the number over symbols of which it does so behind each front
-fronts_back : (limit : ℕ) (ys xs : List Symbol) → ((front rest : List Symbol) → xs ≡ front ++ rest → open_records (ys ++ front) ≤ limit) → Keeps limit (open_type ys) (counts_of ys) xs
+pub fronts_back : (limit : ℕ) (ys xs : List Symbol) → ((front rest : List Symbol) → xs ≡ front ++ rest → open_records (ys ++ front) ≤ limit) → Keeps limit (open_type ys) (counts_of ys) xs
 fronts_back limit ys [] h = tt
 fronts_back limit ys (s ∷ xs) h =
     let here : open_by s (counts_with (open_type ys) (counts_of ys) s) ≤ limit = subst (λ (n : ℕ). n ≤ limit) (open_records-snoc ys s) (h (s ∷ []) xs refl) in
@@ -135,7 +135,7 @@ inside_named Acknowledgement = refl
 inside_shape : (ty : TransactionType) (xs : List Symbol) → IsShape ty xs → list_all is_inside xs ≡ true
 inside_shape ty xs h = matched_pass is_inside (pattern_of ty) (inside_named ty) xs h
 
-inner_forth : (limit : ℕ) (ty : TransactionType) (c : Counts) (xs more : List Symbol) → list_all (is_inner ty) xs ≡ true → 1 + c.behind_header + length xs ≤ limit
+pub inner_forth : (limit : ℕ) (ty : TransactionType) (c : Counts) (xs more : List Symbol) → list_all (is_inner ty) xs ≡ true → 1 + c.behind_header + length xs ≤ limit
     → ((d : Counts) → Keeps limit ty d more) → Keeps limit ty c (xs ++ more)
 inner_forth limit ty c [] more h k f = f c
 inner_forth limit ty c (s ∷ xs) more h k f =
@@ -255,7 +255,7 @@ one_in_each [] h = refl
 one_in_each (g ∷ groups) h =
     omega (arith, sum_by-append (λ x. cond (is_grh x) 1 0) (group_symbols g) (flat_map group_symbols groups), one_in_group g h.0, one_in_each groups h.1)
 
-groups_counted : (groups : List GroupOutline) → IsOutline groups → count_by is_grh (symbols_of groups) ≡ length groups
+pub groups_counted : (groups : List GroupOutline) → IsOutline groups → count_by is_grh (symbols_of groups) ≡ length groups
 groups_counted groups h =
     let inside : List Symbol = flat_map group_symbols groups in
     let first : count_by is_grh (symbols_of groups) ≡ 0 + count_by is_grh (inside ++ Plain kinds.Trl ∷ []) = sum_by-cons (λ x. cond (is_grh x) 1 0) (Plain kinds.Hdr) (inside ++ Plain kinds.Trl ∷ []) in
@@ -263,6 +263,14 @@ groups_counted groups h =
     omega (arith, first, last, one_in_each groups h.1)
 
 -- ---- a transmission
+
+-- a transmission keeps to the limit of a transaction exactly where the open transaction never has more records
+pub keeps_whole : (limits : LimitValues) (groups : List GroupOutline) → IsOutline groups → KeepsTo Transaction limits groups → Keeps limits.transaction Acknowledgement (counts_of []) (symbols_of groups)
+keeps_whole limits groups h k =
+    (omega arith, groups_forth limits.transaction Acknowledgement (counts_with Acknowledgement (counts_of []) (Plain kinds.Hdr)) groups (Plain kinds.Trl ∷ []) h.1 k (λ u d. (omega arith, tt)))
+
+pub whole_keeps : (limits : LimitValues) (groups : List GroupOutline) → IsOutline groups → Keeps limits.transaction Acknowledgement (counts_of []) (symbols_of groups) → KeepsTo Transaction limits groups
+whole_keeps limits groups h k = groups_back limits.transaction Acknowledgement (counts_with Acknowledgement (counts_of []) (Plain kinds.Hdr)) groups (Plain kinds.Trl ∷ []) h.1 k.1
 
 -- no front of a transmission within the limits passes one
 pub fits_along : (limits : LimitValues) (groups : List GroupOutline) (front rest : List Symbol) → IsOutline groups → IsWithin limits groups → symbols_of groups ≡ front ++ rest → passed limits front ≡ None

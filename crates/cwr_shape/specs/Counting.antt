@@ -1,5 +1,7 @@
 -- How the counters go on with one more record, and the numbers that they give it.
-use Rattle.std.specs.Prelude.{ℕ, ◌+◌, ◌-◌, ◌≤◌, Bool, true, false, ◌==◌, nat_le, nat_lt, List, [], ◌∷◌, Option, Some, None, Result, Ok, Err, if◌then◌else◌}
+use Rattle.std.specs.Prelude.{ℕ, ◌+◌, ◌-◌, ◌≤◌, Bool, true, false, ◌==◌, nat_lt, List, [], ◌∷◌, Option, Some, None, if◌then◌else◌}
+use Rattle.cwr_fields.specs.declared.codes.Role.{Role}
+use Rattle.cwr_fields.specs.declared.codes.Role.TheVariants.{Assignor, Acquirer}
 use Rattle.cwr_fields.specs.declared.codes.TransactionType.{TransactionType}
 use Rattle.cwr_fields.specs.declared.codes.TransactionType.TheVariants.{Acknowledgement}
 use Rattle.cwr_layouts.specs.declared.kinds.Kind.{Kind}
@@ -8,11 +10,10 @@ use Rattle.cwr_shape.specs.declared.symbols.Symbol.{Symbol}
 use Rattle.cwr_shape.specs.declared.symbols.Symbol.TheVariants as symbols
 use Rattle.cwr_shape.specs.declared.stages.Stage.{Stage}
 use Rattle.cwr_shape.specs.declared.stages.Stage.TheVariants.{Within}
-use Rattle.cwr_shape.specs.declared.stages.Step.TheVariants.{InGroup}
-use Rattle.cwr_shape.specs.declared.tallies.Bar.{Bar}
+use Rattle.cwr_shape.specs.declared.stages.Step.TheVariants.{InGroup, OneSide}
 use Rattle.cwr_shape.specs.declared.tallies.Place.{Place}
 use Rattle.cwr_shape.specs.declared.tallies.Place.TheVariants as places
-use Rattle.cwr_shape.specs.Bars.{bar_rank}
+use Rattle.cwr_shape.specs.Needs.{needs_at}
 use Rattle.cwr_shape.specs.declared.tallies.Counts.{Counts}
 use Rattle.cwr_shape.specs.Ranges.{LimitValues}
 use Rattle.cwr_shape.specs.declared.limits.LimitKind.{LimitKind}
@@ -25,11 +26,10 @@ place_at (Within ty InGroup) = places.Group
 place_at (Within ty step) = places.Transaction
 place_at stage = places.File
 
--- of two answers the one that comes first
-abbrev pub easier : Result (Unit {0}) Bar → Result (Unit {0}) Bar → Result (Unit {0}) Bar
-easier (Ok u) other = Ok tt
-easier (Err bar) (Ok u) = Ok tt
-easier (Err bar) (Err next) = if nat_le (bar_rank bar) (bar_rank next) then Err bar else Err next
+-- the role of the party that brings a transaction nearer to its end: that which a block of one side lacks, and else any
+abbrev pub wanted_role : Stage → Role
+wanted_role (Within ty (OneSide Assignor)) = Acquirer
+wanted_role stage = Assignor
 
 -- the type of the group that is open at a stage, if one is
 abbrev pub stage_type : Stage → TransactionType
@@ -74,14 +74,14 @@ abbrev pub counts_with : TransactionType → Counts → Symbol → Counts
 counts_with ty c (symbols.Grh t) = counts_with_group c
 counts_with ty c s = if is_header_of ty s then counts_with_header c else counts_with_other c
 
--- no count is so large that one more isn't a number of the code
+-- no count is so large that a few more aren't a number of the code
 pub record HaveRoom (c : Counts) : Type 0 where
-  pub records : c.records ≤ 99999999
-  pub groups : c.groups ≤ 99999999
-  pub transactions : c.transactions ≤ 99999999
-  pub in_group : c.in_group ≤ 99999999
-  pub behind_grh : c.behind_grh ≤ 99999999
-  pub behind_header : c.behind_header ≤ 99999999
+  pub records : c.records ≤ 999999999
+  pub groups : c.groups ≤ 999999999
+  pub transactions : c.transactions ≤ 999999999
+  pub in_group : c.in_group ≤ 999999999
+  pub behind_grh : c.behind_grh ≤ 999999999
+  pub behind_header : c.behind_header ≤ 999999999
 
 -- the numbers of a record inside a transaction, which is a header or not
 abbrev pub expected_inside : Bool → Counts → List ℕ
@@ -101,8 +101,12 @@ abbrev pub number_inside : Bool → Counts → ℕ → Option ℕ
 number_inside begins c j = if 2 == j then Some (if begins then c.in_group else (c.in_group - 1))
     else (if 3 == j then Some (if begins then 0 else (c.behind_header + 1)) else None)
 
--- the first limit that the counts pass at a stage
+-- how many records the open transaction has at a stage, if one is open
+abbrev pub open_at : Stage → Counts → ℕ
+open_at stage c = if is_in_transaction (place_at stage) then (1 + c.behind_header) else 0
+
+-- the first limit that what was counted and what must still come pass at a stage
 abbrev pub passed_by : LimitValues → Stage → Counts → Option LimitKind
-passed_by limits stage c = if nat_lt limits.records c.records then Some Records
-    else (if nat_lt limits.groups c.groups then Some Groups
-    else (if nat_lt limits.transaction (if is_in_transaction (place_at stage) then (1 + c.behind_header) else 0) then Some Transaction else None))
+passed_by limits stage c = if nat_lt limits.records (c.records + (needs_at stage).records) then Some Records
+    else (if nat_lt limits.groups (c.groups + (needs_at stage).groups) then Some Groups
+    else (if nat_lt limits.transaction (open_at stage c + (needs_at stage).transaction) then Some Transaction else None))

@@ -16,11 +16,10 @@ use Rattle.cwr_shape.specs.declared.tallies.Bar.TheVariants as bars
 use Rattle.cwr_shape.specs.declared.tallies.Place.{Place}
 use Rattle.cwr_shape.specs.declared.tallies.Place.TheVariants as places
 use Rattle.cwr_shape.specs.Ranges.{LimitValues, AreInRange}
-use Rattle.cwr_shape.specs.Outlines.{GoesOn}
+use Rattle.cwr_shape.specs.Outlines.{GroupOutline, KeepsTo, IsWithin, GoesOn}
 use Rattle.cwr_shape.specs.Stages.{is_grh, latest, group_of}
 use Rattle.cwr_shape.specs.Left.{Any, StandsAt}
 use Rattle.cwr_shape.specs.Candidates.{candidates}
-use Rattle.cwr_shape.specs.Bars.{bar_rank}
 
 -- the header of the type's transactions
 abbrev pub header_kind : TransactionType → Kind
@@ -76,10 +75,11 @@ pub record TallyValue : Type 0 where
   pub stage : Stage
   pub counts : Counts
 
--- the tally is that of some symbols, with which a transmission begins
+-- the tally is that of some symbols, with which a transmission within its limits begins
 pub record StandsFor (t : TallyValue) (xs : List Symbol) : Type 0 where
   pub stands : StandsAt xs t.stage
   pub counted : t.counts ≡ counts_of xs
+  pub within : GoesOn (IsWithin t.limits) xs
 
 -- what is open behind a symbol
 abbrev pub place_by : Option Symbol → Place
@@ -109,30 +109,37 @@ passed limits xs = if nat_lt limits.records (length xs) then Some Records
     else (if nat_lt limits.groups (count_by is_grh xs) then Some Groups
     else (if nat_lt limits.transaction (open_records xs) then Some Transaction else None))
 
--- behind these symbols that one may come: some transmission goes on so, and no limit is passed
+-- behind these symbols that one may come: some transmission within the limits goes on so
 abbrev pub MayCome : LimitValues → List Symbol → Symbol → Type 0
-MayCome limits xs s = GoesOn Any (xs ++ s ∷ []) × (passed limits (xs ++ s ∷ []) ≡ None)
+MayCome limits xs s = GoesOn (IsWithin limits) (xs ++ s ∷ [])
 
--- why it may not
+-- The first bar of what a transmission goes on by, where GoesOnSo says that one with a property does: no transmission goes
+-- on so, or none that keeps to a limit, each limit tried alone, in their order.
+abbrev pub IsBarredFirst : LimitValues → ((List GroupOutline → Type 0) → Type 0) → Bar → Type 0
+IsBarredFirst limits GoesOnSo bars.Misplaced = ¬ GoesOnSo Any
+IsBarredFirst limits GoesOnSo (bars.Limit Records) = GoesOnSo Any × ¬ GoesOnSo (KeepsTo Records limits)
+IsBarredFirst limits GoesOnSo (bars.Limit Groups) = GoesOnSo (KeepsTo Records limits) × ¬ GoesOnSo (KeepsTo Groups limits)
+IsBarredFirst limits GoesOnSo (bars.Limit Transaction) = GoesOnSo (KeepsTo Records limits) × GoesOnSo (KeepsTo Groups limits) × ¬ GoesOnSo (KeepsTo Transaction limits)
+
+-- why one symbol may not come
 abbrev pub IsBarred : LimitValues → List Symbol → Symbol → Bar → Type 0
-IsBarred limits xs s bars.Misplaced = ¬ GoesOn Any (xs ++ s ∷ [])
-IsBarred limits xs s (bars.Limit limit) = GoesOn Any (xs ++ s ∷ []) × (passed limits (xs ++ s ∷ []) ≡ Some limit)
+IsBarred limits xs s bar = IsBarredFirst limits (λ P. GoesOn P (xs ++ s ∷ [])) bar
 
 -- the answer for one symbol
 abbrev pub Answers : LimitValues → List Symbol → Symbol → Result (Unit {0}) Bar → Type 0
 Answers limits xs s answer = MatchResult answer (λ _. MayCome limits xs s) (IsBarred limits xs s)
 
--- none of these symbols may come, and this is the first bar that one of them gets
-pub record IsBarredAmong (limits : LimitValues) (xs : List Symbol) (ss : List Symbol) (bar : Bar) : Type 0 where
-  pub symbol : Symbol
-  pub among : IsAmong ss symbol
-  pub barred : IsBarred limits xs symbol bar
-  pub none : (s : Symbol) → IsAmong ss s → ¬ MayCome limits xs s
-  pub first : (s : Symbol) (other : Bar) → IsAmong ss s → IsBarred limits xs s other → bar_rank bar ≤ bar_rank other
+-- some transmission, of which P holds, goes on by one of these symbols
+abbrev pub GoesOnWith : List Symbol → List Symbol → (List GroupOutline → Type 0) → Type 0
+GoesOnWith xs ss P = (s : Symbol) × IsAmong ss s × GoesOn P (xs ++ s ∷ [])
+
+-- why none of these symbols may come
+abbrev pub IsBarredAmong : LimitValues → List Symbol → List Symbol → Bar → Type 0
+IsBarredAmong limits xs ss bar = IsBarredFirst limits (GoesOnWith xs ss) bar
 
 -- the answer for some symbols: one of them may come, or the first bar
 abbrev pub AnswersAmong : LimitValues → List Symbol → List Symbol → Result (Unit {0}) Bar → Type 0
-AnswersAmong limits xs ss answer = MatchResult answer (λ _. (s : Symbol) × IsAmong ss s × MayCome limits xs s) (IsBarredAmong limits xs ss)
+AnswersAmong limits xs ss answer = MatchResult answer (λ _. GoesOnWith xs ss (IsWithin limits)) (IsBarredAmong limits xs ss)
 
 -- the answer for a kind: its records may have these symbols
 abbrev pub AnswersKind : LimitValues → List Symbol → Kind → Result (Unit {0}) Bar → Type 0

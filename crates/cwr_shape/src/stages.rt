@@ -6,6 +6,7 @@ ghost use Rattle.cwr_shape.specs.Outlines.{GoesOn};
 ghost use Rattle.cwr_shape.specs.Left.{Any, StandsAt, GoesOnIn, StandsIn};
 ghost use Rattle.cwr_shape.specs.Shapes.{IsShape};
 ghost use Rattle.cwr_fields.specs.declared.codes.TransactionType.{TransactionType};
+ghost use Rattle.cwr_shape.specs.Needs.{needs_at, AreNeeds};
 ghost use Rattle.cwr_shape.specs.Steps.{header_step, party_step, tail_step, party_of_work, behind_writer, step_on, may_end, next_stage};
 
 use crate::symbols::Symbol;
@@ -189,6 +190,38 @@ fn next(stage: Stage, symbol: Symbol) -> Option<Stage>
     }
 }
 
+/// The table of what must still come at a stage.
+fn to_come(stage: Stage) -> Needs
+    ensures { result ≡ needs_at stage }
+{
+    let (records, groups, transaction) = match stage {
+        Stage::Start => (5, 1, 1),
+        Stage::Opened => (4, 1, 1),
+        Stage::Within(TransactionType::Agreement, Step::InGroup) => (6, 0, 4),
+        Stage::Within(
+            TransactionType::NewWork | TransactionType::RevisedWork,
+            Step::InGroup,
+        ) => (4, 0, 2),
+        Stage::Within(TransactionType::Acknowledgement, Step::InGroup) => (3, 0, 1),
+        Stage::Within(_, Step::Agreed) => (5, 0, 3),
+        Stage::Within(_, Step::Territories) => (4, 0, 2),
+        Stage::Within(_, Step::OneSide(_) | Step::Work | Step::Controlled | Step::Other) => {
+            (3, 0, 1)
+        }
+        Stage::Within(
+            _,
+            Step::Both | Step::Acked | Step::Writer | Step::OtherWriter | Step::Tail,
+        ) => (2, 0, 0),
+        Stage::Closed => (1, 0, 0),
+        Stage::Ended => (0, 0, 0),
+    };
+    Needs {
+        records,
+        groups,
+        transaction,
+    }
+}
+
 impl Step {
     /// The step after the first record of a transaction of the type. `None` where no transaction of the type begins so.
     pub fn first(ty: TransactionType, symbol: Symbol) -> Option<Step>
@@ -223,7 +256,7 @@ impl Stage {
     pub fn start() -> Stage
         ensures { StandsAt [] result }
     {
-        Stage::Start
+        Self::Start
     }
 
     /// The stage after one more record. `None` where no transmission goes on so: for all records that stand at this
@@ -233,5 +266,14 @@ impl Stage {
         ensures value { (xs : List Symbol) → StandsAt xs self → IfSome result (StandsAt (xs ++ symbol ∷ [])) }
     {
         next(self, symbol)
+    }
+
+    /// What must still come, at least, before a transmission can end: one completion has exactly these three numbers,
+    /// and none has a lower one in any of them.
+    pub fn needs(self) -> Needs
+        ensures value { result ≡ needs_at self }
+        ensures least { (xs : List Symbol) → StandsAt xs self → AreNeeds xs result }
+    {
+        to_come(self)
     }
 }

@@ -5,9 +5,8 @@ ghost use Rattle.std.specs.Prelude.{◌≡◌, ◌<◌, List, [], ◌∷◌, ◌
 ghost use Rattle.cwr_fields.specs.declared.codes.TransactionType.TheVariants.{Acknowledgement};
 ghost use Rattle.cwr_shape.specs.declared.symbols.Symbol.{Symbol};
 ghost use Rattle.cwr_shape.specs.Stages.{is_grh, stage_after};
-ghost use Rattle.cwr_shape.specs.Bars.{bar_rank};
 ghost use Rattle.cwr_shape.specs.Numbers.{number_in, IsNumberAt};
-ghost use Rattle.cwr_shape.specs.Counting.{counts_with, easier, place_at, stage_type, passed_by, expected, number_inside, HaveRoom};
+ghost use Rattle.cwr_shape.specs.Counting.{counts_with, wanted_role, place_at, stage_type, passed_by, expected, number_inside, HaveRoom};
 ghost use Rattle.cwr_shape.specs.Tallies.{is_header_of, StandsFor, IsAdmitted, Answers, AnswersKind, begun, place_after, KeepsTally};
 
 use crate::limits::{LimitKind, Limits};
@@ -35,20 +34,6 @@ pub enum Bar {
     Misplaced,
     /// Transmissions go on so, but none within the limit.
     Limit(LimitKind),
-}
-
-impl Bar {
-    /// Its place among the bars, of which the first is told.
-    fn rank(self) -> u8
-        ensures { result ≡ bar_rank self }
-    {
-        match self {
-            Bar::Misplaced => 1,
-            Bar::Limit(LimitKind::Records) => 2,
-            Bar::Limit(LimitKind::Groups) => 3,
-            Bar::Limit(LimitKind::Transaction) => 4,
-        }
-    }
 }
 
 /// What is counted of the records so far.
@@ -167,33 +152,36 @@ fn place_at(stage: Stage) -> Place
     }
 }
 
-/// Of two answers the one that comes first: a record may come, or else the first bar.
-fn easier(one: Result<(), Bar>, other: Result<(), Bar>) -> Result<(), Bar>
-    ensures { result ≡ easier one other }
+/// The role of the party that brings a transaction nearer to its end: that which a block of one side lacks, and else any.
+fn wanted_role(stage: Stage) -> Role
+    ensures { result ≡ wanted_role stage }
 {
-    match (one, other) {
-        (Ok(()), _) | (_, Ok(())) => Ok(()),
-        (Err(bar), Err(next)) if bar.rank() <= next.rank() => Err(bar),
-        (_, Err(next)) => Err(next),
+    match stage {
+        Stage::Within(_, Step::OneSide(Role::Assignor)) => Role::Acquirer,
+        _ => Role::Assignor,
     }
 }
 
-/// The first limit that the counts pass at a stage.
+/// The first limit that what was counted and what must still come pass at a stage.
 fn passed(limits: Limits, stage: Stage, counts: &Counts) -> Option<LimitKind>
+    requires { HaveRoom counts.now }
     ensures { result ≡ passed_by limits stage counts.now }
 {
-    if counts.records > limits.records() {
+    let needs = stage.needs();
+    if counts.records + needs.records > limits.records() {
         return Some(LimitKind::Records);
     }
-    if counts.groups > limits.groups() {
+    if counts.groups + needs.groups > limits.groups() {
         return Some(LimitKind::Groups);
     }
-    match place_at(stage) {
-        Place::Transaction if counts.behind_header >= limits.transaction() => {
-            Some(LimitKind::Transaction)
-        }
-        _ => None,
+    let open = match place_at(stage) {
+        Place::Transaction => 1 + counts.behind_header,
+        _ => 0,
+    };
+    if open + needs.transaction > limits.transaction() {
+        return Some(LimitKind::Transaction);
     }
+    None
 }
 
 /// The type of the group that is open at a stage. Where none is open no record is a header, of whatever type.
@@ -314,20 +302,8 @@ impl Tally {
         ensures { (xs : List Symbol) → StandsFor self.now xs → AnswersKind self.now.limits xs kind result }
     {
         match kind {
-            Kind::Ipa => easier(
-                self.admits(Symbol::Ipa(Role::Assignor)),
-                self.admits(Symbol::Ipa(Role::Acquirer)),
-            ),
-            Kind::Grh => easier(
-                easier(
-                    self.admits(Symbol::Grh(TransactionType::Agreement)),
-                    self.admits(Symbol::Grh(TransactionType::NewWork)),
-                ),
-                easier(
-                    self.admits(Symbol::Grh(TransactionType::RevisedWork)),
-                    self.admits(Symbol::Grh(TransactionType::Acknowledgement)),
-                ),
-            ),
+            Kind::Ipa => self.admits(Symbol::Ipa(wanted_role(self.stage))),
+            Kind::Grh => self.admits(Symbol::Grh(TransactionType::Acknowledgement)),
             _ => self.admits(Symbol::Plain(kind)),
         }
     }

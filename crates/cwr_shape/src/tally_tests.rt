@@ -147,30 +147,46 @@ fn bars(rt: HostRuntime) -> Result<(), Fail> {
 
 #[test]
 fn limits_bar_in_their_order(rt: HostRuntime) -> Result<(), Fail> {
-    let mut tally = Tally::new(Limits::new(5, 1, 1)?);
-    come(
-        &mut tally,
-        &[
-            HDR,
-            Symbol::Grh(TransactionType::Acknowledgement),
-            Symbol::Plain(Kind::Ack),
-        ],
-    )?;
+    let acknowledged = [
+        HDR,
+        Symbol::Grh(TransactionType::Acknowledgement),
+        Symbol::Plain(Kind::Ack),
+    ];
+    let records = Err(Bar::Limit(LimitKind::Records));
+    let groups = Err(Bar::Limit(LimitKind::Groups));
     let long = Err(Bar::Limit(LimitKind::Transaction));
+    let mut tally = Tally::new(Limits::new(9, 1, 1)?);
+    come(&mut tally, &acknowledged)?;
     assert_eq!(rt; tally.admits(Symbol::Plain(Kind::Msg)), long);
     assert_eq!(rt; tally.admits(Symbol::Plain(Kind::Ack)), Ok(()));
     assert_eq!(rt; tally.admits(SWR), Err(Bar::Misplaced));
     come(&mut tally, &[GRT])?;
-    let groups = Err(Bar::Limit(LimitKind::Groups));
+    assert_eq!(rt; tally.admits(Symbol::Grh(TransactionType::Agreement)), records);
     assert_eq!(rt; tally.admits_kind(Kind::Grh), groups);
     assert_eq!(rt; tally.admits(TRL), Ok(()));
-    let mut tally = Tally::new(Limits::new(5, 1, 2)?);
+    let mut tally = Tally::new(Limits::new(5, 1, 1)?);
+    come(&mut tally, &acknowledged)?;
+    assert_eq!(rt; tally.admits(Symbol::Plain(Kind::Ack)), records);
+    assert_eq!(rt; tally.admits(GRT), Ok(()));
+    Ok(())
+}
+
+#[test]
+fn a_role_decides_how_many_records_must_follow(rt: HostRuntime) -> Result<(), Fail> {
+    let mut tally = Tally::new(Limits::new(8, 1, 4)?);
     come(
         &mut tally,
-        &[HDR, Symbol::Grh(TransactionType::NewWork), NWR, SWR, GRT],
+        &[
+            HDR,
+            Symbol::Grh(TransactionType::Agreement),
+            Symbol::Plain(Kind::Agr),
+            Symbol::Plain(Kind::Ter),
+            Symbol::Ipa(Role::Assignor),
+        ],
     )?;
     let records = Err(Bar::Limit(LimitKind::Records));
-    assert_eq!(rt; tally.admits(TRL), records);
-    assert_eq!(rt; tally.admits_kind(Kind::Grh), records);
+    assert_eq!(rt; tally.admits_kind(Kind::Ipa), Ok(()));
+    assert_eq!(rt; tally.admits(Symbol::Ipa(Role::Assignor)), records);
+    assert_eq!(rt; tally.admits(Symbol::Ipa(Role::Acquirer)), Ok(()));
     Ok(())
 }

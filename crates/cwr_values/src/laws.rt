@@ -6,12 +6,13 @@ ghost use Rattle.cwr_layouts.specs.Layouts.{fields_after_type};
 ghost use Rattle.cwr_layouts.specs.Lines.{IsLineOf};
 ghost use Rattle.cwr_layouts.specs.Records.{IsRecord, RecordValue, Row};
 ghost use Rattle.cwr_shape.specs.Numbers.{numbers_of};
-ghost use Rattle.cwr_shape.specs.Outlines.{IsWhole};
+ghost use Rattle.cwr_shape.specs.Outlines.{GroupOutline, IsOutline, IsWhole, symbols_of};
 ghost use Rattle.cwr_shape.specs.declared.limits.Limits.{Limits};
+ghost use Rattle.cwr_shape.specs.declared.symbols.Symbol.{Symbol};
 ghost use Rattle.cwr_values.specs.Begins.{rows_so_far};
 ghost use Rattle.cwr_values.specs.Fits.{value_fault};
 ghost use Rattle.cwr_values.specs.Rows.{canonical_text, lengths_of_value, records_of, rows, Spells};
-ghost use Rattle.cwr_values.specs.Values.{FitsIn, IsTransmission, symbol_of, TransmissionValue};
+ghost use Rattle.cwr_values.specs.Values.{FitsIn, IsTransmission, outline_of, symbol_of, TransmissionValue};
 
 /// The canonical text of a transmission spells it.
 pub fn canonical_text_spells()
@@ -58,4 +59,12 @@ pub fn rows_depend_on_records_before()
         → take (length before) (rows v) ≡ take (length before) (rows w) }
     ensures counted { (v : TransmissionValue) (before rest : List RecordValue) → IsTransmission v → records_of v ≡ before ++ rest
         → (more : List Row) × (rows v ≡ rows_so_far before ++ more) }
+{}
+
+/// Records in order, with whose symbols an outline begins, begin a transmission of that outline: for each further
+/// symbol there is a record that fits.
+pub fn records_are_completed()
+    ensures { (groups : List GroupOutline) (records : List RecordValue) (rest : List Symbol) → IsOutline groups → AllByRecursion IsRecord records
+        → symbols_of groups ≡ map symbol_of records ++ rest
+        → (v : TransmissionValue) × IsTransmission v × (outline_of v ≡ groups) × (more : List RecordValue) × (records_of v ≡ records ++ more) }
 {}
