@@ -86,10 +86,10 @@ cells_below limits xs h kind m known may good =
 -- ---- the symbol
 
 -- a symbol among those that the first cells tell may come
-record Comes (limits : LimitValues) (xs set : List Symbol) : Type 0 where
-  symbol : Symbol
-  among : IsAmong set symbol
-  may_come : MayCome limits xs symbol
+pub record Comes (limits : LimitValues) (xs set : List Symbol) : Type 0 where
+  pub symbol : Symbol
+  pub among : IsAmong set symbol
+  pub may_come : MayCome limits xs symbol
 
 party_comes : (limits : LimitValues) (xs : List Symbol) (o : Option (List ℕ)) → IsSomeAnd o (λ c. Holds (types.Code tables.Role) c × IfSome (told_symbol kinds.Ipa 4 c) (MayCome limits xs))
     → Comes limits xs (parties_of (option_and_then role_in o))
@@ -113,7 +113,7 @@ group_comes limits xs (Some c) g =
       may_come = subst (λ (q : Option TransactionType). IfSome (option_map Grh q) (MayCome limits xs)) r.1 g.1;
     }
 
-symbol_below : (limits : LimitValues) (xs : List Symbol) (h : HeldLine) (kind : Kind) (m : ℕ) → held_kind h ≡ Some kind → MayComeOf limits xs kind → GoodBelow limits xs h kind (suc (suc m))
+pub symbol_below : (limits : LimitValues) (xs : List Symbol) (h : HeldLine) (kind : Kind) (m : ℕ) → held_kind h ≡ Some kind → MayComeOf limits xs kind → GoodBelow limits xs h kind (suc (suc m))
     → Comes limits xs (candidates (Some kind) (take (suc m) (held_cells h)))
 symbol_below limits xs h kinds.Ipa m known may good = by (nat_lt 3 (suc m)) refl
   where

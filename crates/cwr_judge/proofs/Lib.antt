@@ -17,3 +17,8 @@ pub mod SeenSymbols
 pub mod AcceptedViable
 pub mod FrontsBeforeFaults
 pub mod NoneAtFaults
+pub mod SeenBars
+pub mod ToldSymbols
+pub mod RecordType
+pub mod UntoldCells
+pub mod FirstReasons

@@ -1,13 +1,13 @@
 -- A line all of whose cells are good is that of a record in order, whose symbol is the one that they tell.
-use Rattle.std.proofs.Common.{◌≡◌, ℕ, suc, ◌≤◌, List, length, take, drop, sym, ap, subst, arith}
+use Rattle.std.proofs.Common.{◌≡◌, ℕ, suc, ◌≤◌, List, [], ◌∷◌, length, take, drop, refl, sym, ap, subst, arith}
 use Rattle.std.specs.Prelude.{Option, Some}
-use Rattle.std.specs.List.{IsAmong}
+use Rattle.std.specs.List.{AllZip, IsAmong}
 use Rattle.std.proofs.lemmas.List.{take_all}
 use Rattle.cwr_fields.proofs.LineFeeds.{NoLf}
 use Rattle.cwr_layouts.specs.declared.kinds.Kind.{Kind}
 use Rattle.cwr_layouts.specs.declared.kinds.Kind.TheVariants as kinds
 use Rattle.cwr_layouts.specs.Layouts.{FieldLayout, layout, fields_after_type}
-use Rattle.cwr_layouts.specs.Records.{RecordValue, IsRecord, row_of}
+use Rattle.cwr_layouts.specs.Records.{RecordValue, Row, IsRecord, row_of}
 use Rattle.cwr_layouts.specs.GoodCells.{AreGood}
 use Rattle.cwr_layouts.specs.Lines.{IsLineOf, line_kind, line_cells}
 use Rattle.cwr_layouts.proofs.CutLaws.{line_is_cut}
@@ -77,3 +77,10 @@ line_record limits xs line m no_lf g far =
       may_come = subst (MayCome limits xs) symbol g.goes_on;
       is_line = subst (λ (k : Kind). IsLineOf (row_of (numbers_behind xs k) v.value) line) (sym v.of_kind) v.is_line;
     }
+
+-- there are as many lines as rows
+pub as_many : (rows : List Row) (lines : List (List ℕ)) → AllZip IsLineOf rows lines → length lines ≡ length rows
+as_many [] [] h = refl
+as_many [] (line ∷ lines) h = absurd h
+as_many (row ∷ rows) [] h = absurd h
+as_many (row ∷ rows) (line ∷ lines) h = let m : length lines ≡ length rows = as_many rows lines h.1 in omega (arith, m)

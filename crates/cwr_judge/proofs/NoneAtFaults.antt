@@ -114,7 +114,7 @@ in_front (suc m) (d ∷ fields) ns number (x ∷ cells) a g (suc k) f c h e q = 
 -- ---- symbols
 
 -- what holds of the symbol that a cell tells holds of the one that the first cells up to it tell
-told_holds : (kind : Kind) (i : ℕ) (c : List ℕ) (cells : List (List ℕ)) (s : Symbol) (P : Symbol → Type 0) → slice_get cells i ≡ Some c → IsAmong (candidates (Some kind) cells) s
+pub told_holds : (kind : Kind) (i : ℕ) (c : List ℕ) (cells : List (List ℕ)) (s : Symbol) (P : Symbol → Type 0) → slice_get cells i ≡ Some c → IsAmong (candidates (Some kind) cells) s
     → IsSomeAnd (told_symbol kind (suc i) c) P → P s
 told_holds kinds.Ipa i c cells s P there among t = by (suc i == 4) refl t
   where
@@ -143,7 +143,7 @@ told_holds kinds.Grh i c cells s P there among t = by (suc i == 2) refl t
 told_holds kind i c cells s P there among t = absurd t
 
 -- a symbol that some cells tell is among all of the kind
-among_all : (kind : Kind) (cells : List (List ℕ)) (s : Symbol) → IsAmong (candidates (Some kind) cells) s → IsAmong (candidates (Some kind) []) s
+pub among_all : (kind : Kind) (cells : List (List ℕ)) (s : Symbol) → IsAmong (candidates (Some kind) cells) s → IsAmong (candidates (Some kind) []) s
 among_all kinds.Ipa cells s a = by (option_and_then role_in (slice_get cells 3)) a
   where
     by : (o : Option Role) → IsAmong (parties_of o) s → IsAmong (candidates (Some kinds.Ipa) []) s
@@ -212,12 +212,12 @@ fault_by true limits xs h kind k f c reason g (s, among, may) d e there wide goo
 fault_by false limits xs h kind k f c reason g may d e there wide good w = text_fault limits xs h kind (suc k) f.ty c reason g there good w
 
 -- what holds of something that is there
-record There {A : Type 0} (o : Option A) (P : A → Type 0) : Type 0 where
-  value : A
-  is : o ≡ Some value
-  holds : P value
+pub record There {A : Type 0} (o : Option A) (P : A → Type 0) : Type 0 where
+  pub value : A
+  pub is : o ≡ Some value
+  pub holds : P value
 
-there_of : {A : Type 0} (o : Option A) (P : A → Type 0) → IsSomeAnd o P → There o P
+pub there_of : {A : Type 0} (o : Option A) (P : A → Type 0) → IsSomeAnd o P → There o P
 there_of None P s = absurd s
 there_of (Some a) P s = record { value = a; is = refl; holds = s }
 
