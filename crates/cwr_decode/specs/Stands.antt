@@ -1,5 +1,5 @@
 -- What a decoder stands for: the input so far, and the items that were handed out.
-use Rattle.std.specs.Prelude.{◌≡◌, ◌≢◌, ◌⊎◌, ℕ, ◌+◌, Bool, true, false, IsTrue, IsFalse, List, [], ◌∷◌, ◌++◌, length, map, Option, Some, None}
+use Rattle.std.specs.Prelude.{◌≡◌, ◌≢◌, ◌⊎◌, ℕ, ◌+◌, ◌*◌, ◌≤◌, Bool, true, false, IsTrue, IsFalse, List, [], ◌∷◌, ◌++◌, length, map, Option, Some, None}
 use Rattle.std.specs.List.{AllZip, AllByRecursion, flat_map, list_any}
 use Rattle.cwr_layouts.specs.declared.lines.LineEnd.TheVariants as line_ends
 use Rattle.cwr_layouts.specs.Records.{RecordValue, IsRecord}
@@ -140,6 +140,10 @@ pub record IsUnderWay (d : Standing) : Type 0 where
   pub input : List ℕ
   pub given : List Item
   pub stands : StandsFor d input given
+
+-- whatever the decoder stands for, at most 1,025 bytes were used for each record that the limits hold
+abbrev pub IsBounded : Standing → Type 0
+IsBounded d = (input : List ℕ) (given : List Item) → StandsFor d input given → length input ≤ 1025 * d.tally.limits.records
 
 -- what a decoder is at each time
 pub record IsSound (d : Standing) : Type 0 where
