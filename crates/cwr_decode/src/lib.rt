@@ -11,6 +11,7 @@ mod judging_tests;
 pub mod laws;
 mod machine;
 mod outcomes;
+mod piecewise;
 #[cfg(test)]
 mod reading_tests;
 mod readings;
@@ -25,5 +26,6 @@ mod works_tests;
 pub use cwr_judge::Refusal;
 pub use decoders::Decoder;
 pub use outcomes::{Outcome, Step};
+pub use piecewise::read_pieces;
 pub use readings::{ReadFault, Reading};
 pub use whole::read_all;
