@@ -9,13 +9,13 @@ use Rattle.cwr_values.specs.declared.items.Item.{Item}
 use Rattle.cwr_values.specs.declared.items.Item.TheVariants as items
 use Rattle.cwr_values.specs.Values.{GroupValue, TransmissionValue}
 use Rattle.cwr_values.specs.Rows.{canonical_text, rows}
-use Rattle.cwr_decode.specs.Items.{item_records, records_in, opens_group, is_transaction}
+use Rattle.cwr_judge.specs.Items.{item_records, records_in, opens_group, is_transaction}
 use Rattle.cwr_decode.specs.declared.readings.ReadFault.{ReadFault}
 use Rattle.cwr_decode.specs.declared.readings.ReadFault.TheVariants as faults
 use Rattle.cwr_decode.specs.Machines.{Standing, again}
 use Rattle.cwr_decode.specs.Readings.{answer_of, Reads}
 use Rattle.cwr_decode.specs.Runs.{HasReadAll, IsReadingOn, StopsRun}
-use Rattle.cwr_decode.proofs.Accepted.{accepted_once, canonical_accepted}
+use Rattle.cwr_judge.proofs.Accepted.{accepted_once, canonical_accepted}
 use Rattle.cwr_decode.proofs.Collecting.{items_once}
 use Rattle.cwr_decode.proofs.CountedItems.{all_given, bounded, groups_given, transactions_given}
 use Rattle.cwr_decode.proofs.Running.{all_items, all_taken, some_read}

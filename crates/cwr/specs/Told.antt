@@ -8,8 +8,8 @@ use Rattle.cwr_values.specs.Values.{TransmissionValue, IsTransmission, FitsIn}
 use Rattle.cwr_values.specs.Rows.{canonical_text}
 use Rattle.cwr_decode.specs.declared.readings.ReadFault.{ReadFault}
 use Rattle.cwr_decode.specs.declared.readings.ReadFault.TheVariants as read_faults
-use Rattle.cwr_decode.specs.Ends.{IsAccepted}
-use Rattle.cwr_decode.specs.Items.{item_records, opens_group, is_transaction}
+use Rattle.cwr_judge.specs.Ends.{IsAccepted}
+use Rattle.cwr_judge.specs.Items.{item_records, opens_group, is_transaction}
 use Rattle.cwr_decode.specs.Runs.{TakesFront, StopsRun}
 use Rattle.cwr_tools.specs.declared.verdicts.Verdict.{Verdict}
 use Rattle.cwr_tools.specs.declared.verdicts.Verdict.TheVariants.{Good, Refused, Truncated}

@@ -3,7 +3,7 @@
 ghost use Rattle.std.specs.Prelude.{◌≡◌, ◌≢◌, ◌⊎◌, ◌+◌, ◌≤◌, length, Err, IfErr, IfOk, OnOk};
 ghost use Rattle.std.specs.Io.KnownBytes.{Appends};
 ghost use Rattle.cwr_fields.specs.Failures.{one_more_failure};
-ghost use Rattle.cwr_decode.specs.Items.{item_records};
+ghost use Rattle.cwr_judge.specs.Items.{item_records};
 ghost use Rattle.cwr_tools.specs.Texts.{verdict_line};
 ghost use Rattle.cwr.specs.Told.{counted, IsCheckFault, IsReadingsFault, IsToldOf, IsVerdictOf, JudgesAccepted, JudgesCanonical, StopsReading, WritesPart};
 

@@ -19,11 +19,11 @@ use Rattle.cwr_decode.specs.declared.outcomes.Outcome.{Outcome}
 use Rattle.cwr_decode.specs.declared.outcomes.Outcome.TheVariants as outcomes
 use Rattle.cwr_decode.specs.declared.machine.State.{State}
 use Rattle.cwr_decode.specs.declared.machine.State.TheVariants as states
-use Rattle.cwr_decode.specs.Judged.{IsOfNone}
+use Rattle.cwr_judge.specs.Judged.{IsOfNone}
 use Rattle.cwr_decode.specs.Machines.{Standing, IsReady, Leaves, Judges, with_tally, stopped}
 use Rattle.cwr_decode.specs.Stands.{StandsFor, StandsIn, IsReading, IsInput, IsRight, AcceptsNone, EndsInLf, GoesTooFar, EndsLine, items_out, text_of}
 use Rattle.cwr_decode.specs.Calls.{RefusesLast, Advances, Grows}
-use Rattle.cwr_decode.proofs.Accepted.{closed_begins}
+use Rattle.cwr_judge.proofs.Accepted.{closed_begins}
 use Rattle.cwr_decode.proofs.Texts.{text_of-push, closed_more}
 use Rattle.cwr_decode.proofs.Beyond.{none_behind_line, none_behind_long}
 use Rattle.cwr_decode.proofs.Ended.{accepts_whole}

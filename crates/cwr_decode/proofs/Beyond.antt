@@ -24,11 +24,11 @@ use Rattle.cwr_values.specs.Begins.{row_behind, rows_behind, rows_so_far}
 use Rattle.cwr_values.proofs.Spelling.{records_in_order}
 use Rattle.cwr_values.proofs.Unique.{symbols-outline, outline_whole, records-rows, rows_are_rows, lines_without_lf, rows_begin}
 use Rattle.cwr_values.proofs.RowAt.{rows_split}
-use Rattle.cwr_decode.specs.Ends.{IsAccepted, IsNotAccepted}
-use Rattle.cwr_decode.specs.Judged.{IsOfNone}
+use Rattle.cwr_judge.specs.Ends.{IsAccepted, IsNotAccepted}
+use Rattle.cwr_judge.specs.Judged.{IsOfNone}
 use Rattle.cwr_decode.specs.Stands.{AreAccepted, text_of}
-use Rattle.cwr_decode.proofs.NextLines.{line_is_next}
-use Rattle.cwr_decode.proofs.Given.{records_back}
+use Rattle.cwr_judge.proofs.NextLines.{line_is_next}
+use Rattle.cwr_judge.proofs.Given.{records_back}
 
 -- a transmission whose text begins with the lines of these records has one more record, and its line comes next
 pub record GoesFurther (limits : LimitValues) (lines : List (List ℕ)) (records : List RecordValue) (others : List (List ℕ)) : Type 0 where

@@ -19,9 +19,9 @@ use Rattle.cwr_values.specs.declared.items.Item.{Item}
 use Rattle.cwr_values.specs.declared.items.Item.TheVariants.{GroupOpened, Transaction, GroupClosed, Ended}
 use Rattle.cwr_values.specs.Values.{GroupValue, TransmissionValue, symbol_of, type_of, IsTransaction, IsGroup, IsRecordOf}
 use Rattle.cwr_values.specs.Begun.{HasHeaderOf, IsWholeTransaction}
-use Rattle.cwr_decode.specs.Items.{group_rest, group_items, value_items}
+use Rattle.cwr_judge.specs.Items.{group_rest, group_items, value_items}
 use Rattle.cwr_decode.specs.Runs.{AreGroupItems}
-use Rattle.cwr_decode.proofs.NumberCells.{symbol_kind-of}
+use Rattle.cwr_judge.proofs.NumberCells.{symbol_kind-of}
 
 -- ---- a whole transaction begins with its header
 

@@ -24,13 +24,13 @@ use Rattle.cwr_values.proofs.Built.{is_trailer}
 use Rattle.cwr_values.proofs.Spelling.{length-rows}
 use Rattle.cwr_decode.specs.declared.machine.State.{State}
 use Rattle.cwr_decode.specs.declared.machine.State.TheVariants as states
-use Rattle.cwr_decode.specs.Items.{is_in_transaction, group_items, value_items, item_records, records_in, opens_group, is_transaction}
+use Rattle.cwr_judge.specs.Items.{is_in_transaction, group_items, value_items, item_records, records_in, opens_group, is_transaction}
 use Rattle.cwr_decode.specs.Machines.{Standing}
-use Rattle.cwr_decode.specs.Open.{items_so_far, open_of, goes_on_with, handed, item_of}
+use Rattle.cwr_judge.specs.Open.{items_so_far, open_of, goes_on_with, handed, item_of}
 use Rattle.cwr_decode.specs.Stands.{AreAccepted, IsThrough, StandsFor, StandsIn}
 use Rattle.cwr_decode.proofs.Entering.{few_records}
-use Rattle.cwr_decode.proofs.Given.{goes_on_stays, ends_closes, no_open, no_items}
-use Rattle.cwr_decode.proofs.ItemLaws.{all_last}
+use Rattle.cwr_judge.proofs.Given.{goes_on_stays, ends_closes, no_open, no_items}
+use Rattle.cwr_judge.proofs.ItemLaws.{all_last}
 
 -- ---- fronts
 

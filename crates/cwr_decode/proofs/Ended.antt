@@ -14,11 +14,11 @@ use Rattle.cwr_values.specs.Rows.{rows, Spells}
 use Rattle.cwr_values.specs.Begins.{rows_so_far}
 use Rattle.cwr_values.proofs.Built.{built}
 use Rattle.cwr_values.proofs.RowAt.{rows_whole}
-use Rattle.cwr_decode.specs.Items.{items, value_items}
-use Rattle.cwr_decode.specs.Open.{items_so_far}
+use Rattle.cwr_judge.specs.Items.{items, value_items}
+use Rattle.cwr_judge.specs.Open.{items_so_far}
 use Rattle.cwr_decode.specs.Stands.{text_of, IsInput, AreAccepted, AcceptsAll}
-use Rattle.cwr_decode.proofs.Accepted.{closed_begins}
-use Rattle.cwr_decode.proofs.ItemLaws.{items_of_parts}
+use Rattle.cwr_judge.proofs.Accepted.{closed_begins}
+use Rattle.cwr_judge.proofs.ItemLaws.{items_of_parts}
 use Rattle.cwr_decode.proofs.Texts.{closed_more}
 
 -- lines of a whole transmission spell it

@@ -21,11 +21,11 @@ use Rattle.cwr_values.proofs.Built.{plain_kind}
 use Rattle.cwr_decode.specs.declared.outcomes.Outcome.{Outcome}
 use Rattle.cwr_decode.specs.declared.outcomes.Outcome.TheVariants as outcomes
 use Rattle.cwr_decode.specs.declared.machine.State.TheVariants as states
-use Rattle.cwr_decode.specs.Items.{is_in_transaction}
+use Rattle.cwr_judge.specs.Items.{is_in_transaction}
 use Rattle.cwr_decode.specs.Machines.{Standing, Empties, Enters, held_list, reading, stopped}
-use Rattle.cwr_decode.specs.Open.{items_so_far, open_of, item_of}
+use Rattle.cwr_judge.specs.Open.{items_so_far, open_of, item_of}
 use Rattle.cwr_decode.specs.Stands.{AreAccepted, IsInput, StandsFor, held_of, items_in, text_of}
-use Rattle.cwr_decode.proofs.Trailers.{trailer_ends, whole_ends}
+use Rattle.cwr_judge.proofs.Trailers.{trailer_ends, whole_ends}
 
 -- ---- lists
 

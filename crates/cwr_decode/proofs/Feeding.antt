@@ -24,14 +24,14 @@ use Rattle.cwr_decode.specs.declared.outcomes.Outcome.{Outcome}
 use Rattle.cwr_decode.specs.declared.outcomes.Outcome.TheVariants as outcomes
 use Rattle.cwr_decode.specs.declared.machine.State.{State}
 use Rattle.cwr_decode.specs.declared.machine.State.TheVariants as states
-use Rattle.cwr_decode.specs.Items.{is_in_transaction}
-use Rattle.cwr_decode.specs.Ends.{IsNotAccepted}
+use Rattle.cwr_judge.specs.Items.{is_in_transaction}
+use Rattle.cwr_judge.specs.Ends.{IsNotAccepted}
 use Rattle.cwr_decode.specs.Machines.{Standing, IsReady, Settles, Enters, EntersHeld, Judges, ClosesLine, WaitsOutside, again, first, over, stopped}
 use Rattle.cwr_decode.specs.Stands.{StandsFor, StandsIn, IsReading, IsInput, IsRight, held_of, items_out, text_of}
 use Rattle.cwr_decode.specs.Calls.{IsLive, Grows, TakesEnd, Advances, Feeds, Finishes, seen}
 use Rattle.cwr_decode.proofs.Texts.{closed_text, closed_open}
 use Rattle.cwr_decode.proofs.Beyond.{none_behind_cut}
-use Rattle.cwr_decode.proofs.Given.{no_open, no_items}
+use Rattle.cwr_judge.proofs.Given.{no_open, no_items}
 use Rattle.cwr_decode.proofs.LineJudged.{HasLine, judged_stands, judged_empties}
 use Rattle.cwr_decode.proofs.Moving.{IsPlain, settled, enters_rest, if_none}
 use Rattle.cwr_decode.proofs.Advancing.{Stands_behind, plain_right, judged_right, judged_rest, judged_grows, never_more, plain_last, judged_last}

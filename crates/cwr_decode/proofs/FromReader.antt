@@ -14,7 +14,7 @@ use Rattle.cwr_decode.specs.declared.machine.State.{State}
 use Rattle.cwr_decode.specs.declared.machine.State.TheVariants as states
 use Rattle.cwr_decode.specs.declared.readings.ReadFault.{ReadFault}
 use Rattle.cwr_decode.specs.declared.readings.ReadFault.TheVariants as faults
-use Rattle.cwr_decode.specs.Ends.{IsAccepted, IsNotAccepted}
+use Rattle.cwr_judge.specs.Ends.{IsAccepted, IsNotAccepted}
 use Rattle.cwr_decode.specs.Machines.{Standing, Leaves, Empties, again}
 use Rattle.cwr_decode.specs.Stands.{StandsFor, IsUnderWay, IsRight, MayFollow, AcceptsNone, EndsLine, items_out}
 use Rattle.cwr_decode.specs.Calls.{IsLive, WantsMemory}

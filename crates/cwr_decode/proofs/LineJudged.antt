@@ -26,17 +26,17 @@ use Rattle.cwr_values.specs.Begins.{row_behind, rows_so_far}
 use Rattle.cwr_values.proofs.RowAt.{rows_so_far-snoc}
 use Rattle.cwr_decode.specs.declared.outcomes.Outcome.{Outcome}
 use Rattle.cwr_decode.specs.declared.outcomes.Outcome.TheVariants as outcomes
-use Rattle.cwr_decode.specs.declared.judging.LineFault.{LineFault}
+use Rattle.cwr_judge.specs.declared.judging.LineFault.{LineFault}
 use Rattle.cwr_decode.specs.declared.machine.State.{State}
 use Rattle.cwr_decode.specs.declared.machine.State.TheVariants as states
-use Rattle.cwr_decode.specs.Items.{is_in_transaction}
-use Rattle.cwr_decode.specs.Judged.{IsNext, IsOfNone, IsFirstFault}
+use Rattle.cwr_judge.specs.Items.{is_in_transaction}
+use Rattle.cwr_judge.specs.Judged.{IsNext, IsOfNone, IsFirstFault}
 use Rattle.cwr_decode.specs.Machines.{Standing, Empties, Accepts, Refuses, Tells, Judges, EntersHeld, Follows, with_tally, pending, stopped, held_list}
-use Rattle.cwr_decode.specs.Open.{items_so_far, open_of, goes_on_with, handed, item_of}
+use Rattle.cwr_judge.specs.Open.{items_so_far, open_of, goes_on_with, handed, item_of}
 use Rattle.cwr_decode.specs.Calls.{RefusesLast}
 use Rattle.cwr_decode.specs.Stands.{AreAccepted, IsInput, IsPending, IsStopped, StandsFor, StandsIn, held_of, items_in, items_out, text_of}
-use Rattle.cwr_decode.proofs.NextLines.{next_is_line}
-use Rattle.cwr_decode.proofs.Given.{goes_on_stays, ends_closes}
+use Rattle.cwr_judge.proofs.NextLines.{next_is_line}
+use Rattle.cwr_judge.proofs.Given.{goes_on_stays, ends_closes}
 use Rattle.cwr_decode.proofs.Texts.{text_of-push}
 use Rattle.cwr_decode.proofs.Entering.{MayEnter, enters_stands, enters_empties, empties_by, symbols-snoc, few_records}
 

@@ -15,14 +15,14 @@ use Rattle.cwr_decode.specs.declared.machine.State.{State}
 use Rattle.cwr_decode.specs.declared.machine.State.TheVariants as states
 use Rattle.cwr_decode.specs.declared.readings.ReadFault.{ReadFault}
 use Rattle.cwr_decode.specs.declared.readings.ReadFault.TheVariants as faults
-use Rattle.cwr_decode.specs.Items.{value_items}
-use Rattle.cwr_decode.specs.Ends.{IsAccepted}
+use Rattle.cwr_judge.specs.Items.{value_items}
+use Rattle.cwr_judge.specs.Ends.{IsAccepted}
 use Rattle.cwr_decode.specs.Machines.{Standing, again}
 use Rattle.cwr_decode.specs.Stands.{StandsIn}
 use Rattle.cwr_decode.specs.Calls.{IsLive}
 use Rattle.cwr_decode.specs.Readings.{answer_of, items_read, IsWholeInput, IsRightOf, LeavesRead, IsSpent, Reads}
 use Rattle.cwr_decode.specs.Runs.{HasRead, EndsWhole, HasReadAll, IsReadingOn, AreItems, TakesFront, IsRightFault, StopsRun, TellsAccepted, TellsCanonical}
-use Rattle.cwr_decode.proofs.Accepted.{accepted_once, canonical_accepted}
+use Rattle.cwr_judge.proofs.Accepted.{accepted_once, canonical_accepted}
 use Rattle.cwr_decode.proofs.CountedItems.{bounded}
 use Rattle.cwr_decode.proofs.Ended.{spells_whole}
 

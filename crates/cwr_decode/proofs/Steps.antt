@@ -14,12 +14,12 @@ use Rattle.cwr_values.specs.declared.items.Item.{Item}
 use Rattle.cwr_values.specs.declared.items.Item.TheVariants as items
 use Rattle.cwr_values.specs.declared.transactions.PushFault.{PushFault}
 use Rattle.cwr_decode.specs.declared.outcomes.Outcome.{Outcome}
-use Rattle.cwr_decode.specs.declared.judging.LineFault.{LineFault}
-use Rattle.cwr_decode.specs.Judged.{IsNext, IsOfNone, IsFirstFault}
+use Rattle.cwr_judge.specs.declared.judging.LineFault.{LineFault}
+use Rattle.cwr_judge.specs.Judged.{IsNext, IsOfNone, IsFirstFault}
 use Rattle.cwr_decode.specs.declared.outcomes.Outcome.TheVariants as outcomes
 use Rattle.cwr_decode.specs.declared.machine.State.TheVariants as states
-use Rattle.cwr_decode.specs.Items.{is_in_transaction as inside_kind}
-use Rattle.cwr_decode.specs.Open.{goes_on_with}
+use Rattle.cwr_judge.specs.Items.{is_in_transaction as inside_kind}
+use Rattle.cwr_judge.specs.Open.{goes_on_with}
 use Rattle.cwr_decode.specs.Machines.{Standing, Adds, GoesOn, Enters, Follows, HandsOut, Judges, Tells, with_tally, held_list, reading, stopped}
 
 -- ---- whether a record goes on with the open transaction

@@ -10,9 +10,9 @@ use Rattle.cwr_values.specs.declared.items.Item.{Item}
 use Rattle.cwr_values.specs.Begins.{rows_so_far}
 use Rattle.cwr_values.proofs.RowAt.{length-rows_so_far}
 use Rattle.cwr_values.proofs.Unique.{lines_without_lf}
-use Rattle.cwr_decode.specs.declared.refusals.Refusal.{Refusal}
+use Rattle.cwr_judge.specs.declared.refusals.Refusal.{Refusal}
 use Rattle.cwr_decode.specs.Machines.{Standing}
-use Rattle.cwr_decode.specs.Places.{IsFirstBad}
+use Rattle.cwr_judge.specs.Places.{IsFirstBad}
 use Rattle.cwr_decode.specs.Stands.{IsInput, IsStopped, MayFollow, text_of}
 use Rattle.cwr_decode.proofs.RawLines.{raw_behind}
 use Rattle.cwr_decode.proofs.StoppedPlaces.{stops_at, first_bad}
@@ -31,7 +31,7 @@ closed_input false input more lines bytes f i =
     let whole : input ++ more ≡ text_of (lines ++ bytes ∷ []) ++ more = ap (λ (t : List ℕ). t ++ more) (i ∙ sym (text_of-push lines bytes)) in (
       closed more,
       ap closed whole ∙ closed_more (lines ++ bytes ∷ []) more ∙ ap (λ (t : List ℕ). t ++ closed more) (text_of-push lines bytes)
-      ∙ append_assoc (text_of lines) (bytes ++ 10 ∷ []) (closed more) ∙ ap (λ (t : List ℕ). text_of lines ++ t) (append_assoc bytes (10 ∷ []) (closed more)),
+          ∙ append_assoc (text_of lines) (bytes ++ 10 ∷ []) (closed more) ∙ ap (λ (t : List ℕ). text_of lines ++ t) (append_assoc bytes (10 ∷ []) (closed more)),
     )
 closed_input true input more lines bytes f i = ([], ap (λ (t : List ℕ). closed (input ++ t)) f ∙ ap closed (append-nil input) ∙ i)
 

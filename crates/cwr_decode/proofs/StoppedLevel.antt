@@ -17,8 +17,8 @@ use Rattle.cwr_shape.specs.Tallies.{place_by, place_after}
 use Rattle.cwr_values.specs.declared.items.Item.{Item}
 use Rattle.cwr_values.specs.Values.{symbol_of, symbol_by}
 use Rattle.cwr_values.specs.Begins.{row_behind, rows_behind, rows_so_far}
-use Rattle.cwr_decode.specs.declared.refusals.Refusal.{Refusal}
-use Rattle.cwr_decode.specs.Ends.{kind_behind}
+use Rattle.cwr_judge.specs.declared.refusals.Refusal.{Refusal}
+use Rattle.cwr_judge.specs.Ends.{kind_behind}
 use Rattle.cwr_decode.specs.Machines.{Standing}
 use Rattle.cwr_decode.specs.Stands.{IsStopped}
 

@@ -14,9 +14,9 @@ use Rattle.cwr_values.specs.declared.items.Item.{Item}
 use Rattle.cwr_values.specs.Begins.{rows_so_far}
 use Rattle.cwr_values.proofs.RowAt.{length-rows_so_far}
 use Rattle.cwr_values.proofs.Unique.{lines_without_lf}
-use Rattle.cwr_decode.specs.declared.refusals.Refusal.{Refusal}
+use Rattle.cwr_judge.specs.declared.refusals.Refusal.{Refusal}
 use Rattle.cwr_decode.specs.Machines.{Standing}
-use Rattle.cwr_decode.specs.Places.{IsFirstBad}
+use Rattle.cwr_judge.specs.Places.{IsFirstBad}
 use Rattle.cwr_decode.specs.Stands.{IsInput, IsStopped, text_of}
 use Rattle.cwr_decode.proofs.RawLines.{raw_behind}
 use Rattle.cwr_decode.proofs.StoppedFirstBad.{as_many}

@@ -13,16 +13,16 @@ use Rattle.cwr_shape.specs.Ranges.{LimitValues}
 use Rattle.cwr_shape.specs.Tallies.{TallyValue}
 use Rattle.cwr_values.specs.Values.{symbol_of}
 use Rattle.cwr_values.specs.Begins.{rows_so_far}
-use Rattle.cwr_decode.specs.Places.{Viable, IsBadAt, IsFirstBad, last_place}
-use Rattle.cwr_decode.specs.GoodFronts.{HasGoodFront}
-use Rattle.cwr_decode.specs.Judged.{IsFirstBy, IsFirstFault, IsWrongAt}
+use Rattle.cwr_judge.specs.Places.{Viable, IsBadAt, IsFirstBad, last_place}
+use Rattle.cwr_judge.specs.GoodFronts.{HasGoodFront}
+use Rattle.cwr_judge.specs.Judged.{IsFirstBy, IsFirstFault, IsWrongAt}
 use Rattle.cwr_decode.specs.Stands.{AreAccepted}
-use Rattle.cwr_decode.proofs.AcceptedViable.{accepted_viable}
-use Rattle.cwr_decode.proofs.FrontsBeforeFaults.{wrong_field, front_before}
-use Rattle.cwr_decode.proofs.NoneAtFaults.{none_at_fault}
-use Rattle.cwr_decode.proofs.OneEnd.{same_line}
-use Rattle.cwr_decode.proofs.SomeEnd.{is_first}
-use Rattle.cwr_decode.proofs.ViableCells.{viable_front, goes_on_viable}
+use Rattle.cwr_judge.proofs.AcceptedViable.{accepted_viable}
+use Rattle.cwr_judge.proofs.FrontsBeforeFaults.{wrong_field, front_before}
+use Rattle.cwr_judge.proofs.NoneAtFaults.{none_at_fault}
+use Rattle.cwr_judge.proofs.OneEnd.{same_line}
+use Rattle.cwr_judge.proofs.SomeEnd.{is_first}
+use Rattle.cwr_judge.proofs.ViableCells.{viable_front, goes_on_viable}
 
 -- the fronts of a line: those before the field are good, and that up to the field isn't
 record Fronts (limits : LimitValues) (xs : List Symbol) (line : List ℕ) (field : ℕ) : Type 0 where

@@ -11,15 +11,15 @@ use Rattle.cwr_shape.specs.Tallies.{TallyValue, StandsFor, place_after}
 use Rattle.cwr_values.specs.declared.items.Item.{Item}
 use Rattle.cwr_values.specs.declared.items.Item.TheVariants as items
 use Rattle.cwr_values.specs.declared.transactions.PushFault.{PushFault}
-use Rattle.cwr_decode.specs.declared.judging.LineFault.{LineFault}
+use Rattle.cwr_judge.specs.declared.judging.LineFault.{LineFault}
 use Rattle.cwr_decode.specs.declared.outcomes.Outcome.{Outcome}
 use Rattle.cwr_decode.specs.declared.outcomes.Outcome.TheVariants as outcomes
 use Rattle.cwr_decode.specs.declared.machine.State.{State}
 use Rattle.cwr_decode.specs.declared.machine.State.TheVariants.{Reading, Pending, Ended, Refused, Truncated, Memory}
-use Rattle.cwr_decode.specs.declared.refusals.Refusal.{Refusal}
-use Rattle.cwr_decode.specs.Judged.{IsNext, IsOfNone, IsFirstFault}
-use Rattle.cwr_decode.specs.Items.{is_in_transaction}
-use Rattle.cwr_decode.specs.Open.{goes_on_with}
+use Rattle.cwr_judge.specs.declared.refusals.Refusal.{Refusal}
+use Rattle.cwr_judge.specs.Judged.{IsNext, IsOfNone, IsFirstFault}
+use Rattle.cwr_judge.specs.Items.{is_in_transaction}
+use Rattle.cwr_judge.specs.Open.{goes_on_with}
 
 -- what a decoder holds: the line that is read or waits, what is counted of the records, and the records of the open
 -- transaction; what it does next, and whether the input is over

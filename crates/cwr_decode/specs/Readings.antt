@@ -12,8 +12,8 @@ use Rattle.cwr_decode.specs.declared.machine.State.{State}
 use Rattle.cwr_decode.specs.declared.machine.State.TheVariants as states
 use Rattle.cwr_decode.specs.declared.readings.ReadFault.{ReadFault}
 use Rattle.cwr_decode.specs.declared.readings.ReadFault.TheVariants as faults
-use Rattle.cwr_decode.specs.Items.{value_items}
-use Rattle.cwr_decode.specs.Ends.{IsAccepted, IsNotAccepted}
+use Rattle.cwr_judge.specs.Items.{value_items}
+use Rattle.cwr_judge.specs.Ends.{IsAccepted, IsNotAccepted}
 use Rattle.cwr_decode.specs.Machines.{Standing, Empties, state_behind}
 use Rattle.cwr_decode.specs.Stands.{EndsInLf, GoesTooFar, StandsFor}
 use Rattle.cwr_decode.specs.Calls.{IsLive, WantsMemory}

@@ -13,8 +13,8 @@ use Rattle.cwr_decode.specs.declared.machine.State.{State}
 use Rattle.cwr_decode.specs.declared.machine.State.TheVariants.{Ended}
 use Rattle.cwr_decode.specs.declared.readings.ReadFault.{ReadFault}
 use Rattle.cwr_decode.specs.declared.readings.ReadFault.TheVariants.{Reader, Refused, Truncated, Memory}
-use Rattle.cwr_decode.specs.Items.{value_items}
-use Rattle.cwr_decode.specs.Ends.{IsAccepted, IsNotAccepted}
+use Rattle.cwr_judge.specs.Items.{value_items}
+use Rattle.cwr_judge.specs.Ends.{IsAccepted, IsNotAccepted}
 use Rattle.cwr_decode.specs.Machines.{Standing}
 use Rattle.cwr_decode.specs.Stands.{StandsFor}
 use Rattle.cwr_decode.specs.Calls.{IsLive}

@@ -19,12 +19,12 @@ use Rattle.cwr_decode.specs.declared.outcomes.Outcome.{Outcome}
 use Rattle.cwr_decode.specs.declared.outcomes.Outcome.TheVariants as outcomes
 use Rattle.cwr_decode.specs.declared.machine.State.{State}
 use Rattle.cwr_decode.specs.declared.machine.State.TheVariants.{Reading, Pending, Ended, Refused, Truncated, Memory}
-use Rattle.cwr_decode.specs.declared.refusals.Refusal.{Refusal}
-use Rattle.cwr_decode.specs.Items.{value_items}
-use Rattle.cwr_decode.specs.Ends.{IsAccepted, IsNotAccepted}
-use Rattle.cwr_decode.specs.Judged.{IsOfNone, IsFirstFault}
+use Rattle.cwr_judge.specs.declared.refusals.Refusal.{Refusal}
+use Rattle.cwr_judge.specs.Items.{value_items}
+use Rattle.cwr_judge.specs.Ends.{IsAccepted, IsNotAccepted}
+use Rattle.cwr_judge.specs.Judged.{IsOfNone, IsFirstFault}
 use Rattle.cwr_decode.specs.Machines.{Standing, IsReady}
-use Rattle.cwr_decode.specs.Open.{items_so_far, open_of, goes_on_with, handed}
+use Rattle.cwr_judge.specs.Open.{items_so_far, open_of, goes_on_with, handed}
 
 -- the lines, each with its line feed
 abbrev pub text_of : List (List ℕ) → List ℕ

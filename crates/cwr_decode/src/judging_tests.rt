@@ -3,8 +3,8 @@
 ghost use Rattle.std.specs.Prelude.{◌≢◌, ◌≤◌, ◌+◌, length};
 ghost use Rattle.cwr_layouts.specs.declared.lines.LineEnd.TheVariants.{Open};
 
-use crate::judging::{LineFault, judge};
 use cwr_fields::{CellFault, TransactionType};
+use cwr_judge::{LineFault, judge};
 use cwr_layouts::{Kind, LineBuf, LineEnd};
 use cwr_shape::{LimitKind, Limits, Reason, Symbol, Tally};
 use std::test::Fail;

@@ -6,7 +6,6 @@ mod cells_tests;
 #[cfg(test)]
 mod decoder_tests;
 mod decoders;
-mod judging;
 #[cfg(test)]
 mod judging_tests;
 pub mod laws;
@@ -15,7 +14,6 @@ mod outcomes;
 #[cfg(test)]
 mod reading_tests;
 mod readings;
-mod refusals;
 mod whole;
 #[cfg(test)]
 mod whole_tests;
@@ -24,8 +22,8 @@ mod worked_texts;
 #[cfg(test)]
 mod works_tests;
 
+pub use cwr_judge::Refusal;
 pub use decoders::Decoder;
 pub use outcomes::{Outcome, Step};
 pub use readings::{ReadFault, Reading};
-pub use refusals::Refusal;
 pub use whole::read_all;

@@ -5,14 +5,13 @@ ghost use Rattle.cwr_layouts.specs.Held.{IsHeld, Takes, held_record};
 ghost use Rattle.cwr_shape.specs.Ranges.{AreInRange};
 ghost use Rattle.cwr_shape.specs.Tallies.{IsAdmitted, StandsFor};
 ghost use Rattle.cwr_shape.specs.declared.symbols.Symbol.{Symbol};
-ghost use Rattle.cwr_decode.specs.Items.{is_in_transaction};
-ghost use Rattle.cwr_decode.specs.Open.{goes_on_with};
+ghost use Rattle.cwr_judge.specs.Items.{is_in_transaction};
+ghost use Rattle.cwr_judge.specs.Open.{goes_on_with};
 ghost use Rattle.cwr_decode.specs.Machines.{Adds, ClosesLine, EntersHeld, GoesOn, HandsOut, HasRecord, IsReady, Judges, Settles, Tells, first, held_list, reading, stopped};
 ghost use Rattle.cwr_decode.specs.Calls.{TakesEnd, Feeds, Finishes};
 
-use crate::judging::{LineFault, judge};
 use crate::outcomes::{Outcome, Step};
-use crate::refusals::Refusal;
+use cwr_judge::{LineFault, Refusal, judge};
 use cwr_layouts::{Kind, LineBuf, LineEnd, RecordRef, Taken};
 use cwr_shape::{Limits, Place, Symbol, Tally, level};
 use cwr_values::{Item, PushFault, Transaction};

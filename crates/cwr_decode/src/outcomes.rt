@@ -1,6 +1,6 @@
 //! What a decoder answers.
 
-use crate::refusals::Refusal;
+use cwr_judge::Refusal;
 use cwr_values::Item;
 
 /// What a decoder answers to a piece, or to the end of the input.

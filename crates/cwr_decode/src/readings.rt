@@ -9,8 +9,8 @@ ghost use Rattle.cwr_decode.specs.Readings.{answer_of, CountsReader, FeedsOn, Re
 use crate::decoders::Decoder;
 use crate::machine::State;
 use crate::outcomes::Outcome;
-use crate::refusals::Refusal;
 use cwr_fields::Source;
+use cwr_judge::Refusal;
 use cwr_shape::Limits;
 use cwr_values::Item;
 use std::alloc::Global;

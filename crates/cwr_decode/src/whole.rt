@@ -3,7 +3,7 @@
 ghost use Rattle.std.specs.Prelude.{◌≡◌, ◌<◌, ◌∷◌, ◌++◌, [], length, IfErr, IfOk, MatchResult, OnOk};
 ghost use Rattle.std.specs.Vec.Iter.{into_iter_items};
 ghost use Rattle.cwr_values.specs.Values.{type_of, IsTransaction};
-ghost use Rattle.cwr_decode.specs.Items.{group_rest, value_items};
+ghost use Rattle.cwr_judge.specs.Items.{group_rest, value_items};
 ghost use Rattle.cwr_decode.specs.Readings.{CountsFault};
 ghost use Rattle.cwr_decode.specs.Runs.{AreGroupItems, AreItems, HasReadAll, StopsRun, TakesFront, TellsAccepted, TellsCanonical};
 

@@ -8,7 +8,7 @@ use Rattle.cwr_shape.specs.declared.reasons.Reason.{Reason}
 use Rattle.cwr_shape.specs.declared.reasons.Reason.TheVariants.{UnknownKind, Misplaced, Cell, Number, Limit, Excess}
 use Rattle.cwr_shape.specs.declared.reasons.Level.{Level}
 use Rattle.cwr_shape.specs.declared.reasons.Level.TheVariants.{E, G, T, R, F}
-use Rattle.cwr_decode.specs.declared.refusals.Refusal.{Refusal}
+use Rattle.cwr_judge.specs.declared.refusals.Refusal.{Refusal}
 use Rattle.cwr_levels.specs.declared.rules.Rule.{Rule}
 use Rattle.cwr_levels.specs.declared.rules.Rule.TheVariants.{V1, V2, V3, V4, V5, V6, V7, V8, V9, V10, V11}
 use Rattle.cwr_levels.specs.declared.rules.Finding.{Finding}

@@ -26,9 +26,9 @@ use Rattle.cwr_shape.specs.declared.reasons.Level.TheVariants.{E}
 use Rattle.cwr_values.specs.Values.{TransmissionValue, IsTransmission, outline_of}
 use Rattle.cwr_values.specs.Rows.{rows, Spells}
 use Rattle.cwr_values.proofs.Unique.{outline_whole}
-use Rattle.cwr_decode.specs.Places.{Viable, IsBadAt, IsFirstBad}
-use Rattle.cwr_decode.specs.Reasons.{Applies, rank}
-use Rattle.cwr_decode.specs.Ends.{IsAccepted, IsRefused}
+use Rattle.cwr_judge.specs.Places.{Viable, IsBadAt, IsFirstBad}
+use Rattle.cwr_judge.specs.Reasons.{Applies, rank}
+use Rattle.cwr_judge.specs.Ends.{IsAccepted, IsRefused}
 use Rattle.cwr_tools.proofs.Samples
 use Rattle.cwr_tools.proofs.Whole.{largest, one_acknowledgement_whole, one_acknowledgement_within}
 

@@ -10,8 +10,8 @@ use Rattle.cwr_shape.specs.declared.limits.Limits.{Limits}
 use Rattle.cwr_shape.specs.Shapes.{IsShape}
 use Rattle.cwr_values.specs.Values.{IsTransmission, FitsIn}
 use Rattle.cwr_values.specs.Rows.{canonical_text, rows}
-use Rattle.cwr_decode.specs.Ends.{IsAccepted}
-use Rattle.cwr_decode.proofs.Accepted.{canonical_accepted}
+use Rattle.cwr_judge.specs.Ends.{IsAccepted}
+use Rattle.cwr_judge.proofs.Accepted.{canonical_accepted}
 use Rattle.std.proofs.Common.{true, map, ◌≡◌}
 use Rattle.std.specs.List.{list_all}
 use Rattle.std.proofs.lemmas.Bool.{and_parts}

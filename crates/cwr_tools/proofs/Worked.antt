@@ -17,7 +17,7 @@ use Rattle.cwr_values.specs.Values.{TransmissionValue, outline_of}
 use Rattle.cwr_values.specs.Rows.{rows, records_of, canonical_text, lengths_of_value}
 use Rattle.cwr_values.specs.Fits.{value_fault}
 use Rattle.cwr_values.specs.declared.items.Item.TheVariants.{Opened, GroupOpened, Transaction, GroupClosed, Ended}
-use Rattle.cwr_decode.specs.Items.{items, items_behind}
+use Rattle.cwr_judge.specs.Items.{items, items_behind}
 use Rattle.cwr_shape.specs.declared.reasons.Level.{Level}
 use Rattle.cwr_shape.specs.declared.reasons.Level.TheVariants.{T, R, F}
 use Rattle.cwr_levels.specs.declared.rules.Rule.{Rule}

@@ -9,7 +9,7 @@ use Rattle.cwr_values.specs.Values.{TransmissionValue}
 use Rattle.cwr_values.specs.Rows.{rows}
 use Rattle.cwr_values.specs.declared.items.Item.{Item}
 use Rattle.cwr_values.specs.declared.items.Item.TheVariants.{Transaction}
-use Rattle.cwr_decode.specs.Items.{item_records, opens_group, is_transaction}
+use Rattle.cwr_judge.specs.Items.{item_records, opens_group, is_transaction}
 use Rattle.cwr_levels.specs.Findings.{findings}
 use Rattle.cwr_shape.specs.declared.limits.LimitKind.{LimitKind}
 use Rattle.cwr_levels.specs.Lines.{refusal_line, truncated_line, good_line, finding_line, limit_text}

@@ -1,4 +1,4 @@
-use Rattle.cwr_decode.proofs.SomeEnd.{some_end}
+use Rattle.cwr_judge.proofs.SomeEnd.{some_end}
 use Rattle.cwr_decode.proofs.laws.some_end.Goals as goal
 
 pub returns : goal.returns

@@ -1,4 +1,4 @@
-use Rattle.cwr_decode.proofs.ViableCells.{viable_goes_on, goes_on_viable}
+use Rattle.cwr_judge.proofs.ViableCells.{viable_goes_on, goes_on_viable}
 use Rattle.cwr_decode.proofs.laws.viable_where_cells_are_good.Goals as goal
 
 pub returns : goal.returns

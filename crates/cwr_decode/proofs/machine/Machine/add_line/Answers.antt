@@ -2,7 +2,7 @@ use Rattle.std.proofs.Common.{◌≡◌, true, List, Option, Some, None, sym, ap
 use Rattle.std.specs.Prelude.{IsSomeAnd}
 use Rattle.cwr_layouts.specs.declared.kinds.Kind.{Kind}
 use Rattle.cwr_layouts.specs.Records.{RecordValue}
-use Rattle.cwr_decode.specs.Items.{is_in_transaction}
+use Rattle.cwr_judge.specs.Items.{is_in_transaction}
 use Rattle.cwr_decode.specs.Machines.{Standing, Judges, with_tally, reading}
 use Rattle.cwr_decode.proofs.Steps.{added_now, holding}
 use Rattle.cwr_decode.proofs.machine.Machine.add_line.Goals as goal

@@ -1,0 +1,9 @@
+//! How a text of CWR 2.1 ends, and whether a line may come next: the definitions of accepted, refused and truncated
+//! texts, and the judge of one line behind those before it.
+#![tactic(auto)]
+
+mod judging;
+mod refusals;
+
+pub use judging::{LineFault, judge};
+pub use refusals::Refusal;
