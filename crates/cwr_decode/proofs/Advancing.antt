@@ -5,8 +5,7 @@ use Rattle.std.proofs.Math.Seq.{take-length}
 use Rattle.std.proofs.lemmas.List.{length-append, take-append-drop}
 use Rattle.cwr_layouts.specs.declared.lines.LineEnd.{LineEnd}
 use Rattle.cwr_layouts.specs.declared.lines.LineEnd.TheVariants.{Open, Line, Over}
-use Rattle.cwr_layouts.specs.Lines.{closed}
-use Rattle.cwr_layouts.specs.Held.{HeldLine, IsHeld, Takes, Stops, IsFull, held_text, text_by}
+use Rattle.cwr_layouts.specs.Held.{HeldLine, IsHeld, Takes, Stops, IsFull, held_kind, held_text, text_by}
 use Rattle.cwr_shape.specs.declared.symbols.Symbol.{Symbol}
 use Rattle.cwr_shape.specs.declared.tallies.Counts.{Counts}
 use Rattle.cwr_shape.specs.Ranges.{LimitValues}
@@ -19,15 +18,15 @@ use Rattle.cwr_decode.specs.declared.outcomes.Outcome.{Outcome}
 use Rattle.cwr_decode.specs.declared.outcomes.Outcome.TheVariants as outcomes
 use Rattle.cwr_decode.specs.declared.machine.State.{State}
 use Rattle.cwr_decode.specs.declared.machine.State.TheVariants as states
-use Rattle.cwr_judge.specs.Judged.{IsOfNone}
-use Rattle.cwr_decode.specs.Machines.{Standing, IsReady, Leaves, Judges, with_tally, stopped}
-use Rattle.cwr_decode.specs.Stands.{StandsFor, StandsIn, IsReading, IsInput, IsRight, AcceptsNone, EndsInLf, GoesTooFar, EndsLine, items_out, text_of}
+use Rattle.cwr_judge.specs.declared.judging.LineFault.{LineFault}
+use Rattle.cwr_judge.specs.Ends.{IsRefused}
+use Rattle.cwr_judge.specs.Judged.{IsOfNone, IsFirstFault}
+use Rattle.cwr_decode.specs.Machines.{Standing, IsReady, Leaves, Judges, Tells, with_tally, stopped}
+use Rattle.cwr_decode.specs.Stands.{StandsFor, StandsIn, IsReading, IsInput, IsRight, IsStopped, MayFollow, RefusesAll, EndsInLf, GoesTooFar, EndsLine, items_out, text_of}
 use Rattle.cwr_decode.specs.Calls.{RefusesLast, Advances, Grows}
-use Rattle.cwr_judge.proofs.Accepted.{closed_begins}
-use Rattle.cwr_decode.proofs.Texts.{text_of-push, closed_more}
-use Rattle.cwr_decode.proofs.Beyond.{none_behind_line, none_behind_long}
 use Rattle.cwr_decode.proofs.Ended.{accepts_whole}
-use Rattle.cwr_decode.proofs.LineJudged.{HasLine, told_last, judged_stands, judged_empties, never_over}
+use Rattle.cwr_decode.proofs.StoppedRefused.{refused_line, refused_long}
+use Rattle.cwr_decode.proofs.LineJudged.{HasLine, told_as, told_last, judged_stands, judged_empties, never_over}
 use Rattle.cwr_decode.proofs.Moving.{IsPlain, Rest, follows_rest}
 
 -- ---- what an answer says
@@ -60,37 +59,34 @@ Stands_behind Open tail = Unit {0}
 Stands_behind Line tail = Unit {0}
 Stands_behind Over tail = (next : ℕ) × (rest : List ℕ) × (tail ≡ next ∷ rest) × (next ≡ 10 → ⊥)
 
--- none is accepted behind a refused line
-refused_right : (d : Standing) (over : Bool) (input tail : List ℕ) (given : List Item) (h : HasLine d input given) → d.finished ≡ over → (over ≡ true → tail ≡ []) → IsOfNone d.tally.limits (map symbol_of h.records) d.line
-    → (over ≡ true → d.line.ended ≡ Over → ⊥) → Stands_behind d.line.ended tail → AcceptsNone d.tally.limits over (input ++ tail)
-refused_right d over input tail given h f none bad fresh behind = by d.line.ended refl over f none fresh behind
+-- the input is refused as the line is
+refused_right : (d : Standing) (over : Bool) (input tail : List ℕ) (given : List Item) (fault : LineFault) (o : Outcome) (new : Standing) (h : HasLine d input given) → d.finished ≡ over → (over ≡ true → tail ≡ [])
+    → ((xs : List Symbol) → tallies.StandsFor d.tally xs → IsOfNone d.tally.limits xs d.line)
+    → ((xs : List Symbol) → tallies.StandsFor d.tally xs → IsFirstFault d.tally.limits xs d.line fault.field fault.reason) → (t : Tells d (held_kind d.line) fault o new)
+    → (over ≡ true → d.line.ended ≡ Over → ⊥) → Stands_behind d.line.ended tail → RefusesAll d.tally.limits over (input ++ tail) t.refusal
+refused_right d over input tail given fault o new h f none bad first t fresh behind = by d.line.ended refl over f none fresh behind
   where
-    by : (e : LineEnd) → d.line.ended ≡ e → (o : Bool) → d.finished ≡ o → (o ≡ true → tail ≡ []) → (o ≡ true → e ≡ Over → ⊥) → Stands_behind e tail → AcceptsNone d.tally.limits o (input ++ tail)
-    by Open q o f n z b = absurd (h.ended q)
-    by Line q false f n z b = λ more _.
-        let bytes : List ℕ = d.line.bytes in
-        let line : held_text d.line ≡ bytes ++ 10 ∷ [] = ap (λ (x : LineEnd). text_by x bytes) q in
-        let input_is : input ≡ text_of (h.lines ++ bytes ∷ []) =
-        subst (λ (b : Bool). IsInput b input (text_of h.lines ++ held_text d.line)) f h.split ∙ ap (λ (t : List ℕ). text_of h.lines ++ t) line ∙ sym (text_of-push h.lines bytes) in
-        let closed_is : closed ((input ++ tail) ++ more) ≡ text_of h.lines ++ (held_text d.line ++ closed (tail ++ more)) =
-        ap closed (append_assoc input tail more ∙ ap (λ (t : List ℕ). t ++ (tail ++ more)) input_is) ∙ closed_more (h.lines ++ bytes ∷ []) (tail ++ more)
-        ∙ ap (λ (t : List ℕ). t ++ closed (tail ++ more)) (text_of-push h.lines bytes ∙ ap (λ (t : List ℕ). text_of h.lines ++ t) (sym line)) ∙ append_assoc (text_of h.lines) (held_text d.line) (closed (tail ++ more)) in
-        none_behind_line d.tally h.lines h.records d.line ((input ++ tail) ++ more) (closed (tail ++ more)) h.read h.left h.line q bad closed_is
-    by Line q true f n z b = λ more m.
-        let nothing : (input ++ tail) ++ more ≡ input = ap₂ (λ (t u : List ℕ). (input ++ t) ++ u) (n refl) m ∙ append-nil (input ++ []) ∙ append-nil input in
-        let closed_is : closed ((input ++ tail) ++ more) ≡ text_of h.lines ++ (held_text d.line ++ []) =
-        ap closed nothing ∙ subst (λ (b : Bool). IsInput b input (text_of h.lines ++ held_text d.line)) f h.split ∙ ap (λ (t : List ℕ). text_of h.lines ++ t) (sym (append-nil (held_text d.line))) in
-        none_behind_line d.tally h.lines h.records d.line ((input ++ tail) ++ more) [] h.read h.left h.line q bad closed_is
-    by Over q true f n z b = absurd (z refl refl)
-    by Over q false f n z b = λ more _.
-        let bytes : List ℕ = d.line.bytes in
-        let line : held_text d.line ≡ bytes = ap (λ (x : LineEnd). text_by x bytes) q in
-        let input_is : input ≡ text_of h.lines ++ bytes = subst (λ (b : Bool). IsInput b input (text_of h.lines ++ held_text d.line)) f h.split ∙ ap (λ (t : List ℕ). text_of h.lines ++ t) line in
-        let c = closed_begins ((input ++ tail) ++ more) in
-        let rest : List ℕ = b.1 ++ (more ++ c.0) in
-        let closed_is : closed ((input ++ tail) ++ more) ≡ text_of h.lines ++ (bytes ++ b.0 ∷ rest) =
-        c.1 ∙ append_assoc (input ++ tail) more c.0 ∙ append_assoc input tail (more ++ c.0) ∙ ap₂ (λ (t u : List ℕ). t ++ (u ++ (more ++ c.0))) input_is b.2 ∙ append_assoc (text_of h.lines) bytes (b.0 ∷ rest) in
-        none_behind_long d.tally h.lines h.records bytes b.0 ((input ++ tail) ++ more) rest h.read h.left h.line.no_lf (subst (λ (x : LineEnd). IsFull x (length bytes)) q h.line.full) b.3 closed_is
+    told : (s : IsStopped (stopped d (states.Refused t.refusal)) input (given ++ []) t.refusal) × (s.line ≡ d.line) × (s.over ≡ d.finished)
+    told = told_as d input given fault o new h bad first t
+
+    ended : (e : LineEnd) → d.line.ended ≡ e → told.0.line.ended ≡ e
+    ended e q = ap (λ (l : HeldLine). l.ended) told.1 ∙ q
+
+    may : (b : Bool) (more : List ℕ) → (b ≡ true → tail ≡ []) → MayFollow b more → MayFollow b (tail ++ more)
+    may false more n m = tt
+    may true more n m = ap₂ (λ (x y : List ℕ). x ++ y) (n refl) m
+
+    by : (e : LineEnd) → d.line.ended ≡ e → (b : Bool) → d.finished ≡ b → (b ≡ true → tail ≡ []) → (b ≡ true → e ≡ Over → ⊥) → Stands_behind e tail → RefusesAll d.tally.limits b (input ++ tail) t.refusal
+    by Open q b g n z k = absurd (h.ended q)
+    by Line q b g n z k = λ more m.
+        let follows : MayFollow told.0.over (tail ++ more) = subst (λ (x : Bool). MayFollow x (tail ++ more)) (sym (told.2 ∙ g)) (may b more n m) in
+        subst (λ (x : List ℕ). IsRefused d.tally.limits x t.refusal) (sym (append_assoc input tail more))
+        (refused_line (stopped d (states.Refused t.refusal)) input (given ++ []) t.refusal (tail ++ more) told.0 (ended Line q) follows)
+    by Over q true g n z k = absurd (z refl refl)
+    by Over q false g n z k = λ more m.
+        let text : (input ++ tail) ++ more ≡ input ++ k.0 ∷ (k.1 ++ more) = append_assoc input tail more ∙ ap (λ (x : List ℕ). input ++ (x ++ more)) k.2 in
+        subst (λ (x : List ℕ). IsRefused d.tally.limits x t.refusal) (sym text)
+        (refused_long (stopped d (states.Refused t.refusal)) input (given ++ []) t.refusal k.0 (k.1 ++ more) told.0 (ended Over q) (told.2 ∙ g) k.3)
 
 -- a refused line ends with the used bytes
 ends_line : (d : Standing) (over : Bool) (input tail : List ℕ) (given : List Item) → HasLine d input given → d.finished ≡ over → Stands_behind d.line.ended tail → EndsLine over input (input ++ tail)
@@ -125,7 +121,7 @@ judged_right d over input tail given (Some o) new h f none fresh behind (inl a) 
     (plain_right new o over input (input ++ tail) tail (given ++ items_out o) (e.rest.finished ∙ f) refl none (judged_stands d input given (Some o) new h (inl a)) e.rest.leaves e.plain)
 judged_right d over input tail given (Some o) new h f none fresh behind (inr r) =
     let n : IsRight d.tally.limits (outcomes.Refused r.tells.refusal) over input (input ++ tail) (given ++ [])
-    = (refused_right d over input tail given h f none (r.none (map symbol_of h.records) h.read.counted) fresh behind, ends_line d over input tail given h f behind) in
+    = (refused_right d over input tail given r.fault o new h f none r.none r.first r.tells fresh behind, ends_line d over input tail given h f behind) in
     subst (λ (q : Outcome). IsRight d.tally.limits q over input (input ++ tail) (given ++ items_out q)) (sym r.tells.told) n
 
 -- ---- bytes that are taken

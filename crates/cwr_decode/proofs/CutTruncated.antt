@@ -13,7 +13,7 @@ use Rattle.cwr_decode.specs.Stands.{IsCut, IsInput, text_of}
 use Rattle.cwr_judge.proofs.AcceptedViable.{accepted_viable}
 use Rattle.cwr_decode.proofs.Beyond.{none_behind_cut}
 use Rattle.cwr_decode.proofs.RawLines.{raw_begins}
-use Rattle.cwr_decode.proofs.StoppedFirstBad.{as_many}
+use Rattle.cwr_judge.proofs.LineRecords.{as_many}
 
 no_raw_lines : raw_lines [] ≡ []
 no_raw_lines =

@@ -25,12 +25,12 @@ use Rattle.cwr_decode.specs.declared.outcomes.Outcome.TheVariants as outcomes
 use Rattle.cwr_decode.specs.declared.machine.State.{State}
 use Rattle.cwr_decode.specs.declared.machine.State.TheVariants as states
 use Rattle.cwr_judge.specs.Items.{is_in_transaction}
-use Rattle.cwr_judge.specs.Ends.{IsNotAccepted}
+use Rattle.cwr_judge.specs.Ends.{IsTruncated}
 use Rattle.cwr_decode.specs.Machines.{Standing, IsReady, Settles, Enters, EntersHeld, Judges, ClosesLine, WaitsOutside, again, first, over, stopped}
 use Rattle.cwr_decode.specs.Stands.{StandsFor, StandsIn, IsReading, IsInput, IsRight, held_of, items_out, text_of}
 use Rattle.cwr_decode.specs.Calls.{IsLive, Grows, TakesEnd, Advances, Feeds, Finishes, seen}
 use Rattle.cwr_decode.proofs.Texts.{closed_text, closed_open}
-use Rattle.cwr_decode.proofs.Beyond.{none_behind_cut}
+use Rattle.cwr_decode.proofs.CutTruncated.{cut_truncated}
 use Rattle.cwr_judge.proofs.Given.{no_open, no_items}
 use Rattle.cwr_decode.proofs.LineJudged.{HasLine, judged_stands, judged_empties}
 use Rattle.cwr_decode.proofs.Moving.{IsPlain, settled, enters_rest, if_none}
@@ -496,12 +496,6 @@ is_cut d count input given st reading finished ready n =
       };
     }
 
-none_here : (d : Standing) (input : List ℕ) (given : List Item) (more : List ℕ) → StandsFor d input given → d.state ≡ states.Reading → d.finished ≡ true → IsReady d.state d.finished d.line → more ≡ []
-    → IsNotAccepted d.tally.limits (input ++ more)
-none_here d input given more st reading finished ready z =
-    let r = subst (λ (s : State). StandsIn s d input given) reading st.here in
-    subst (IsNotAccepted d.tally.limits) (sym (append-nil input) ∙ ap (λ (x : List ℕ). input ++ x) (sym z)) (none_behind_cut d.tally r.lines r.records input r.read r.left (closed_lines d input given r reading finished ready))
-
 -- it is answered that the input ended too early
 pub cut_finish : (old mid after new : Standing) (count : ℕ) → TakesEnd old None mid → Settles mid.state mid None after → new ≡ stopped after (states.Truncated count) → count ≡ after.tally.counts.records → Finishes old (outcomes.Truncated count) new
 cut_finish old mid after new count e s stop n =
@@ -511,7 +505,8 @@ cut_finish old mid after new count e s stop n =
     let finished : after.finished ≡ true = m.finished ∙ e.finished in
     subst (Finishes old (outcomes.Truncated count)) (sym stop) (record {
       stands = λ input given st. subst (StandsFor (stopped after (states.Truncated count)) input) (sym (append-nil given)) (is_cut after count input given (here input given st) reading finished m.ready n);
-      right = λ l input given st. (refl, λ more z. subst (λ (k : LimitValues). IsNotAccepted k (input ++ more)) (m.limits ∙ e.limits) (none_here after input given more (here input given st) reading finished m.ready z));
+      right = λ l input given st. (refl, subst (λ (k : LimitValues). IsTruncated k input count) (m.limits ∙ e.limits)
+          (cut_truncated (stopped after (states.Truncated count)) input given count (is_cut after count input given (here input given st) reading finished m.ready n).here));
       last = λ l input given st. tt;
       ready = tt;
       leaves = refl;

@@ -14,9 +14,10 @@ use Rattle.cwr_decode.specs.declared.machine.State.{State}
 use Rattle.cwr_decode.specs.declared.machine.State.TheVariants as states
 use Rattle.cwr_decode.specs.declared.readings.ReadFault.{ReadFault}
 use Rattle.cwr_decode.specs.declared.readings.ReadFault.TheVariants as faults
-use Rattle.cwr_judge.specs.Ends.{IsAccepted, IsNotAccepted}
+use Rattle.cwr_judge.specs.declared.refusals.Refusal.{Refusal}
+use Rattle.cwr_judge.specs.Ends.{IsAccepted, IsRefused, IsTruncated}
 use Rattle.cwr_decode.specs.Machines.{Standing, Leaves, Empties, again}
-use Rattle.cwr_decode.specs.Stands.{StandsFor, IsUnderWay, IsRight, MayFollow, AcceptsNone, EndsLine, items_out}
+use Rattle.cwr_decode.specs.Stands.{StandsFor, IsUnderWay, IsRight, MayFollow, RefusesAll, EndsLine, items_out}
 use Rattle.cwr_decode.specs.Calls.{IsLive, WantsMemory}
 use Rattle.cwr_decode.specs.Readings.{answer_of, items_read, EmptiesRead, EndsLineOf, IsRightOf, LeavesRead, IsSpent, FeedsOn, Reads}
 
@@ -90,8 +91,14 @@ memory_only (outcomes.Truncated records) e = absurd (cc e)
 memory_only outcomes.Memory e = refl
 memory_only outcomes.Done e = absurd (cc e)
 
-none_accepted : (limits : LimitValues) (over : Bool) (seen more text : List ℕ) → text ≡ seen ++ more → MayFollow over more → AcceptsNone limits over seen → IsNotAccepted limits text
-none_accepted limits over seen more text split may h = subst (IsNotAccepted limits) (sym split) (h more may)
+refused_same : (limits : LimitValues) (over : Bool) (seen more text : List ℕ) (refusal : Refusal) → text ≡ seen ++ more → MayFollow over more → RefusesAll limits over seen refusal → IsRefused limits text refusal
+refused_same limits over seen more text refusal split may h = subst (λ (t : List ℕ). IsRefused limits t refusal) (sym split) (h more may)
+
+-- once the input is over, what was seen is all of it
+truncated_same : (limits : LimitValues) (over : Bool) (seen more text : List ℕ) (records : ℕ) → text ≡ seen ++ more → MayFollow over more → over ≡ true → IsTruncated limits seen records → IsTruncated limits text records
+truncated_same limits over seen more text records split may is h =
+    let nothing : more ≡ [] = subst (λ (b : Bool). MayFollow b more) is may in
+    subst (λ (t : List ℕ). IsTruncated limits t records) (sym (split ∙ ap (λ (l : List ℕ). seen ++ l) nothing ∙ append-nil seen)) h
 
 -- where a refused line ends, told of all of the input
 ends_line : (over : Bool) (used seen more text : List ℕ) → text ≡ seen ++ more → MayFollow over more → (over ≡ true → used ≡ seen) → EndsLine over used seen → EndsLineOf used text
@@ -118,8 +125,8 @@ right_same limits (outcomes.Item (items.Opened r)) over used seen more text give
 right_same limits (outcomes.Item (items.GroupOpened r)) over used seen more text given split may whole h = tt
 right_same limits (outcomes.Item (items.Transaction r)) over used seen more text given split may whole h = tt
 right_same limits (outcomes.Item (items.GroupClosed r)) over used seen more text given split may whole h = tt
-right_same limits (outcomes.Refused refusal) over used seen more text given split may whole h = (none_accepted limits over seen more text split may h.0, ends_line over used seen more text split may whole h.1)
-right_same limits (outcomes.Truncated records) over used seen more text given split may whole h = none_accepted limits over seen more text split may h.1
+right_same limits (outcomes.Refused refusal) over used seen more text given split may whole h = (refused_same limits over seen more text refusal split may h.0, ends_line over used seen more text split may whole h.1)
+right_same limits (outcomes.Truncated records) over used seen more text given split may whole h = truncated_same limits over seen more text records split may h.0 h.1
 right_same limits outcomes.Memory over used seen more text given split may whole h = tt
 right_same limits outcomes.Done over used seen more text given split may whole h = absurd h
 

@@ -298,6 +298,14 @@ told_stands d input given fault o new h none first t =
     (subst (λ (q : Outcome). StandsFor (stopped d (states.Refused t.refusal)) input (given ++ items_out q)) (sym t.told)
     (record { in_range = h.in_range; here = told_stopped d input given fault o new h none first t }))
 
+-- the refused line is the one that was judged
+pub told_as : (d : Standing) (input : List ℕ) (given : List Item) (fault : LineFault) (o : Outcome) (new : Standing) → HasLine d input given
+    → ((xs : List Symbol) → tallies.StandsFor d.tally xs → IsOfNone d.tally.limits xs d.line)
+    → ((xs : List Symbol) → tallies.StandsFor d.tally xs → IsFirstFault d.tally.limits xs d.line fault.field fault.reason) → (t : Tells d (held_kind d.line) fault o new)
+    → (s : IsStopped (stopped d (states.Refused t.refusal)) input (given ++ []) t.refusal) × (s.line ≡ d.line) × (s.over ≡ d.finished)
+unfolding told_stopped
+told_as d input given fault o new h none first t = (told_stopped d input given fault o new h none first t, refl, refl)
+
 pub told_last : (d : Standing) (input : List ℕ) (given : List Item) (fault : LineFault) (o : Outcome) (new : Standing) → HasLine d input given
     → ((xs : List Symbol) → tallies.StandsFor d.tally xs → IsOfNone d.tally.limits xs d.line)
     → ((xs : List Symbol) → tallies.StandsFor d.tally xs → IsFirstFault d.tally.limits xs d.line fault.field fault.reason) → Tells d (held_kind d.line) fault o new → d.line.ended ≡ Line

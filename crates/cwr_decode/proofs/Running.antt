@@ -194,8 +194,8 @@ none_read limits old new before left after given told C e h r same at =
 
 take_err : (limits : LimitValues) (used text : List ℕ) (fault : ReadFault) (v : TransmissionValue) (n : ℕ) → IsRightFault limits fault used text → IsAccepted limits text v n → (fault ≡ faults.Reader) ⊎ (fault ≡ faults.Memory)
 take_err limits used text faults.Reader v n h a = inl refl
-take_err limits used text (faults.Refused refusal) v n h a = absurd (h.0 v n a)
-take_err limits used text (faults.Truncated records) v n h a = absurd (h v n a)
+take_err limits used text (faults.Refused refusal) v n h a = absurd (h.0.unaccepted v n a)
+take_err limits used text (faults.Truncated records) v n h a = absurd (h.unaccepted v n a)
 take_err limits used text faults.Memory v n h a = inr refl
 
 pub tells_accepted : (limits : LimitValues) (before after : Option (List ℕ)) (result : Result TransmissionValue ReadFault)

@@ -13,7 +13,7 @@ use Rattle.cwr_decode.specs.declared.machine.State.TheVariants as states
 use Rattle.cwr_decode.specs.declared.readings.ReadFault.{ReadFault}
 use Rattle.cwr_decode.specs.declared.readings.ReadFault.TheVariants as faults
 use Rattle.cwr_judge.specs.Items.{value_items}
-use Rattle.cwr_judge.specs.Ends.{IsAccepted, IsNotAccepted}
+use Rattle.cwr_judge.specs.Ends.{IsAccepted, IsRefused, IsTruncated}
 use Rattle.cwr_decode.specs.Machines.{Standing, Empties, state_behind}
 use Rattle.cwr_decode.specs.Stands.{EndsInLf, GoesTooFar, StandsFor}
 use Rattle.cwr_decode.specs.Calls.{IsLive, WantsMemory}
@@ -43,16 +43,16 @@ pub record IsWholeInput (limits : LimitValues) (used : ℕ) (input : List ℕ) (
 abbrev pub EndsLineOf : List ℕ → List ℕ → Type 0
 EndsLineOf used input = (EndsInLf used ⊎ GoesTooFar used input) ⊎ (used ≡ input)
 
--- What is told of an input, of which these bytes were used: the end comes where a transmission is accepted, and
--- `Refused` or `Truncated` where none is. `Refused` comes where the line ends. Before the end and before a fault of the
--- input `Ok(None)` isn't told.
+-- What is told of an input, of which these bytes were used: the end comes where a transmission is accepted, `Refused` where
+-- the input is refused so, and `Truncated` where it is. `Refused` comes where the line ends. Before the end and before a
+-- fault of the input `Ok(None)` isn't told.
 abbrev pub IsRightOf : LimitValues → Result (Option Item) ReadFault → List ℕ → List ℕ → List Item → Type 0
 IsRightOf limits (Ok None) used input given = ⊥
 IsRightOf limits (Ok (Some items.Ended)) used input given = IsWholeInput limits (length used) input given
 IsRightOf limits (Ok (Some item)) used input given = Unit {0}
 IsRightOf limits (Err faults.Reader) used input given = Unit {0}
-IsRightOf limits (Err (faults.Refused refusal)) used input given = IsNotAccepted limits input × EndsLineOf used input
-IsRightOf limits (Err (faults.Truncated records)) used input given = IsNotAccepted limits input
+IsRightOf limits (Err (faults.Refused refusal)) used input given = IsRefused limits input refusal × EndsLineOf used input
+IsRightOf limits (Err (faults.Truncated records)) used input given = IsTruncated limits input records
 IsRightOf limits (Err faults.Memory) used input given = Unit {0}
 
 -- the state behind what is told

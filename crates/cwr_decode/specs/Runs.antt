@@ -14,7 +14,7 @@ use Rattle.cwr_decode.specs.declared.machine.State.TheVariants.{Ended}
 use Rattle.cwr_decode.specs.declared.readings.ReadFault.{ReadFault}
 use Rattle.cwr_decode.specs.declared.readings.ReadFault.TheVariants.{Reader, Refused, Truncated, Memory}
 use Rattle.cwr_judge.specs.Items.{value_items}
-use Rattle.cwr_judge.specs.Ends.{IsAccepted, IsNotAccepted}
+use Rattle.cwr_judge.specs.Ends.{IsAccepted, IsRefused, IsTruncated}
 use Rattle.cwr_decode.specs.Machines.{Standing}
 use Rattle.cwr_decode.specs.Stands.{StandsFor}
 use Rattle.cwr_decode.specs.Calls.{IsLive}
@@ -65,11 +65,11 @@ pub record AreGroupItems (head : RecordValue) (given : List Item) : Type 0 where
 abbrev pub TakesFront : LimitValues → Option (List ℕ) → TransmissionValue → Option (List ℕ) → Type 0
 TakesFront limits before v after = IfSome before (λ text. (n : ℕ) × IsAccepted limits text v n × (after ≡ Some (drop n text)))
 
--- a refused or truncated text begins with no transmission within the limits, and a refused line ends with the used bytes
+-- the text is refused so, or truncated, and a refused line ends with the used bytes
 abbrev pub IsRightFault : LimitValues → ReadFault → List ℕ → List ℕ → Type 0
 IsRightFault limits Reader used text = Unit {0}
-IsRightFault limits (Refused refusal) used text = IsNotAccepted limits text × EndsLineOf used text
-IsRightFault limits (Truncated records) used text = IsNotAccepted limits text
+IsRightFault limits (Refused refusal) used text = IsRefused limits text refusal × EndsLineOf used text
+IsRightFault limits (Truncated records) used text = IsTruncated limits text records
 IsRightFault limits Memory used text = Unit {0}
 
 -- these items were read before the fault, and the decoder stopped for what is told

@@ -1,5 +1,5 @@
 -- What a decoder stands for: the input so far, and the items that were handed out.
-use Rattle.std.specs.Prelude.{◌≡◌, ◌≢◌, ◌⊎◌, ℕ, ◌+◌, Bool, true, false, IsTrue, IsFalse, List, [], ◌∷◌, ◌++◌, length, map, Option, Some, None}
+use Rattle.std.specs.Prelude.{◌≡◌, ◌≢◌, ◌⊎◌, ℕ, ◌+◌, ◌*◌, ◌≤◌, Bool, true, false, IsTrue, IsFalse, List, [], ◌∷◌, ◌++◌, length, map, Option, Some, None}
 use Rattle.std.specs.List.{AllZip, AllByRecursion, flat_map, list_any}
 use Rattle.cwr_layouts.specs.declared.lines.LineEnd.TheVariants as line_ends
 use Rattle.cwr_layouts.specs.Records.{RecordValue, IsRecord}
@@ -21,7 +21,7 @@ use Rattle.cwr_decode.specs.declared.machine.State.{State}
 use Rattle.cwr_decode.specs.declared.machine.State.TheVariants.{Reading, Pending, Ended, Refused, Truncated, Memory}
 use Rattle.cwr_judge.specs.declared.refusals.Refusal.{Refusal}
 use Rattle.cwr_judge.specs.Items.{value_items}
-use Rattle.cwr_judge.specs.Ends.{IsAccepted, IsNotAccepted}
+use Rattle.cwr_judge.specs.Ends.{IsAccepted, IsRefused, IsTruncated}
 use Rattle.cwr_judge.specs.Judged.{IsOfNone, IsFirstFault}
 use Rattle.cwr_decode.specs.Machines.{Standing, IsReady}
 use Rattle.cwr_judge.specs.Open.{items_so_far, open_of, goes_on_with, handed}
@@ -141,6 +141,10 @@ pub record IsUnderWay (d : Standing) : Type 0 where
   pub given : List Item
   pub stands : StandsFor d input given
 
+-- whatever the decoder stands for, at most 1,025 bytes were used for each record that the limits hold
+abbrev pub IsBounded : Standing → Type 0
+IsBounded d = (input : List ℕ) (given : List Item) → StandsFor d input given → length input ≤ 1025 * d.tally.limits.records
+
 -- what a decoder is at each time
 pub record IsSound (d : Standing) : Type 0 where
   pub ready : IsReady d.state d.finished d.line
@@ -172,9 +176,9 @@ pub record AcceptsAll (limits : LimitValues) (over : Bool) (used seen : List ℕ
   pub given_are : given ≡ value_items value
   pub accepted : (more : List ℕ) → MayFollow over more → IsAccepted limits (seen ++ more) value (length used)
 
--- no transmission is accepted, however the input goes on
-abbrev pub AcceptsNone : LimitValues → Bool → List ℕ → Type 0
-AcceptsNone limits over seen = (more : List ℕ) → MayFollow over more → IsNotAccepted limits (seen ++ more)
+-- the input is refused so, however it goes on
+abbrev pub RefusesAll : LimitValues → Bool → List ℕ → Refusal → Type 0
+RefusesAll limits over seen refusal = (more : List ℕ) → MayFollow over more → IsRefused limits (seen ++ more) refusal
 
 -- the bytes end with a line feed
 abbrev pub EndsInLf : List ℕ → Type 0
@@ -199,12 +203,13 @@ EndsLine false used seen = EndsInLf used ⊎ GoesTooFar used seen
 EndsLine true used seen = Unit {0}
 
 -- What an answer says of the input, of which these bytes were used, and these were seen: the end of a transmission comes
--- where one is accepted, and a refusal or the end of the input where none is. A refusal comes where the line ends.
+-- where one is accepted, a refusal where the input is refused so, and the end of the input where it is truncated. A refusal
+-- comes where the line ends.
 abbrev pub IsRight : LimitValues → Outcome → Bool → List ℕ → List ℕ → List Item → Type 0
 IsRight limits outcomes.More over used seen given = (over ≡ false) × (used ≡ seen)
 IsRight limits (outcomes.Item items.Ended) over used seen given = AcceptsAll limits over used seen given
 IsRight limits (outcomes.Item item) over used seen given = Unit {0}
-IsRight limits (outcomes.Refused refusal) over used seen given = AcceptsNone limits over seen × EndsLine over used seen
-IsRight limits (outcomes.Truncated records) over used seen given = (over ≡ true) × AcceptsNone limits over seen
+IsRight limits (outcomes.Refused refusal) over used seen given = RefusesAll limits over seen refusal × EndsLine over used seen
+IsRight limits (outcomes.Truncated records) over used seen given = (over ≡ true) × IsTruncated limits seen records
 IsRight limits outcomes.Memory over used seen given = Unit {0}
 IsRight limits outcomes.Done over used seen given = ⊥

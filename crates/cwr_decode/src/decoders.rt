@@ -3,7 +3,7 @@
 ghost use Rattle.std.specs.Prelude.{◌≡◌, ◌≢◌, ◌≤◌, ◌++◌, [], List, ℕ, length, take, IfSome, true, false};
 ghost use Rattle.cwr_decode.specs.Calls.{IsLive, RefusesLast, WantsMemory, seen};
 ghost use Rattle.cwr_decode.specs.Machines.{Empties, Leaves, WaitsOutside, again, held_list, over};
-ghost use Rattle.cwr_decode.specs.Stands.{IsRight, IsUnderWay, StandsFor, items_out};
+ghost use Rattle.cwr_decode.specs.Stands.{IsBounded, IsRight, IsUnderWay, StandsFor, items_out};
 ghost use Rattle.cwr_values.specs.declared.items.Item.{Item};
 
 use crate::machine::{Machine, State};
@@ -87,6 +87,8 @@ impl Decoder {
         ensures kept { self.old.tally.counts.records ≤ self.new.tally.counts.records }
         ensures finished { self.new.finished ≡ self.old.finished }
         ensures limits { self.new.tally.limits ≡ self.old.tally.limits }
+        // Over a whole run at most 1,025 bytes are used for each record that the limits hold.
+        ensures bounded { IsBounded self.new }
     {
         self.machine.feed(piece)
     }

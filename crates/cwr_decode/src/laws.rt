@@ -1,11 +1,7 @@
 //! Laws over the ends of texts, and those over transmissions that they stand on.
 
 ghost use Rattle.std.specs.Prelude.{List, length, ℕ, ◌++◌, ◌≡◌, ◌≤◌};
-ghost use Rattle.std.specs.Prelude.{suc, false, ◌↔◌, ◌≢◌, ◌∷◌};
-ghost use Rattle.cwr_layouts.specs.declared.lines.LineEnd.TheVariants as line_ends;
-ghost use Rattle.cwr_values.specs.declared.items.Item.{Item};
-ghost use Rattle.cwr_decode.specs.Machines.{Standing};
-ghost use Rattle.cwr_decode.specs.Stands.{IsCut, IsStopped, MayFollow};
+ghost use Rattle.std.specs.Prelude.{suc, ◌↔◌};
 ghost use Rattle.cwr_shape.specs.Ranges.{LimitValues};
 ghost use Rattle.cwr_judge.specs.GoodFronts.{GoesOnFrom};
 ghost use Rattle.cwr_judge.specs.Places.{Viable};
@@ -70,21 +66,4 @@ pub fn some_end()
 pub fn viable_where_cells_are_good()
     ensures { (limits : LimitValues) (before : List (List ℕ)) (line : List ℕ) (m : ℕ)
         → Viable limits before line (suc m) ↔ GoesOnFrom limits before line m }
-{}
-
-/// A decoder that refused a line is stopped at the first place of its input at which nothing goes on, however the input
-/// goes on: behind the line's feed, or, where the line is too long, by a byte that is no line feed.
-pub fn stopped_at_first_bad_place()
-    ensures line { (d : Standing) (input : List ℕ) (given : List Item) (refusal : Refusal) (more : List ℕ)
-        → (s : IsStopped d input given refusal) → s.line.ended ≡ line_ends.Line → MayFollow s.over more
-        → IsFirstBad d.tally.limits (input ++ more) refusal.rec refusal.field }
-    ensures too_long { (d : Standing) (input : List ℕ) (given : List Item) (refusal : Refusal) (next : ℕ) (rest : List ℕ)
-        → (s : IsStopped d input given refusal) → s.line.ended ≡ line_ends.Over → s.over ≡ false → next ≢ 10
-        → IsFirstBad d.tally.limits (input ++ next ∷ rest) refusal.rec refusal.field }
-{}
-
-/// A decoder that is cut off has a text that is truncated, of as many lines as it tells.
-pub fn cut_is_truncated()
-    ensures { (d : Standing) (input : List ℕ) (given : List Item) (count : ℕ)
-        → IsCut d input given count → IsTruncated d.tally.limits input count }
 {}

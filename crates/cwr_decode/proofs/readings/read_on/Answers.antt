@@ -1,6 +1,6 @@
 use Rattle.std.proofs.Common.{◌∙◌, arith, refl, inl, inr}
 use Rattle.cwr_decode.proofs.FromReader.{feeds_both, feeds_none, reads_behind, was_under_way}
-use Rattle.cwr_decode.proofs.ShortInputs.{feeds_short}
+use Rattle.cwr_decode.proofs.BoundedInputs.{feeds_short}
 use Rattle.cwr_decode.proofs.readings.read_on.Goals as goal
 
 pub loop-told-init : goal.loop-told-init

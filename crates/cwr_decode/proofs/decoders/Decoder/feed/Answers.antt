@@ -2,6 +2,7 @@ use Rattle.std.proofs.Common.{◌≡◌, ◌≤◌, subst}
 use Rattle.std.specs.Prelude.{IfSome}
 use Rattle.cwr_decode.specs.Machines.{Standing, again}
 use Rattle.cwr_decode.specs.Stands.{IsUnderWay}
+use Rattle.cwr_decode.proofs.BoundedInputs.{input_bounded}
 use Rattle.cwr_decode.proofs.decoders.Decoder.feed.Goals as goal
 
 pub returns-clause-stood : goal.returns-clause-stood
@@ -15,3 +16,6 @@ pub returns-clause-kept : goal.returns-clause-kept
 returns-clause-kept c =
     let was = c.self.invariant.under_way in
     subst (λ (d : Standing). d.tally.counts.records ≤ c.feed.new.self.tally.counts.records) c.self.view_is (c.feed.ensures.kept was.input was.given was.stands)
+
+pub returns-clause-bounded : goal.returns-clause-bounded
+returns-clause-bounded c = input_bounded c.feed.new.self
