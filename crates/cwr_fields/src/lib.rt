@@ -53,10 +53,3 @@ pub use work_codes::{
     CompositeType, DistributionCategory, ExcerptType, RecordingFormat, RecordingTechnique,
     TitleType, VersionType,
 };
-
-#[cfg(test)]
-mod cell_examples;
-#[cfg(test)]
-mod code_examples;
-#[cfg(test)]
-mod examples;

@@ -7,11 +7,7 @@ pub mod laws;
 mod layouts;
 mod lines;
 mod lookups;
-#[cfg(test)]
-mod record_tests;
 mod records;
-#[cfg(test)]
-mod tests;
 
 pub use drafts::{Draft, DraftFault, SetFault};
 pub use kinds::Kind;

@@ -418,7 +418,7 @@ passed_each test ss s h k = ap test k.1.1 ∙ among_passes test ss s k.0 h k.1.0
 pub best_party : (t : TallyValue) (xs : List Symbol) → StandsFor t xs → 1 ≤ t.limits.transaction → IsBestAmong t.limits xs parties (Ipa (wanted_role t.stage))
 best_party t xs st one =
     let beats_all = and_parts (list_all (λ s. beats (next_stage t.stage s) (next_stage t.stage (Ipa (wanted_role t.stage)))) parties) (list_all (λ s. beats (next_stage t.stage s) (next_stage t.stage (Grh Acknowledgement))) groups)
-        (best_beats t.stage (stands_leaves xs t.stage st.stands).real) in
+    (best_beats t.stage (stands_leaves xs t.stage st.stands).real) in
     is_best t xs parties (Ipa (wanted_role t.stage)) (record {
       before = st;
       one = one;
@@ -430,7 +430,7 @@ best_party t xs st one =
 pub best_group : (t : TallyValue) (xs : List Symbol) → StandsFor t xs → 1 ≤ t.limits.transaction → IsBestAmong t.limits xs groups (Grh Acknowledgement)
 best_group t xs st one =
     let beats_all = and_parts (list_all (λ s. beats (next_stage t.stage s) (next_stage t.stage (Ipa (wanted_role t.stage)))) parties) (list_all (λ s. beats (next_stage t.stage s) (next_stage t.stage (Grh Acknowledgement))) groups)
-        (best_beats t.stage (stands_leaves xs t.stage st.stands).real) in
+    (best_beats t.stage (stands_leaves xs t.stage st.stands).real) in
     is_best t xs groups (Grh Acknowledgement) (record {
       before = st;
       one = one;

@@ -345,17 +345,20 @@ are_needs xs stage st =
     let here = stands_leaves xs stage st in
     let numbers = way_out_has stage here.real in
     record {
-      met = (way_out stage, record {
-        whole = runs_whole xs (way_out stage) stage st (ends stage here.real);
-        records_more = numbers.records;
-        groups_more = numbers.groups;
-        transaction_more = numbers.transaction ∙ ap (λ (t : Stage). transaction_to_come t (way_out stage)) st.named;
-      });
-      least = λ rest others e.
-        let on = whole_runs xs rest stage st e.whole in
+      met = (
+        way_out stage,
         record {
-          records = omega (arith, e.records_more, least_records stage rest here.real on);
-          groups = omega (arith, e.groups_more, least_groups stage rest here.real on);
-          transaction = omega (arith, e.transaction_more, ap (λ (t : Stage). transaction_to_come t rest) st.named, least_transaction stage rest here.real on);
-        };
+          whole = runs_whole xs (way_out stage) stage st (ends stage here.real);
+          records_more = numbers.records;
+          groups_more = numbers.groups;
+          transaction_more = numbers.transaction ∙ ap (λ (t : Stage). transaction_to_come t (way_out stage)) st.named;
+        },
+      );
+      least = λ rest others e.
+          let on = whole_runs xs rest stage st e.whole in
+          record {
+            records = omega (arith, e.records_more, least_records stage rest here.real on);
+            groups = omega (arith, e.groups_more, least_groups stage rest here.real on);
+            transaction = omega (arith, e.transaction_more, ap (λ (t : Stage). transaction_to_come t rest) st.named, least_transaction stage rest here.real on);
+          };
     }

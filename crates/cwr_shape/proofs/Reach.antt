@@ -79,9 +79,9 @@ room_later : (limit : ℕ) (ty : TransactionType) (c : Counts) (rest : List Symb
 room_later limit ty c [] h k = omega (arith, h)
 room_later limit ty c (s ∷ rest) h k = by_later (is_later_of ty s) refl
     (λ e. let l = later_counts ty c s e in
-        room_later limit ty (counts_with_other c) rest
-        (subst (λ (b : Bool). cond b (1 + (counts_with_other c).behind_header) 0 ≤ limit) l.0 (subst (λ (d : Counts). open_by s d ≤ limit) l.1 k.0))
-        (subst (λ (u : TransactionType). Keeps limit u (counts_with_other c) rest) l.2 (subst (λ (d : Counts). Keeps limit (type_behind ty s) d rest) l.1 k.1)))
+    room_later limit ty (counts_with_other c) rest
+    (subst (λ (b : Bool). cond b (1 + (counts_with_other c).behind_header) 0 ≤ limit) l.0 (subst (λ (d : Counts). open_by s d ≤ limit) l.1 k.0))
+    (subst (λ (u : TransactionType). Keeps limit u (counts_with_other c) rest) l.2 (subst (λ (d : Counts). Keeps limit (type_behind ty s) d rest) l.1 k.1)))
   where
     by_later : (b : Bool) → is_later_of ty s ≡ b → (is_later_of ty s ≡ true → 1 + (c.behind_header + 1) + later_records ty rest ≤ limit) → 1 + c.behind_header + cond b (1 + later_records ty rest) 0 ≤ limit
     by_later true e f = omega (arith, f e)
@@ -98,9 +98,9 @@ room_first : (limit : ℕ) (ty : TransactionType) (c : Counts) (rest : List Symb
 room_first limit ty c [] k = omega arith
 room_first limit ty c (s ∷ rest) k = by_header (is_header_of ty s) refl
     (λ e. let l = header_counts ty c s e in
-        room_later limit ty (counts_with_header c) rest
-        (subst (λ (b : Bool). cond b (1 + (counts_with_header c).behind_header) 0 ≤ limit) l.0 (subst (λ (d : Counts). open_by s d ≤ limit) l.1 k.0))
-        (subst (λ (u : TransactionType). Keeps limit u (counts_with_header c) rest) l.2 (subst (λ (d : Counts). Keeps limit (type_behind ty s) d rest) l.1 k.1)))
+    room_later limit ty (counts_with_header c) rest
+    (subst (λ (b : Bool). cond b (1 + (counts_with_header c).behind_header) 0 ≤ limit) l.0 (subst (λ (d : Counts). open_by s d ≤ limit) l.1 k.0))
+    (subst (λ (u : TransactionType). Keeps limit u (counts_with_header c) rest) l.2 (subst (λ (d : Counts). Keeps limit (type_behind ty s) d rest) l.1 k.1)))
     (room_first limit (type_behind ty s) (counts_with ty c s) rest k.1)
   where
     by_header : (b : Bool) → is_header_of ty s ≡ b → (is_header_of ty s ≡ true → 1 + 0 + later_records ty rest ≤ limit) → first_transaction (type_behind ty s) rest ≤ limit
@@ -109,8 +109,6 @@ room_first limit ty c (s ∷ rest) k = by_header (is_header_of ty s) refl
     by_header false e f g = g
 
 -- ---- the way out keeps to the limit where there is room for it
-
-
 
 -- where the stage is in a group, it tells the type
 abbrev pub TellsType : Stage → TransactionType → Type 0

@@ -6,15 +6,9 @@ pub mod laws;
 mod levels;
 mod limits;
 mod reasons;
-#[cfg(test)]
-mod stage_tests;
 mod stages;
 mod symbols;
 mod tallies;
-#[cfg(test)]
-mod tally_tests;
-#[cfg(test)]
-mod tests;
 
 pub use levels::level;
 pub use limits::{LimitKind, Limits, LimitsFault};

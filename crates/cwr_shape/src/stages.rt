@@ -198,10 +198,9 @@ fn to_come(stage: Stage) -> Needs
         Stage::Start => (5, 1, 1),
         Stage::Opened => (4, 1, 1),
         Stage::Within(TransactionType::Agreement, Step::InGroup) => (6, 0, 4),
-        Stage::Within(
-            TransactionType::NewWork | TransactionType::RevisedWork,
-            Step::InGroup,
-        ) => (4, 0, 2),
+        Stage::Within(TransactionType::NewWork | TransactionType::RevisedWork, Step::InGroup) => (
+            4, 0, 2,
+        ),
         Stage::Within(TransactionType::Acknowledgement, Step::InGroup) => (3, 0, 1),
         Stage::Within(_, Step::Agreed) => (5, 0, 3),
         Stage::Within(_, Step::Territories) => (4, 0, 2),

@@ -5,11 +5,11 @@ ghost use Rattle.cwr_fields.specs.declared.cell_types.CellType.TheVariants.{Cons
 ghost use Rattle.cwr_fields.specs.declared.cell_types.Word.TheVariants.{Edi};
 ghost use Rattle.cwr_fields.specs.Codes.{word_text};
 
-use crate::{Draft, DraftFault, Kind, Record, SetFault};
 use cwr_fields::{
     Cell, CellFault, CellType, CivilDate, DateCell, Flag, Number, TimeOfDay, TransactionStatus,
     TransactionType, Word,
 };
+use cwr_layouts::{Draft, DraftFault, Kind, Record, SetFault};
 use std::alloc::AllocError;
 use std::process::Abort;
 use std::test::Fail;

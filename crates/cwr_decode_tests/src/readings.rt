@@ -2,8 +2,8 @@
 
 ghost use Rattle.std.specs.Prelude.{◌≡◌, ◌≤◌, Some, length};
 
-use crate::readings::{ReadFault, Reading};
 use crate::worked_texts::one_acknowledgement;
+use cwr_decode::{ReadFault, Reading};
 use cwr_fields::{Counted, DeviceFault, Source};
 use cwr_shape::Limits;
 use cwr_values::Item;

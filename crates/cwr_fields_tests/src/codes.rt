@@ -2,7 +2,13 @@
 
 ghost use Rattle.std.specs.Prelude.{◌≤◌, ◌<◌};
 
-use super::*;
+use cwr_fields::{
+    AgreementType, Cell, CellType, CompositeType, DistributionCategory, ExcerptType,
+    InclusionExclusion, MessageLevel, Number, PostTermCollectionStatus, PriorRoyaltyStatus,
+    PublisherType, RecordingFormat, RecordingTechnique, Role, SalesManufactureClause, SenderType,
+    Table, TitleType, TransactionStatus, TransactionType, VersionType, WriterDesignation, fits,
+    width_of,
+};
 use std::fmt::{Debug, Display};
 use std::process::Abort;
 use std::test::Fail;

@@ -1,7 +1,7 @@
 //! Tests of items.
 
-use crate::Item;
 use crate::worked_records::{work, written};
+use cwr_values::Item;
 use std::test::Fail;
 
 #[test]

@@ -3,11 +3,11 @@
 use crate::worked_records::{
     group_head, made, opening, publisher, revision, work, writer, written,
 };
-use crate::{
-    Group, GroupFault, PushFault, Transaction, Transmission, TransmissionFault, ValueFault,
-};
 use cwr_layouts::{Kind, Record};
 use cwr_shape::Limits;
+use cwr_values::{
+    Group, GroupFault, PushFault, Transaction, Transmission, TransmissionFault, ValueFault,
+};
 use std::alloc::Global;
 use std::test::Fail;
 

@@ -1,74 +1,10 @@
-//! Tests of what no clause says: that the calls answer as the written tables of CWR 2.1 have it.
+//! Tests of lines: that they are taken in pieces and cut into cells as the written tables of CWR 2.1 have it.
 
 ghost use Rattle.std.specs.Prelude.{◌≢◌};
 
-use crate::{Kind, LineBuf, LineEnd, field, fields, width};
-use cwr_fields::{CellType, Table, Word};
+use cwr_layouts::{Kind, LineBuf, LineEnd};
 use std::process::Abort;
 use std::test::Fail;
-
-#[test]
-fn kinds_by_their_letters(rt: HostRuntime) {
-    assert_eq!(rt; Kind::of(b"NWR"), Some(Kind::Nwr));
-    assert_eq!(rt; Kind::of(b"MSG"), Some(Kind::Msg));
-    assert_eq!(rt; Kind::of(b"hdr"), None);
-    assert_eq!(rt; Kind::of(b"HD"), None);
-    assert_eq!(rt; Kind::of(b"HDRX"), None);
-}
-
-#[test]
-fn widths_and_counts(rt: HostRuntime) {
-    let table = [
-        (Kind::Hdr, 101, 9),
-        (Kind::Grh, 28, 6),
-        (Kind::Grt, 37, 6),
-        (Kind::Trl, 24, 4),
-        (Kind::Agr, 121, 19),
-        (Kind::Ter, 24, 5),
-        (Kind::Ipa, 153, 15),
-        (Kind::Nwr, 260, 28),
-        (Kind::Rev, 260, 28),
-        (Kind::Spu, 183, 25),
-        (Kind::Opu, 183, 25),
-        (Kind::Spt, 58, 12),
-        (Kind::Swr, 180, 23),
-        (Kind::Owr, 180, 23),
-        (Kind::Swt, 52, 11),
-        (Kind::Pwr, 110, 8),
-        (Kind::Alt, 83, 6),
-        (Kind::Ewt, 364, 16),
-        (Kind::Ver, 364, 16),
-        (Kind::Per, 118, 7),
-        (Kind::Rec, 266, 15),
-        (Kind::Orn, 301, 16),
-        (Kind::Com, 308, 15),
-        (Kind::Ack, 159, 13),
-        (Kind::Msg, 185, 9),
-    ];
-    for (kind, bytes, count) in table {
-        assert_eq!(rt; width(kind), bytes);
-        assert_eq!(rt; fields(kind), count);
-    }
-}
-
-#[test]
-fn fields_by_their_numbers(rt: HostRuntime) -> Result<(), Fail> {
-    let version = field(Kind::Hdr, 5).ok_or("no field")?;
-    assert_eq!(rt; version.name, "edi standard version");
-    assert_eq!(rt; version.start, 59);
-    assert_eq!(rt; version.width, 5);
-    assert_eq!(rt; version.ty, CellType::Constant(Word::Edi));
-    assert!(rt; !version.derived);
-    let status = field(Kind::Ack, 13).ok_or("no field")?;
-    assert_eq!(rt; status.start, 157);
-    assert_eq!(rt; status.ty, CellType::Code(Table::Status));
-    let count = field(Kind::Grt, 4).ok_or("no field")?;
-    assert_eq!(rt; count.name, "record count");
-    assert!(rt; count.derived);
-    assert!(rt; field(Kind::Ack, 0).is_none());
-    assert!(rt; field(Kind::Ack, 14).is_none());
-    Ok(())
-}
 
 #[test]
 fn takes_by_pieces(rt: HostRuntime) {

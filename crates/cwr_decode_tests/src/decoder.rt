@@ -1,10 +1,10 @@
 //! Tests of the decoder, on the worked examples of this profile.
 
 use crate::worked_texts::{Text, one_acknowledgement, two_groups};
-use crate::{Decoder, Outcome, Refusal};
+use cwr_decode::{Decoder, Outcome, Refusal};
 use cwr_fields::CellFault;
 use cwr_layouts::Kind;
-use cwr_shape::{Level, LimitKind, Limits, Reason};
+use cwr_shape::{Level, Limits, Reason};
 use cwr_values::Item;
 use std::alloc::Global;
 use std::process::Abort;
@@ -444,45 +444,6 @@ fn bad_cells(rt: HostRuntime) -> Result<(), Fail> {
         &text,
         3,
         refusal(6, 5, Level::R, blank),
-    );
-    Ok(())
-}
-
-#[test]
-fn a_group_too_many(rt: HostRuntime) -> Result<(), Fail> {
-    let mut text = Text::new(rt.alloc());
-    text.header()?;
-    text.group(b"ACK", b"00001")?;
-    text.acknowledgement(b"00000000")?;
-    text.group_end(b"00001", b"00000001", b"00000003")?;
-    text.group(b"ACK", b"00002")?;
-    let groups = Reason::Limit(LimitKind::Groups);
-    let one_group = Limits::new(99_999_999, 1, 999_999)?;
-    check_refused(
-        &rt,
-        Decoder::new(rt.alloc(), one_group),
-        &text,
-        4,
-        refusal(5, 1, Level::E, groups),
-    );
-    Ok(())
-}
-
-#[test]
-fn a_record_too_many(rt: HostRuntime) -> Result<(), Fail> {
-    let mut text = Text::new(rt.alloc());
-    text.header()?;
-    text.group(b"ACK", b"00001")?;
-    text.acknowledgement(b"00000000")?;
-    text.message(b"00000001")?;
-    let transaction = Reason::Limit(LimitKind::Transaction);
-    let one_record = Limits::new(99_999_999, 99_999, 1)?;
-    check_refused(
-        &rt,
-        Decoder::new(rt.alloc(), one_record),
-        &text,
-        2,
-        refusal(4, 1, Level::T, transaction),
     );
     Ok(())
 }

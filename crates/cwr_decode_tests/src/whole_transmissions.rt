@@ -1,8 +1,7 @@
 //! Tests of reading whole worked transmissions, with ample memory.
 
-use crate::readings::ReadFault;
-use crate::whole::read_all;
 use crate::worked_texts::{Text, agreement_of_two_blocks, one_acknowledgement, two_groups};
+use cwr_decode::{ReadFault, read_all};
 use cwr_fields::{Counted, trimmed};
 use cwr_layouts::Kind;
 use cwr_shape::Limits;

@@ -2,7 +2,10 @@
 
 ghost use Rattle.std.specs.Prelude.{◌<◌, ◌≤◌};
 
-use super::*;
+use cwr_fields::{
+    Cell, CivilDate, DateCell, DurationCell, Flag, Number, OutOfRange, PlayingTime, Share,
+    TimeOfDay,
+};
 use jiff::civil::{Date, date, time};
 use std::test::Fail;
 use std::time::Duration;

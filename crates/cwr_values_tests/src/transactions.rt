@@ -1,8 +1,8 @@
 //! Tests of transactions, on the worked orders of records.
 
 use crate::worked_records::{made, publisher, work, writer};
-use crate::{PushFault, Transaction};
 use cwr_layouts::{Kind, Record};
+use cwr_values::{PushFault, Transaction};
 use std::test::Fail;
 
 fn party(role: &[u8]) -> Result<Record, Fail> {

@@ -1,8 +1,8 @@
 //! Tests of stages, on the orders of records of this profile.
 
-use crate::{Stage, Step, Symbol};
 use cwr_fields::{Role, TransactionType};
 use cwr_layouts::Kind;
+use cwr_shape::{Stage, Step, Symbol};
 
 /// The stage after some records. `None` where one of them may not come.
 fn walked(symbols: &[Symbol]) -> Option<Stage> {

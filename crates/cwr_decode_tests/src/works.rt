@@ -1,11 +1,11 @@
 //! Tests of the decoder on works and agreements, on the worked examples of this profile.
 
-use crate::decoder_tests::{ITEMS, begun_works, check_refused, decoder, named, refusal};
+use crate::decoder::{ITEMS, begun_works, check_refused, decoder, named, refusal};
 use crate::worked_texts::{Text, agreement_of_two_blocks};
-use crate::{Decoder, Outcome};
+use cwr_decode::{Decoder, Outcome};
 use cwr_fields::CellFault;
 use cwr_layouts::Kind;
-use cwr_shape::{Level, Limits, Reason};
+use cwr_shape::{Level, Reason};
 use cwr_values::{Item, Transaction};
 use std::alloc::Global;
 use std::process::Abort;
@@ -165,7 +165,7 @@ fn a_writer_behind_the_titles(rt: HostRuntime) -> Result<(), Fail> {
 }
 
 /// HDR, GRH of agreements, AGR, TER, and so many IPA with the role AS.
-fn begun_agreement(alloc: Global, assignors: &[&[u8]]) -> Result<Text, Fail> {
+pub(crate) fn begun_agreement(alloc: Global, assignors: &[&[u8]]) -> Result<Text, Fail> {
     let mut text = Text::new(alloc);
     text.header()?;
     text.group(b"AGR", b"00001")?;
@@ -188,25 +188,6 @@ fn an_agreement_without_an_acquirer(rt: HostRuntime) -> Result<(), Fail> {
         2,
         refusal(7, 1, Level::T, Reason::Misplaced),
     );
-    Ok(())
-}
-
-#[test]
-fn limits_that_an_agreement_just_keeps(rt: HostRuntime) -> Result<(), Fail> {
-    let mut text = begun_agreement(rt.alloc(), &[b"00000002"])?;
-    text.acquirer(b"00000003")?;
-    text.group_end(b"00001", b"00000001", b"00000006")?;
-    text.end(b"00001", b"00000001", b"00000008")?;
-    let eight = Limits::new(8, 99_999, 999_999)?;
-    let kinds = [Kind::Agr, Kind::Ter, Kind::Ipa, Kind::Ipa];
-    check_one_transaction(&rt, Decoder::new(rt.alloc(), eight), &text, &kinds);
-    let mut text = begun_agreement(rt.alloc(), &[b"00000002", b"00000003"])?;
-    text.acquirer(b"00000004")?;
-    text.group_end(b"00001", b"00000001", b"00000007")?;
-    text.end(b"00001", b"00000001", b"00000009")?;
-    let nine = Limits::new(9, 99_999, 999_999)?;
-    let kinds = [Kind::Agr, Kind::Ter, Kind::Ipa, Kind::Ipa, Kind::Ipa];
-    check_one_transaction(&rt, Decoder::new(rt.alloc(), nine), &text, &kinds);
     Ok(())
 }
 

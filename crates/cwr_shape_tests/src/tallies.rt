@@ -1,8 +1,8 @@
 //! Tests of tallies, on worked orders of records.
 
-use crate::{Bar, LimitKind, Limits, Place, Stage, Step, Symbol, Tally};
 use cwr_fields::{Role, TransactionType};
 use cwr_layouts::Kind;
+use cwr_shape::{Bar, LimitKind, Limits, Place, Stage, Step, Symbol, Tally};
 use std::test::Fail;
 
 const HDR: Symbol = Symbol::Plain(Kind::Hdr);
@@ -161,7 +161,10 @@ fn limits_bar_in_their_order(rt: HostRuntime) -> Result<(), Fail> {
     assert_eq!(rt; tally.admits(Symbol::Plain(Kind::Ack)), Ok(()));
     assert_eq!(rt; tally.admits(SWR), Err(Bar::Misplaced));
     come(&mut tally, &[GRT])?;
-    assert_eq!(rt; tally.admits(Symbol::Grh(TransactionType::Agreement)), records);
+    assert_eq!(rt;
+        tally.admits(Symbol::Grh(TransactionType::Agreement)),
+        records
+    );
     assert_eq!(rt; tally.admits_kind(Kind::Grh), groups);
     assert_eq!(rt; tally.admits(TRL), Ok(()));
     let mut tally = Tally::new(Limits::new(5, 1, 1)?);

@@ -1,9 +1,9 @@
 //! Tests of the cells of transactions that are handed out, on worked examples of this profile.
 
-use crate::Outcome;
-use crate::decoder_tests::{begun_works, decoder};
+use crate::decoder::{begun_works, decoder};
 use crate::worked_texts::{Text, one_acknowledgement};
-use crate::works_tests::check_one_transaction;
+use crate::works::check_one_transaction;
+use cwr_decode::Outcome;
 use cwr_fields::{
     CivilDate, DateCell, MessageLevel, Number, TimeOfDay, TransactionStatus, trimmed,
 };

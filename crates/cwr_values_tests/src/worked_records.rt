@@ -1,7 +1,7 @@
-//! The records of the worked transactions, for tests.
+//! The records of the worked transactions.
 
-use crate::Transaction;
 use cwr_layouts::{Draft, Kind, Record};
+use cwr_values::Transaction;
 use std::alloc::Global;
 use std::test::Fail;
 

@@ -1,4 +1,4 @@
-//! The lines of the worked examples of this profile, for tests.
+//! The lines of the worked examples of this profile.
 
 use cwr_layouts::{Kind, field, width};
 use std::alloc::{AllocError, Global};
@@ -46,6 +46,11 @@ impl Text {
     /// Adds bytes as they are.
     pub(crate) fn add(&mut self, bytes: &[u8]) -> Result<(), AllocError> {
         self.bytes.extend_from_slice(bytes)
+    }
+
+    /// Writes over the bytes from a place on.
+    pub(crate) fn change(&mut self, start: usize, bytes: &[u8]) {
+        put(self.bytes.as_mut_slice(), start, bytes);
     }
 
     /// Adds a line of the kind in full width, and CR LF.

@@ -1,0 +1,11 @@
+//! Tests of the cells of records, of codes, of typed cells and of devices.
+#![tactic(auto)]
+
+#[cfg(test)]
+mod cells;
+#[cfg(test)]
+mod codes;
+#[cfg(test)]
+mod devices;
+#[cfg(test)]
+mod typed_cells;

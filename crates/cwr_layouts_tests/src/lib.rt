@@ -1,0 +1,9 @@
+//! Tests of the layouts of kinds, of lines and of records.
+#![tactic(auto)]
+
+#[cfg(test)]
+mod layouts;
+#[cfg(test)]
+mod lines;
+#[cfg(test)]
+mod records;

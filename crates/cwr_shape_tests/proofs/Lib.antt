@@ -1,0 +1,3 @@
+mod Worked
+mod WorkedShapes
+mod WorkedLevels
