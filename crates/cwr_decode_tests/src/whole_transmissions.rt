@@ -1,7 +1,7 @@
 //! Tests of reading whole worked transmissions, with ample memory.
 
 use crate::worked_texts::{Text, agreement_of_two_blocks, one_acknowledgement, two_groups};
-use cwr_decode::{ReadFault, read_all};
+use cwr_decode::{ReadFault, read_all, read_pieces};
 use cwr_fields::{Counted, trimmed};
 use cwr_layouts::Kind;
 use cwr_shape::Limits;
@@ -136,5 +136,35 @@ fn a_transmission_that_is_cut_is_dropped(rt: HostRuntime) -> Result<(), Fail> {
     let mut reader = Counted::new(front);
     let fault = read_all(rt.alloc(), largest()?, &mut reader).err();
     assert_eq!(rt; fault, Some(ReadFault::Truncated { records: 4 }));
+    Ok(())
+}
+
+#[test]
+fn one_acknowledgement_in_two_pieces(rt: HostRuntime) -> Result<(), Fail> {
+    let text = one_acknowledgement(rt.alloc())?;
+    let bytes = text.bytes();
+    for cut in 0..bytes.len() {
+        let pieces = [&bytes[..cut], &[], &bytes[cut..]];
+        check_acknowledgement(&rt, &read_pieces(rt.alloc(), largest()?, &pieces)?);
+    }
+    Ok(())
+}
+
+#[test]
+fn pieces_that_are_refused_or_too_few(rt: HostRuntime) -> Result<(), Fail> {
+    let text = one_acknowledgement(rt.alloc())?;
+    let bytes = text.bytes();
+    assert!(rt; bytes.len() > 133);
+    let pieces = [&bytes[..100], &bytes[100..133]];
+    match read_pieces(rt.alloc(), largest()?, &pieces) {
+        Err(ReadFault::Truncated { records }) => assert_eq!(rt; records, 2),
+        _ => assert!(rt; false, "cut behind the second record"),
+    }
+    match read_pieces(rt.alloc(), largest()?, &[b"HDR", b"PB", &bytes[..103]]) {
+        Err(ReadFault::Refused(refusal)) => {
+            assert_eq!(rt; (refusal.rec, refusal.field), (1, 5));
+        }
+        _ => assert!(rt; false, "two beginnings in one line"),
+    }
     Ok(())
 }

@@ -285,7 +285,7 @@ reason_number limits records lines h line kind m n x f may good d belongs holds 
     let within = goes_on_here limits records lines h line kind m x.cell f may good x.there (derived_untold kind (suc (suc m)) x.field x.cell x.at d) in (
       (x.field, x.field_is, d, is_number records lines h line kind (suc (suc m)) n f belongs, λ e. other (sym x.cell_is ∙ e ∙ ap (λ (w : ℕ). digits w n) (sym x.wide))),
       least_of limits lines line (suc (suc m)) 4
-      (unbarred limits records lines h line kind (suc (suc m)) 4 f within (λ fault a. absurd (no_fault_of limits lines h line kind m x holds fault a)) (λ i a. lit≤ tt) (lit≤ tt)),
+          (unbarred limits records lines h line kind (suc (suc m)) 4 f within (λ fault a. absurd (no_fault_of limits lines h line kind m x holds fault a)) (λ i a. lit≤ tt) (lit≤ tt)),
     )
 
 -- ---- a symbol that is told
@@ -316,7 +316,7 @@ reason_told limits records lines h line kind m bar x f carried holds t =
     let inside : slice_get (take (suc (suc m)) cells) (suc m) ≡ Some x.cell = taken_at (suc (suc m)) (suc m) cells (omega arith) ∙ x.there in
     reason_of_bar limits records lines h line kind (suc (suc m)) bar f
     (told_barred limits (map symbol_of records) (tells kind h (suc (suc m))) s.value bar (told_among kind (suc m) cells x.cell s.value x.there s.is)
-        (λ u among. told_is kind (suc m) x.cell cells s.value u x.there s.is among inside) s.holds)
+    (λ u among. told_is kind (suc m) x.cell cells s.value u x.there s.is among inside) s.holds)
     (no_fault_of limits lines h line kind m x holds) none
   where
     none : GoesOnWith (map symbol_of records) (tells kind h (suc (suc m))) Any → (n : ℕ) → ¬ Applies limits lines line (suc (suc m)) (reasons.Number n)
@@ -394,12 +394,15 @@ first_reason limits records lines h line field reason in_order rows cut first = 
     by : (o : Option Kind) → held_kind h ≡ o → IsFirstBy o limits (map symbol_of records) h field reason → IsReason limits lines line field reason
     by None known w =
         let unknown : line_kind line ≡ None = sym cut.kind ∙ known in
-        subst (IsReason limits lines line field) (sym w.1) (unknown, least_of limits lines line field 1 (record {
-          unknown = λ a. lit≤ tt;
-          misplaced = λ a. lit≤ tt;
-          cell = λ fault a. lit≤ tt;
-          number = λ m a. lit≤ tt;
-          limit = λ l a. omega (arith, over_four l);
-          most = lit≤ tt;
-        }))
+        subst (IsReason limits lines line field) (sym w.1) (
+          unknown,
+          least_of limits lines line field 1 (record {
+            unknown = λ a. lit≤ tt;
+            misplaced = λ a. lit≤ tt;
+            cell = λ fault a. lit≤ tt;
+            number = λ m a. lit≤ tt;
+            limit = λ l a. omega (arith, over_four l);
+            most = lit≤ tt;
+          }),
+        )
     by (Some kind) known w = reason_of_kind limits records lines h line kind field reason (record { in_order = in_order; rows = rows; cut = cut; known = known }) w.here w.before
