@@ -505,8 +505,11 @@ cut_finish old mid after new count e s stop n =
     let finished : after.finished ≡ true = m.finished ∙ e.finished in
     subst (Finishes old (outcomes.Truncated count)) (sym stop) (record {
       stands = λ input given st. subst (StandsFor (stopped after (states.Truncated count)) input) (sym (append-nil given)) (is_cut after count input given (here input given st) reading finished m.ready n);
-      right = λ l input given st. (refl, subst (λ (k : LimitValues). IsTruncated k input count) (m.limits ∙ e.limits)
-          (cut_truncated (stopped after (states.Truncated count)) input given count (is_cut after count input given (here input given st) reading finished m.ready n).here));
+      right = λ l input given st. (
+        refl,
+        subst (λ (k : LimitValues). IsTruncated k input count) (m.limits ∙ e.limits)
+            (cut_truncated (stopped after (states.Truncated count)) input given count (is_cut after count input given (here input given st) reading finished m.ready n).here),
+      );
       last = λ l input given st. tt;
       ready = tt;
       leaves = refl;
