@@ -30,7 +30,7 @@ text_short (row ∷ rows) (line ∷ lines) h
     = omega (arith, text_short rows lines h.1, h.0.1, length-append (line ++ 10 ∷ []) (text_of lines), length-append line (10 ∷ []))
 
 -- the limits hold each accepted record, and behind those that aren't a whole transmission one more
-accepted_few : (tally : TallyValue) (lines : List (List ℕ)) (records : List RecordValue) → AreAccepted tally lines records → length records ≤ tally.limits.records
+pub accepted_few : (tally : TallyValue) (lines : List (List ℕ)) (records : List RecordValue) → AreAccepted tally lines records → length records ≤ tally.limits.records
 accepted_few tally lines records read = by read.counted.within.3
   where
     xs : List Symbol

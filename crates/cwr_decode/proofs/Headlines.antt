@@ -1,5 +1,5 @@
 -- The answer of a run that read a known text by a reader which didn't fail is the text's one end.
-use Rattle.std.proofs.Common.{◌≡◌, ℕ, List, Option, Some, refl, sym, ap, ◌∙◌, arith, inl, inr}
+use Rattle.std.proofs.Common.{◌≡◌, ℕ, List, length, Option, Some, refl, sym, ap, ◌∙◌, arith, inl, inr}
 use Rattle.std.specs.Prelude.{◌⊎◌, Result, Ok, Err, IfOk, IfErr, MatchResult}
 use Rattle.cwr_shape.specs.Ranges.{LimitValues}
 use Rattle.cwr_values.specs.Values.{TransmissionValue}
@@ -15,7 +15,7 @@ use Rattle.cwr_decode.specs.Runs.{TakesFront, StopsRun}
 
 pub run_means : (limits : LimitValues) (text : List ℕ) (result : Result TransmissionValue ReadFault) (after : Option (List ℕ)) → IfOk result (λ v. TakesFront limits (Some text) v after)
     → IfErr result (λ fault. StopsRun limits fault (Some text) after) → IfErr result (λ fault. CountsFault fault 0 0) → Means limits text result
-run_means limits text (Ok v) after takes stops failures = (takes.0, takes.1)
+run_means limits text (Ok v) after takes stops failures = (length takes.input, takes.front.0)
 run_means limits text (Err Reader) after takes stops failures = omega (arith, failures)
 run_means limits text (Err (Refused refusal)) after takes stops failures = stops.right.0
 run_means limits text (Err (Truncated records)) after takes stops failures = stops.right

@@ -1,5 +1,5 @@
 -- One call of a reading behind others: what was read so far goes on, up to all items or a fault.
-use Rattle.std.proofs.Common.{◌≡◌, ◌≤◌, ℕ, List, [], ◌∷◌, ◌++◌, length, drop, Option, Some, None, refl, sym, ap, subst, ◌∙◌, inl, inr}
+use Rattle.std.proofs.Common.{◌≡◌, ◌≤◌, ℕ, Bool, true, false, List, [], ◌∷◌, ◌++◌, length, drop, append-nil, Option, Some, None, refl, sym, ap, subst, ◌∙◌, inl, inr}
 use Rattle.std.specs.Prelude.{Result, Ok, Err, IfSome, IfOk, IfErr, MatchResult, ◌⊎◌}
 use Rattle.std.specs.Result.{IsErrAnd}
 use Rattle.std.proofs.Math.Seq.{drop-append_seam}
@@ -18,13 +18,13 @@ use Rattle.cwr_decode.specs.declared.readings.ReadFault.TheVariants as faults
 use Rattle.cwr_judge.specs.Items.{value_items}
 use Rattle.cwr_judge.specs.Ends.{IsAccepted}
 use Rattle.cwr_decode.specs.Machines.{Standing, again}
-use Rattle.cwr_decode.specs.Stands.{StandsIn}
+use Rattle.cwr_decode.specs.Stands.{MayFollow, StandsIn}
 use Rattle.cwr_decode.specs.Calls.{IsLive}
 use Rattle.cwr_decode.specs.Readings.{answer_of, items_read, IsWholeInput, IsRightOf, LeavesRead, IsSpent, Reads}
 use Rattle.cwr_decode.specs.Runs.{HasRead, EndsWhole, HasReadAll, IsReadingOn, AreItems, TakesFront, IsRightFault, StopsRun, TellsAccepted, TellsCanonical}
 use Rattle.cwr_judge.proofs.Accepted.{accepted_once, canonical_accepted}
 use Rattle.cwr_decode.proofs.CountedItems.{bounded}
-use Rattle.cwr_decode.proofs.Ended.{spells_whole}
+use Rattle.cwr_decode.proofs.Ended.{spells_whole, accepts_whole}
 
 abbrev Answer : Type 0
 Answer = Result (Option Item) ReadFault
@@ -143,13 +143,31 @@ all_items limits before now given h =
 
 pub all_taken : (limits : LimitValues) (before now : Option (List ℕ)) (given : List Item) (t : TransmissionValue) → HasReadAll limits before now given
     → ((v : TransmissionValue) → IsTransmission v → given ≡ value_items v → t ≡ v) → TakesFront limits before t now
-all_taken limits before now given t h same = by before now h.read.input h.read.consumed h.ends.1
+all_taken limits before now given t h same =
+    let d : Standing = h.decoder in
+    let input : List ℕ = h.read.input in
+    let e = subst (λ (s : State). StandsIn s d input given) h.ends.0 h.read.stands.here in
+    let a = accepts_whole d.tally e.through.lines e.through.records d.finished input input [] given h.read.stands.in_range e.through.read e.whole e.through.split (sym (append-nil input)) (λ z. refl) e.through.given_are in
+    let accepted : IsAccepted d.tally.limits (input ++ []) a.value (length input) = a.accepted [] (nothing d.finished) in
+    let value : t ≡ a.value = same a.value accepted.whole a.given_are in
+    record {
+      input = input;
+      consumed = h.read.consumed;
+      accepted = subst (λ (v : TransmissionValue). IsAccepted limits input v (length input)) (sym value)
+          (subst (λ (x : List ℕ). IsAccepted limits x a.value (length input)) (append-nil input)
+          (subst (λ (l : LimitValues). IsAccepted l (input ++ []) a.value (length input)) h.read.limits_are accepted));
+      front = by before now input h.read.consumed h.ends.1;
+    }
   where
-    by : (b n : Option (List ℕ)) (input : List ℕ) → Consumes b n input → IfSome b (λ text. IsWholeInput limits (length input) text given) → TakesFront limits b t n
+    nothing : (over : Bool) → MayFollow over []
+    nothing false = tt
+    nothing true = refl
+
+    by : (b n : Option (List ℕ)) (input : List ℕ) → Consumes b n input → IfSome b (λ text. IsWholeInput limits (length input) text given)
+        → IfSome b (λ text. IsAccepted limits text t (length input) × (n ≡ Some (drop (length input) text)))
     by None n input lost whole = tt
     by (Some xs) None input lost whole = absurd lost
     by (Some xs) (Some ys) input lost whole = (
-      length input,
       subst (λ (v : TransmissionValue). IsAccepted limits xs v (length input)) (sym (same whole.value whole.accepted.whole whole.given_are)) whole.accepted,
       ap Some (sym (ap (drop (length input)) lost ∙ drop-append_seam input ys)),
     )
@@ -202,8 +220,8 @@ pub tells_accepted : (limits : LimitValues) (before after : Option (List ℕ)) (
     → IfOk result (λ t. TakesFront limits before t after) → IfErr result (λ fault. StopsRun limits fault before after) → TellsAccepted limits before result after
 tells_accepted limits None after result h k = tt
 tells_accepted limits (Some text) after (Ok t) h k = λ v n a.
-    let same = accepted_once limits text t v h.0 n h.1 a in
-    (same.0, h.2 ∙ ap (λ (m : ℕ). Some (drop m text)) same.1)
+    let same = accepted_once limits text t v (length h.input) n h.front.0 a in
+    (same.0, h.front.1 ∙ ap (λ (m : ℕ). Some (drop m text)) same.1)
 tells_accepted limits (Some text) after (Err fault) h k = λ v n a. take_err limits k.read.input text fault v n k.right a
 
 pub tells_canonical : (limits : LimitValues) (before after : Option (List ℕ)) (result : Result TransmissionValue ReadFault)

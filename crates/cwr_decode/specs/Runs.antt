@@ -61,9 +61,13 @@ pub record AreGroupItems (head : RecordValue) (given : List Item) : Type 0 where
 
 -- ---- how a run ends
 
--- the reader's bytes begin with a spelling of the transmission, and it lost just that
-abbrev pub TakesFront : LimitValues → Option (List ℕ) → TransmissionValue → Option (List ℕ) → Type 0
-TakesFront limits before v after = IfSome before (λ text. (n : ℕ) × IsAccepted limits text v n × (after ≡ Some (drop n text)))
+-- The bytes that the reader lost are accepted as the transmission. Where its bytes are known, they begin so, and it lost just
+-- that front.
+pub record TakesFront (limits : LimitValues) (before : Option (List ℕ)) (v : TransmissionValue) (after : Option (List ℕ)) : Type 0 where
+  pub input : List ℕ
+  pub consumed : Consumes before after input
+  pub accepted : IsAccepted limits input v (length input)
+  pub front : IfSome before (λ text. IsAccepted limits text v (length input) × (after ≡ Some (drop (length input) text)))
 
 -- the text is refused so, or truncated, and a refused line ends with the used bytes
 abbrev pub IsRightFault : LimitValues → ReadFault → List ℕ → List ℕ → Type 0

@@ -20,7 +20,7 @@ use Rattle.cwr_decode.specs.declared.outcomes.Outcome.TheVariants as outcomes
 use Rattle.cwr_decode.specs.declared.machine.State.{State}
 use Rattle.cwr_decode.specs.declared.machine.State.TheVariants.{Reading, Pending, Ended, Refused, Truncated, Memory}
 use Rattle.cwr_judge.specs.declared.refusals.Refusal.{Refusal}
-use Rattle.cwr_judge.specs.Items.{value_items}
+use Rattle.cwr_judge.specs.Items.{AreFirstItems, value_items}
 use Rattle.cwr_judge.specs.Ends.{IsAccepted, IsRefused, IsTruncated}
 use Rattle.cwr_judge.specs.Judged.{IsOfNone, IsFirstFault}
 use Rattle.cwr_decode.specs.Machines.{Standing, IsReady}
@@ -144,6 +144,10 @@ pub record IsUnderWay (d : Standing) : Type 0 where
 -- whatever the decoder stands for, at most 1,025 bytes were used for each record that the limits hold
 abbrev pub IsBounded : Standing → Type 0
 IsBounded d = (input : List ℕ) (given : List Item) → StandsFor d input given → length input ≤ 1025 * d.tally.limits.records
+
+-- whatever the decoder stands for, the items are the first of those of some transmission within its limits
+abbrev pub GivesFirst : Standing → Type 0
+GivesFirst d = (input : List ℕ) (given : List Item) → StandsFor d input given → AreFirstItems d.tally.limits given
 
 -- what a decoder is at each time
 pub record IsSound (d : Standing) : Type 0 where

@@ -3,7 +3,7 @@
 ghost use Rattle.std.specs.Prelude.{◌≡◌, ◌≢◌, ◌≤◌, ◌++◌, [], List, ℕ, length, take, IfSome, true, false};
 ghost use Rattle.cwr_decode.specs.Calls.{IsLive, RefusesLast, WantsMemory, seen};
 ghost use Rattle.cwr_decode.specs.Machines.{Empties, Leaves, WaitsOutside, again, held_list, over};
-ghost use Rattle.cwr_decode.specs.Stands.{IsBounded, IsRight, IsUnderWay, StandsFor, items_out};
+ghost use Rattle.cwr_decode.specs.Stands.{GivesFirst, IsBounded, IsRight, IsUnderWay, StandsFor, items_out};
 ghost use Rattle.cwr_values.specs.declared.items.Item.{Item};
 
 use crate::machine::{Machine, State};
@@ -89,6 +89,9 @@ impl Decoder {
         ensures limits { self.new.tally.limits ≡ self.old.tally.limits }
         // Over a whole run at most 1,025 bytes are used for each record that the limits hold.
         ensures bounded { IsBounded self.new }
+        // The items are the first of those of some transmission within the limits: a transaction is a whole one of its
+        // group's type, and each comes in its place.
+        ensures first { GivesFirst self.new }
     {
         self.machine.feed(piece)
     }
@@ -117,6 +120,7 @@ impl Decoder {
         ensures kept { self.old.tally.counts.records ≤ self.new.tally.counts.records }
         ensures finished { self.new.finished ≡ true }
         ensures limits { self.new.tally.limits ≡ self.old.tally.limits }
+        ensures first { GivesFirst self.new }
     {
         self.machine.finish()
     }

@@ -12,6 +12,7 @@ pub mod Viables
 pub mod RecordsBefore
 pub mod FrontCells
 pub mod ViableCells
+pub mod BegunItems
 pub mod LineRecords
 pub mod SeenSymbols
 pub mod AcceptedViable

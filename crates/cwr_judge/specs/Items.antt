@@ -1,5 +1,5 @@
 -- The items that rows give: transactions, and the records that stand around them.
-use Rattle.std.specs.Prelude.{ℕ, ◌+◌, ◌-◌, Bool, true, false, not, ◌&&◌, ◌==◌, List, [], ◌∷◌, ◌++◌, length, map, drop, Option, Some, None, slice_index_or, if◌then◌else◌}
+use Rattle.std.specs.Prelude.{◌≡◌, ℕ, ◌+◌, ◌-◌, Bool, true, false, not, ◌&&◌, ◌==◌, List, [], ◌∷◌, ◌++◌, length, map, drop, Option, Some, None, slice_index_or, if◌then◌else◌}
 use Rattle.std.specs.List.{last_or, flat_map}
 use Rattle.cwr_fields.specs.Bytes.{number_of}
 use Rattle.cwr_layouts.specs.declared.kinds.Kind.{Kind}
@@ -7,7 +7,8 @@ use Rattle.cwr_layouts.specs.declared.kinds.Kind.TheVariants.{Hdr, Grh, Grt, Trl
 use Rattle.cwr_layouts.specs.Records.{RecordValue, Row, record_of}
 use Rattle.cwr_values.specs.declared.items.Item.{Item}
 use Rattle.cwr_values.specs.declared.items.Item.TheVariants.{Opened, GroupOpened, Transaction, GroupClosed, Ended}
-use Rattle.cwr_values.specs.Values.{GroupValue, TransmissionValue}
+use Rattle.cwr_shape.specs.declared.limits.Limits.{Limits}
+use Rattle.cwr_values.specs.Values.{GroupValue, TransmissionValue, IsTransmission, FitsIn}
 use Rattle.cwr_values.specs.Rows.{trailer}
 
 -- records of the kind stand inside transactions
@@ -72,6 +73,14 @@ group_items g = GroupOpened g.head ∷ group_rest g
 -- a transmission's items: it opens, each of its groups, it ends
 abbrev pub value_items : TransmissionValue → List Item
 value_items v = Opened v.opening ∷ flat_map group_items v.groups ++ Ended ∷ []
+
+-- the items are the first of those of some transmission within the limits
+pub record AreFirstItems (limits : Limits) (given : List Item) : Type 0 where
+  pub value : TransmissionValue
+  pub whole : IsTransmission value
+  pub within : FitsIn limits value
+  pub rest : List Item
+  pub split : value_items value ≡ given ++ rest
 
 -- ---- the records of items
 

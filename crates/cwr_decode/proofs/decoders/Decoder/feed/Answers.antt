@@ -3,6 +3,7 @@ use Rattle.std.specs.Prelude.{IfSome}
 use Rattle.cwr_decode.specs.Machines.{Standing, again}
 use Rattle.cwr_decode.specs.Stands.{IsUnderWay}
 use Rattle.cwr_decode.proofs.BoundedInputs.{input_bounded}
+use Rattle.cwr_decode.proofs.FirstItems.{first_items}
 use Rattle.cwr_decode.proofs.decoders.Decoder.feed.Goals as goal
 
 pub returns-clause-stood : goal.returns-clause-stood
@@ -19,3 +20,6 @@ returns-clause-kept c =
 
 pub returns-clause-bounded : goal.returns-clause-bounded
 returns-clause-bounded c = input_bounded c.feed.new.self
+
+pub returns-clause-first : goal.returns-clause-first
+returns-clause-first c = first_items c.feed.new.self

@@ -2,6 +2,7 @@ use Rattle.std.proofs.Common.{◌≡◌, ◌≤◌, subst}
 use Rattle.std.specs.Prelude.{IfSome}
 use Rattle.cwr_decode.specs.Machines.{Standing, again, over}
 use Rattle.cwr_decode.specs.Stands.{IsUnderWay}
+use Rattle.cwr_decode.proofs.FirstItems.{first_items}
 use Rattle.cwr_decode.proofs.decoders.Decoder.finish.Goals as goal
 
 pub returns-clause-stood : goal.returns-clause-stood
@@ -15,3 +16,6 @@ pub returns-clause-kept : goal.returns-clause-kept
 returns-clause-kept c =
     let was = c.self.invariant.under_way in
     subst (λ (d : Standing). d.tally.counts.records ≤ c.finish.new.self.tally.counts.records) c.self.view_is (c.finish.ensures.finishes.kept was.input was.given was.stands)
+
+pub returns-clause-first : goal.returns-clause-first
+returns-clause-first c = first_items c.finish.new.self

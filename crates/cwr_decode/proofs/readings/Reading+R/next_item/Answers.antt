@@ -2,6 +2,7 @@ use Rattle.std.proofs.Common.{None, inr, ap, refl, arith}
 use Rattle.cwr_decode.specs.Machines.{again}
 use Rattle.cwr_decode.proofs.FromReader.{reads_behind, wants_more, wants_waiting}
 use Rattle.cwr_decode.proofs.BoundedInputs.{input_bounded}
+use Rattle.cwr_decode.proofs.FirstItems.{first_items}
 use Rattle.cwr_decode.proofs.readings.Reading+R.next_item.Goals as goal
 
 pub read_on-requires-clause-reading : goal.read_on-requires-clause-reading
@@ -26,3 +27,9 @@ returns-in-Some-clause-bounded g c = input_bounded c.settle.new.decoder
 
 pub returns-clause-bounded : goal.returns-clause-bounded
 returns-clause-bounded g c = input_bounded c.read_on.new.decoder
+
+pub returns-in-Some-clause-first : goal.returns-in-Some-clause-first
+returns-in-Some-clause-first g c = first_items c.settle.new.decoder
+
+pub returns-clause-first : goal.returns-clause-first
+returns-clause-first g c = first_items c.read_on.new.decoder
