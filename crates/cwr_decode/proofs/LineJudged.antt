@@ -109,7 +109,7 @@ over_bad (Some kind) h cells r e f = true≢false f
 pub never_over : (h : HeldLine) (r : RecordValue) → held_record h ≡ Some r → held_excess h ≡ false → h.ended ≡ Over → ⊥
 never_over h r carried excess o = over_bad (held_kind h) h (held_cells h) r carried (sym (ap (λ (e : LineEnd). excess_as (held_kind h) (ended_over e) (held_body h)) o) ∙ excess)
 
-is_line : (limits : LimitValues) (xs : List Symbol) (h : HeldLine) (s : Symbol) (r : RecordValue) → IsNext limits xs h s r → h.ended ≢ Open → h.ended ≡ Line
+pub is_line : (limits : LimitValues) (xs : List Symbol) (h : HeldLine) (s : Symbol) (r : RecordValue) → IsNext limits xs h s r → h.ended ≢ Open → h.ended ≡ Line
 is_line limits xs h s r n ended = by h.ended ended (never_over h r n.carried n.excess)
   where
     by : (e : LineEnd) → e ≢ Open → (e ≡ Over → ⊥) → e ≡ Line

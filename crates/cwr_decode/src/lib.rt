@@ -2,6 +2,7 @@
 #![tactic(auto)]
 
 mod decoders;
+mod endings;
 pub mod laws;
 mod machine;
 mod outcomes;
@@ -11,6 +12,7 @@ mod whole;
 
 pub use cwr_judge::Refusal;
 pub use decoders::Decoder;
+pub use endings::{End, end_of};
 pub use outcomes::{Outcome, Step};
 pub use piecewise::read_pieces;
 pub use readings::{ReadFault, Reading};

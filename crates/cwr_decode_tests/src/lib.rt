@@ -6,6 +6,8 @@ mod cells;
 #[cfg(test)]
 mod decoder;
 #[cfg(test)]
+mod endings;
+#[cfg(test)]
 mod limits;
 #[cfg(test)]
 mod readings;
