@@ -1,16 +1,15 @@
 -- The items that a decoder handed out are the first of those of some transmission within its limits.
-use Rattle.std.proofs.Common.{◌≡◌, ℕ, ◌<◌, ◌≤◌, ◌^◌, false, List, [], ◌∷◌, ◌++◌, length, map, sym, ap, subst, ◌∙◌, arith, append_assoc}
-use Rattle.std.proofs.lemmas.List.{length-append, length-map, map-append}
+use Rattle.std.proofs.Common.{◌≡◌, ℕ, ◌<◌, ◌≤◌, ◌^◌, List, [], ◌∷◌, ◌++◌, length, map, sym, ap, subst, ◌∙◌, arith, append_assoc}
+use Rattle.std.proofs.lemmas.List.{length-append}
 use Rattle.cwr_layouts.specs.Records.{RecordValue}
-use Rattle.cwr_shape.specs.declared.symbols.Symbol.{Symbol}
-use Rattle.cwr_shape.specs.Ranges.{LimitValues, AreInRange}
+use Rattle.cwr_shape.specs.Ranges.{AreInRange}
 use Rattle.cwr_shape.specs.Left.{Any}
 use Rattle.cwr_shape.specs.Outlines.{GoesOn}
 use Rattle.cwr_shape.specs.Tallies.{TallyValue}
 use Rattle.cwr_values.specs.declared.items.Item.{Item}
 use Rattle.cwr_values.specs.Values.{symbol_of}
-use Rattle.cwr_judge.specs.Items.{AreFirstItems, value_items}
-use Rattle.cwr_judge.specs.Open.{items_so_far, open_of, handed, item_of, Closes}
+use Rattle.cwr_judge.specs.Items.{AreFirstItems}
+use Rattle.cwr_judge.specs.Open.{items_so_far, item_of, Closes}
 use Rattle.cwr_judge.proofs.BegunItems.{begun_items}
 use Rattle.cwr_judge.proofs.Given.{ends_closes}
 use Rattle.cwr_decode.specs.declared.machine.State.{State}

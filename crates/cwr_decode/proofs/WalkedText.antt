@@ -1,14 +1,14 @@
 -- A text is walked line by line up to its end: what each line does to what was walked, and what ends the walk.
-use Rattle.std.proofs.Common.{◌≡◌, ◌≢◌, ℕ, zero, suc, ◌+◌, ◌-◌, ◌<◌, ◌≤◌, Bool, true, false, List, [], ◌∷◌, ◌++◌, length, map, take, drop, refl, sym, ap, ap₂, subst, ◌∙◌, arith, append_assoc, append-nil, inl, inr, true≢false}
+use Rattle.std.proofs.Common.{◌≡◌, ◌≢◌, ℕ, zero, suc, ◌+◌, ◌-◌, ◌<◌, ◌≤◌, Bool, true, false, List, [], ◌∷◌, ◌++◌, length, map, take, drop, refl, sym, ap, ap₂, subst, ◌∙◌, arith, append-nil, inl, inr, true≢false}
 use Rattle.std.specs.Prelude.{◌⊎◌, None, slice_index}
-use Rattle.std.proofs.Math.Seq.{take-add, take-length, drop-length}
-use Rattle.std.proofs.lemmas.List.{length-append, length-drop, length-map, length-take-le, take_all, drop-drop, drop_all, map-append, take-append-drop}
+use Rattle.std.proofs.Math.Seq.{take-add, take-length}
+use Rattle.std.proofs.lemmas.List.{length-drop, length-map, length-take-le, take_all, drop-drop, drop_all, map-append, take-append-drop}
 use Rattle.cwr_layouts.specs.declared.kinds.Kind.TheVariants.{Trl}
 use Rattle.cwr_layouts.specs.declared.lines.LineEnd.{LineEnd}
 use Rattle.cwr_layouts.specs.declared.lines.LineEnd.TheVariants.{Open, Line, Over}
 use Rattle.cwr_layouts.specs.Records.{RecordValue}
 use Rattle.cwr_layouts.specs.Lines.{closed}
-use Rattle.cwr_layouts.specs.Held.{HeldLine, IsHeld, Stops, empty_line, held_text, text_by}
+use Rattle.cwr_layouts.specs.Held.{HeldLine, Stops, empty_line, held_text, text_by}
 use Rattle.cwr_shape.specs.declared.symbols.Symbol.{Symbol}
 use Rattle.cwr_shape.specs.declared.symbols.Symbol.TheVariants.{Plain}
 use Rattle.cwr_shape.specs.Ranges.{LimitValues, AreInRange}
@@ -23,7 +23,7 @@ use Rattle.cwr_judge.specs.Open.{items_so_far}
 use Rattle.cwr_judge.proofs.Trailers.{trailer_ends, whole_ends}
 use Rattle.cwr_decode.specs.declared.machine.State.TheVariants as states
 use Rattle.cwr_decode.specs.Machines.{Standing, first}
-use Rattle.cwr_decode.specs.Stands.{AreAccepted, IsCut, IsInput, IsStopped, MayFollow, text_of}
+use Rattle.cwr_decode.specs.Stands.{AreAccepted, IsInput, IsStopped, MayFollow, text_of}
 use Rattle.cwr_decode.specs.TextLines.{AcceptsLine, FirstLine, IsCutOff, IsLastLine, RefusesLine}
 use Rattle.cwr_decode.proofs.CutTruncated.{cut_truncated}
 use Rattle.cwr_decode.proofs.Ended.{accepts_whole}

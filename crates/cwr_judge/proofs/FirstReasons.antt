@@ -1,20 +1,16 @@
 -- The first field that is wrong of a line has the first reason that holds there.
-use Rattle.std.proofs.Common.{◌≡◌, ℕ, zero, suc, ◌+◌, ◌-◌, ◌<◌, ◌≤◌, Bool, true, false, List, [], ◌∷◌, ◌++◌, length, map, take, refl, sym, ap, ap₂, subst, ◌∙◌, arith, append_assoc, true≢false, lit≤}
-use Rattle.std.specs.Prelude.{Option, Some, None, IsTrue, IfSome, IsSomeAnd, slice_get, slice_index_or, option_and_then}
+use Rattle.std.proofs.Common.{◌≡◌, ℕ, zero, suc, ◌+◌, ◌-◌, ◌≤◌, Bool, true, false, List, [], ◌∷◌, ◌++◌, length, map, take, refl, sym, ap, ap₂, subst, ◌∙◌, arith, append_assoc, true≢false, lit≤}
+use Rattle.std.specs.Prelude.{Option, Some, None, IsSomeAnd, slice_get, slice_index_or, option_and_then}
 use Rattle.std.specs.List.{AllZip, AllByRecursion, IsAmong}
 use Rattle.std.proofs.lemmas.Option.{get_or_from_slice_get, slice_get_past}
 use Rattle.std.proofs.lemmas.List.{length-map, take_all}
-use Rattle.cwr_fields.specs.declared.cell_types.CellType.{CellType}
-use Rattle.cwr_fields.specs.declared.cell_types.CellType.TheVariants as types
 use Rattle.cwr_fields.specs.declared.cell_types.CellFault.{CellFault}
-use Rattle.cwr_fields.specs.declared.tables.Table.TheVariants as tables
 use Rattle.cwr_fields.specs.Bytes.{digits}
 use Rattle.cwr_fields.specs.Cells.{Holds, HasFault}
 use Rattle.cwr_layouts.specs.declared.kinds.Kind.{Kind}
-use Rattle.cwr_layouts.specs.declared.kinds.Kind.TheVariants as kinds
 use Rattle.cwr_layouts.specs.Layouts.{FieldLayout, layout, fields_after_type, field_at}
-use Rattle.cwr_layouts.specs.Records.{RecordValue, Row, IsRecord}
-use Rattle.cwr_layouts.specs.Lines.{IsLineOf, line_kind, line_cells, has_bad_excess}
+use Rattle.cwr_layouts.specs.Records.{RecordValue, IsRecord}
+use Rattle.cwr_layouts.specs.Lines.{IsLineOf, line_kind}
 use Rattle.cwr_layouts.specs.Held.{HeldLine, IsCutAs, held_kind, held_cell, held_cells, held_excess}
 use Rattle.cwr_layouts.proofs.HeldLaws.{held_cell-at, length-held_cell, length-held_cells}
 use Rattle.cwr_shape.specs.declared.symbols.Symbol.{Symbol}
@@ -25,12 +21,12 @@ use Rattle.cwr_shape.specs.declared.reasons.Reason.TheVariants as reasons
 use Rattle.cwr_shape.specs.declared.tallies.Bar.{Bar}
 use Rattle.cwr_shape.specs.declared.tallies.Bar.TheVariants as bars
 use Rattle.cwr_shape.specs.Ranges.{LimitValues}
-use Rattle.cwr_shape.specs.Outlines.{GroupOutline, GoesOn, KeepsTo, IsWithin, IsOutline, symbols_of}
+use Rattle.cwr_shape.specs.Outlines.{GroupOutline, GoesOn, KeepsTo, IsWithin, symbols_of}
 use Rattle.cwr_shape.specs.Left.{Any}
 use Rattle.cwr_shape.specs.Numbers.{IsNumberAt, symbol_kind, number_in, numbers_of, lengths_of}
 use Rattle.cwr_shape.specs.Candidates.{candidates, GoesOnAmong, BeginsAmong}
 use Rattle.cwr_shape.specs.Bars.{Bars}
-use Rattle.cwr_shape.specs.Tallies.{GoesOnWith, MayCome, IsBarred, IsBarredAmong, IsBarredFirst}
+use Rattle.cwr_shape.specs.Tallies.{GoesOnWith, IsBarred, IsBarredAmong, IsBarredFirst}
 use Rattle.cwr_values.specs.Values.{symbol_of}
 use Rattle.cwr_values.specs.Begins.{rows_so_far}
 use Rattle.cwr_values.proofs.RowAt.{length-rows_so_far}
@@ -38,9 +34,9 @@ use Rattle.cwr_judge.specs.Places.{last_place}
 use Rattle.cwr_judge.specs.Reasons.{Applies, IsReason, IsNumber, cell_of, field_of, seen, rank}
 use Rattle.cwr_judge.specs.Judged as judged
 use Rattle.cwr_judge.specs.Judged.{IsFirstBy, IsFirstFault, IsFirstWrong, IsWrongAt, IsGoodAt, HasFaultAt, MayComeOf, told_symbol, bar_reason, barred, cell, behind}
-use Rattle.cwr_judge.proofs.FirstFaults.{candidate_kind, no_role, no_type}
-use Rattle.cwr_judge.proofs.FrontsBeforeFaults.{Comes, GoodBelow, symbol_below}
-use Rattle.cwr_judge.proofs.NoneAtFaults.{There, there_of, told_holds, among_all}
+use Rattle.cwr_judge.proofs.FirstFaults.{candidate_kind}
+use Rattle.cwr_judge.proofs.FrontsBeforeFaults.{GoodBelow, symbol_below}
+use Rattle.cwr_judge.proofs.NoneAtFaults.{there_of, told_holds, among_all}
 use Rattle.cwr_judge.proofs.RecordType.{type_holds, no_number}
 use Rattle.cwr_judge.proofs.SeenBars.{BarsWith, bars_seen, seen_bars, first_bars, any_with, none_bars}
 use Rattle.cwr_judge.proofs.SeenSymbols.{told, among_with, with_among}

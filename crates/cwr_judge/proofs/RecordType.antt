@@ -1,5 +1,5 @@
 -- The record type of a line of a kind is good: it is the kind's letters, and no number.
-use Rattle.std.proofs.Common.{lit≤, ◌≡◌, ℕ, suc, ◌+◌, ◌-◌, ◌<◌, ◌≤◌, Bool, true, false, not, cond, List, [], ◌∷◌, ◌++◌, length, map, take, replicate, refl, sym, ap, subst, ◌∙◌, arith, append_assoc, true≢false}
+use Rattle.std.proofs.Common.{lit≤, ◌≡◌, ℕ, ◌-◌, ◌≤◌, Bool, true, false, not, cond, List, [], ◌∷◌, ◌++◌, length, take, replicate, refl, sym, ap, subst, ◌∙◌, arith, append_assoc, true≢false}
 use Rattle.std.specs.Prelude.{Option, Some, None, find, zip, option_map, slice_index_or, ◌==◌}
 use Rattle.std.specs.List.{list_all}
 use Rattle.std.proofs.lemmas.Bool.{and_parts}
@@ -11,8 +11,8 @@ use Rattle.cwr_fields.proofs.Tests.{holds_test, holds_sound}
 use Rattle.cwr_layouts.specs.declared.kinds.Kind.{Kind}
 use Rattle.cwr_layouts.specs.declared.kinds.Kind.TheVariants as kinds
 use Rattle.cwr_layouts.specs.Kinds.{letters}
-use Rattle.cwr_layouts.specs.Layouts.{FieldLayout, field_at, record_type, line_width, fields_after_type, total_width}
-use Rattle.cwr_layouts.specs.Lines.{cells_as, body_kind, line_body, line_kind, line_cells}
+use Rattle.cwr_layouts.specs.Layouts.{FieldLayout, field_at, record_type, line_width}
+use Rattle.cwr_layouts.specs.Lines.{cells_as, line_body, line_kind}
 use Rattle.cwr_layouts.proofs.Judged.{letters-of}
 use Rattle.cwr_shape.specs.Numbers.{number_fields, number_in}
 use Rattle.cwr_judge.specs.Reasons.{cell_of}

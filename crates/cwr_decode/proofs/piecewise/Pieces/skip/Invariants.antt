@@ -1,4 +1,4 @@
-use Rattle.std.proofs.Common.{◌≡◌, ℕ, List, length}
+use Rattle.std.proofs.Common.{◌≡◌, length}
 use Rattle.cwr_decode.specs.PiecesLeft.{text_left}
 use Rattle.cwr_decode.proofs.piecewise.Pieces.skip.Given as goal
 
