@@ -4,6 +4,7 @@ ghost use Rattle.std.specs.Prelude.{◌≡◌, ◌↔◌, ◌≤◌, ◌<◌, �
 ghost use Rattle.cwr_fields.specs.Bytes.{is_spaces, is_control, has_control, are_digits, number_of, trimmed, digits};
 
 /// Whether every byte is a space.
+#[inline(always)]
 pub fn is_spaces(cell: &[u8]) -> bool
     ensures { result ≡ is_spaces cell.now }
 {
@@ -12,6 +13,7 @@ pub fn is_spaces(cell: &[u8]) -> bool
 
 /// Whether some byte is a control byte: one of 0 to 31, or 127. It goes over all bytes without a branch, so that the
 /// compiler takes many at a time.
+#[inline(always)]
 pub(crate) fn has_control(cell: &[u8]) -> bool
     ensures { result ≡ has_control cell.now }
 {
@@ -23,6 +25,7 @@ pub(crate) fn has_control(cell: &[u8]) -> bool
 }
 
 /// Whether every byte is a digit.
+#[inline(always)]
 pub(crate) fn are_digits(cell: &[u8]) -> bool
     ensures { result ≡ are_digits cell.now }
 {
@@ -30,6 +33,7 @@ pub(crate) fn are_digits(cell: &[u8]) -> bool
 }
 
 /// The number that at most ten digits write. `None` where some byte is no digit.
+#[inline(always)]
 pub(crate) fn number_in(cell: &[u8]) -> Option<u64>
     requires { length cell.now ≤ 10 }
     ensures some { IsSome result ↔ IsTrue (are_digits cell.now) }
@@ -108,6 +112,7 @@ pub fn trimmed(text: &[u8]) -> &[u8]
 }
 
 /// Whether the cell is the number's last decimal digits, as many as it is wide, with leading zeros.
+#[inline(always)]
 pub fn spells(cell: &[u8], number: u64) -> bool
     ensures { IsTrue result ↔ (cell.now ≡ digits (length cell.now) number) }
 {

@@ -17,6 +17,7 @@ use crate::times::TimeOfDay;
 use crate::typed_cells::is_cell;
 
 /// Whether no byte of the text is a control byte: one of 0 to 31, or 127.
+#[inline(always)]
 pub fn is_plain(cell: &[u8]) -> bool
     ensures { result ≡ is_plain cell.now }
 {
@@ -24,12 +25,14 @@ pub fn is_plain(cell: &[u8]) -> bool
 }
 
 /// Whether the cell is digits, at least one.
+#[inline(always)]
 fn is_number(cell: &[u8]) -> bool
     ensures { IsTrue result ↔ SpellsNumber cell.now }
 {
     !cell.is_empty() && are_digits(cell)
 }
 
+#[inline(always)]
 fn is_opt_number(cell: &[u8]) -> bool
     ensures { IsTrue result ↔ Holds CellType.OptNumber cell.now }
 {
@@ -43,6 +46,7 @@ fn is_opt_time(cell: &[u8]) -> bool
     is_spaces(cell) || is_cell::<TimeOfDay>(cell)
 }
 
+#[inline(always)]
 fn is_opt_code(table: Table, cell: &[u8]) -> bool
     requires { length cell.now ≡ code_width table }
     ensures { IsTrue result ↔ Holds (CellType.OptCode table) cell.now }
@@ -51,6 +55,7 @@ fn is_opt_code(table: Table, cell: &[u8]) -> bool
 }
 
 /// `Ok` where the cell was found to be one of its type, and else the fault.
+#[inline(always)]
 fn told(is_one: bool, fault: CellFault) -> Result<(), CellFault>
     ensures ok { OnOk result (IsTrue is_one) }
     ensures err { IfErr result (λ f. IsFalse is_one × (f ≡ fault)) }
@@ -59,6 +64,7 @@ fn told(is_one: bool, fault: CellFault) -> Result<(), CellFault>
 }
 
 /// `Ok` where the cell was found to be one of its type, and else that it is blank, or another fault.
+#[inline(always)]
 fn told_or_blank(is_one: bool, other: CellFault, cell: &[u8]) -> Result<(), CellFault>
     ensures ok { OnOk result (IsTrue is_one) }
     ensures err { IfErr result (λ f. IsFalse is_one × (f ≡ (if is_spaces cell.now then CellFault.Blank else other))) }
@@ -73,6 +79,7 @@ fn told_or_blank(is_one: bool, other: CellFault, cell: &[u8]) -> Result<(), Cell
 }
 
 /// Judges a required cell that has no control byte.
+#[inline(always)]
 fn required_plain(cell: &[u8]) -> Result<(), CellFault>
     requires { IsTrue (is_plain cell.now) }
     ensures ok { OnOk result (Holds CellType.Required cell.now) }
@@ -96,6 +103,7 @@ fn required(cell: &[u8]) -> Result<(), CellFault>
     }
 }
 
+#[inline(always)]
 fn share(cell: &[u8]) -> Result<(), CellFault>
     requires { length cell.now ≡ 5 }
     ensures ok { OnOk result (Holds CellType.Share cell.now) }
@@ -112,6 +120,7 @@ fn share(cell: &[u8]) -> Result<(), CellFault>
 
 /// Judges a cell by this profile's rules of CWR 2.1 for its type: `Ok` where it is one of the type,
 /// and else the first fault that the type names. The cell is as wide as `width_of` says.
+#[inline(always)]
 pub fn fits(ty: CellType, cell: &[u8]) -> Result<(), CellFault>
     requires { ForSome (type_width ty) (λ width. length cell.now ≡ width) }
     ensures ok { OnOk result (Holds ty cell.now) }
@@ -137,6 +146,7 @@ pub fn fits(ty: CellType, cell: &[u8]) -> Result<(), CellFault>
 
 /// Judges a cell that has no control byte, as `fits` does: one of a text that was found plain as a whole isn't looked
 /// through again. The cell is as wide as `width_of` says.
+#[inline(always)]
 pub fn fits_plain(ty: CellType, cell: &[u8]) -> Result<(), CellFault>
     requires width { ForSome (type_width ty) (λ width. length cell.now ≡ width) }
     requires plain { IsTrue (is_plain cell.now) }

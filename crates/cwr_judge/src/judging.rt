@@ -26,6 +26,7 @@ pub struct LineFault {
 }
 
 /// Whether cell `j` of the line, where that field is derived, is the number that belongs there.
+#[inline(always)]
 fn has_number(tally: &Tally, line: &CutLine<'_>, kind: Kind, j: u8) -> bool
     requires { held_kind line.now ≡ Some kind }
     ensures yes { (xs : List Symbol) → StandsFor tally.now xs → IsTrue result → HasNumberAt xs line.now kind j }

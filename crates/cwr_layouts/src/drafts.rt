@@ -77,6 +77,7 @@ fn filled_cell(text: &[u8], width: usize) -> LineText
 }
 
 /// Judges a cell, of which is told whether it is known to have no control byte.
+#[inline(always)]
 fn fits_known(ty: CellType, cell: &[u8], plain: bool) -> Result<(), CellFault>
     requires width { ForSome (type_width ty) (λ width. length cell.now ≡ width) }
     requires plain { IsTrue plain → IsTrue (is_plain cell.now) }
@@ -92,6 +93,7 @@ fn fits_known(ty: CellType, cell: &[u8], plain: bool) -> Result<(), CellFault>
 
 /// Judges the cell of field `j` of a whole line, of which is told whether it is known to have no control byte. A field
 /// that isn't there, or is derived, has none.
+#[inline(always)]
 fn judge_cell(kind: Kind, line: &[u8], plain: bool, j: u8) -> Result<(), CellFault>
     requires whole { length line.now ≡ line_width kind }
     requires plain { IsTrue plain → IsTrue (is_plain line.now) }

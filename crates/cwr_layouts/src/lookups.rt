@@ -9,6 +9,7 @@ use crate::kinds::Kind;
 use crate::layouts::{Field, layout};
 
 /// Field `j` of a kind's layout, from 1. `None` where the kind has no such field.
+#[inline(always)]
 pub fn field(kind: Kind, j: u8) -> Option<Field>
     ensures { option_map field_view result ≡ field_placed kind j }
 {
@@ -20,6 +21,7 @@ pub fn field(kind: Kind, j: u8) -> Option<Field>
 
 /// Field `j` of a kind's layout, from 1, where its cells are in values. `None` where the kind has no such field, and
 /// where that is derived.
+#[inline(always)]
 pub(crate) fn carried(kind: Kind, j: u8) -> Option<Field>
     ensures { option_map field_view result ≡ carried_placed kind j }
 {
@@ -31,6 +33,7 @@ pub(crate) fn carried(kind: Kind, j: u8) -> Option<Field>
 }
 
 /// How many fields a kind has, the record type counted.
+#[inline(always)]
 pub fn fields(kind: Kind) -> u8
     ensures { result ≡ length (layout_of kind) }
 {
@@ -64,6 +67,7 @@ pub fn fields(kind: Kind) -> u8
 }
 
 /// The bytes of a kind's whole line, without its line end.
+#[inline(always)]
 pub fn width(kind: Kind) -> usize
     ensures { result ≡ line_width kind }
 {

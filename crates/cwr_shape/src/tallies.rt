@@ -65,6 +65,7 @@ impl Counts {
     };
 
     /// With one more record, which is `symbol` in a group of the type.
+    #[inline(always)]
     fn with(self, ty: TransactionType, symbol: Symbol) -> Counts
         requires { HaveRoom self }
         ensures { result ≡ counts_with ty self symbol }
@@ -97,6 +98,7 @@ impl Counts {
 
     /// The number in field `j` of the next record, which is of the kind and stands in a group of the type. `None` where
     /// that field holds none.
+    #[inline(always)]
     fn number(&self, ty: TransactionType, kind: Kind, j: u8) -> Option<u32>
         requires { HaveRoom self.now }
         ensures { result ≡ number_in kind j (expected ty self.now kind) }
@@ -114,6 +116,7 @@ impl Counts {
     }
 
     /// The number in field `j` of the next record, which is the header of a transaction or goes on with one.
+    #[inline(always)]
     fn inside(&self, begins: bool, j: u8) -> Option<u32>
         requires { HaveRoom self.now }
         ensures { result ≡ number_inside begins self.now j }
@@ -129,6 +132,7 @@ impl Counts {
 }
 
 /// Whether the record is the header of a transaction of the type.
+#[inline(always)]
 fn is_header(ty: TransactionType, symbol: Symbol) -> bool
     ensures { result ≡ is_header_of ty symbol }
 {
@@ -142,6 +146,7 @@ fn is_header(ty: TransactionType, symbol: Symbol) -> bool
 }
 
 /// What is open at a stage.
+#[inline(always)]
 fn place_at(stage: Stage) -> Place
     ensures { result ≡ place_at stage }
 {
@@ -163,6 +168,7 @@ fn wanted_role(stage: Stage) -> Role
 }
 
 /// The first limit that what was counted and what must still come pass at a stage.
+#[inline(always)]
 fn passed(limits: Limits, stage: Stage, counts: &Counts) -> Option<LimitKind>
     requires { HaveRoom counts.now }
     ensures { result ≡ passed_by limits stage counts.now }
@@ -185,6 +191,7 @@ fn passed(limits: Limits, stage: Stage, counts: &Counts) -> Option<LimitKind>
 }
 
 /// The type of the group that is open at a stage. Where none is open no record is a header, of whatever type.
+#[inline(always)]
 fn type_at(stage: Stage) -> TransactionType
     ensures { result ≡ stage_type stage }
 {
@@ -274,6 +281,7 @@ impl Tally {
 
     /// The number that belongs in field `j`, from 1, of the next record, if that is of the kind. `None` where that
     /// field holds no number. Of a kind that may not come now the answer says nothing.
+    #[inline(always)]
     pub fn expects(&self, kind: Kind, j: u8) -> Option<u64>
         ensures { (xs : List Symbol) → StandsFor self.now xs → IsNumberAt xs kind j result }
     {
@@ -283,6 +291,7 @@ impl Tally {
 
     /// Whether the record may come next: it is misplaced where no transmission goes on so, and else barred by the first
     /// limit that it passes.
+    #[inline(always)]
     pub fn admits(&self, symbol: Symbol) -> Result<(), Bar>
         ensures answer { (xs : List Symbol) → StandsFor self.now xs → Answers self.now.limits xs symbol result }
         ensures admitted { OnOk result (IsAdmitted self.now symbol) }
