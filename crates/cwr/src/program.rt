@@ -4,13 +4,12 @@ ghost use Rattle.std.specs.Prelude.{◌≡◌, ◌≢◌, ◌↔◌, ◌≤◌, 
 ghost use Rattle.clap.specs.Values.{kind_of};
 ghost use Rattle.cwr.specs.Endings.{IsGood};
 
-use crate::checking::check;
 use crate::faults::Fault;
 use crate::words::{Task, task_of};
 use clap::error::ErrorKind;
 use cwr_fields::Counted;
 use cwr_shape::Limits;
-use cwr_tools::{ToolFault, Verdict};
+use cwr_tools::{ToolFault, Verdict, check};
 use std::alloc::Global;
 use std::convert::AsStr;
 use std::fs::File;

@@ -1,8 +1,7 @@
 //! Runs over memory, and over files that are there or missing wherever the tests run.
 
 use crate::program::run;
-use crate::worked_records::two_groups;
-use std::alloc::{AllocError, Global};
+use cwr_worked::texts::{ONE_ACKNOWLEDGEMENT, TWO_ACKNOWLEDGEMENTS, canonical};
 use std::io;
 use std::io::{Read, Write};
 use std::test::Fail;
@@ -114,53 +113,12 @@ fn writer_that_is_full(rt: HostRuntime) {
 
 #[test]
 fn writer_that_cannot_hand_on(rt: HostRuntime) -> Result<(), Fail> {
-    let text = acknowledgements(rt.alloc(), false)?;
+    let text = canonical(rt.alloc(), ONE_ACKNOWLEDGEMENT)?;
     let mut error = Vec::new(rt.alloc());
     let status = run(&rt, ["cwr"].as_slice(), text.as_slice(), Stuck, &mut error);
     assert_eq!(rt; status, 3);
     assert_eq!(rt; error.as_slice(), b"cwr: write fault\n".as_slice());
     Ok(())
-}
-
-/// Adds a line that is filled up with spaces to the width, and its line end.
-fn put_line(text: &mut Vec<u8>, line: &[u8], width: usize) -> Result<(), AllocError> {
-    text.extend_from_slice(line)?;
-    for _ in line.len()..width {
-        text.push(b' ')?;
-    }
-    text.extend_from_slice(b"\r\n")
-}
-
-/// Adds an acknowledgement with its transaction sequence.
-fn put_acknowledgement(text: &mut Vec<u8>, sequence: &[u8]) -> Result<(), AllocError> {
-    text.extend_from_slice(b"ACK")?;
-    text.extend_from_slice(sequence)?;
-    put_line(
-        text,
-        b"00000000202401021015000000100000000NWRBLUE RIVER                                                  W0001                                   20240110AS",
-        148,
-    )
-}
-
-/// The canonical text of a transmission of one acknowledgement, or of two in one group.
-fn acknowledgements(alloc: Global, two: bool) -> Result<Vec<u8>, AllocError> {
-    let mut text = Vec::new(alloc);
-    put_line(
-        &mut text,
-        b"HDRPB123456789MUSIC HOUSE                                  01.102024010210150020240103",
-        101,
-    )?;
-    put_line(&mut text, b"GRHACK0000102.100000000001", 28)?;
-    put_acknowledgement(&mut text, b"00000000")?;
-    if two {
-        put_acknowledgement(&mut text, b"00000001")?;
-        put_line(&mut text, b"GRT000010000000200000004", 37)?;
-        put_line(&mut text, b"TRL000010000000200000006", 24)?;
-    } else {
-        put_line(&mut text, b"GRT000010000000100000003", 37)?;
-        put_line(&mut text, b"TRL000010000000100000005", 24)?;
-    }
-    Ok(text)
 }
 
 /// The words of a check within the least limits, up to the name of the file.
@@ -231,7 +189,7 @@ fn limits_at_the_ends_of_their_range(rt: HostRuntime) {
 
 #[test]
 fn transmission_within_the_least_limits(rt: HostRuntime) -> Result<(), Fail> {
-    let text = acknowledgements(rt.alloc(), false)?;
+    let text = canonical(rt.alloc(), ONE_ACKNOWLEDGEMENT)?;
     assert_eq!(rt; text.len(), 359);
     for count in [1, 2, 4, 8] {
         let words = LEAST.get(..count).ok_or("too few words")?;
@@ -247,23 +205,8 @@ fn transmission_within_the_least_limits(rt: HostRuntime) -> Result<(), Fail> {
 }
 
 #[test]
-fn transmission_of_two_groups(rt: HostRuntime) -> Result<(), Fail> {
-    let text = two_groups(rt.alloc())?;
-    assert_eq!(rt; text.bytes().len(), 1599);
-    let words = ["cwr", "check"];
-    let ran = run_over(&rt, words.as_slice(), text.bytes());
-    assert_eq!(rt; ran.status, 0);
-    assert_eq!(rt;
-        ran.output.as_slice(),
-        b"GOOD groups 2 transactions 3 records 12\n".as_slice()
-    );
-    assert!(rt; ran.error.is_empty());
-    Ok(())
-}
-
-#[test]
 fn transmission_that_passes_a_limit(rt: HostRuntime) -> Result<(), Fail> {
-    let text = acknowledgements(rt.alloc(), true)?;
+    let text = canonical(rt.alloc(), TWO_ACKNOWLEDGEMENTS)?;
     assert_eq!(rt; text.len(), 520);
     let words = ["cwr", "check", "--records", "5"];
     let ran = run_over(&rt, words.as_slice(), text.as_slice());

@@ -1,8 +1,8 @@
 //! Tests of the ends of worked texts.
 
-use crate::worked_texts::{Text, one_acknowledgement};
 use cwr_decode::{End, Refusal, end_of};
 use cwr_shape::{Level, Limits, Reason};
+use cwr_worked::texts::{ONE_ACKNOWLEDGEMENT, canonical};
 use std::process::Abort;
 use std::test::Fail;
 
@@ -27,7 +27,7 @@ fn refused(rec: u32, field: u8, reason: Reason) -> End {
 #[test]
 fn fronts_of_one_acknowledgement(rt: HostRuntime) -> Result<(), Fail> {
     use cwr_fields::CellFault;
-    let text = one_acknowledgement(rt.alloc())?;
+    let text = canonical(rt.alloc(), ONE_ACKNOWLEDGEMENT)?;
     let ends = [
         (0, End::Truncated { records: 0 }),
         (80, refused(1, 8, Reason::Cell(CellFault::NotADate))),
@@ -41,15 +41,15 @@ fn fronts_of_one_acknowledgement(rt: HostRuntime) -> Result<(), Fail> {
         (359, End::Accepted { used: 359 }),
     ];
     for (count, end) in ends {
-        check_end(&rt, text.bytes(), count, end)?;
+        check_end(&rt, text.as_slice(), count, end)?;
     }
     Ok(())
 }
 
 #[test]
 fn one_acknowledgement_behind_another(rt: HostRuntime) -> Result<(), Fail> {
-    let mut text = Text::new(rt.alloc());
-    text.add(one_acknowledgement(rt.alloc())?.bytes())?;
-    text.add(one_acknowledgement(rt.alloc())?.bytes())?;
-    check_end(&rt, text.bytes(), 718, End::Accepted { used: 359 })
+    let mut text = Vec::new(rt.alloc());
+    text.extend_from_slice(canonical(rt.alloc(), ONE_ACKNOWLEDGEMENT)?.as_slice())?;
+    text.extend_from_slice(canonical(rt.alloc(), ONE_ACKNOWLEDGEMENT)?.as_slice())?;
+    check_end(&rt, text.as_slice(), 718, End::Accepted { used: 359 })
 }

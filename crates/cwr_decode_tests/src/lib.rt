@@ -2,20 +2,20 @@
 #![tactic(auto)]
 
 #[cfg(test)]
+mod accepted_texts;
+#[cfg(test)]
 mod cells;
 #[cfg(test)]
-mod decoder;
+mod cut_texts;
+#[cfg(test)]
+mod decoders;
 #[cfg(test)]
 mod endings;
-#[cfg(test)]
-mod limits;
 #[cfg(test)]
 mod readings;
 #[cfg(test)]
 mod refused_lines;
 #[cfg(test)]
+mod refused_texts;
+#[cfg(test)]
 mod whole_transmissions;
-#[cfg(test)]
-mod worked_texts;
-#[cfg(test)]
-mod works;

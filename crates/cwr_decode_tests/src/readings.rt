@@ -2,13 +2,18 @@
 
 ghost use Rattle.std.specs.Prelude.{◌≡◌, ◌≤◌, Some, length};
 
-use crate::worked_texts::one_acknowledgement;
 use cwr_decode::{ReadFault, Reading};
 use cwr_fields::{Counted, DeviceFault, Source};
 use cwr_shape::Limits;
 use cwr_values::Item;
-use std::alloc::Global;
+use cwr_worked::texts::{ONE_ACKNOWLEDGEMENT, canonical};
+use std::process::Abort;
 use std::test::Fail;
+
+/// The largest limits.
+fn largest() -> Limits {
+    Limits::new(99_999_999, 99_999, 999_999).unwrap()
+}
 
 /// What was read, in a word.
 fn told(answer: Result<Option<Item>, ReadFault>) -> &'static str {
@@ -26,30 +31,18 @@ fn told(answer: Result<Option<Item>, ReadFault>) -> &'static str {
     }
 }
 
-/// What the first seven calls of a reading tell.
-fn first_seven<R: Source>(alloc: Global, limits: Limits, reader: &mut R) -> [&'static str; 7] {
-    let mut reading = Reading::new(alloc, limits, reader);
-    let first = told(reading.next_item());
-    let second = told(reading.next_item());
-    let third = told(reading.next_item());
-    let fourth = told(reading.next_item());
-    let fifth = told(reading.next_item());
-    let sixth = told(reading.next_item());
-    let seventh = told(reading.next_item());
-    [first, second, third, fourth, fifth, sixth, seventh]
-}
-
-/// What the first call tells.
-fn first_of<R: Source>(alloc: Global, limits: Limits, reader: &mut R) -> &'static str {
-    let mut reading = Reading::new(alloc, limits, reader);
-    told(reading.next_item())
+/// Checks what the first seven calls of a reading tell.
+fn check_seven<R: Source>(rt: &(impl Abort + AllocGlobal), reader: &mut R, names: [&str; 7]) {
+    let mut reading = Reading::new(rt.alloc(), largest(), reader);
+    for name in names {
+        assert_eq!(rt; told(reading.next_item()), name);
+    }
 }
 
 #[test]
 fn reads_the_items_of_one_acknowledgement(rt: HostRuntime) -> Result<(), Fail> {
-    let text = one_acknowledgement(rt.alloc())?;
-    let limits = Limits::new(99_999_999, 99_999, 999_999)?;
-    let mut reader = Counted::new(text.bytes());
+    let text = canonical(rt.alloc(), ONE_ACKNOWLEDGEMENT)?;
+    let mut reader = Counted::new(text.as_slice());
     let names = [
         "opened",
         "group opened",
@@ -59,31 +52,7 @@ fn reads_the_items_of_one_acknowledgement(rt: HostRuntime) -> Result<(), Fail> {
         "none",
         "none",
     ];
-    assert_eq!(rt; first_seven(rt.alloc(), limits, &mut reader), names);
-    Ok(())
-}
-
-#[test]
-fn an_empty_input_is_truncated(rt: HostRuntime) -> Result<(), Fail> {
-    let limits = Limits::new(99_999_999, 99_999, 999_999)?;
-    let mut reader = Counted::new(b"".as_slice());
-    assert_eq!(rt;
-        first_seven(rt.alloc(), limits, &mut reader),
-        ["truncated"; 7]
-    );
-    Ok(())
-}
-
-#[test]
-fn a_later_reading_goes_on_behind_the_items_that_were_read(rt: HostRuntime) -> Result<(), Fail> {
-    let text = one_acknowledgement(rt.alloc())?;
-    let limits = Limits::new(99_999_999, 99_999, 999_999)?;
-    let mut reader = Counted::new(text.bytes());
-    assert_eq!(rt; first_of(rt.alloc(), limits, &mut reader), "opened");
-    assert_eq!(rt;
-        first_seven(rt.alloc(), limits, &mut reader),
-        ["refused"; 7]
-    );
+    check_seven(&rt, &mut reader, names);
     Ok(())
 }
 
@@ -170,10 +139,9 @@ impl Source for FailsAtEnd<'_> {
 
 #[test]
 fn a_reader_that_fails_once_is_read_on(rt: HostRuntime) -> Result<(), Fail> {
-    let text = one_acknowledgement(rt.alloc())?;
-    let limits = Limits::new(99_999_999, 99_999, 999_999)?;
+    let text = canonical(rt.alloc(), ONE_ACKNOWLEDGEMENT)?;
     let mut reader = FailsOnce {
-        left: text.bytes(),
+        left: text.as_slice(),
         until: Some(1),
         shown: 0,
         failures: 0,
@@ -187,17 +155,16 @@ fn a_reader_that_fails_once_is_read_on(rt: HostRuntime) -> Result<(), Fail> {
         "ended",
         "none",
     ];
-    assert_eq!(rt; first_seven(rt.alloc(), limits, &mut reader), names);
+    check_seven(&rt, &mut reader, names);
     assert_eq!(rt; (reader.left.len(), reader.failures), (0, 1));
     Ok(())
 }
 
 #[test]
 fn a_reader_that_fails_at_its_end_fails_each_time(rt: HostRuntime) -> Result<(), Fail> {
-    let text = one_acknowledgement(rt.alloc())?;
-    let limits = Limits::new(99_999_999, 99_999, 999_999)?;
+    let text = canonical(rt.alloc(), ONE_ACKNOWLEDGEMENT)?;
     let mut reader = FailsAtEnd {
-        left: text.bytes().get(..333).ok_or("no front")?,
+        left: text.as_slice().get(..333).ok_or("no front")?,
         shown: 0,
         failures: 0,
     };
@@ -210,18 +177,17 @@ fn a_reader_that_fails_at_its_end_fails_each_time(rt: HostRuntime) -> Result<(),
         "reader",
         "reader",
     ];
-    assert_eq!(rt; first_seven(rt.alloc(), limits, &mut reader), names);
+    check_seven(&rt, &mut reader, names);
     assert_eq!(rt; (reader.left.len(), reader.failures), (0, 3));
     Ok(())
 }
 
 #[test]
 fn two_transmissions_are_read_one_after_another(rt: HostRuntime) -> Result<(), Fail> {
-    let mut text = one_acknowledgement(rt.alloc())?;
-    text.add(one_acknowledgement(rt.alloc())?.bytes())?;
-    let limits = Limits::new(99_999_999, 99_999, 999_999)?;
+    let mut text = canonical(rt.alloc(), ONE_ACKNOWLEDGEMENT)?;
+    text.extend_from_slice(canonical(rt.alloc(), ONE_ACKNOWLEDGEMENT)?.as_slice())?;
     let mut reader = FailsAtEnd {
-        left: text.bytes(),
+        left: text.as_slice(),
         shown: 0,
         failures: 0,
     };
@@ -235,16 +201,13 @@ fn two_transmissions_are_read_one_after_another(rt: HostRuntime) -> Result<(), F
         "none",
     ];
     for left in [359, 0] {
-        assert_eq!(rt; first_seven(rt.alloc(), limits, &mut reader), names);
+        check_seven(&rt, &mut reader, names);
         assert_eq!(rt; (reader.left.len(), reader.failures), (left, 0));
     }
-    let mut reader = Counted::new(text.bytes());
+    let mut reader = Counted::new(text.as_slice());
     for _ in 0..2 {
-        assert_eq!(rt; first_seven(rt.alloc(), limits, &mut reader), names);
+        check_seven(&rt, &mut reader, names);
     }
-    assert_eq!(rt;
-        first_seven(rt.alloc(), limits, &mut reader),
-        ["truncated"; 7]
-    );
+    check_seven(&rt, &mut reader, ["truncated"; 7]);
     Ok(())
 }

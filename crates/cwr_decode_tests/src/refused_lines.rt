@@ -1,45 +1,25 @@
 //! Tests of the first field of a line that is wrong, and why, on written lines behind the records of worked transmissions.
 
-use crate::decoder::{begun_works, check_refused, decoder, refusal};
-use crate::worked_texts::Text;
+use crate::decoders::{decoder, named};
+use crate::refused_texts::check_refused;
+use cwr_decode::{Outcome, Refusal};
 use cwr_fields::CellFault;
 use cwr_shape::{Level, Reason};
-use std::alloc::Global;
+use cwr_worked::lines::{ACK_0, GRH_ACK, GRH_NWR, HDR, HDR_OF_ANOTHER_VERSION, NWR_0, SWR_0_1};
+use cwr_worked::texts::canonical;
+use std::alloc::{AllocError, Global};
 use std::test::Fail;
 
-/// The records before a line.
-#[derive(Clone, Copy)]
-enum Before {
-    /// HDR.
-    Header,
-    /// HDR, and GRH of acknowledgements.
-    Group,
-    /// HDR, GRH of acknowledgements, and ACK.
-    Acknowledgement,
-    /// HDR, GRH of new works, NWR and SWR.
-    Work,
-}
+/// Lines that were accepted, how many items they give, and the number of the next record.
+type Before = (&'static [&'static [u8]], usize, u32);
 
-/// The lines of the records, how many they are, and how many items they give.
-fn begun(alloc: Global, before: Before) -> Result<(Text, u32, usize), Fail> {
-    if let Before::Work = before {
-        let mut text = begun_works(alloc)?;
-        text.work(b"00000000")?;
-        text.writer(b"00000000", b"00000001")?;
-        return Ok((text, 4, 2));
-    }
-    let mut text = Text::new(alloc);
-    text.header()?;
-    if let Before::Header = before {
-        return Ok((text, 1, 1));
-    }
-    text.group(b"ACK", b"00001")?;
-    if let Before::Group = before {
-        return Ok((text, 2, 2));
-    }
-    text.acknowledgement(b"00000000")?;
-    Ok((text, 3, 2))
-}
+const HEADER: Before = (&[HDR], 1, 2);
+
+const GROUP: Before = (&[HDR, GRH_ACK], 2, 3);
+
+const ACKNOWLEDGEMENT: Before = (&[HDR, GRH_ACK, ACK_0], 2, 4);
+
+const WORK: Before = (&[HDR, GRH_NWR, NWR_0, SWR_0_1], 2, 5);
 
 /// An acknowledgement in full width, and a space behind its last field.
 const ACK: &[u8] =
@@ -53,43 +33,98 @@ const ROCK: &[u8] =
 /// refused, the level and the reason.
 #[rattlefmt::skip]
 static LINES: [(Before, &[u8], &[(usize, &[u8])], u8, Level, Reason); 23] = [
-    (Before::Header, b"GRHXYZ0000102.100000000001", &[], 2, Level::G, Reason::Cell(CellFault::NotACode)),
-    (Before::Header, b"GRHACK0000202.100000000001", &[], 3, Level::G, Reason::Number { expected: 1 }),
-    (Before::Header, b"GRHACK0000102.000000000001", &[], 4, Level::G, Reason::Cell(CellFault::NotConstant)),
-    (Before::Group, b"XYZ", &[], 1, Level::G, Reason::UnknownKind),
-    (Before::Group, b"", &[], 1, Level::G, Reason::UnknownKind),
-    (Before::Group, b"GRT000010000000000000002", &[], 1, Level::G, Reason::Misplaced),
-    (Before::Group, b"MSG", &[], 1, Level::G, Reason::Misplaced),
-    (Before::Group, ACK, &[(3, b"00000001")], 2, Level::T, Reason::Number { expected: 0 }),
-    (Before::Group, ACK, &[(11, b"00000001")], 3, Level::T, Reason::Number { expected: 0 }),
-    (Before::Group, ACK, &[(11, b"0000000A")], 3, Level::T, Reason::Cell(CellFault::NotDigits)),
-    (Before::Group, ACK, &[(11, b"        ")], 3, Level::T, Reason::Cell(CellFault::Blank)),
-    (Before::Group, ACK, &[(11, b"00000001"), (157, b"ZZ")], 3, Level::T, Reason::Number { expected: 0 }),
-    (Before::Group, ACK, &[(19, b"20240230")], 4, Level::T, Reason::Cell(CellFault::NotADate)),
-    (Before::Group, ACK, &[(46, b"   ")], 8, Level::T, Reason::Cell(CellFault::Blank)),
-    (Before::Group, ACK, &[(157, b"ZZ")], 13, Level::T, Reason::Cell(CellFault::NotACode)),
-    (Before::Group, ACK, &[(157, b"  ")], 13, Level::T, Reason::Cell(CellFault::Blank)),
-    (Before::Group, ACK, &[(159, b"X")], 14, Level::T, Reason::Excess),
-    (Before::Acknowledgement, b"GRT000020000000100000003", &[], 2, Level::G, Reason::Number { expected: 1 }),
-    (Before::Acknowledgement, b"GRT000010000000100000004             X", &[], 4, Level::G, Reason::Number { expected: 3 }),
-    (Before::Acknowledgement, b"GRT000010000000100000003             X", &[], 7, Level::G, Reason::Excess),
-    (Before::Work, b"SPU", &[], 1, Level::T, Reason::Misplaced),
-    (Before::Work, b"SWR0000000000000003", &[], 3, Level::T, Reason::Number { expected: 2 }),
-    (Before::Work, ROCK, &[], 10, Level::T, Reason::Cell(CellFault::NotACode)),
+    (HEADER, b"GRHXYZ0000102.100000000001", &[], 2, Level::G, Reason::Cell(CellFault::NotACode)),
+    (HEADER, b"GRHACK0000202.100000000001", &[], 3, Level::G, Reason::Number { expected: 1 }),
+    (HEADER, b"GRHACK0000102.000000000001", &[], 4, Level::G, Reason::Cell(CellFault::NotConstant)),
+    (GROUP, b"XYZ", &[], 1, Level::G, Reason::UnknownKind),
+    (GROUP, b"", &[], 1, Level::G, Reason::UnknownKind),
+    (GROUP, b"GRT000010000000000000002", &[], 1, Level::G, Reason::Misplaced),
+    (GROUP, b"MSG", &[], 1, Level::G, Reason::Misplaced),
+    (GROUP, ACK, &[(3, b"00000001")], 2, Level::T, Reason::Number { expected: 0 }),
+    (GROUP, ACK, &[(11, b"00000001")], 3, Level::T, Reason::Number { expected: 0 }),
+    (GROUP, ACK, &[(11, b"0000000A")], 3, Level::T, Reason::Cell(CellFault::NotDigits)),
+    (GROUP, ACK, &[(11, b"        ")], 3, Level::T, Reason::Cell(CellFault::Blank)),
+    (GROUP, ACK, &[(11, b"00000001"), (157, b"ZZ")], 3, Level::T, Reason::Number { expected: 0 }),
+    (GROUP, ACK, &[(19, b"20240230")], 4, Level::T, Reason::Cell(CellFault::NotADate)),
+    (GROUP, ACK, &[(46, b"   ")], 8, Level::T, Reason::Cell(CellFault::Blank)),
+    (GROUP, ACK, &[(157, b"ZZ")], 13, Level::T, Reason::Cell(CellFault::NotACode)),
+    (GROUP, ACK, &[(157, b"  ")], 13, Level::T, Reason::Cell(CellFault::Blank)),
+    (GROUP, ACK, &[(159, b"X")], 14, Level::T, Reason::Excess),
+    (ACKNOWLEDGEMENT, b"GRT000020000000100000003", &[], 2, Level::G, Reason::Number { expected: 1 }),
+    (ACKNOWLEDGEMENT, b"GRT000010000000100000004             X", &[], 4, Level::G, Reason::Number { expected: 3 }),
+    (ACKNOWLEDGEMENT, b"GRT000010000000100000003             X", &[], 7, Level::G, Reason::Excess),
+    (WORK, b"SPU", &[], 1, Level::T, Reason::Misplaced),
+    (WORK, b"SWR0000000000000003", &[], 3, Level::T, Reason::Number { expected: 2 }),
+    (WORK, ROCK, &[], 10, Level::T, Reason::Cell(CellFault::NotACode)),
 ];
+
+/// Writes over the bytes of a text from a place on.
+fn put(text: &mut [u8], start: usize, bytes: &[u8]) {
+    for (k, byte) in bytes.iter().enumerate() {
+        if let Some(place) = text.get_mut(start.saturating_add(k)) {
+            *place = *byte;
+        }
+    }
+}
 
 #[test]
 fn lines_are_refused_at_their_first_wrong_field(rt: HostRuntime) -> Result<(), Fail> {
     for (before, line, changes, field, level, reason) in &LINES {
-        let (mut text, records, items) = begun(rt.alloc(), *before)?;
-        let start = text.bytes().len();
-        text.add(line)?;
+        let mut text = canonical(rt.alloc(), before.0)?;
+        let start = text.len();
+        text.extend_from_slice(line)?;
         for (at, bytes) in *changes {
-            text.change(start.saturating_add(*at), bytes);
+            put(text.as_mut_slice(), start.saturating_add(*at), bytes);
         }
-        text.add(b"\n")?;
-        let expected = refusal(records.saturating_add(1), *field, *level, *reason);
-        check_refused(&rt, decoder(rt.alloc())?, &text, items, expected);
+        text.push(b'\n')?;
+        let expected = Refusal {
+            rec: before.2,
+            field: *field,
+            level: *level,
+            reason: *reason,
+        };
+        check_refused(&rt, decoder(&rt), text.as_slice(), before.1, expected);
     }
+    Ok(())
+}
+
+/// A line that is filled up with spaces to so many bytes.
+fn filled(alloc: Global, line: &[u8], len: usize) -> Result<Vec<u8>, AllocError> {
+    let mut text = line.to_vec(alloc)?;
+    for _ in line.len()..len {
+        text.push(b' ')?;
+    }
+    Ok(text)
+}
+
+#[test]
+fn long_lines(rt: HostRuntime) -> Result<(), Fail> {
+    for (line, field, reason) in [
+        (HDR, 10, Reason::Excess),
+        (
+            HDR_OF_ANOTHER_VERSION,
+            5,
+            Reason::Cell(CellFault::NotConstant),
+        ),
+    ] {
+        let text = filled(rt.alloc(), line, 1025)?;
+        let mut decoder = decoder(&rt);
+        let step = decoder.feed(text.as_slice());
+        assert_eq!(rt; step.used, 1024);
+        match step.outcome {
+            Outcome::Refused(told) => {
+                assert_eq!(rt;
+                    (told.rec, told.field, told.level, told.reason),
+                    (1, field, Level::E, reason)
+                );
+            }
+            outcome => assert_eq!(rt; named(&outcome), "refused"),
+        }
+    }
+    let mut text = filled(rt.alloc(), HDR, 1024)?;
+    text.push(b'\n')?;
+    let mut decoder = decoder(&rt);
+    let step = decoder.feed(text.as_slice());
+    assert_eq!(rt; (step.used, named(&step.outcome)), (1025, "opened"));
     Ok(())
 }

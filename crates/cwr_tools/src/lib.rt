@@ -1,6 +1,10 @@
 //! Whole runs over CWR 2.1 transmissions: check, show, split and join.
 #![tactic(auto)]
 
+mod checking;
+mod texts;
 mod verdicts;
+mod writing;
 
+pub use checking::check;
 pub use verdicts::{ToolFault, Verdict};

@@ -1,3 +1,0 @@
-mod Checked
-mod LineTexts
-mod Moves

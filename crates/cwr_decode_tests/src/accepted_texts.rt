@@ -1,0 +1,131 @@
+//! Tests of decoders over worked transmissions that are fed whole: the items, the kinds of each transaction's records, and
+//! the used bytes.
+
+use crate::decoders::{LARGEST, Numbers, decoder_within, named};
+use cwr_decode::{Decoder, Outcome};
+use cwr_layouts::Kind::{
+    self, Ack, Agr, Alt, Com, Ipa, Msg, Nwr, Opu, Orn, Owr, Per, Pwr, Rec, Rev, Spt, Spu, Swr, Swt,
+    Ter, Ver,
+};
+use cwr_values::{Item, Transaction};
+use cwr_worked::lines::*;
+use cwr_worked::texts::{
+    AGREEMENT_OF_TWO_BLOCKS, ONE_ACKNOWLEDGEMENT, TWO_GROUPS, WORK_OF_ELEVEN,
+    WORK_OF_ELEVEN_REORDERED, canonical,
+};
+use std::process::Abort;
+use std::test::Fail;
+
+/// One acknowledgement and its message.
+const MESSAGE: &[&[u8]] = &[
+    HDR,
+    GRH_ACK,
+    ACK_0,
+    MSG_0_1,
+    b"GRT000010000000100000004",
+    b"TRL000010000000100000006",
+];
+
+/// One work with its original, its origin and a component.
+const VERSIONED_WORK: &[&[u8]] = &[
+    HDR,
+    GRH_NWR,
+    NWR_0,
+    SWR_0_1,
+    VER_0_2,
+    ORN_0_3,
+    COM_0_4,
+    b"GRT000010000000100000007",
+    b"TRL000010000000100000009",
+];
+
+/// An agreement of one block of two parties.
+const AGREEMENT: &[&[u8]] = &[
+    HDR,
+    GRH_AGR,
+    AGR_0,
+    TER_0_1,
+    IPA_AS_0_2,
+    IPA_AC_0_3,
+    b"GRT000010000000100000006",
+    b"TRL000010000000100000008",
+];
+
+/// An agreement of one block of three parties.
+const AGREEMENT_OF_THREE: &[&[u8]] = &[
+    HDR,
+    GRH_AGR,
+    AGR_0,
+    TER_0_1,
+    IPA_AS_0_2,
+    IPA_AS_0_3,
+    IPA_AC_0_4,
+    b"GRT000010000000100000007",
+    b"TRL000010000000100000009",
+];
+
+/// Limits, the lines of a transmission within them, the length of its canonical text, and the kinds of the records of each
+/// transaction.
+#[rattlefmt::skip]
+static ACCEPTED: [(Numbers, &[&[u8]], usize, &[&[Kind]]); 9] = [
+    (LARGEST, MESSAGE, 546, &[&[Ack, Msg]]),
+    (LARGEST, WORK_OF_ELEVEN, 1893, &[&[Nwr, Spu, Spt, Opu, Swr, Swt, Pwr, Owr, Alt, Per, Rec]]),
+    (LARGEST, WORK_OF_ELEVEN_REORDERED, 1893, &[&[Nwr, Spu, Spt, Opu, Swr, Swt, Pwr, Owr, Rec, Per, Alt]]),
+    (LARGEST, TWO_GROUPS, 1599, &[&[Nwr, Swr], &[Rev, Swr], &[Rev, Swr]]),
+    (LARGEST, VERSIONED_WORK, 1621, &[&[Nwr, Swr, Ver, Orn, Com]]),
+    ((11, 99_999, 999_999), AGREEMENT_OF_TWO_BLOCKS, 993, &[&[Agr, Ter, Ipa, Ipa, Ter, Ipa, Ipa]]),
+    ((8, 99_999, 999_999), AGREEMENT, 657, &[&[Agr, Ter, Ipa, Ipa]]),
+    ((9, 99_999, 999_999), AGREEMENT_OF_THREE, 812, &[&[Agr, Ter, Ipa, Ipa, Ipa]]),
+    ((5, 1, 1), ONE_ACKNOWLEDGEMENT, 359, &[&[Ack]]),
+];
+
+/// Checks that the transaction has records of just these kinds, and is complete.
+fn check_kinds(rt: &impl Abort, transaction: &Transaction, kinds: &[Kind]) {
+    assert_eq!(rt; transaction.len(), kinds.len());
+    assert!(rt; transaction.complete());
+    for (i, kind) in kinds.iter().enumerate() {
+        let record = transaction.record(i);
+        assert_eq!(rt; record.map(|record| record.kind()), Some(*kind), "at {i}");
+    }
+}
+
+/// Feeds a text whole, up to the end of its transmission, and checks its transactions. The answer is how many bytes were
+/// used, and how many transactions were handed out.
+fn feed_whole(
+    rt: &impl Abort,
+    decoder: &mut Decoder,
+    text: &[u8],
+    transactions: &[&[Kind]],
+) -> (usize, usize) {
+    let mut used: usize = 0;
+    let mut count: usize = 0;
+    for _ in 0..99 {
+        let step = decoder.feed(text.get(used..).unwrap_or(b""));
+        used = used.saturating_add(step.used);
+        match &step.outcome {
+            Outcome::Item(Item::Transaction(transaction)) => {
+                if let Some(kinds) = transactions.get(count) {
+                    check_kinds(rt, transaction, kinds);
+                }
+                count = count.saturating_add(1);
+            }
+            Outcome::Item(_) => {}
+            _ => break,
+        }
+    }
+    (used, count)
+}
+
+#[test]
+fn transmissions_are_handed_out_by_items(rt: HostRuntime) -> Result<(), Fail> {
+    for (limits, lines, bytes, transactions) in &ACCEPTED {
+        let text = canonical(rt.alloc(), lines)?;
+        assert_eq!(rt; text.len(), *bytes);
+        let mut decoder = decoder_within(&rt, *limits);
+        let told = feed_whole(&rt, &mut decoder, text.as_slice(), transactions);
+        assert_eq!(rt; told, (*bytes, transactions.len()));
+        assert_eq!(rt; decoder.records() as usize, lines.len());
+        assert_eq!(rt; named(&decoder.feed(b"").outcome), "done");
+    }
+    Ok(())
+}

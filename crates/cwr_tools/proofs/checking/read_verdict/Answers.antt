@@ -1,0 +1,103 @@
+use Rattle.std.proofs.Common.{rules, sym, ap, subst, ◌∙◌, arith}
+use Rattle.std.specs.Prelude.{IfErr, IfOk}
+use Rattle.cwr_decode.specs.Runs.{HasReadAll}
+use Rattle.cwr_decode.proofs.Running.{fault_read, none_read}
+use Rattle.cwr_tools.specs.declared.verdicts.Verdict.{Verdict}
+use Rattle.cwr_tools.specs.declared.checking.Counts.{Counts}
+use Rattle.cwr_tools.specs.Told.{counted, IsToldOf, StopsReading}
+use Rattle.cwr_tools.proofs.Checked.{IsCounting, counts_on, fault_stops, fault_told, good_told, room_in, total_grows}
+use Rattle.cwr_tools.proofs.checking.read_verdict.Goals as goal
+
+pub count-requires-clause-groups : goal.count-requires-clause-groups
+count-requires-clause-groups g c =
+    let room = room_in c.args.limits _ _ _ c.items.counts c.items.invariant.counting in
+    room.groups
+
+pub count-requires-clause-transactions : goal.count-requires-clause-transactions
+count-requires-clause-transactions g c =
+    let room = room_in c.args.limits _ _ _ c.items.counts c.items.invariant.counting in
+    room.transactions
+
+pub count-requires-clause-records : goal.count-requires-clause-records
+count-requires-clause-records g c =
+    let on = counts_on c.args.limits c.items.reading.decoder c.next_item.new.self.decoder (g.R.Source.remaining c.args.reader.now) _ _ c.items.counts c.in-Ok-Some.field-0 c.in-Ok-Some.item _ _
+    c.in-Ok-Some.field-0-is c.items.invariant.counting c.in-Ok-Some.ensures.reads c.in-Ok-Some.ensures.again in
+    (room_in c.args.limits _ _ _ (counted c.items.counts c.in-Ok-Some.item) on).records
+
+pub items-smaller-in-Ok-Some : goal.items-smaller-in-Ok-Some
+items-smaller-in-Ok-Some g c =
+    let on = counts_on c.args.limits c.items.reading.decoder c.next_item.new.self.decoder (g.R.Source.remaining c.args.reader.now) _ _ c.items.counts c.in-Ok-Some.field-0 c.in-Ok-Some.item _ _
+    c.in-Ok-Some.field-0-is c.items.invariant.counting c.in-Ok-Some.ensures.reads c.in-Ok-Some.ensures.again in
+    let room = room_in c.args.limits _ _ _ (counted c.items.counts c.in-Ok-Some.item) on in
+    omega (
+      arith,
+      room.groups,
+      room.transactions,
+      room.records,
+      total_grows c.items.counts c.in-Ok-Some.item,
+      ap (λ (n : Counts). n.groups) c.count.ensures,
+      ap (λ (n : Counts). n.transactions) c.count.ensures,
+      ap (λ (n : Counts). n.records) c.count.ensures,
+    )
+
+pub items-preserved-in-Ok-Some : goal.items-preserved-in-Ok-Some
+items-preserved-in-Ok-Some g c =
+    let on = counts_on c.args.limits c.items.reading.decoder c.next_item.new.self.decoder (g.R.Source.remaining c.args.reader.now) _ _ c.items.counts c.in-Ok-Some.field-0 c.in-Ok-Some.item _ _
+    c.in-Ok-Some.field-0-is c.items.invariant.counting c.in-Ok-Some.ensures.reads c.in-Ok-Some.ensures.again in
+    record {
+      counting = subst (λ (counts : Counts). IsCounting c.args.limits c.next_item.new.self.decoder (g.R.Source.remaining c.args.reader.now) (g.R.Source.remaining c.next_item.new.self.reader.now) counts) (sym c.count.ensures) on;
+      failures = c.in-Ok-Some.ensures.failures ∙ c.items.invariant.failures;
+      same = c.in-Ok-Some.ensures.same_reference ∙ c.items.invariant.same;
+    }
+
+pub items-smaller : goal.items-smaller
+items-smaller g c =
+    let on = counts_on c.args.limits c.items.reading.decoder c.next_item.new.self.decoder (g.R.Source.remaining c.args.reader.now) _ _ c.items.counts c.in-Ok-Some.field-0 c.in-Ok-Some.item _ _
+    c.in-Ok-Some.field-0-is c.items.invariant.counting c.in-Ok-Some.ensures.reads c.in-Ok-Some.ensures.again in
+    let room = room_in c.args.limits _ _ _ (counted c.items.counts c.in-Ok-Some.item) on in
+    omega (
+      arith,
+      room.groups,
+      room.transactions,
+      room.records,
+      total_grows c.items.counts c.in-Ok-Some.item,
+      ap (λ (n : Counts). n.groups) c.count.ensures,
+      ap (λ (n : Counts). n.transactions) c.count.ensures,
+      ap (λ (n : Counts). n.records) c.count.ensures,
+    )
+
+pub items-preserved : goal.items-preserved
+items-preserved g c =
+    let on = counts_on c.args.limits c.items.reading.decoder c.next_item.new.self.decoder (g.R.Source.remaining c.args.reader.now) _ _ c.items.counts c.in-Ok-Some.field-0 c.in-Ok-Some.item _ _
+    c.in-Ok-Some.field-0-is c.items.invariant.counting c.in-Ok-Some.ensures.reads c.in-Ok-Some.ensures.again in
+    record {
+      counting = subst (λ (counts : Counts). IsCounting c.args.limits c.next_item.new.self.decoder (g.R.Source.remaining c.args.reader.now) (g.R.Source.remaining c.next_item.new.self.reader.now) counts) (sym c.count.ensures) on;
+      failures = c.in-Ok-Some.ensures.failures ∙ c.items.invariant.failures;
+      same = c.in-Ok-Some.ensures.same_reference ∙ c.items.invariant.same;
+    }
+
+pub returns-in-Ok-None-clause-told : goal.returns-in-Ok-None-clause-told
+returns-in-Ok-None-clause-told g c =
+    let all : HasReadAll c.args.limits (g.R.Source.remaining c.args.reader.now) (g.R.Source.remaining c.next_item.new.self.reader.now) c.items.invariant.counting.given
+    = none_read c.args.limits c.items.reading.decoder c.next_item.new.self.decoder (g.R.Source.remaining c.args.reader.now) _ _ c.items.invariant.counting.given c.in-Ok-None.field-0 _ c.in-Ok-None.field-0-is
+    c.items.invariant.counting.reading c.in-Ok-None.ensures.reads c.in-Ok-None.ensures.again (λ e. ap g.R.Source.remaining e) in
+    let told : IsToldOf c.args.limits (g.R.Source.remaining c.args.reader.now) c.good.result (g.R.Source.remaining c.next_item.new.self.reader.now)
+    = subst (λ (v : Verdict). IsToldOf c.args.limits (g.R.Source.remaining c.args.reader.now) v (g.R.Source.remaining c.next_item.new.self.reader.now)) (sym c.good.ensures)
+    (good_told c.args.limits _ _ c.items.invariant.counting.given c.items.counts all c.items.invariant.counting.counts) in
+    search rules
+
+pub returns-in-Err-clause-told : goal.returns-in-Err-clause-told
+returns-in-Err-clause-told g c =
+    let told : IfOk c.verdict_of.result (λ verdict. IsToldOf c.args.limits (g.R.Source.remaining c.args.reader.now) verdict (g.R.Source.remaining c.next_item.new.self.reader.now))
+    = fault_told c.args.limits _ _ c.in-Err.fault c.verdict_of.result
+    (fault_read c.args.limits c.items.reading.decoder c.next_item.new.self.decoder (g.R.Source.remaining c.args.reader.now) _ _ c.items.invariant.counting.given c.in-Err.fault _ _
+    c.items.invariant.counting.reading c.in-Err.ensures.reads c.in-Err.ensures.again) c.verdict_of.ensures in
+    search rules
+
+pub returns-in-Err-clause-stops : goal.returns-in-Err-clause-stops
+returns-in-Err-clause-stops g c =
+    let stops : IfErr c.verdict_of.result (λ fault. StopsReading c.args.limits fault (g.R.Source.remaining c.args.reader.now) (g.R.Source.remaining c.next_item.new.self.reader.now))
+    = fault_stops c.args.limits _ _ c.in-Err.fault c.verdict_of.result
+    (fault_read c.args.limits c.items.reading.decoder c.next_item.new.self.decoder (g.R.Source.remaining c.args.reader.now) _ _ c.items.invariant.counting.given c.in-Err.fault _ _
+    c.items.invariant.counting.reading c.in-Err.ensures.reads c.in-Err.ensures.again) c.verdict_of.ensures in
+    search rules

@@ -1,0 +1,7 @@
+//! Tests of whole runs, on the worked examples of this profile.
+#![tactic(auto)]
+
+#[cfg(test)]
+mod devices;
+#[cfg(test)]
+mod verdict_lines;
