@@ -3,58 +3,49 @@
 use crate::worked_records::{made, publisher, work, writer};
 use cwr_layouts::{Kind, Record};
 use cwr_values::{PushFault, Transaction};
-use std::test::Fail;
+use std::process::Abort;
 
-fn party(role: &[u8]) -> Result<Record, Fail> {
-    made(Kind::Ipa, &[(4, role), (8, b"SMITH")])
+fn party(rt: &impl Abort, role: &[u8]) -> Record {
+    made(rt, Kind::Ipa, &[(4, role), (8, b"SMITH")])
 }
 
 #[test]
-fn works(rt: HostRuntime) -> Result<(), Fail> {
-    let refused = Transaction::new(rt.alloc(), writer()?.view());
+fn works(rt: HostRuntime) {
+    let refused = Transaction::new(rt.alloc(), writer(&rt).view());
     assert_eq!(rt; refused.err(), Some(PushFault::Misplaced));
-    let mut transaction = Transaction::new(rt.alloc(), work()?.view())?;
+    let begun = Transaction::new(rt.alloc(), work(&rt).view());
+    let mut transaction = begun.expect(&rt, "no transaction");
     assert!(rt; !transaction.complete());
-    assert_eq!(rt; transaction.push(writer()?.view()), Ok(()));
+    assert_eq!(rt; transaction.push(writer(&rt).view()), Ok(()));
     assert!(rt; transaction.complete());
-    assert_eq!(rt;
-        transaction.push(publisher()?.view()),
-        Err(PushFault::Misplaced)
-    );
+    let misplaced = transaction.push(publisher(&rt).view());
+    assert_eq!(rt; misplaced, Err(PushFault::Misplaced));
     assert_eq!(rt; transaction.len(), 2);
     assert_eq!(rt; transaction.kind(), Kind::Nwr);
-    let title = transaction
-        .record(0)
-        .ok_or("no record")?
-        .cell(4)
-        .map(<[u8]>::len);
-    assert_eq!(rt; title, Some(60));
+    let title = transaction.record(0).and_then(|record| record.cell(4));
+    assert_eq!(rt; title.map(<[u8]>::len), Some(60));
     assert!(rt; transaction.record(2).is_none());
-    Ok(())
 }
 
 #[test]
-fn faults_are_printed(rt: HostRuntime) -> Result<(), Fail> {
+fn faults_are_printed(rt: HostRuntime) {
     let (misplaced, memory) = (PushFault::Misplaced, PushFault::Memory);
-    let text = format!(in rt.alloc(); "{misplaced}, {memory}")?;
+    let text = format!(in rt.alloc(); "{misplaced}, {memory}").expect(&rt, "no memory");
     assert_eq!(rt; text.as_str(), "misplaced record, out of memory");
-    Ok(())
 }
 
 #[test]
-fn agreements(rt: HostRuntime) -> Result<(), Fail> {
-    let header = made(
-        Kind::Agr,
-        &[(4, b"A0000000000001"), (6, b"OS"), (15, b"00001")],
-    )?;
-    let mut transaction = Transaction::new(rt.alloc(), header.view())?;
-    let territory = made(Kind::Ter, &[(4, b"I"), (5, b"2136")])?;
+fn agreements(rt: HostRuntime) {
+    let cells: [(u8, &[u8]); 3] = [(4, b"A0000000000001"), (6, b"OS"), (15, b"00001")];
+    let header = made(&rt, Kind::Agr, &cells);
+    let begun = Transaction::new(rt.alloc(), header.view());
+    let mut transaction = begun.expect(&rt, "no transaction");
+    let territory = made(&rt, Kind::Ter, &[(4, b"I"), (5, b"2136")]);
     assert_eq!(rt; transaction.push(territory.view()), Ok(()));
-    assert_eq!(rt; transaction.push(party(b"AS")?.view()), Ok(()));
-    assert_eq!(rt; transaction.push(party(b"AS")?.view()), Ok(()));
-    assert!(rt; !transaction.complete());
-    assert_eq!(rt; transaction.push(party(b"AC")?.view()), Ok(()));
-    assert!(rt; transaction.complete());
+    let roles: [(&[u8], bool); 3] = [(b"AS", false), (b"AS", false), (b"AC", true)];
+    for (role, complete) in roles {
+        assert_eq!(rt; transaction.push(party(&rt, role).view()), Ok(()));
+        assert_eq!(rt; transaction.complete(), complete);
+    }
     assert_eq!(rt; transaction.len(), 5);
-    Ok(())
 }

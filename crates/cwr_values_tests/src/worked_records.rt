@@ -2,21 +2,21 @@
 
 use cwr_layouts::{Draft, Kind, Record};
 use cwr_values::Transaction;
-use std::alloc::Global;
-use std::test::Fail;
+use std::process::Abort;
 
 /// The record of the kind in which these cells are set.
-pub(crate) fn made(kind: Kind, cells: &[(u8, &[u8])]) -> Result<Record, Fail> {
+pub(crate) fn made(rt: &impl Abort, kind: Kind, cells: &[(u8, &[u8])]) -> Record {
     let mut draft = Draft::blank(kind);
     for (j, text) in cells {
-        draft.set(*j, text)?;
+        assert_eq!(rt; draft.set(*j, text), Ok(()));
     }
-    Ok(draft.done()?)
+    draft.done().expect(rt, "no record")
 }
 
 /// HDR.
-pub(crate) fn opening() -> Result<Record, Fail> {
+pub(crate) fn opening(rt: &impl Abort) -> Record {
     made(
+        rt,
         Kind::Hdr,
         &[
             (2, b"PB"),
@@ -30,13 +30,14 @@ pub(crate) fn opening() -> Result<Record, Fail> {
 }
 
 /// GRH of a type.
-pub(crate) fn group_head(ty: &[u8]) -> Result<Record, Fail> {
-    made(Kind::Grh, &[(2, ty), (5, b"0000000001")])
+pub(crate) fn group_head(rt: &impl Abort, ty: &[u8]) -> Record {
+    made(rt, Kind::Grh, &[(2, ty), (5, b"0000000001")])
 }
 
 /// NWR.
-pub(crate) fn work() -> Result<Record, Fail> {
+pub(crate) fn work(rt: &impl Abort) -> Record {
     made(
+        rt,
         Kind::Nwr,
         &[
             (4, b"BLUE RIVER"),
@@ -48,21 +49,23 @@ pub(crate) fn work() -> Result<Record, Fail> {
 }
 
 /// REV of a title and a number of the work.
-pub(crate) fn revision<'a>(title: &'a [u8], number: &'a [u8]) -> Result<Record, Fail> {
-    made(Kind::Rev, &[(4, title), (6, number), (15, b"ORI")])
+pub(crate) fn revision<'a>(rt: &impl Abort, title: &'a [u8], number: &'a [u8]) -> Record {
+    made(rt, Kind::Rev, &[(4, title), (6, number), (15, b"ORI")])
 }
 
 /// SWR.
-pub(crate) fn writer() -> Result<Record, Fail> {
+pub(crate) fn writer(rt: &impl Abort) -> Record {
     made(
+        rt,
         Kind::Swr,
         &[(4, b"W1"), (5, b"SMITH"), (6, b"ANNA"), (8, b"CA")],
     )
 }
 
 /// SPU.
-pub(crate) fn publisher() -> Result<Record, Fail> {
+pub(crate) fn publisher(rt: &impl Abort) -> Record {
     made(
+        rt,
         Kind::Spu,
         &[
             (4, b"01"),
@@ -77,8 +80,9 @@ pub(crate) fn publisher() -> Result<Record, Fail> {
 }
 
 /// A work of its header and one writer.
-pub(crate) fn written(alloc: Global, header: &Record) -> Result<Transaction, Fail> {
-    let mut transaction = Transaction::new(alloc, header.view())?;
-    transaction.push(writer()?.view())?;
-    Ok(transaction)
+pub(crate) fn written(rt: &(impl Abort + AllocGlobal), header: &Record) -> Transaction {
+    let begun = Transaction::new(rt.alloc(), header.view());
+    let mut transaction = begun.expect(rt, "no transaction");
+    assert_eq!(rt; transaction.push(writer(rt).view()), Ok(()));
+    transaction
 }
