@@ -22,9 +22,9 @@ use Rattle.cwr_decode.specs.declared.outcomes.Outcome.{Outcome}
 use Rattle.cwr_decode.specs.declared.outcomes.Outcome.TheVariants as outcomes
 use Rattle.cwr_decode.specs.declared.machine.State.TheVariants as states
 use Rattle.cwr_judge.specs.Items.{is_in_transaction}
-use Rattle.cwr_decode.specs.Machines.{Standing, Empties, Enters, held_list, reading, stopped}
+use Rattle.cwr_decode.specs.Machines.{Standing, Empties, Enters, held_list, reading, stopped, held_of}
 use Rattle.cwr_judge.specs.Open.{items_so_far, open_of, item_of}
-use Rattle.cwr_decode.specs.Stands.{AreAccepted, IsInput, StandsFor, held_of, items_in, text_of}
+use Rattle.cwr_decode.specs.Stands.{AreAccepted, IsInput, StandsFor, items_in, text_of}
 use Rattle.cwr_judge.proofs.Trailers.{trailer_ends, whole_ends}
 
 -- ---- lists
@@ -100,7 +100,7 @@ around d input given kind r item out new m no_trailer outside own e =
     (subst (λ (is : List Item). StandsFor (reading d d.held) input (given ++ is)) own_item (reads_on d input given kind r d.held m no_trailer held))
 
 -- the place behind a record inside a transaction
-inside_last : (kind : Kind) (records : List RecordValue) (r : RecordValue) → r.kind ≡ kind → is_in_transaction kind ≡ true → tallies.is_in_transaction (place_after (map symbol_of (records ++ r ∷ []))) ≡ true
+pub inside_last : (kind : Kind) (records : List RecordValue) (r : RecordValue) → r.kind ≡ kind → is_in_transaction kind ≡ true → tallies.is_in_transaction (place_after (map symbol_of (records ++ r ∷ []))) ≡ true
 inside_last kind records r e h =
     ap (λ (xs : List Symbol). tallies.is_in_transaction (place_after xs)) (map-snoc records r)
     ∙ ap (λ (o : Option Symbol). tallies.is_in_transaction (place_by o)) (last_or-snoc None (map symbol_of records) (symbol_of r) ∙ ap (λ (k : Kind). Some (symbol_by k r)) e)

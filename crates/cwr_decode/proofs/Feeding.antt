@@ -26,8 +26,8 @@ use Rattle.cwr_decode.specs.declared.machine.State.{State}
 use Rattle.cwr_decode.specs.declared.machine.State.TheVariants as states
 use Rattle.cwr_judge.specs.Items.{is_in_transaction}
 use Rattle.cwr_judge.specs.Ends.{IsTruncated}
-use Rattle.cwr_decode.specs.Machines.{Standing, IsReady, Settles, Enters, EntersHeld, Judges, ClosesLine, WaitsOutside, again, first, over, stopped}
-use Rattle.cwr_decode.specs.Stands.{StandsFor, StandsIn, IsReading, IsInput, IsRight, held_of, items_out, text_of}
+use Rattle.cwr_decode.specs.Machines.{Standing, IsReady, Settles, Enters, EntersHeld, Judges, ClosesLine, WaitsOutside, again, first, over, stopped, held_of}
+use Rattle.cwr_decode.specs.Stands.{StandsFor, StandsIn, IsReading, IsInput, IsRight, items_out, text_of}
 use Rattle.cwr_decode.specs.Calls.{IsLive, Grows, TakesEnd, Advances, Feeds, Finishes, seen}
 use Rattle.cwr_decode.proofs.Texts.{closed_text, closed_open}
 use Rattle.cwr_decode.proofs.CutTruncated.{cut_truncated}

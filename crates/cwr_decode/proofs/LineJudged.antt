@@ -31,10 +31,10 @@ use Rattle.cwr_decode.specs.declared.machine.State.{State}
 use Rattle.cwr_decode.specs.declared.machine.State.TheVariants as states
 use Rattle.cwr_judge.specs.Items.{is_in_transaction}
 use Rattle.cwr_judge.specs.Judged.{IsNext, IsOfNone, IsFirstFault}
-use Rattle.cwr_decode.specs.Machines.{Standing, Empties, Accepts, Refuses, Tells, Judges, EntersHeld, Follows, with_tally, pending, stopped, held_list}
+use Rattle.cwr_decode.specs.Machines.{Standing, Empties, Accepts, Refuses, Tells, Judges, EntersHeld, Follows, with_tally, pending, stopped, held_list, held_of}
 use Rattle.cwr_judge.specs.Open.{items_so_far, open_of, goes_on_with, handed, item_of}
 use Rattle.cwr_decode.specs.Calls.{RefusesLast}
-use Rattle.cwr_decode.specs.Stands.{AreAccepted, IsInput, IsPending, IsStopped, StandsFor, StandsIn, held_of, items_in, items_out, text_of}
+use Rattle.cwr_decode.specs.Stands.{AreAccepted, IsInput, IsPending, IsStopped, StandsFor, StandsIn, items_in, items_out, text_of}
 use Rattle.cwr_judge.proofs.NextLines.{next_is_line}
 use Rattle.cwr_judge.proofs.Given.{goes_on_stays, ends_closes}
 use Rattle.cwr_decode.proofs.Texts.{text_of-push}
@@ -70,7 +70,7 @@ fronts P (x ∷ xs) s h p (f ∷ front) rest e =
     let more : xs ++ s ∷ [] ≡ front ++ rest = cc e in
     subst (λ (a : Symbol). P (a ∷ front)) first (fronts (λ (l : List Symbol). P (x ∷ l)) xs s (λ g r q. h (x ∷ g) r (ap (λ (l : List Symbol). x ∷ l) q)) p front rest more)
 
-all_snoc : (records : List RecordValue) (r : RecordValue) → AllByRecursion IsRecord records → IsRecord r → AllByRecursion IsRecord (records ++ r ∷ [])
+pub all_snoc : (records : List RecordValue) (r : RecordValue) → AllByRecursion IsRecord records → IsRecord r → AllByRecursion IsRecord (records ++ r ∷ [])
 all_snoc [] r h k = (k, tt)
 all_snoc (q ∷ records) r h k = (h.0, all_snoc records r h.1 k)
 
@@ -136,7 +136,7 @@ something_held whole (r ∷ records) e =
     let same : whole ≡ r ∷ records = cc e in
     (sym same, ap (λ (t : List RecordValue). items.Transaction t ∷ []) (sym same))
 
-list_held : (records : List RecordValue) → held_list (held_of records) ≡ records
+pub list_held : (records : List RecordValue) → held_list (held_of records) ≡ records
 list_held [] = refl
 list_held (r ∷ records) = refl
 

@@ -12,7 +12,7 @@ use Rattle.cwr_shape.specs.declared.tallies.Place.TheVariants as places
 use Rattle.cwr_shape.specs.Tallies.{TallyValue, StandsFor, is_in_transaction}
 use Rattle.cwr_values.specs.declared.items.Item.{Item}
 use Rattle.cwr_values.specs.declared.items.Item.TheVariants as items
-use Rattle.cwr_values.specs.declared.transactions.PushFault.{PushFault}
+use Rattle.std.specs.declared.alloc.AllocError.{AllocError}
 use Rattle.cwr_decode.specs.declared.outcomes.Outcome.{Outcome}
 use Rattle.cwr_judge.specs.declared.judging.LineFault.{LineFault}
 use Rattle.cwr_judge.specs.Judged.{IsNext, IsOfNone, IsFirstFault}
@@ -47,18 +47,18 @@ goes_on_begins m n a b p e f g = ne_eqb m n g ∙ sym (ap (λ (u : Bool). u && p
 abbrev pub holding : Standing → Option (List RecordValue) → Standing
 holding d held = record { line = d.line; tally = d.tally; held = held; state = d.state; finished = d.finished }
 
-around_enters : (item : Item) (d : Standing) (result : Result (Option Item) PushFault) (held : Option (List RecordValue)) (out : Option Outcome) (new : Standing)
+around_enters : (item : Item) (d : Standing) (result : Result (Option Item) AllocError) (held : Option (List RecordValue)) (out : Option Outcome) (new : Standing)
     → ((h : Option (List RecordValue)) → GoesOn (Ok (Some item)) (holding d h) out new → (out ≡ Some (outcomes.Item item)) × (new ≡ reading d h))
     → (result ≡ Ok (Some item)) × (held ≡ d.held) → GoesOn result (holding d held) out new → (out ≡ Some (outcomes.Item item)) × (new ≡ reading d d.held)
 around_enters item d result held out new told a g =
-    let now = told held (subst (λ (x : Result (Option Item) PushFault). GoesOn x (holding d held) out new) a.0 g) in
+    let now = told held (subst (λ (x : Result (Option Item) AllocError). GoesOn x (holding d held) out new) a.0 g) in
     (now.0, now.1 ∙ ap (reading d) a.1)
 
-last_enters : (d : Standing) (result : Result (Option Item) PushFault) (held : Option (List RecordValue)) (out : Option Outcome) (new : Standing)
+last_enters : (d : Standing) (result : Result (Option Item) AllocError) (held : Option (List RecordValue)) (out : Option Outcome) (new : Standing)
     → (result ≡ Ok (Some items.Ended)) × (held ≡ d.held) → GoesOn result (holding d held) out new → (out ≡ Some (outcomes.Item items.Ended)) × (new ≡ stopped d states.Ended)
-last_enters d result held out new a g = subst (λ (x : Result (Option Item) PushFault). GoesOn x (holding d held) out new) a.0 g
+last_enters d result held out new a g = subst (λ (x : Result (Option Item) AllocError). GoesOn x (holding d held) out new) a.0 g
 
-inside_enters : (r : RecordValue) (d : Standing) (result : Result (Option Item) PushFault) (held : Option (List RecordValue)) (out : Option Outcome) (new : Standing)
+inside_enters : (r : RecordValue) (d : Standing) (result : Result (Option Item) AllocError) (held : Option (List RecordValue)) (out : Option Outcome) (new : Standing)
     → MatchResult result (λ item. (item ≡ None) × (held ≡ Some (held_list d.held ++ r ∷ []))) (λ fault. Unit {0}) → GoesOn result (holding d held) out new
     → MatchOption out (new ≡ reading d (Some (held_list d.held ++ r ∷ []))) (λ o. (o ≡ outcomes.Memory) × (new ≡ stopped d states.Memory))
 inside_enters r d (Err fault) held out new a g =
@@ -68,7 +68,7 @@ inside_enters r d (Ok item) held out new a g =
     subst (λ (o : Option Outcome). MatchOption o (new ≡ reading d (Some (held_list d.held ++ r ∷ []))) (λ x. (x ≡ outcomes.Memory) × (new ≡ stopped d states.Memory))) (sym now.0) (now.1 ∙ ap (reading d) a.1)
 
 -- an accepted record is added, and then reading goes on
-pub adds_enters : (kind : Kind) (r : RecordValue) (d : Standing) (result : Result (Option Item) PushFault) (held : Option (List RecordValue)) (out : Option Outcome) (new : Standing)
+pub adds_enters : (kind : Kind) (r : RecordValue) (d : Standing) (result : Result (Option Item) AllocError) (held : Option (List RecordValue)) (out : Option Outcome) (new : Standing)
     → Adds kind r d.held result held → GoesOn result (holding d held) out new → Enters kind r d out new
 adds_enters Hdr r d result held out new a g = around_enters (items.Opened r) d result held out new (λ h k. k) a g
 adds_enters Grh r d result held out new a g = around_enters (items.GroupOpened r) d result held out new (λ h k. k) a g
@@ -135,7 +135,7 @@ waits_now d next cut s r goes_on whole taken left c carried ok limits stands sam
         (sym e ∙ h.0) (refl, λ i. record { line = d.line; tally = next; held = h.1 i; state = states.Pending; finished = d.finished })
 
 -- an accepted line is entered
-pub enters_now : (d : Standing) (next : TallyValue) (cut : HeldLine) (s : Symbol) (r : RecordValue) (goes_on : Bool) (taken left : Option (List RecordValue)) (result : Result (Option Item) PushFault) (held : Option (List RecordValue))
+pub enters_now : (d : Standing) (next : TallyValue) (cut : HeldLine) (s : Symbol) (r : RecordValue) (goes_on : Bool) (taken left : Option (List RecordValue)) (result : Result (Option Item) AllocError) (held : Option (List RecordValue))
     (out : Option Outcome) (new : Standing) → cut ≡ d.line
     → (held_record cut ≡ Some r) × IsRecord r × (held_excess cut ≡ false) → ((xs : List Symbol) → StandsFor d.tally xs → IsNext d.tally.limits xs cut s r) → next.limits ≡ d.tally.limits → ((xs : List Symbol) → StandsFor d.tally xs → StandsFor next (xs ++ s ∷ []))
     → ((xs : List Symbol) → StandsFor d.tally xs → goes_on ≡ goes_on_with xs s) → HandsOut goes_on d.held taken left → taken ≡ None

@@ -1,5 +1,7 @@
 -- What a decoder holds, and what each of its steps does.
-use Rattle.std.specs.Prelude.{◌≡◌, ◌≢◌, ◌⊎◌, ◌+◌, Bool, true, false, List, [], ◌∷◌, ◌++◌, length, Option, Some, None, IsSomeAnd, Result, Ok, Err, MatchOption, MatchResult}
+use Rattle.std.specs.Prelude.{◌≡◌, ◌≢◌, ◌⊎◌, ◌+◌, Bool, true, false, List, [], ◌∷◌, ◌++◌, length, map, Option, Some, None, IfSome, IsSomeAnd, Result, Ok, Err, MatchOption, MatchResult}
+use Rattle.std.specs.List.{AllByRecursion}
+use Rattle.std.specs.declared.alloc.AllocError.{AllocError}
 use Rattle.cwr_layouts.specs.declared.kinds.Kind.{Kind}
 use Rattle.cwr_layouts.specs.declared.kinds.Kind.TheVariants.{Hdr, Grh, Grt, Trl}
 use Rattle.cwr_layouts.specs.declared.lines.LineEnd.TheVariants as line_ends
@@ -7,10 +9,10 @@ use Rattle.cwr_layouts.specs.Records.{RecordValue, IsRecord}
 use Rattle.cwr_layouts.specs.Held.{HeldLine, held_excess, held_kind, held_record, empty_line}
 use Rattle.cwr_shape.specs.declared.symbols.Symbol.{Symbol}
 use Rattle.cwr_shape.specs.Levels.{level_of}
+use Rattle.cwr_shape.specs.Ranges.{AreInRange}
 use Rattle.cwr_shape.specs.Tallies.{TallyValue, StandsFor, place_after}
 use Rattle.cwr_values.specs.declared.items.Item.{Item}
 use Rattle.cwr_values.specs.declared.items.Item.TheVariants as items
-use Rattle.cwr_values.specs.declared.transactions.PushFault.{PushFault}
 use Rattle.cwr_judge.specs.declared.judging.LineFault.{LineFault}
 use Rattle.cwr_decode.specs.declared.outcomes.Outcome.{Outcome}
 use Rattle.cwr_decode.specs.declared.outcomes.Outcome.TheVariants as outcomes
@@ -19,7 +21,9 @@ use Rattle.cwr_decode.specs.declared.machine.State.TheVariants.{Reading, Pending
 use Rattle.cwr_judge.specs.declared.refusals.Refusal.{Refusal}
 use Rattle.cwr_judge.specs.Judged.{IsNext, IsOfNone, IsFirstFault}
 use Rattle.cwr_judge.specs.Items.{is_in_transaction}
-use Rattle.cwr_judge.specs.Open.{goes_on_with}
+use Rattle.cwr_values.specs.Values.{symbol_of}
+use Rattle.cwr_values.specs.Begun.{BeginsWithOneMore}
+use Rattle.cwr_judge.specs.Open.{goes_on_with, open_of}
 
 -- what a decoder holds: the line that is read or waits, what is counted of the records, and the records of the open
 -- transaction; what it does next, and whether the input is over
@@ -100,13 +104,34 @@ abbrev pub held_list : Option (List RecordValue) → List RecordValue
 held_list None = []
 held_list (Some records) = records
 
+-- the records of the open transaction as they are held
+abbrev pub held_of : List RecordValue → Option (List RecordValue)
+held_of [] = None
+held_of (r ∷ records) = Some (r ∷ records)
+
+-- the tally is that of some records, and those of their open transaction are held
+pub record HoldsOpen (d : Standing) : Type 0 where
+  pub in_range : AreInRange d.tally.limits
+  pub records : List RecordValue
+  pub in_order : AllByRecursion IsRecord records
+  pub counted : StandsFor d.tally (map symbol_of records)
+  pub held : d.held ≡ held_of (open_of records)
+
+-- a record that stands inside transactions goes on with the one that is held, or begins one where none is
+abbrev pub FitsHeld : RecordValue → Option (List RecordValue) → Type 0
+FitsHeld r held = is_in_transaction r.kind ≡ true → BeginsWithOneMore (held_list held) r
+
+-- so does the record that waits, if one does
+abbrev pub FitsWaiting : Standing → Type 0
+FitsWaiting d = d.state ≡ Pending → IfSome (held_record d.line) (λ r. FitsHeld r d.held)
+
 -- the open transaction is taken out, unless the next record goes on with it
 abbrev pub HandsOut : Bool → Option (List RecordValue) → Option (List RecordValue) → Option (List RecordValue) → Type 0
 HandsOut true old result new = (result ≡ None) × (new ≡ old)
 HandsOut false old result new = (result ≡ old) × (new ≡ None)
 
 -- an accepted record of the kind is added to those that are held, or it is an item of its own
-abbrev pub Adds : Kind → RecordValue → Option (List RecordValue) → Result (Option Item) PushFault → Option (List RecordValue) → Type 0
+abbrev pub Adds : Kind → RecordValue → Option (List RecordValue) → Result (Option Item) AllocError → Option (List RecordValue) → Type 0
 Adds Hdr r old result new = (result ≡ Ok (Some (items.Opened r))) × (new ≡ old)
 Adds Grh r old result new = (result ≡ Ok (Some (items.GroupOpened r))) × (new ≡ old)
 Adds Grt r old result new = (result ≡ Ok (Some (items.GroupClosed r))) × (new ≡ old)
@@ -114,7 +139,7 @@ Adds Trl r old result new = (result ≡ Ok (Some items.Ended)) × (new ≡ old)
 Adds kind r old result new = MatchResult result (λ item. (item ≡ None) × (new ≡ Some (held_list old ++ r ∷ []))) (λ fault. Unit {0})
 
 -- behind an accepted record a new line begins, unless that was the last one or found no memory
-abbrev pub GoesOn : Result (Option Item) PushFault → Standing → Option Outcome → Standing → Type 0
+abbrev pub GoesOn : Result (Option Item) AllocError → Standing → Option Outcome → Standing → Type 0
 GoesOn (Err fault) old result new = (result ≡ Some outcomes.Memory) × (new ≡ stopped old Memory)
 GoesOn (Ok None) old result new = (result ≡ None) × (new ≡ reading old old.held)
 GoesOn (Ok (Some items.Ended)) old result new = (result ≡ Some (outcomes.Item items.Ended)) × (new ≡ stopped old Ended)

@@ -23,7 +23,7 @@ use Rattle.cwr_judge.specs.declared.refusals.Refusal.{Refusal}
 use Rattle.cwr_judge.specs.Items.{AreFirstItems, value_items}
 use Rattle.cwr_judge.specs.Ends.{IsAccepted, IsRefused, IsTruncated}
 use Rattle.cwr_judge.specs.Judged.{IsOfNone, IsFirstFault}
-use Rattle.cwr_decode.specs.Machines.{Standing, IsReady}
+use Rattle.cwr_decode.specs.Machines.{Standing, IsReady, held_of}
 use Rattle.cwr_judge.specs.Open.{items_so_far, open_of, goes_on_with, handed}
 
 -- the lines, each with its line feed
@@ -42,11 +42,6 @@ pub record AreAccepted (tally : TallyValue) (lines : List (List ℕ)) (records :
   pub in_order : AllByRecursion IsRecord records
   pub rows : AllZip IsLineOf (rows_so_far records) lines
   pub within : (front rest : List Symbol) → map symbol_of records ≡ front ++ rest → passed tally.limits front ≡ None
-
--- the records of the open transaction as they are held
-abbrev pub held_of : List RecordValue → Option (List RecordValue)
-held_of [] = None
-held_of (r ∷ records) = Some (r ∷ records)
 
 -- all lines of the input were accepted, and the bytes behind them are those of the line that is read
 pub record IsReading (d : Standing) (input : List ℕ) (given : List Item) : Type 0 where

@@ -1,21 +1,23 @@
 //! The steps of a decoder.
 
-ghost use Rattle.std.specs.Prelude.{List, ◌∷◌, ◌++◌, [], ◌≡◌, ◌≢◌, length, true, false, None, IsTrue, IsFalse, IsSomeAnd};
+ghost use Rattle.std.specs.Prelude.{List, ◌∷◌, ◌++◌, [], ◌≡◌, ◌≢◌, length, true, false, None, Some, IsTrue, IsFalse, IsSomeAnd, IfSome, OnOk};
 ghost use Rattle.cwr_layouts.specs.Held.{IsHeld, Takes, held_record};
 ghost use Rattle.cwr_shape.specs.Ranges.{AreInRange};
 ghost use Rattle.cwr_shape.specs.Tallies.{IsAdmitted, StandsFor};
 ghost use Rattle.cwr_shape.specs.declared.symbols.Symbol.{Symbol};
 ghost use Rattle.cwr_judge.specs.Items.{is_in_transaction};
 ghost use Rattle.cwr_judge.specs.Open.{goes_on_with};
-ghost use Rattle.cwr_decode.specs.Machines.{Adds, ClosesLine, EntersHeld, GoesOn, HandsOut, HasRecord, IsReady, Judges, Settles, Tells, first, held_list, reading, stopped};
+ghost use Rattle.cwr_decode.specs.Machines.{Adds, ClosesLine, EntersHeld, GoesOn, HandsOut, HasRecord, HoldsOpen, FitsHeld, FitsWaiting, IsReady, Judges, Settles, Tells, first, held_list, reading, stopped};
+ghost use Rattle.cwr_decode.specs.Stands.{IsSound};
 ghost use Rattle.cwr_decode.specs.Calls.{TakesEnd, Feeds, Finishes};
+ghost use Rattle.cwr_values.specs.Begun.{BeginsWithOneMore};
 
 use crate::outcomes::{Outcome, Step};
 use cwr_judge::{LineFault, Refusal, judge};
 use cwr_layouts::{Kind, LineBuf, LineEnd, RecordRef, Taken};
 use cwr_shape::{Limits, Place, Symbol, Tally, level};
 use cwr_values::{Item, PushFault, Transaction};
-use std::alloc::Global;
+use std::alloc::{AllocError, Global};
 use std::marker::Model;
 
 /// What a decoder does next.
@@ -90,12 +92,39 @@ fn hand_out(goes_on: bool, held: &mut Option<Transaction>) -> Option<Transaction
     if goes_on { None } else { held.take() }
 }
 
+/// Adds a record to the transaction that is held, or begins one with it.
+fn add(
+    alloc: Global,
+    held: &mut Option<Transaction>,
+    accepted: RecordRef<'_>,
+) -> Result<(), AllocError>
+    requires { BeginsWithOneMore (held_list held.old) accepted }
+    ensures { OnOk result (held.new ≡ Some (held_list held.old ++ accepted.entry ∷ [])) }
+{
+    let added = match held {
+        Some(open) => open.push(accepted),
+        None => match Transaction::new(alloc, accepted) {
+            Ok(begun) => {
+                *held = Some(begun);
+                Ok(())
+            }
+            Err(fault) => Err(fault),
+        },
+    };
+    match added {
+        Ok(()) => Ok(()),
+        Err(PushFault::Memory) => Err(AllocError),
+        Err(PushFault::Misplaced) => unreachable!(),
+    }
+}
+
 /// Adds an accepted record to the transaction that is held, or begins one with it, or answers its own item.
 fn entered(
     alloc: Global,
     held: &mut Option<Transaction>,
     accepted: RecordRef<'_>,
-) -> Result<Option<Item>, PushFault>
+) -> Result<Option<Item>, AllocError>
+    requires { FitsHeld accepted held.old }
     ensures { Adds accepted.entry.kind accepted.entry held.old result held.new }
 {
     let item = match accepted.kind() {
@@ -104,10 +133,7 @@ fn entered(
         Kind::Grt => Item::GroupClosed(accepted.to_record()),
         Kind::Trl => Item::Ended,
         _ => {
-            match held {
-                Some(open) => open.push(accepted)?,
-                None => *held = Some(Transaction::new(alloc, accepted)?),
-            }
+            add(alloc, held, accepted)?;
             return Ok(None);
         }
     };
@@ -182,7 +208,7 @@ impl Machine {
     }
 
     /// Begins a new line behind an accepted record, or stops for good where that was the last one or found no memory.
-    fn go_on(&mut self, entered: Result<Option<Item>, PushFault>) -> Option<Outcome>
+    fn go_on(&mut self, entered: Result<Option<Item>, AllocError>) -> Option<Outcome>
         ensures { GoesOn entered self.old result self.new }
     {
         match entered {
@@ -207,7 +233,8 @@ impl Machine {
 
     /// Enters the record that waits.
     fn enter(&mut self) -> Option<Outcome>
-        requires { HasRecord self.old.line }
+        requires carries { HasRecord self.old.line }
+        requires fits { IfSome (held_record self.old.line) (λ r. FitsHeld r self.old.held) }
         ensures { EntersHeld (held_record self.old.line) self.old result self.new }
     {
         let Some(accepted) = self.line.cut().record() else {
@@ -249,7 +276,8 @@ impl Machine {
     /// Judges the line that ended, and accepts or refuses it. An accepted record that ends a transaction waits, since
     /// that is handed out first.
     fn take_line(&mut self) -> Option<Outcome>
-        requires { self.old.line.ended ≢ LineEnd.Open }
+        requires ended { self.old.line.ended ≢ LineEnd.Open }
+        requires holds { HoldsOpen self.old }
         ensures { Judges self.old result self.new }
     {
         let cut = self.line.cut();
@@ -271,7 +299,8 @@ impl Machine {
 
     /// What is answered without a further byte. `None` where one is needed.
     fn settle(&mut self) -> Option<Outcome>
-        requires { IsReady self.old.state self.old.finished self.old.line }
+        requires ready { IsReady self.old.state self.old.finished self.old.line }
+        requires fits { FitsWaiting self.old }
         ensures { Settles self.old.state self.old result self.new }
     {
         match self.state {
@@ -310,7 +339,7 @@ impl Machine {
 
     /// Takes the end of the input, and with it a last line that had no line feed.
     fn last_line(&mut self) -> Option<Outcome>
-        requires { IsReady self.old.state self.old.finished self.old.line }
+        requires { IsSound self.old }
         ensures { TakesEnd self.old result self.new }
     {
         if self.close() {
@@ -321,7 +350,7 @@ impl Machine {
 
     /// Takes the next piece of the input, up to the next item.
     pub fn feed(&mut self, piece: &[u8]) -> Step
-        requires { IsReady self.old.state self.old.finished self.old.line }
+        requires { IsSound self.old }
         ensures { Feeds self.old piece.now result.used result.outcome self.new }
     {
         if self.finished {
@@ -351,7 +380,7 @@ impl Machine {
 
     /// Takes the end of the input.
     pub fn finish(&mut self) -> Step
-        requires { IsReady self.old.state self.old.finished self.old.line }
+        requires { IsSound self.old }
         ensures used { result.used ≡ 0 }
         ensures finishes { Finishes self.old result.outcome self.new }
     {

@@ -201,7 +201,7 @@ transactions_back limit ty c (t ∷ ts) more h m =
 -- ---- groups
 
 -- a group, what follows it, and what follows that
-group_then : (g : GroupOutline) (xs more : List Symbol) → (group_symbols g ++ xs) ++ more ≡ Grh g.ty ∷ (flat_map (λ t. t) g.transactions ++ (Plain kinds.Grt ∷ (xs ++ more)))
+pub group_then : (g : GroupOutline) (xs more : List Symbol) → (group_symbols g ++ xs) ++ more ≡ Grh g.ty ∷ (flat_map (λ t. t) g.transactions ++ (Plain kinds.Grt ∷ (xs ++ more)))
 group_then g xs more =
     append_assoc (group_symbols g) xs more
     ∙ ap (λ (l : List Symbol). Grh g.ty ∷ l) (append_assoc (flat_map (λ t. t) g.transactions) (Plain kinds.Grt ∷ []) (xs ++ more))

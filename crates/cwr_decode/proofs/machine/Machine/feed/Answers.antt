@@ -5,7 +5,16 @@ use Rattle.cwr_decode.specs.declared.outcomes.Outcome.TheVariants as outcomes
 use Rattle.cwr_decode.specs.Calls.{Feeds}
 use Rattle.cwr_decode.proofs.Advancing.{advanced_line, advanced_open}
 use Rattle.cwr_decode.proofs.Feeding.{finished_feeds, settled_feeds, fed_none, fed_more, fed_out, rest_smaller}
+use Rattle.cwr_decode.proofs.HeldOpen.{fed_holds, waiting_fits}
 use Rattle.cwr_decode.proofs.machine.Machine.feed.Goals as goal
+
+pub settle-requires-clause-fits : goal.settle-requires-clause-fits
+settle-requires-clause-fits c = waiting_fits c.args.self.now c.requires.under_way
+
+pub take_line-requires-clause-holds : goal.take_line-requires-clause-holds
+take_line-requires-clause-holds c =
+    let same = c.add_line.ensures.kept c.if-add_line.false ∙ c.take-taken.ensures.others in
+    fed_holds c.args.self.now c.loop-self.self c.add_line.new.self c.args.piece.now c.loop-self.used c.requires.under_way c.loop-self.invariant (ap (λ (d : Standing). d.tally) same) (ap (λ (d : Standing). d.held) same)
 
 pub returns-then-self : goal.returns-then-self
 returns-then-self c =
@@ -13,10 +22,10 @@ returns-then-self c =
     (finished_feeds c.args.self.now c.finish.new.self c.args.piece.now c.finish.result.outcome (ap (λ (d : Standing). d.finished) (sym c.self.view_is) ∙ c.if-self.true) c.finish.ensures.finishes)
 
 pub returns-in-Some : goal.returns-in-Some
-returns-in-Some c = settled_feeds c.args.self.now c.settle.new.self c.args.piece.now c.in-Some.outcome c.requires (ap (λ (d : Standing). d.finished) (sym c.self.view_is) ∙ c.if-self.false) c.in-Some.ensures
+returns-in-Some c = settled_feeds c.args.self.now c.settle.new.self c.args.piece.now c.in-Some.outcome c.requires.ready (ap (λ (d : Standing). d.finished) (sym c.self.view_is) ∙ c.if-self.false) c.in-Some.ensures
 
 pub loop-self-init : goal.loop-self-init
-loop-self-init c = fed_none c.args.self.now c.settle.new.self c.args.piece.now c.requires (ap (λ (d : Standing). d.finished) (sym c.self.view_is) ∙ c.if-self.false) c.in_default.ensures
+loop-self-init c = fed_none c.args.self.now c.settle.new.self c.args.piece.now c.requires.ready (ap (λ (d : Standing). d.finished) (sym c.self.view_is) ∙ c.if-self.false) c.in_default.ensures
 
 pub returns-in-Open : goal.returns-in-Open
 returns-in-Open c =

@@ -1,7 +1,11 @@
 use Rattle.std.proofs.Common.{◌∙◌, ap}
 use Rattle.cwr_decode.specs.Machines.{Standing}
 use Rattle.cwr_decode.proofs.Feeding.{ends_finish, settles_finish, cut_finish}
+use Rattle.cwr_decode.proofs.HeldOpen.{ended_fits}
 use Rattle.cwr_decode.proofs.machine.Machine.finish.Goals as goal
+
+pub settle-requires-clause-fits : goal.settle-requires-clause-fits
+settle-requires-clause-fits c = ended_fits c.args.self.now c.last_line.new.self c.requires.under_way c.in_default.ensures
 
 pub returns-in-Some-clause-finishes : goal.returns-in-Some-clause-finishes
 returns-in-Some-clause-finishes c = ends_finish c.args.self.now c.last_line.new.self c.in-Some.outcome c.in-Some.ensures

@@ -1,8 +1,10 @@
-use Rattle.std.proofs.Common.{ap, subst, Some}
+use Rattle.std.proofs.Common.{ap, map, subst, sym, Some}
+use Rattle.cwr_values.specs.Values.{symbol_of}
 use Rattle.cwr_decode.specs.declared.outcomes.Outcome.TheVariants as outcomes
 use Rattle.cwr_decode.specs.declared.machine.State.TheVariants as states
 use Rattle.cwr_values.specs.declared.items.Item.TheVariants as items
-use Rattle.cwr_decode.specs.Machines.{Standing, Judges}
+use Rattle.cwr_decode.specs.Machines.{Standing, HoldsOpen, Judges}
+use Rattle.cwr_decode.proofs.HeldOpen.{entry_fits}
 use Rattle.cwr_decode.proofs.Steps.{refused_line, waits_now, enters_now}
 use Rattle.cwr_decode.proofs.machine.Machine.take_line.Goals as goal
 
@@ -10,6 +12,14 @@ pub returns-in-Err : goal.returns-in-Err
 returns-in-Err c =
     refused_line c.args.self.now c.self.inside.tally c.self.inside.line c.cut-cut.result c.kind-kind.result c.in-Err.fault c.refuse.result c.refuse.new.self
     (ap (λ (d : Standing). d.tally) c.self.view_is) (ap (λ (d : Standing). d.line) c.self.view_is) c.cut-cut.ensures c.kind-kind.ensures c.in-Err.ensures.err c.in-Err.ensures.first c.refuse.ensures
+
+pub entered-outcome-requires : goal.entered-outcome-requires
+entered-outcome-requires c =
+    let i = c.self.inside in
+    let d : Standing = record { line = i.line; tally = i.tally; held = i.held; state = i.state; finished = i.finished } in
+    let h : HoldsOpen d = subst HoldsOpen (sym c.self.view_is) c.requires.holds in
+    entry_fits d h c.cut-cut.result c.in-Ok.found.0 c.in-Ok.found.1 c.goes_on-goes_on.result c.hand_out.result c.hand_out.new.held (c.in-Ok.ensures.ok (map symbol_of h.records) h.counted)
+    (c.goes_on-goes_on.ensures.same (map symbol_of h.records) h.counted) c.hand_out.ensures
 
 pub returns-in-Some : goal.returns-in-Some
 returns-in-Some c =
