@@ -22,7 +22,8 @@ use Rattle.cwr_judge.specs.declared.judging.LineFault.{LineFault}
 use Rattle.cwr_judge.specs.Ends.{IsRefused}
 use Rattle.cwr_judge.specs.Judged.{IsOfNone, IsFirstFault}
 use Rattle.cwr_decode.specs.Machines.{Standing, IsReady, Leaves, Judges, Tells, with_tally, stopped}
-use Rattle.cwr_decode.specs.Stands.{StandsFor, StandsIn, IsReading, IsInput, IsRight, IsStopped, MayFollow, RefusesAll, EndsInLf, GoesTooFar, EndsLine, items_out, text_of}
+use Rattle.cwr_decode.specs.declared.endings.End.TheVariants as ends
+use Rattle.cwr_decode.specs.Stands.{StandsFor, StandsIn, IsReading, IsInput, IsRight, IsStopped, MayFollow, IsEndAlways, EndsInLf, GoesTooFar, EndsLine, items_out, text_of}
 use Rattle.cwr_decode.specs.Calls.{RefusesLast, Advances, Grows}
 use Rattle.cwr_decode.proofs.Ended.{accepts_whole}
 use Rattle.cwr_decode.proofs.StoppedRefused.{refused_line, refused_long}
@@ -37,20 +38,20 @@ ended_right : (new : Standing) (over : Bool) (input seen tail : List ℕ) (given
 ended_right new over input seen tail given f e none s state =
     let here = subst (λ (q : State). StandsIn q new input given) state s.here in
     let t = here.through in
-    accepts_whole new.tally t.lines t.records over input seen tail given s.in_range t.read here.whole (subst (λ (b : Bool). IsInput b input (text_of t.lines)) f t.split) e none t.given_are
+    record { ends = accepts_whole new.tally t.lines t.records over input seen tail given s.in_range t.read here.whole (subst (λ (b : Bool). IsInput b input (text_of t.lines)) f t.split) e none t.given_are; comes = tt }
 
 -- an item or want of memory is right
 pub plain_right : (new : Standing) (o : Outcome) (over : Bool) (input seen tail : List ℕ) (given : List Item) → new.finished ≡ over → seen ≡ input ++ tail → (over ≡ true → tail ≡ []) → StandsFor new input given → Leaves o new.state → IsPlain o
     → IsRight new.tally.limits o over input seen given
 plain_right new outcomes.More over input seen tail given f e none s l p = absurd p
-plain_right new (outcomes.Item (items.Opened r)) over input seen tail given f e none s l p = tt
-plain_right new (outcomes.Item (items.GroupOpened r)) over input seen tail given f e none s l p = tt
-plain_right new (outcomes.Item (items.Transaction t)) over input seen tail given f e none s l p = tt
-plain_right new (outcomes.Item (items.GroupClosed r)) over input seen tail given f e none s l p = tt
+plain_right new (outcomes.Item (items.Opened r)) over input seen tail given f e none s l p = record { ends = λ more may. tt; comes = tt }
+plain_right new (outcomes.Item (items.GroupOpened r)) over input seen tail given f e none s l p = record { ends = λ more may. tt; comes = tt }
+plain_right new (outcomes.Item (items.Transaction t)) over input seen tail given f e none s l p = record { ends = λ more may. tt; comes = tt }
+plain_right new (outcomes.Item (items.GroupClosed r)) over input seen tail given f e none s l p = record { ends = λ more may. tt; comes = tt }
 plain_right new (outcomes.Item items.Ended) over input seen tail given f e none s l p = ended_right new over input seen tail given f e none s l
 plain_right new (outcomes.Refused r) over input seen tail given f e none s l p = absurd p
 plain_right new (outcomes.Truncated n) over input seen tail given f e none s l p = absurd p
-plain_right new outcomes.Memory over input seen tail given f e none s l p = tt
+plain_right new outcomes.Memory over input seen tail given f e none s l p = record { ends = λ more may. tt; comes = tt }
 plain_right new outcomes.Done over input seen tail given f e none s l p = absurd p
 
 -- the bytes behind a line that is too long begin with one that is no line feed
@@ -63,7 +64,7 @@ Stands_behind Over tail = (next : ℕ) × (rest : List ℕ) × (tail ≡ next �
 refused_right : (d : Standing) (over : Bool) (input tail : List ℕ) (given : List Item) (fault : LineFault) (o : Outcome) (new : Standing) (h : HasLine d input given) → d.finished ≡ over → (over ≡ true → tail ≡ [])
     → ((xs : List Symbol) → tallies.StandsFor d.tally xs → IsOfNone d.tally.limits xs d.line)
     → ((xs : List Symbol) → tallies.StandsFor d.tally xs → IsFirstFault d.tally.limits xs d.line fault.field fault.reason) → (t : Tells d (held_kind d.line) fault o new)
-    → (over ≡ true → d.line.ended ≡ Over → ⊥) → Stands_behind d.line.ended tail → RefusesAll d.tally.limits over (input ++ tail) t.refusal
+    → (over ≡ true → d.line.ended ≡ Over → ⊥) → Stands_behind d.line.ended tail → IsEndAlways d.tally.limits over (input ++ tail) given (Some (ends.Refused t.refusal))
 refused_right d over input tail given fault o new h f none bad first t fresh behind = by d.line.ended refl over f none fresh behind
   where
     told : (s : IsStopped (stopped d (states.Refused t.refusal)) input (given ++ []) t.refusal) × (s.line ≡ d.line) × (s.over ≡ d.finished)
@@ -76,7 +77,7 @@ refused_right d over input tail given fault o new h f none bad first t fresh beh
     may false more n m = tt
     may true more n m = ap₂ (λ (x y : List ℕ). x ++ y) (n refl) m
 
-    by : (e : LineEnd) → d.line.ended ≡ e → (b : Bool) → d.finished ≡ b → (b ≡ true → tail ≡ []) → (b ≡ true → e ≡ Over → ⊥) → Stands_behind e tail → RefusesAll d.tally.limits b (input ++ tail) t.refusal
+    by : (e : LineEnd) → d.line.ended ≡ e → (b : Bool) → d.finished ≡ b → (b ≡ true → tail ≡ []) → (b ≡ true → e ≡ Over → ⊥) → Stands_behind e tail → IsEndAlways d.tally.limits b (input ++ tail) given (Some (ends.Refused t.refusal))
     by Open q b g n z k = absurd (h.ended q)
     by Line q b g n z k = λ more m.
         let follows : MayFollow told.0.over (tail ++ more) = subst (λ (x : Bool). MayFollow x (tail ++ more)) (sym (told.2 ∙ g)) (may b more n m) in
@@ -121,7 +122,7 @@ judged_right d over input tail given (Some o) new h f none fresh behind (inl a) 
     (plain_right new o over input (input ++ tail) tail (given ++ items_out o) (e.rest.finished ∙ f) refl none (judged_stands d input given (Some o) new h (inl a)) e.rest.leaves e.plain)
 judged_right d over input tail given (Some o) new h f none fresh behind (inr r) =
     let n : IsRight d.tally.limits (outcomes.Refused r.tells.refusal) over input (input ++ tail) (given ++ [])
-    = (refused_right d over input tail given r.fault o new h f none r.none r.first r.tells fresh behind, ends_line d over input tail given h f behind) in
+    = record { ends = refused_right d over input tail given r.fault o new h f none r.none r.first r.tells fresh behind; comes = ends_line d over input tail given h f behind } in
     subst (λ (q : Outcome). IsRight d.tally.limits q over input (input ++ tail) (given ++ items_out q)) (sym r.tells.told) n
 
 -- ---- bytes that are taken
@@ -304,7 +305,7 @@ advanced_open d t piece used s fresh takes held is ended =
       within = takes.within;
       some = tt;
       stands = λ input given st. subst (StandsFor (with_line d t.line) (input ++ take used piece)) (sym (append-nil given)) (line_goes_on d input given piece used t.line s fresh takes held ended st);
-      right = λ input given st. (refl, ap (λ (x : List ℕ). input ++ x) (ap (λ (n : ℕ). take n piece) all ∙ take-length piece));
+      right = λ input given st. record { ends = λ more may. tt; comes = (refl, ap (λ (x : List ℕ). input ++ x) (ap (λ (n : ℕ). take n piece) all ∙ take-length piece)) };
       ready = subst (λ (q : State). IsReady q d.finished t.line) (sym s) (ended, λ f. absurd (true≢false (sym f ∙ fresh)));
       leaves = s;
       more = λ e. all;

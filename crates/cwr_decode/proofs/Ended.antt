@@ -1,5 +1,5 @@
 -- The lines of a whole transmission spell it, and it is accepted with their bytes, however the input goes on.
-use Rattle.std.proofs.Common.{◌≡◌, ℕ, ◌<◌, ◌^◌, Bool, true, false, List, [], ◌++◌, length, map, refl, sym, ap, ap₂, subst, ◌∙◌, arith, append_assoc, append-nil}
+use Rattle.std.proofs.Common.{◌≡◌, ℕ, ◌<◌, ◌^◌, Bool, true, false, List, [], ◌++◌, length, map, Some, refl, sym, ap, ap₂, subst, ◌∙◌, arith, append_assoc, append-nil}
 use Rattle.std.specs.List.{AllZip}
 use Rattle.std.proofs.lemmas.List.{length-append}
 use Rattle.cwr_layouts.specs.Records.{RecordValue, Row}
@@ -16,7 +16,8 @@ use Rattle.cwr_values.proofs.Built.{built}
 use Rattle.cwr_values.proofs.RowAt.{rows_whole}
 use Rattle.cwr_judge.specs.Items.{items, value_items}
 use Rattle.cwr_judge.specs.Open.{items_so_far}
-use Rattle.cwr_decode.specs.Stands.{text_of, IsInput, AreAccepted, AcceptsAll}
+use Rattle.cwr_decode.specs.Stands.{text_of, IsInput, AreAccepted, IsEndAlways}
+use Rattle.cwr_decode.specs.declared.endings.End.TheVariants as ends
 use Rattle.cwr_judge.proofs.Accepted.{closed_begins}
 use Rattle.cwr_judge.proofs.ItemLaws.{items_of_parts}
 use Rattle.cwr_decode.proofs.Texts.{closed_more}
@@ -47,41 +48,37 @@ spells_whole tally lines records range read (groups, outline, symbols) =
 -- what was read of a whole transmission is accepted, however the input goes on
 pub accepts_whole : (tally : TallyValue) (lines : List (List ℕ)) (records : List RecordValue) (over : Bool) (used seen tail : List ℕ) (given : List Item)
     → AreInRange tally.limits → AreAccepted tally lines records → IsWhole (map symbol_of records) → IsInput over used (text_of lines) → seen ≡ used ++ tail → (over ≡ true → tail ≡ []) → given ≡ items_so_far records
-    → AcceptsAll tally.limits over used seen given
-accepts_whole tally lines records false used seen tail given range read whole input split late are =
+    → IsEndAlways tally.limits over seen given (Some (ends.Accepted (length used)))
+accepts_whole tally lines records false used seen tail given range read whole input split late are = λ more may.
     let w = spells_whole tally lines records range read whole in
-    record {
-      value = w.value;
-      given_are = are ∙ w.given;
-      accepted = λ more may.
-          let text : seen ++ more ≡ text_of lines ++ (tail ++ more) = ap (λ (t : List ℕ). t ++ more) (split ∙ ap (λ (t : List ℕ). t ++ tail) input) ∙ append_assoc (text_of lines) tail more in
-          record {
-            whole = w.whole;
-            within = w.within;
-            front = text_of lines;
-            rest = closed (tail ++ more);
-            split = ap closed text ∙ closed_more lines (tail ++ more);
-            spelled = w.spelled;
-            taken = omega (arith, ap length input, ap length text, length-append (text_of lines) (tail ++ more));
-          };
-    }
-accepts_whole tally lines records true used seen tail given range read whole input split late are =
+    let text : seen ++ more ≡ text_of lines ++ (tail ++ more) = ap (λ (t : List ℕ). t ++ more) (split ∙ ap (λ (t : List ℕ). t ++ tail) input) ∙ append_assoc (text_of lines) tail more in (
+      w.value,
+      record {
+        whole = w.whole;
+        within = w.within;
+        front = text_of lines;
+        rest = closed (tail ++ more);
+        split = ap closed text ∙ closed_more lines (tail ++ more);
+        spelled = w.spelled;
+        taken = omega (arith, ap length input, ap length text, length-append (text_of lines) (tail ++ more));
+      },
+      are ∙ w.given,
+    )
+accepts_whole tally lines records true used seen tail given range read whole input split late are = λ more may.
     let w = spells_whole tally lines records range read whole in
     let grows = closed_begins used in
     let grown : text_of lines ≡ used ++ grows.0 = sym input ∙ grows.1 in
     let all_seen : seen ≡ used = split ∙ ap (λ (t : List ℕ). used ++ t) (late refl) ∙ append-nil used in
-    record {
-      value = w.value;
-      given_are = are ∙ w.given;
-      accepted = λ more may.
-          let text : seen ++ more ≡ used = ap₂ (λ (t : List ℕ) (m : List ℕ). t ++ m) all_seen may ∙ append-nil used in
-          record {
-            whole = w.whole;
-            within = w.within;
-            front = text_of lines;
-            rest = [];
-            split = ap closed text ∙ input ∙ sym (append-nil (text_of lines));
-            spelled = w.spelled;
-            taken = omega (arith, ap length grown, length-append used grows.0, ap length text);
-          };
-    }
+    let text : seen ++ more ≡ used = ap₂ (λ (t : List ℕ) (m : List ℕ). t ++ m) all_seen may ∙ append-nil used in (
+      w.value,
+      record {
+        whole = w.whole;
+        within = w.within;
+        front = text_of lines;
+        rest = [];
+        split = ap closed text ∙ input ∙ sym (append-nil (text_of lines));
+        spelled = w.spelled;
+        taken = omega (arith, ap length grown, length-append used grows.0, ap length text);
+      },
+      are ∙ w.given,
+    )

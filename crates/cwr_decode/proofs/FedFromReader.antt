@@ -13,9 +13,10 @@ use Rattle.cwr_decode.specs.declared.machine.State.TheVariants as states
 use Rattle.cwr_decode.specs.declared.readings.ReadFault.{ReadFault}
 use Rattle.cwr_decode.specs.declared.readings.ReadFault.TheVariants as faults
 use Rattle.cwr_decode.specs.Machines.{Standing, Leaves, Empties, again}
+use Rattle.cwr_shape.specs.Ranges.{LimitValues}
 use Rattle.cwr_decode.specs.Stands.{StandsFor, IsUnderWay, IsRight, MayFollow, items_out}
 use Rattle.cwr_decode.specs.Calls.{IsLive, WantsMemory, seen}
-use Rattle.cwr_decode.specs.Readings.{answer_of, IsSpent, FeedsOn, Reads}
+use Rattle.cwr_decode.specs.Readings.{answer_of, IsSpent, FeedsOn, Reads, IsRightOf}
 use Rattle.cwr_decode.proofs.FromReader.{needs_more, reads_called}
 
 abbrev Answer : Type 0
@@ -75,8 +76,8 @@ wants_of old new used piece within h = subst (λ (n : ℕ). WantsMemory old n ne
 pub reads_settled : (old new : Standing) (used : ℕ) (outcome : Outcome) (answer : Answer) → answer_of outcome ≡ Some answer → used ≤ length {A = ℕ} []
     → ((input : List ℕ) (given : List Item) → StandsFor old input given → StandsFor new (input ++ take used []) (given ++ items_out outcome))
     → (IsLive old.state → (input : List ℕ) (given : List Item) → StandsFor old input given → IsRight old.tally.limits outcome old.finished (input ++ take used []) (seen old.finished input []) (given ++ items_out outcome))
-    → Leaves outcome new.state → ((input : List ℕ) (given : List Item) → StandsFor old input given → Empties outcome new) → IfSome (again old.state) (λ o. outcome ≡ o)
-    → (outcome ≡ outcomes.Memory → IsLive old.state → (input : List ℕ) (given : List Item) → StandsFor old input given → WantsMemory old used new)
+    → Leaves outcome new.state → Empties outcome new → IfSome (again old.state) (λ o. outcome ≡ o)
+    → (outcome ≡ outcomes.Memory → IsLive old.state → WantsMemory old used new)
     → new.finished ≡ old.finished → new.tally.limits ≡ old.tally.limits → IsUnderWay old → (left : Option (List ℕ)) → Reads old left answer new left
 reads_settled old new used outcome answer e within stands right leaves empties same memory finished limits way left = reads_called old left outcome answer new left e way (record {
   bytes = take used [];
@@ -90,7 +91,7 @@ reads_settled old new used outcome answer e within stands right leaves empties s
   leaves = leaves;
   empties = empties;
   again = same;
-  memory = λ is live. wants_of old new used [] within (memory is live way.input way.given way.stands);
+  memory = λ is live. wants_of old new used [] within (memory is live);
   at_end = λ spent. still_spent left spent;
   limits = limits;
 }) where
@@ -108,8 +109,8 @@ pub reads_fed : (old new : Standing) (left after : Option (List ℕ)) (piece : L
     → IsUnderWay old → old.finished ≡ false → IfSome left (λ xs. StartsWith xs piece) → used ≤ length piece → Consumes left after (take used piece)
     → ((input : List ℕ) (given : List Item) → StandsFor old input given → StandsFor new (input ++ take used piece) (given ++ items_out outcome))
     → (IsLive old.state → (input : List ℕ) (given : List Item) → StandsFor old input given → IsRight old.tally.limits outcome old.finished (input ++ take used piece) (seen old.finished input piece) (given ++ items_out outcome))
-    → Leaves outcome new.state → ((input : List ℕ) (given : List Item) → StandsFor old input given → Empties outcome new) → IfSome (again old.state) (λ o. outcome ≡ o)
-    → (outcome ≡ outcomes.Memory → IsLive old.state → (input : List ℕ) (given : List Item) → StandsFor old input given → WantsMemory old used new)
+    → Leaves outcome new.state → Empties outcome new → IfSome (again old.state) (λ o. outcome ≡ o)
+    → (outcome ≡ outcomes.Memory → IsLive old.state → WantsMemory old used new)
     → new.finished ≡ old.finished → new.tally.limits ≡ old.tally.limits → Reads old left answer new after
 reads_fed old new left after piece used outcome answer e way fresh shown within consumed stands right leaves empties same memory finished limits = reads_called old left outcome answer new after e way (record {
   bytes = take used piece;
@@ -123,7 +124,7 @@ reads_fed old new left after piece used outcome answer e way fresh shown within 
   leaves = leaves;
   empties = empties;
   again = same;
-  memory = λ is live. wants_of old new used piece within (memory is live way.input way.given way.stands);
+  memory = λ is live. wants_of old new used piece within (memory is live);
   at_end = λ spent. not_over left;
   limits = limits;
 }) where
@@ -150,8 +151,8 @@ pub reads_finished : (old new : Standing) (left after : Option (List ℕ)) (outc
     → IsUnderWay old → IsAtEnd left → Keeps left after
     → ((input : List ℕ) (given : List Item) → StandsFor old input given → StandsFor new input (given ++ items_out outcome))
     → (IsLive old.state → (input : List ℕ) (given : List Item) → StandsFor old input given → IsRight old.tally.limits outcome true input input (given ++ items_out outcome))
-    → Leaves outcome new.state → ((input : List ℕ) (given : List Item) → StandsFor old input given → Empties outcome new) → IfSome (again old.state) (λ o. outcome ≡ o)
-    → (outcome ≡ outcomes.Memory → IsLive old.state → (input : List ℕ) (given : List Item) → StandsFor old input given → WantsMemory old 0 new)
+    → Leaves outcome new.state → Empties outcome new → IfSome (again old.state) (λ o. outcome ≡ o)
+    → (outcome ≡ outcomes.Memory → IsLive old.state → WantsMemory old 0 new)
     → new.tally.limits ≡ old.tally.limits → Reads old left answer new after
 reads_finished old new left after outcome answer e way end kept stands right leaves empties same memory limits = reads_called old left outcome answer new after e way (record {
   bytes = [];
@@ -165,7 +166,7 @@ reads_finished old new left after outcome answer e way end kept stands right lea
   leaves = leaves;
   empties = empties;
   again = same;
-  memory = λ is live. memory is live way.input way.given way.stands;
+  memory = memory;
   at_end = λ spent. kept_end new left after kept end;
   limits = limits;
 })
@@ -177,16 +178,16 @@ kept_spent d None after k h = tt
 kept_spent d (Some xs) None k h = absurd k
 kept_spent d (Some xs) (Some ys) k h = λ is. k ∙ h is
 
-any_right : (left : Option (List ℕ)) → IfSome left (λ rest. Unit {0})
-any_right None = tt
-any_right (Some rest) = tt
+reader_right : (limits : LimitValues) (left : Option (List ℕ)) (used input : List ℕ) (given : List Item) → IfSome left (λ rest. IsRightOf limits (Err faults.Reader) used (input ++ rest) given)
+reader_right limits None used input given = tt
+reader_right limits (Some rest) used input given = record { ends = tt; comes = tt }
 
 pub reads_failed : (d : Standing) (left after : Option (List ℕ)) → d.state ≡ states.Reading → Keeps left after → Reads d left (Err faults.Reader) d after
 reads_failed d left after reading kept = record {
   bytes = [];
   consumed = Consumes-kept left left after [] (Consumes-nil left) kept;
   stands = λ input given h. subst (λ (l : List ℕ). StandsFor d l (given ++ [])) (sym (append-nil input)) (subst (StandsFor d input) (sym (append-nil given)) h);
-  right = λ live spent input given h. any_right left;
+  right = λ live spent input given h. reader_right d.tally.limits left (input ++ []) input (given ++ []);
   leaves = reading;
   empties = tt;
   none = λ is. absurd (cc is);

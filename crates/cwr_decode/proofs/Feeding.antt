@@ -505,11 +505,11 @@ cut_finish old mid after new count e s stop n =
     let finished : after.finished ≡ true = m.finished ∙ e.finished in
     subst (Finishes old (outcomes.Truncated count)) (sym stop) (record {
       stands = λ input given st. subst (StandsFor (stopped after (states.Truncated count)) input) (sym (append-nil given)) (is_cut after count input given (here input given st) reading finished m.ready n);
-      right = λ l input given st. (
-        refl,
-        subst (λ (k : LimitValues). IsTruncated k input count) (m.limits ∙ e.limits)
-            (cut_truncated (stopped after (states.Truncated count)) input given count (is_cut after count input given (here input given st) reading finished m.ready n).here),
-      );
+      right = λ l input given st.
+          let cut : IsTruncated old.tally.limits input count
+          = subst (λ (k : LimitValues). IsTruncated k input count) (m.limits ∙ e.limits)
+          (cut_truncated (stopped after (states.Truncated count)) input given count (is_cut after count input given (here input given st) reading finished m.ready n).here) in
+          record { ends = λ more nothing. subst (λ (x : List ℕ). IsTruncated old.tally.limits x count) (sym (ap (λ (x : List ℕ). input ++ x) nothing ∙ append-nil input)) cut; comes = refl };
       last = λ l input given st. tt;
       ready = tt;
       leaves = refl;

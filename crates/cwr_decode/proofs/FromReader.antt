@@ -17,7 +17,8 @@ use Rattle.cwr_decode.specs.declared.readings.ReadFault.TheVariants as faults
 use Rattle.cwr_judge.specs.declared.refusals.Refusal.{Refusal}
 use Rattle.cwr_judge.specs.Ends.{IsAccepted, IsRefused, IsTruncated}
 use Rattle.cwr_decode.specs.Machines.{Standing, Leaves, Empties, again}
-use Rattle.cwr_decode.specs.Stands.{StandsFor, IsUnderWay, IsRight, MayFollow, RefusesAll, EndsLine, items_out}
+use Rattle.cwr_decode.specs.Stands.{StandsFor, IsUnderWay, IsRight, ComesAt, MayFollow, EndsLine, items_out}
+use Rattle.cwr_decode.specs.Headline.{IsEndOf, outcome_end}
 use Rattle.cwr_decode.specs.Calls.{IsLive, WantsMemory}
 use Rattle.cwr_decode.specs.Readings.{answer_of, items_read, EmptiesRead, EndsLineOf, IsRightOf, LeavesRead, IsSpent, FeedsOn, Reads}
 
@@ -91,15 +92,6 @@ memory_only (outcomes.Truncated records) e = absurd (cc e)
 memory_only outcomes.Memory e = refl
 memory_only outcomes.Done e = absurd (cc e)
 
-refused_same : (limits : LimitValues) (over : Bool) (seen more text : List ℕ) (refusal : Refusal) → text ≡ seen ++ more → MayFollow over more → RefusesAll limits over seen refusal → IsRefused limits text refusal
-refused_same limits over seen more text refusal split may h = subst (λ (t : List ℕ). IsRefused limits t refusal) (sym split) (h more may)
-
--- once the input is over, what was seen is all of it
-truncated_same : (limits : LimitValues) (over : Bool) (seen more text : List ℕ) (records : ℕ) → text ≡ seen ++ more → MayFollow over more → over ≡ true → IsTruncated limits seen records → IsTruncated limits text records
-truncated_same limits over seen more text records split may is h =
-    let nothing : more ≡ [] = subst (λ (b : Bool). MayFollow b more) is may in
-    subst (λ (t : List ℕ). IsTruncated limits t records) (sym (split ∙ ap (λ (l : List ℕ). seen ++ l) nothing ∙ append-nil seen)) h
-
 -- where a refused line ends, told of all of the input
 ends_line : (over : Bool) (used seen more text : List ℕ) → text ≡ seen ++ more → MayFollow over more → (over ≡ true → used ≡ seen) → EndsLine over used seen → EndsLineOf used text
 ends_line false used seen more text split may whole (inl feed) = inl (inl feed)
@@ -118,17 +110,22 @@ ends_line true used seen more text split may whole h = inr (whole refl ∙ sym (
 
 right_same : (limits : LimitValues) (outcome : Outcome) (over : Bool) (used seen more text : List ℕ) (given : List Item) → text ≡ seen ++ more → MayFollow over more → (over ≡ true → used ≡ seen)
     → IsRight limits outcome over used seen given → IfSome (answer_of outcome) (λ answer. IsRightOf limits answer used text given)
-right_same limits outcomes.More over used seen more text given split may whole h = tt
-right_same limits (outcomes.Item items.Ended) over used seen more text given split may whole h
-    = record { value = h.value; given_are = h.given_are; accepted = subst (λ (t : List ℕ). IsAccepted limits t h.value (length used)) (sym split) (h.accepted more may) }
-right_same limits (outcomes.Item (items.Opened r)) over used seen more text given split may whole h = tt
-right_same limits (outcomes.Item (items.GroupOpened r)) over used seen more text given split may whole h = tt
-right_same limits (outcomes.Item (items.Transaction r)) over used seen more text given split may whole h = tt
-right_same limits (outcomes.Item (items.GroupClosed r)) over used seen more text given split may whole h = tt
-right_same limits (outcomes.Refused refusal) over used seen more text given split may whole h = (refused_same limits over seen more text refusal split may h.0, ends_line over used seen more text split may whole h.1)
-right_same limits (outcomes.Truncated records) over used seen more text given split may whole h = truncated_same limits over seen more text records split may h.0 h.1
-right_same limits outcomes.Memory over used seen more text given split may whole h = tt
-right_same limits outcomes.Done over used seen more text given split may whole h = absurd h
+right_same limits outcome over used seen more text given split may whole h = by outcome h.comes ended
+  where
+    ended : IsEndOf limits text given (outcome_end (length used) outcome)
+    ended = subst (λ (t : List ℕ). IsEndOf limits t given (outcome_end (length used) outcome)) (sym split) (h.ends more may)
+
+    by : (o : Outcome) → ComesAt o over used seen → IsEndOf limits text given (outcome_end (length used) o) → IfSome (answer_of o) (λ answer. IsRightOf limits answer used text given)
+    by outcomes.More c e = tt
+    by (outcomes.Item items.Ended) c e = record { ends = e; comes = tt }
+    by (outcomes.Item (items.Opened r)) c e = record { ends = tt; comes = tt }
+    by (outcomes.Item (items.GroupOpened r)) c e = record { ends = tt; comes = tt }
+    by (outcomes.Item (items.Transaction r)) c e = record { ends = tt; comes = tt }
+    by (outcomes.Item (items.GroupClosed r)) c e = record { ends = tt; comes = tt }
+    by (outcomes.Refused refusal) c e = record { ends = e; comes = ends_line over used seen more text split may whole c }
+    by (outcomes.Truncated records) c e = record { ends = e; comes = tt }
+    by outcomes.Memory c e = record { ends = tt; comes = tt }
+    by outcomes.Done c e = absurd c
 
 -- what answers `Done` had ended
 was_ended : (state : State) → IfSome (again state) (λ outcome. outcomes.Done ≡ outcome) → (IsLive state → ⊥) → state ≡ states.Ended
@@ -152,7 +149,7 @@ pub record Calls (old : Standing) (left : Option (List ℕ)) (outcome : Outcome)
   pub whole : over ≡ true → bytes ≡ ahead
   pub behind : IsSpent old left → IfSome left (λ rest. (more : List ℕ) × MayFollow over more × (rest ≡ ahead ++ more))
   pub leaves : Leaves outcome new.state
-  pub empties : (input : List ℕ) (given : List Item) → StandsFor old input given → Empties outcome new
+  pub empties : Empties outcome new
   pub again : IfSome (again old.state) (λ o. outcome ≡ o)
   pub memory : outcome ≡ outcomes.Memory → IsLive old.state → WantsMemory old (length bytes) new
   pub at_end : IsSpent old left → IfSome left (λ _. IsSpent new after)
@@ -174,7 +171,7 @@ told_none : (old : Standing) (outcome : Outcome) (over : Bool) (used seen : List
     → (IsLive old.state → IsRight old.tally.limits outcome over used seen given) → old.state ≡ states.Ended
 told_none old outcome over used seen given e same right
     = was_ended old.state (subst (λ (x : Outcome). IfSome (again old.state) (λ o. x ≡ o)) e same)
-    (λ live. subst (λ (x : Outcome). IsRight old.tally.limits x over used seen given) e (right live))
+    (λ live. (subst (λ (x : Outcome). IsRight old.tally.limits x over used seen given) e (right live)).comes)
 
 pub reads_called : (old : Standing) (left : Option (List ℕ)) (outcome : Outcome) (answer : Answer) (new : Standing) (after : Option (List ℕ)) → answer_of outcome ≡ Some answer
     → IsUnderWay old → Calls old left outcome new after → Reads old left answer new after
@@ -184,7 +181,7 @@ reads_called old left outcome answer new after e way c = record {
   stands = λ input given h. subst (λ (l : List Item). StandsFor new (input ++ c.bytes) (given ++ l)) (sym (told_items outcome answer e)) (c.stands input given h);
   right = λ live spent input given h. rights left input given (c.right live input given h) (c.behind spent);
   leaves = subst (λ (o : Option Answer). IfSome o (λ a. LeavesRead a new.state)) e (leaves_same outcome new.state c.leaves);
-  empties = subst (λ (o : Option Answer). IfSome o (λ a. EmptiesRead a new)) e (empties_same outcome new (c.empties way.input way.given way.stands));
+  empties = subst (λ (o : Option Answer). IfSome o (λ a. EmptiesRead a new)) e (empties_same outcome new c.empties);
   none = λ is. told_none old outcome c.over (way.input ++ c.bytes) (way.input ++ c.ahead) (way.given ++ items_out outcome) (done_only outcome (e ∙ ap (λ (a : Answer). Some a) is)) c.again
       (λ live. c.right live way.input way.given way.stands);
   memory = λ is live. c.memory (memory_only outcome (e ∙ ap (λ (a : Answer). Some a) is)) live;

@@ -17,8 +17,8 @@ pub run_means : (limits : LimitValues) (text : List ℕ) (result : Result Transm
     → IfErr result (λ fault. StopsRun limits fault (Some text) after) → IfErr result (λ fault. CountsFault fault 0 0) → Means limits text result
 run_means limits text (Ok v) after takes stops failures = (length takes.input, takes.front.0)
 run_means limits text (Err Reader) after takes stops failures = omega (arith, failures)
-run_means limits text (Err (Refused refusal)) after takes stops failures = stops.right.0
-run_means limits text (Err (Truncated records)) after takes stops failures = stops.right
+run_means limits text (Err (Refused refusal)) after takes stops failures = stops.right.ends
+run_means limits text (Err (Truncated records)) after takes stops failures = stops.right.ends
 run_means limits text (Err Memory) after takes stops failures = tt
 
 pub no_failures : (result : Result TransmissionValue ReadFault) (n : ℕ) → MatchResult result (λ v. n ≡ n) (λ fault. CountsFault fault n n) → IfErr result (λ fault. CountsFault fault n n)

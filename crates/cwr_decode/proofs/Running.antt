@@ -20,9 +20,11 @@ use Rattle.cwr_judge.specs.Ends.{IsAccepted}
 use Rattle.cwr_decode.specs.Machines.{Standing, again}
 use Rattle.cwr_decode.specs.Stands.{MayFollow, StandsIn}
 use Rattle.cwr_decode.specs.Calls.{IsLive}
-use Rattle.cwr_decode.specs.Readings.{answer_of, items_read, IsWholeInput, IsRightOf, LeavesRead, IsSpent, Reads}
-use Rattle.cwr_decode.specs.Runs.{HasRead, EndsWhole, HasReadAll, IsReadingOn, AreItems, TakesFront, IsRightFault, StopsRun, TellsAccepted, TellsCanonical}
+use Rattle.cwr_decode.specs.Readings.{answer_of, items_read, IsRightOf, LeavesRead, IsSpent, Reads}
+use Rattle.cwr_decode.specs.Runs.{HasRead, EndsWhole, HasReadAll, IsReadingOn, AreItems, TakesFront, StopsRun, TellsAccepted, TellsCanonical}
 use Rattle.cwr_judge.proofs.Accepted.{accepted_once, canonical_accepted}
+use Rattle.cwr_decode.specs.declared.endings.End.TheVariants as ends
+use Rattle.cwr_decode.specs.Headline.{EndsSo}
 use Rattle.cwr_decode.proofs.CountedItems.{bounded}
 use Rattle.cwr_decode.proofs.Ended.{spells_whole, accepts_whole}
 
@@ -73,7 +75,11 @@ ended_answer state answer B C e h
 
 here_on : (limits : LimitValues) (state : State) (before : Option (List ℕ)) (used : List ℕ) (given : List Item) (item : Item) → LeavesRead (Ok (Some item)) state
     → IfSome before (λ text. IsRightOf limits (Ok (Some item)) used text given) → IsLive state ⊎ EndsWhole limits state before (length used) given
-here_on limits state before used given items.Ended leaves right = inr (leaves, right)
+here_on limits state before used given items.Ended leaves right = inr (leaves, ended before right)
+  where
+    ended : (b : Option (List ℕ)) → IfSome b (λ text. IsRightOf limits (Ok (Some items.Ended)) used text given) → IfSome b (λ text. EndsSo limits text given (ends.Accepted (length used)))
+    ended None h = tt
+    ended (Some text) h = h.ends
 here_on limits state before used given (items.Opened r) leaves right = inl (ap again leaves)
 here_on limits state before used given (items.GroupOpened r) leaves right = inl (ap again leaves)
 here_on limits state before used given (items.Transaction t) leaves right = inl (ap again leaves)
@@ -107,14 +113,6 @@ all_read limits old before left given h e = record { decoder = old; read = h.rea
     by (inl live) = absurd (live_not_ended old.state live e)
     by (inr ended) = ended
 
-fault_right : (limits : LimitValues) (fault : ReadFault) (before : Option (List ℕ)) (used : List ℕ) (given : List Item) → IfSome before (λ text. IsRightOf limits (Err fault) used text given)
-    → IfSome before (IsRightFault limits fault used)
-fault_right limits fault None used given h = tt
-fault_right limits faults.Reader (Some text) used given h = tt
-fault_right limits (faults.Refused refusal) (Some text) used given h = h
-fault_right limits (faults.Truncated records) (Some text) used given h = h
-fault_right limits faults.Memory (Some text) used given h = tt
-
 pub fault_read : (limits : LimitValues) (old new : Standing) (before left after : Option (List ℕ)) (given : List Item) (fault : ReadFault) (B C : Type 0)
     → IsReadingOn limits old before left given → Reads old left (Err fault) new after → IfSome (again old.state) (λ o. (Some (Err fault) ≡ answer_of o) × B × C)
     → StopsRun limits fault before after
@@ -129,8 +127,8 @@ fault_read limits old new before left after given fault B C h r same = record {
   none_left : (e : old.state ≡ states.Ended) → ⊥
   none_left e = let told : Err fault ≡ Ok None = ended_answer old.state (Err fault) B C e same in absurd (cc told)
 
-  by : IsLive old.state ⊎ EndsWhole limits old.state before (length h.read.input) given → IfSome before (IsRightFault limits fault (h.read.input ++ r.bytes))
-  by (inl live) = fault_right limits fault before (h.read.input ++ r.bytes) (given ++ []) (run_right limits old new before left after given (Err fault) h.read live r)
+  by : IsLive old.state ⊎ EndsWhole limits old.state before (length h.read.input) given → IfSome before (λ text. IsRightOf limits (Err fault) (h.read.input ++ r.bytes) text (given ++ []))
+  by (inl live) = run_right limits old new before left after given (Err fault) h.read live r
   by (inr ended) = absurd (none_left ended.0)
 
 -- ---- all items
@@ -148,14 +146,15 @@ all_taken limits before now given t h same =
     let input : List ℕ = h.read.input in
     let e = subst (λ (s : State). StandsIn s d input given) h.ends.0 h.read.stands.here in
     let a = accepts_whole d.tally e.through.lines e.through.records d.finished input input [] given h.read.stands.in_range e.through.read e.whole e.through.split (sym (append-nil input)) (λ z. refl) e.through.given_are in
-    let accepted : IsAccepted d.tally.limits (input ++ []) a.value (length input) = a.accepted [] (nothing d.finished) in
-    let value : t ≡ a.value = same a.value accepted.whole a.given_are in
+    let end = a [] (nothing d.finished) in
+    let accepted : IsAccepted d.tally.limits (input ++ []) end.0 (length input) = end.1 in
+    let value : t ≡ end.0 = same end.0 accepted.whole end.2 in
     record {
       input = input;
       consumed = h.read.consumed;
       accepted = subst (λ (v : TransmissionValue). IsAccepted limits input v (length input)) (sym value)
-          (subst (λ (x : List ℕ). IsAccepted limits x a.value (length input)) (append-nil input)
-          (subst (λ (l : LimitValues). IsAccepted l (input ++ []) a.value (length input)) h.read.limits_are accepted));
+          (subst (λ (x : List ℕ). IsAccepted limits x end.0 (length input)) (append-nil input)
+          (subst (λ (l : LimitValues). IsAccepted l (input ++ []) end.0 (length input)) h.read.limits_are accepted));
       front = by before now input h.read.consumed h.ends.1;
     }
   where
@@ -163,12 +162,12 @@ all_taken limits before now given t h same =
     nothing false = tt
     nothing true = refl
 
-    by : (b n : Option (List ℕ)) (input : List ℕ) → Consumes b n input → IfSome b (λ text. IsWholeInput limits (length input) text given)
+    by : (b n : Option (List ℕ)) (input : List ℕ) → Consumes b n input → IfSome b (λ text. EndsSo limits text given (ends.Accepted (length input)))
         → IfSome b (λ text. IsAccepted limits text t (length input) × (n ≡ Some (drop (length input) text)))
     by None n input lost whole = tt
     by (Some xs) None input lost whole = absurd lost
     by (Some xs) (Some ys) input lost whole = (
-      subst (λ (v : TransmissionValue). IsAccepted limits xs v (length input)) (sym (same whole.value whole.accepted.whole whole.given_are)) whole.accepted,
+      subst (λ (v : TransmissionValue). IsAccepted limits xs v (length input)) (sym (same whole.0 whole.1.whole whole.2)) whole.1,
       ap Some (sym (ap (drop (length input)) lost ∙ drop-append_seam input ys)),
     )
 
@@ -176,9 +175,9 @@ all_taken limits before now given t h same =
 pub memory_stops : (limits : LimitValues) (d : Standing) (before now : Option (List ℕ)) (given : List Item) → IsReadingOn limits d before now given → StopsRun limits faults.Memory before now
 memory_stops limits d before now given h = record { decoder = d; given = given; read = h.read; leaves = λ other. absurd (other refl); right = any before }
   where
-    any : (b : Option (List ℕ)) → IfSome b (λ text. Unit {0})
+    any : (b : Option (List ℕ)) → IfSome b (λ text. IsRightOf limits (Err faults.Memory) h.read.input text given)
     any None = tt
-    any (Some text) = tt
+    any (Some text) = record { ends = tt; comes = tt }
 
 pub of_fault : {X : Type 0} (result : Result X ReadFault) (fault : ReadFault) (P : ReadFault → Type 0) → IsErrAnd result (λ e. e ≡ fault) → P fault → IfErr result P
 of_fault (Ok x) fault P e h = tt
@@ -210,11 +209,11 @@ none_read limits old new before left after given told C e h r same at =
 
 -- ---- what follows from how a run ends
 
-take_err : (limits : LimitValues) (used text : List ℕ) (fault : ReadFault) (v : TransmissionValue) (n : ℕ) → IsRightFault limits fault used text → IsAccepted limits text v n → (fault ≡ faults.Reader) ⊎ (fault ≡ faults.Memory)
-take_err limits used text faults.Reader v n h a = inl refl
-take_err limits used text (faults.Refused refusal) v n h a = absurd (h.0.unaccepted v n a)
-take_err limits used text (faults.Truncated records) v n h a = absurd (h.unaccepted v n a)
-take_err limits used text faults.Memory v n h a = inr refl
+take_err : (limits : LimitValues) (used text : List ℕ) (given : List Item) (fault : ReadFault) (v : TransmissionValue) (n : ℕ) → IsRightOf limits (Err fault) used text given → IsAccepted limits text v n → (fault ≡ faults.Reader) ⊎ (fault ≡ faults.Memory)
+take_err limits used text given faults.Reader v n h a = inl refl
+take_err limits used text given (faults.Refused refusal) v n h a = absurd (h.ends.unaccepted v n a)
+take_err limits used text given (faults.Truncated records) v n h a = absurd (h.ends.unaccepted v n a)
+take_err limits used text given faults.Memory v n h a = inr refl
 
 pub tells_accepted : (limits : LimitValues) (before after : Option (List ℕ)) (result : Result TransmissionValue ReadFault)
     → IfOk result (λ t. TakesFront limits before t after) → IfErr result (λ fault. StopsRun limits fault before after) → TellsAccepted limits before result after
@@ -222,7 +221,7 @@ tells_accepted limits None after result h k = tt
 tells_accepted limits (Some text) after (Ok t) h k = λ v n a.
     let same = accepted_once limits text t v (length h.input) n h.front.0 a in
     (same.0, h.front.1 ∙ ap (λ (m : ℕ). Some (drop m text)) same.1)
-tells_accepted limits (Some text) after (Err fault) h k = λ v n a. take_err limits k.read.input text fault v n k.right a
+tells_accepted limits (Some text) after (Err fault) h k = λ v n a. take_err limits k.read.input text k.given fault v n k.right a
 
 pub tells_canonical : (limits : LimitValues) (before after : Option (List ℕ)) (result : Result TransmissionValue ReadFault)
     → TellsAccepted limits before result after → TellsCanonical limits before result after

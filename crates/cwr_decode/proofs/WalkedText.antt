@@ -186,11 +186,11 @@ walked_accepted limits text used count tally new line w f a =
     let input : List ℕ = take (used + count) text in
     let tail : List ℕ = drop (used + count) text in
     let e = accepts_whole new (w.lines ++ line.bytes ∷ []) all l.over input text tail (items_so_far all) (subst AreInRange (sym a.limits) w.in_range) m.read whole
-    (subst (IsInput l.over input) m.text l.split) (sym (take-append-drop (used + count) text)) (λ z. drop_all (used + count) text (omega (arith, l.late z))) refl in
+    (subst (IsInput l.over input) m.text l.split) (sym (take-append-drop (used + count) text)) (λ z. drop_all (used + count) text (omega (arith, l.late z))) refl [] (nothing_more l.over) in
     let taken : length input ≡ used + count = length-take-le (used + count) text l.within in
-    let accepted : IsAccepted new.limits text e.value (used + count) =
-    subst (IsAccepted new.limits text e.value) taken (subst (λ (x : List ℕ). IsAccepted new.limits x e.value (length input)) (append-nil text) (e.accepted [] (nothing_more l.over))) in
-    (e.value, subst (λ (k : LimitValues). IsAccepted k text e.value (used + count)) (a.limits ∙ w.limits_are) accepted)
+    let accepted : IsAccepted new.limits text e.0 (used + count) =
+    subst (IsAccepted new.limits text e.0) taken (subst (λ (x : List ℕ). IsAccepted new.limits x e.0 (length input)) (append-nil text) e.1) in
+    (e.0, subst (λ (k : LimitValues). IsAccepted k text e.0 (used + count)) (a.limits ∙ w.limits_are) accepted)
 
 -- ---- it is refused
 

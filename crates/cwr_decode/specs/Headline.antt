@@ -1,10 +1,15 @@
--- What the answer of a whole run says of a text.
+-- What answers say of a text: the end that they report is the text's end.
 use denote.Ref.{Bor}
-use Rattle.std.specs.Prelude.{ℕ, List, Result, Ok, Err}
+use Rattle.std.specs.Prelude.{◌≡◌, ℕ, List, Option, Some, None, IfSome, Result, Ok, Err}
 use Rattle.std.specs.List.{flat_map}
 use Rattle.cwr_shape.specs.Ranges.{LimitValues}
 use Rattle.cwr_values.specs.Values.{TransmissionValue}
+use Rattle.cwr_values.specs.declared.items.Item.{Item}
+use Rattle.cwr_values.specs.declared.items.Item.TheVariants as items
 use Rattle.cwr_judge.specs.Ends.{IsAccepted, IsRefused, IsTruncated}
+use Rattle.cwr_judge.specs.Items.{value_items}
+use Rattle.cwr_decode.specs.declared.outcomes.Outcome.{Outcome}
+use Rattle.cwr_decode.specs.declared.outcomes.Outcome.TheVariants as outcomes
 use Rattle.cwr_decode.specs.declared.endings.End.{End}
 use Rattle.cwr_decode.specs.declared.endings.End.TheVariants as ends
 use Rattle.cwr_decode.specs.declared.readings.ReadFault.{ReadFault}
@@ -24,6 +29,34 @@ abbrev pub HasEnd : LimitValues → List ℕ → End → Type 0
 HasEnd limits text (ends.Accepted used) = (v : TransmissionValue) × IsAccepted limits text v used
 HasEnd limits text (ends.Refused refusal) = IsRefused limits text refusal
 HasEnd limits text (ends.Truncated records) = IsTruncated limits text records
+
+-- ---- ends that are reported call by call
+
+-- the text has that end; where it is accepted, these are the items of its transmission
+abbrev pub EndsSo : LimitValues → List ℕ → List Item → End → Type 0
+EndsSo limits text given (ends.Accepted used) = (v : TransmissionValue) × IsAccepted limits text v used × (given ≡ value_items v)
+EndsSo limits text given (ends.Refused refusal) = IsRefused limits text refusal
+EndsSo limits text given (ends.Truncated records) = IsTruncated limits text records
+
+-- where an end is reported, the text has it
+abbrev pub IsEndOf : LimitValues → List ℕ → List Item → Option End → Type 0
+IsEndOf limits text given reported = IfSome reported (EndsSo limits text given)
+
+-- the end that an outcome reports, where so many bytes were used in all
+abbrev pub outcome_end : ℕ → Outcome → Option End
+outcome_end used (outcomes.Item items.Ended) = Some (ends.Accepted used)
+outcome_end used (outcomes.Refused refusal) = Some (ends.Refused refusal)
+outcome_end used (outcomes.Truncated records) = Some (ends.Truncated records)
+outcome_end used outcome = None
+
+-- the end that a call of a reading reports
+abbrev pub answer_end : ℕ → Result (Option Item) ReadFault → Option End
+answer_end used (Ok (Some items.Ended)) = Some (ends.Accepted used)
+answer_end used (Err (Refused refusal)) = Some (ends.Refused refusal)
+answer_end used (Err (Truncated records)) = Some (ends.Truncated records)
+answer_end used answer = None
+
+-- ---- the end of a whole run
 
 -- pieces put together
 abbrev pub text_in : List (Bor (List ℕ)) → List ℕ

@@ -5,15 +5,13 @@ use Rattle.cwr_fields.specs.Failures.{one_more_failure}
 use Rattle.cwr_shape.specs.Ranges.{LimitValues}
 use Rattle.cwr_values.specs.declared.items.Item.{Item}
 use Rattle.cwr_values.specs.declared.items.Item.TheVariants as items
-use Rattle.cwr_values.specs.Values.{TransmissionValue}
 use Rattle.cwr_decode.specs.declared.outcomes.Outcome.{Outcome}
 use Rattle.cwr_decode.specs.declared.outcomes.Outcome.TheVariants as outcomes
 use Rattle.cwr_decode.specs.declared.machine.State.{State}
 use Rattle.cwr_decode.specs.declared.machine.State.TheVariants as states
 use Rattle.cwr_decode.specs.declared.readings.ReadFault.{ReadFault}
 use Rattle.cwr_decode.specs.declared.readings.ReadFault.TheVariants as faults
-use Rattle.cwr_judge.specs.Items.{value_items}
-use Rattle.cwr_judge.specs.Ends.{IsAccepted, IsRefused, IsTruncated}
+use Rattle.cwr_decode.specs.Headline.{IsEndOf, answer_end}
 use Rattle.cwr_decode.specs.Machines.{Standing, Empties, state_behind}
 use Rattle.cwr_decode.specs.Stands.{EndsInLf, GoesTooFar, StandsFor}
 use Rattle.cwr_decode.specs.Calls.{IsLive, WantsMemory}
@@ -33,27 +31,20 @@ items_read (Ok None) = []
 items_read (Ok (Some item)) = item ∷ []
 items_read (Err fault) = []
 
--- the input begins with a transmission that takes so many bytes, and these are its items
-pub record IsWholeInput (limits : LimitValues) (used : ℕ) (input : List ℕ) (given : List Item) : Type 0 where
-  pub value : TransmissionValue
-  pub given_are : given ≡ value_items value
-  pub accepted : IsAccepted limits input value used
-
 -- a line of the input ends with the used bytes: by its line feed, before a byte too many, or with the input
 abbrev pub EndsLineOf : List ℕ → List ℕ → Type 0
 EndsLineOf used input = (EndsInLf used ⊎ GoesTooFar used input) ⊎ (used ≡ input)
 
--- What is told of an input, of which these bytes were used: the end comes where a transmission is accepted, `Refused` where
--- the input is refused so, and `Truncated` where it is. `Refused` comes where the line ends. Before the end and before a
--- fault of the input `Ok(None)` isn't told.
-abbrev pub IsRightOf : LimitValues → Result (Option Item) ReadFault → List ℕ → List ℕ → List Item → Type 0
-IsRightOf limits (Ok None) used input given = ⊥
-IsRightOf limits (Ok (Some items.Ended)) used input given = IsWholeInput limits (length used) input given
-IsRightOf limits (Ok (Some item)) used input given = Unit {0}
-IsRightOf limits (Err faults.Reader) used input given = Unit {0}
-IsRightOf limits (Err (faults.Refused refusal)) used input given = IsRefused limits input refusal × EndsLineOf used input
-IsRightOf limits (Err (faults.Truncated records)) used input given = IsTruncated limits input records
-IsRightOf limits (Err faults.Memory) used input given = Unit {0}
+-- where it is told: a refusal where a line ends; `Ok(None)` comes only behind the end
+abbrev pub TellsAt : Result (Option Item) ReadFault → List ℕ → List ℕ → Type 0
+TellsAt (Ok None) used input = ⊥
+TellsAt (Err (faults.Refused refusal)) used input = EndsLineOf used input
+TellsAt answer used input = Unit {0}
+
+-- what is told is right of the input, of which these bytes were used
+pub record IsRightOf (limits : LimitValues) (answer : Result (Option Item) ReadFault) (used input : List ℕ) (given : List Item) : Type 0 where
+  pub ends : IsEndOf limits input given (answer_end (length used) answer)
+  pub comes : TellsAt answer used input
 
 -- the state behind what is told
 abbrev pub LeavesRead : Result (Option Item) ReadFault → State → Type 0

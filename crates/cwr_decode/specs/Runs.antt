@@ -12,13 +12,15 @@ use Rattle.cwr_values.specs.Rows.{canonical_text}
 use Rattle.cwr_decode.specs.declared.machine.State.{State}
 use Rattle.cwr_decode.specs.declared.machine.State.TheVariants.{Ended}
 use Rattle.cwr_decode.specs.declared.readings.ReadFault.{ReadFault}
-use Rattle.cwr_decode.specs.declared.readings.ReadFault.TheVariants.{Reader, Refused, Truncated, Memory}
+use Rattle.cwr_decode.specs.declared.readings.ReadFault.TheVariants.{Reader, Memory}
 use Rattle.cwr_judge.specs.Items.{value_items}
-use Rattle.cwr_judge.specs.Ends.{IsAccepted, IsRefused, IsTruncated}
+use Rattle.cwr_judge.specs.Ends.{IsAccepted}
+use Rattle.cwr_decode.specs.declared.endings.End.TheVariants as ends
+use Rattle.cwr_decode.specs.Headline.{EndsSo}
 use Rattle.cwr_decode.specs.Machines.{Standing}
 use Rattle.cwr_decode.specs.Stands.{StandsFor}
 use Rattle.cwr_decode.specs.Calls.{IsLive}
-use Rattle.cwr_decode.specs.Readings.{EndsLineOf, IsSpent, IsWholeInput, LeavesRead}
+use Rattle.cwr_decode.specs.Readings.{IsRightOf, IsSpent, LeavesRead}
 
 -- these items were read so far: the decoder stands for them and for the bytes that the reader lost
 pub record HasRead (limits : LimitValues) (d : Standing) (before now : Option (List ℕ)) (given : List Item) : Type 0 where
@@ -30,7 +32,7 @@ pub record HasRead (limits : LimitValues) (d : Standing) (before now : Option (L
 
 -- the end was read, where so many bytes of the text are a transmission with these items
 abbrev pub EndsWhole : LimitValues → State → Option (List ℕ) → ℕ → List Item → Type 0
-EndsWhole limits state before n given = (state ≡ Ended) × IfSome before (λ text. IsWholeInput limits n text given)
+EndsWhole limits state before n given = (state ≡ Ended) × IfSome before (λ text. EndsSo limits text given (ends.Accepted n))
 
 -- all items were read
 pub record HasReadAll (limits : LimitValues) (before now : Option (List ℕ)) (given : List Item) : Type 0 where
@@ -69,20 +71,13 @@ pub record TakesFront (limits : LimitValues) (before : Option (List ℕ)) (v : T
   pub accepted : IsAccepted limits input v (length input)
   pub front : IfSome before (λ text. IsAccepted limits text v (length input) × (after ≡ Some (drop (length input) text)))
 
--- the text is refused so, or truncated, and a refused line ends with the used bytes
-abbrev pub IsRightFault : LimitValues → ReadFault → List ℕ → List ℕ → Type 0
-IsRightFault limits Reader used text = Unit {0}
-IsRightFault limits (Refused refusal) used text = IsRefused limits text refusal × EndsLineOf used text
-IsRightFault limits (Truncated records) used text = IsTruncated limits text records
-IsRightFault limits Memory used text = Unit {0}
-
 -- these items were read before the fault, and the decoder stopped for what is told
 pub record StopsRun (limits : LimitValues) (fault : ReadFault) (before after : Option (List ℕ)) : Type 0 where
   pub decoder : Standing
   pub given : List Item
   pub read : HasRead limits decoder before after given
   pub leaves : fault ≢ Memory → LeavesRead (Err fault) decoder.state
-  pub right : IfSome before (IsRightFault limits fault read.input)
+  pub right : IfSome before (λ text. IsRightOf limits (Err fault) read.input text given)
 
 -- of a text that is accepted the run tells that transmission and takes its bytes, unless the reader or memory failed
 abbrev pub TellsAccepted : LimitValues → Option (List ℕ) → Result TransmissionValue ReadFault → Option (List ℕ) → Type 0

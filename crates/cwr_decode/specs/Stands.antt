@@ -1,5 +1,5 @@
 -- What a decoder stands for: the input so far, and the items that were handed out.
-use Rattle.std.specs.Prelude.{◌≡◌, ◌≢◌, ◌⊎◌, ℕ, ◌+◌, ◌*◌, ◌≤◌, Bool, true, false, IsTrue, IsFalse, List, [], ◌∷◌, ◌++◌, length, map, Option, Some, None}
+use Rattle.std.specs.Prelude.{◌≡◌, ◌≢◌, ◌⊎◌, ℕ, ◌+◌, Bool, true, false, IsTrue, IsFalse, List, [], ◌∷◌, ◌++◌, length, map, Option, Some, None}
 use Rattle.std.specs.List.{AllZip, AllByRecursion, flat_map, list_any}
 use Rattle.cwr_layouts.specs.declared.lines.LineEnd.TheVariants as line_ends
 use Rattle.cwr_layouts.specs.Records.{RecordValue, IsRecord}
@@ -13,16 +13,16 @@ use Rattle.cwr_shape.specs.Tallies as tallies
 use Rattle.cwr_shape.specs.Tallies.{TallyValue, passed, place_after}
 use Rattle.cwr_values.specs.declared.items.Item.{Item}
 use Rattle.cwr_values.specs.declared.items.Item.TheVariants as items
-use Rattle.cwr_values.specs.Values.{TransmissionValue, symbol_of}
+use Rattle.cwr_values.specs.Values.{symbol_of}
 use Rattle.cwr_values.specs.Begins.{rows_so_far}
 use Rattle.cwr_decode.specs.declared.outcomes.Outcome.{Outcome}
 use Rattle.cwr_decode.specs.declared.outcomes.Outcome.TheVariants as outcomes
 use Rattle.cwr_decode.specs.declared.machine.State.{State}
 use Rattle.cwr_decode.specs.declared.machine.State.TheVariants.{Reading, Pending, Ended, Refused, Truncated, Memory}
 use Rattle.cwr_judge.specs.declared.refusals.Refusal.{Refusal}
-use Rattle.cwr_judge.specs.Items.{AreFirstItems, value_items}
-use Rattle.cwr_judge.specs.Ends.{IsAccepted, IsRefused, IsTruncated}
 use Rattle.cwr_judge.specs.Judged.{IsOfNone, IsFirstFault}
+use Rattle.cwr_decode.specs.declared.endings.End.{End}
+use Rattle.cwr_decode.specs.Headline.{IsEndOf, outcome_end}
 use Rattle.cwr_decode.specs.Machines.{Standing, IsReady, held_of}
 use Rattle.cwr_judge.specs.Open.{items_so_far, open_of, goes_on_with, handed}
 
@@ -136,14 +136,6 @@ pub record IsUnderWay (d : Standing) : Type 0 where
   pub given : List Item
   pub stands : StandsFor d input given
 
--- whatever the decoder stands for, at most 1,025 bytes were used for each record that the limits hold
-abbrev pub IsBounded : Standing → Type 0
-IsBounded d = (input : List ℕ) (given : List Item) → StandsFor d input given → length input ≤ 1025 * d.tally.limits.records
-
--- whatever the decoder stands for, the items are the first of those of some transmission within its limits
-abbrev pub GivesFirst : Standing → Type 0
-GivesFirst d = (input : List ℕ) (given : List Item) → StandsFor d input given → AreFirstItems d.tally.limits given
-
 -- what a decoder is at each time
 pub record IsSound (d : Standing) : Type 0 where
   pub ready : IsReady d.state d.finished d.line
@@ -169,15 +161,9 @@ abbrev pub MayFollow : Bool → List ℕ → Type 0
 MayFollow false more = Unit {0}
 MayFollow true more = more ≡ []
 
--- a transmission is accepted with these bytes used, however the input goes on, and these are its items
-pub record AcceptsAll (limits : LimitValues) (over : Bool) (used seen : List ℕ) (given : List Item) : Type 0 where
-  pub value : TransmissionValue
-  pub given_are : given ≡ value_items value
-  pub accepted : (more : List ℕ) → MayFollow over more → IsAccepted limits (seen ++ more) value (length used)
-
--- the input is refused so, however it goes on
-abbrev pub RefusesAll : LimitValues → Bool → List ℕ → Refusal → Type 0
-RefusesAll limits over seen refusal = (more : List ℕ) → MayFollow over more → IsRefused limits (seen ++ more) refusal
+-- however the input continues, it has the end that is reported
+abbrev pub IsEndAlways : LimitValues → Bool → List ℕ → List Item → Option End → Type 0
+IsEndAlways limits over seen given reported = (more : List ℕ) → MayFollow over more → IsEndOf limits (seen ++ more) given reported
 
 -- the bytes end with a line feed
 abbrev pub EndsInLf : List ℕ → Type 0
@@ -201,14 +187,16 @@ abbrev pub EndsLine : Bool → List ℕ → List ℕ → Type 0
 EndsLine false used seen = EndsInLf used ⊎ GoesTooFar used seen
 EndsLine true used seen = Unit {0}
 
--- What an answer says of the input, of which these bytes were used, and these were seen: the end of a transmission comes
--- where one is accepted, a refusal where the input is refused so, and the end of the input where it is truncated. A refusal
--- comes where the line ends.
-abbrev pub IsRight : LimitValues → Outcome → Bool → List ℕ → List ℕ → List Item → Type 0
-IsRight limits outcomes.More over used seen given = (over ≡ false) × (used ≡ seen)
-IsRight limits (outcomes.Item items.Ended) over used seen given = AcceptsAll limits over used seen given
-IsRight limits (outcomes.Item item) over used seen given = Unit {0}
-IsRight limits (outcomes.Refused refusal) over used seen given = RefusesAll limits over seen refusal × EndsLine over used seen
-IsRight limits (outcomes.Truncated records) over used seen given = (over ≡ true) × IsTruncated limits seen records
-IsRight limits outcomes.Memory over used seen given = Unit {0}
-IsRight limits outcomes.Done over used seen given = ⊥
+-- Where an answer comes: `More` once all that was seen is used, a refusal where a line ends, and the end of a truncated input
+-- once the input is over. `Done` comes only behind `Ended`.
+abbrev pub ComesAt : Outcome → Bool → List ℕ → List ℕ → Type 0
+ComesAt outcomes.More over used seen = (over ≡ false) × (used ≡ seen)
+ComesAt (outcomes.Refused refusal) over used seen = EndsLine over used seen
+ComesAt (outcomes.Truncated records) over used seen = over ≡ true
+ComesAt outcomes.Done over used seen = ⊥
+ComesAt outcome over used seen = Unit {0}
+
+-- an answer is right of the input, of which these bytes were used, and these were seen
+pub record IsRight (limits : LimitValues) (outcome : Outcome) (over : Bool) (used seen : List ℕ) (given : List Item) : Type 0 where
+  pub ends : IsEndAlways limits over seen given (outcome_end (length used) outcome)
+  pub comes : ComesAt outcome over used seen

@@ -3,7 +3,7 @@
 ghost use Rattle.std.specs.Prelude.{◌≡◌, ◌≢◌, ◌≤◌, ◌++◌, [], List, ℕ, length, take, IfSome, true, false};
 ghost use Rattle.cwr_decode.specs.Calls.{IsLive, RefusesLast, WantsMemory, seen};
 ghost use Rattle.cwr_decode.specs.Machines.{Empties, Leaves, WaitsOutside, again, held_list, over};
-ghost use Rattle.cwr_decode.specs.Stands.{GivesFirst, IsBounded, IsRight, IsUnderWay, StandsFor, items_out};
+ghost use Rattle.cwr_decode.specs.Stands.{IsRight, IsUnderWay, StandsFor, items_out};
 ghost use Rattle.cwr_values.specs.declared.items.Item.{Item};
 
 use crate::machine::{Machine, State};
@@ -73,7 +73,7 @@ impl Decoder {
             (seen self.old.finished input piece.now) (given ++ items_out result.outcome) }
         ensures leaves { Leaves result.outcome self.new.state }
         // Behind an item nothing is held, but behind a transaction the line that ended it.
-        ensures empties { (input : List ℕ) (given : List Item) → StandsFor self.old input given → Empties result.outcome self.new }
+        ensures empties { Empties result.outcome self.new }
         ensures again { IfSome (again self.old.state) (λ outcome. (result.outcome ≡ outcome) × (result.used ≡ 0) × (self.new ≡ self.old)) }
         ensures more { result.outcome ≡ Outcome.More → (result.used ≡ length piece.now) × (self.old.finished ≡ false) }
         // Once the input is over, no byte is used.
@@ -82,16 +82,10 @@ impl Decoder {
         ensures alone { WaitsOutside self.old → (result.used ≡ 0) × (result.outcome ≢ Outcome.More) }
         // Want of memory comes only with a record that was being added: the one that waited, with no byte used, or one
         // that was accepted.
-        ensures memory { result.outcome ≡ Outcome.Memory → IsLive self.old.state → (input : List ℕ) (given : List Item) → StandsFor self.old input given
-            → WantsMemory self.old result.used self.new }
+        ensures memory { result.outcome ≡ Outcome.Memory → IsLive self.old.state → WantsMemory self.old result.used self.new }
         ensures kept { self.old.tally.counts.records ≤ self.new.tally.counts.records }
         ensures finished { self.new.finished ≡ self.old.finished }
         ensures limits { self.new.tally.limits ≡ self.old.tally.limits }
-        // Over a whole run at most 1,025 bytes are used for each record that the limits hold.
-        ensures bounded { IsBounded self.new }
-        // The items are the first of those of some transmission within the limits: a transaction is a whole one of its
-        // group's type, and each comes in its place.
-        ensures first { GivesFirst self.new }
     {
         self.machine.feed(piece)
     }
@@ -110,17 +104,15 @@ impl Decoder {
             → RefusesLast result.outcome self.new input (given ++ items_out result.outcome) }
         ensures leaves { Leaves result.outcome self.new.state }
         // Behind an item nothing is held, but behind a transaction the line that ended it.
-        ensures empties { (input : List ℕ) (given : List Item) → StandsFor self.old input given → Empties result.outcome self.new }
+        ensures empties { Empties result.outcome self.new }
         ensures again { IfSome (again self.old.state) (λ outcome. (result.outcome ≡ outcome) × (self.new ≡ over self.old)) }
         ensures more { result.outcome ≡ Outcome.More → ⊥ }
         // Want of memory comes only with a record that was being added: the one that waited, with no byte used, or one
         // that was accepted.
-        ensures memory { result.outcome ≡ Outcome.Memory → IsLive self.old.state → (input : List ℕ) (given : List Item) → StandsFor self.old input given
-            → WantsMemory self.old 0 self.new }
+        ensures memory { result.outcome ≡ Outcome.Memory → IsLive self.old.state → WantsMemory self.old 0 self.new }
         ensures kept { self.old.tally.counts.records ≤ self.new.tally.counts.records }
         ensures finished { self.new.finished ≡ true }
         ensures limits { self.new.tally.limits ≡ self.old.tally.limits }
-        ensures first { GivesFirst self.new }
     {
         self.machine.finish()
     }

@@ -1,14 +1,17 @@
 //! Laws over the ends of texts, and those over transmissions that they stand on.
 
-ghost use Rattle.std.specs.Prelude.{List, length, ℕ, ◌++◌, ◌≡◌, ◌≤◌};
+ghost use Rattle.std.specs.Prelude.{List, length, ℕ, ◌++◌, ◌*◌, ◌≡◌, ◌≤◌};
 ghost use Rattle.std.specs.Prelude.{suc, ◌↔◌};
 ghost use Rattle.cwr_shape.specs.Ranges.{LimitValues};
 ghost use Rattle.cwr_judge.specs.GoodFronts.{GoesOnFrom};
 ghost use Rattle.cwr_judge.specs.Places.{Viable};
 ghost use Rattle.cwr_judge.specs.Ends.{IsAccepted, IsNotAccepted, IsRefused, IsTruncated};
-ghost use Rattle.cwr_judge.specs.Items.{items, value_items};
+ghost use Rattle.cwr_judge.specs.Items.{AreFirstItems, items, value_items};
 ghost use Rattle.cwr_judge.specs.Places.{IsFirstBad};
 ghost use Rattle.cwr_judge.specs.declared.refusals.Refusal.{Refusal};
+ghost use Rattle.cwr_values.specs.declared.items.Item.{Item};
+ghost use Rattle.cwr_decode.specs.Machines.{Standing};
+ghost use Rattle.cwr_decode.specs.Stands.{StandsFor};
 ghost use Rattle.cwr_layouts.specs.Lines.{closed, raw_lines};
 ghost use Rattle.cwr_shape.specs.declared.limits.Limits.{Limits};
 ghost use Rattle.cwr_values.specs.Rows.{canonical_text, rows};
@@ -66,4 +69,15 @@ pub fn some_end()
 pub fn viable_where_cells_are_good()
     ensures { (limits : LimitValues) (before : List (List ℕ)) (line : List ℕ) (m : ℕ)
         → Viable limits before line (suc m) ↔ GoesOnFrom limits before line m }
+{}
+
+/// Over a whole run at most 1,025 bytes are used for each record that the limits hold: no decoder represents more.
+pub fn used_bytes_are_bounded()
+    ensures { (d : Standing) (input : List ℕ) (given : List Item) → StandsFor d input given → length input ≤ 1025 * d.tally.limits.records }
+{}
+
+/// The items that a decoder handed out are the first of those of some transmission within its limits: a transaction is a
+/// whole one of its group's type, and each comes in its place.
+pub fn items_are_the_first()
+    ensures { (d : Standing) (input : List ℕ) (given : List Item) → StandsFor d input given → AreFirstItems d.tally.limits given }
 {}

@@ -2,7 +2,7 @@
 
 ghost use Rattle.std.specs.Prelude.{◌≡◌, ◌<◌, ◌⊎◌, ℕ, List, [], Option, Err, IfNone, IfSome, IsSome, Some, true, false};
 ghost use Rattle.cwr_decode.specs.Calls.{IsLive};
-ghost use Rattle.cwr_decode.specs.Stands.{GivesFirst, IsBounded, IsUnderWay, StandsFor};
+ghost use Rattle.cwr_decode.specs.Stands.{IsUnderWay, StandsFor};
 ghost use Rattle.cwr_decode.specs.Machines.{WaitsOutside, again};
 ghost use Rattle.cwr_decode.specs.Readings.{answer_of, CountsReader, FeedsOn, Reads};
 
@@ -168,10 +168,6 @@ impl<'a, R: Source> Reading<'a, R> {
         ensures over { self.old.decoder.finished ≡ true → self.new.reader.now ≡ self.old.reader.now }
         // Nor is it where a record waits that is an item of its own.
         ensures alone { WaitsOutside self.old.decoder → self.new.reader.now ≡ self.old.reader.now }
-        // Over a whole run at most 1,025 bytes are consumed for each record that the limits hold.
-        ensures bounded { IsBounded self.new.decoder }
-        // The items are the first of those of some transmission within the limits.
-        ensures first { GivesFirst self.new.decoder }
     {
         if let Some(told) = settle(&mut self.decoder) {
             return told;

@@ -3,7 +3,6 @@
 use cwr_fields::{
     CellFault, CellType, DeviceFault, Word, first_control, fits, iswc_ok, trimmed, width_of,
 };
-use std::test::Fail;
 
 /// What is told of the cell, or nothing where it isn't as wide as its type.
 fn judged(ty: CellType, cell: &[u8]) -> Option<Result<(), CellFault>> {
@@ -56,13 +55,17 @@ static FAULTS: [(CellFault, &str); 8] = [
 ];
 
 #[test]
-fn faults_are_printed(rt: HostRuntime) -> Result<(), Fail> {
+fn faults_are_printed(rt: HostRuntime) {
     for (fault, text) in &FAULTS {
-        assert_eq!(rt; format!(in rt.alloc(); "{fault}")?.as_str(), *text);
+        assert_eq!(rt;
+            format!(in rt.alloc(); "{fault}")
+                .expect(&rt, "no memory")
+                .as_str(),
+            *text
+        );
     }
-    let printed = format!(in rt.alloc(); "[{DeviceFault:>18}]")?;
+    let printed = format!(in rt.alloc(); "[{DeviceFault:>18}]").expect(&rt, "no memory");
     assert_eq!(rt; printed.as_str(), "[ the device failed]");
-    Ok(())
 }
 
 #[test]

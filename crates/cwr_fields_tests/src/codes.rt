@@ -11,7 +11,6 @@ use cwr_fields::{
 };
 use std::fmt::{Debug, Display};
 use std::process::Abort;
-use std::test::Fail;
 
 /// Whether the cell is as wide as its type, and one of it.
 fn is_one(ty: CellType, cell: &[u8]) -> bool {
@@ -24,7 +23,7 @@ fn reads_table<C: Cell + Display + Debug + PartialEq, R: Abort + AllocGlobal>(
     table: Table,
     rows: &[(C, &str)],
     other: &str,
-) -> Result<(), Fail>
+)
     requires least { 0 < C.WIDTH }
     requires most { C.WIDTH ≤ 3 }
 {
@@ -37,7 +36,7 @@ fn reads_table<C: Cell + Display + Debug + PartialEq, R: Abort + AllocGlobal>(
         let width = C::WIDTH;
         member.write(&mut written[..width]);
         assert_eq!(rt; &written[..width], cell, "{text}");
-        let printed = format!(in rt.alloc(); "{member}")?;
+        let printed = format!(in rt.alloc(); "{member}").expect(rt, "no memory");
         assert_eq!(rt; printed.as_str(), text.trim_end());
     }
     assert!(rt;
@@ -45,88 +44,84 @@ fn reads_table<C: Cell + Display + Debug + PartialEq, R: Abort + AllocGlobal>(
         "{other}"
     );
     assert_eq!(rt; C::read(other.as_bytes()), None, "{other}");
-    Ok(())
 }
 
 #[test]
-fn order(rt: HostRuntime) -> Result<(), Fail> {
+fn order(rt: HostRuntime) {
     let rows = [(Role::Assignor, "AS"), (Role::Acquirer, "AC")];
-    reads_table(&rt, Table::Role, &rows, "SA")?;
+    reads_table(&rt, Table::Role, &rows, "SA");
     let rows = [
         (TransactionType::Agreement, "AGR"),
         (TransactionType::NewWork, "NWR"),
         (TransactionType::RevisedWork, "REV"),
         (TransactionType::Acknowledgement, "ACK"),
     ];
-    reads_table(&rt, Table::TransactionType, &rows, "ISW")?;
-    Ok(())
+    reads_table(&rt, Table::TransactionType, &rows, "ISW");
 }
 
 #[test]
-fn agreements(rt: HostRuntime) -> Result<(), Fail> {
+fn agreements(rt: HostRuntime) {
     let rows = [
         (AgreementType::OriginalSpecific, "OS"),
         (AgreementType::OriginalGeneral, "OG"),
         (AgreementType::SubpublishingSpecific, "PS"),
         (AgreementType::SubpublishingGeneral, "PG"),
     ];
-    reads_table(&rt, Table::AgreementType, &rows, "OO")?;
+    reads_table(&rt, Table::AgreementType, &rows, "OO");
     let rows = [
         (PriorRoyaltyStatus::None, "N"),
         (PriorRoyaltyStatus::FromDate, "D"),
         (PriorRoyaltyStatus::All, "A"),
     ];
-    reads_table(&rt, Table::Prior, &rows, "O")?;
+    reads_table(&rt, Table::Prior, &rows, "O");
     let rows = [
         (PostTermCollectionStatus::None, "N"),
         (PostTermCollectionStatus::Open, "O"),
         (PostTermCollectionStatus::UntilDate, "D"),
     ];
-    reads_table(&rt, Table::PostTerm, &rows, "A")?;
+    reads_table(&rt, Table::PostTerm, &rows, "A");
     let rows = [
         (SalesManufactureClause::Sales, "S"),
         (SalesManufactureClause::Manufacture, "M"),
     ];
-    reads_table(&rt, Table::Sales, &rows, "N")?;
+    reads_table(&rt, Table::Sales, &rows, "N");
     let rows = [
         (InclusionExclusion::Included, "I"),
         (InclusionExclusion::Excluded, "E"),
     ];
-    reads_table(&rt, Table::Sign, &rows, "X")?;
-    Ok(())
+    reads_table(&rt, Table::Sign, &rows, "X");
 }
 
 #[test]
-fn works(rt: HostRuntime) -> Result<(), Fail> {
+fn works(rt: HostRuntime) {
     let rows = [
         (DistributionCategory::Jazz, "JAZ"),
         (DistributionCategory::Popular, "POP"),
         (DistributionCategory::Serious, "SER"),
         (DistributionCategory::Unclassified, "UNC"),
     ];
-    reads_table(&rt, Table::Category, &rows, "JAX")?;
+    reads_table(&rt, Table::Category, &rows, "JAX");
     let rows = [
         (VersionType::Original, "ORI"),
         (VersionType::Modified, "MOD"),
     ];
-    reads_table(&rt, Table::Version, &rows, "OR ")?;
+    reads_table(&rt, Table::Version, &rows, "OR ");
     let rows = [
         (CompositeType::CompositeOfSamples, "COS"),
         (CompositeType::Medley, "MED"),
         (CompositeType::Potpourri, "POT"),
         (CompositeType::Unspecified, "UCO"),
     ];
-    reads_table(&rt, Table::Composite, &rows, "cos")?;
+    reads_table(&rt, Table::Composite, &rows, "cos");
     let rows = [
         (ExcerptType::Movement, "MOV"),
         (ExcerptType::Unspecified, "UEX"),
     ];
-    reads_table(&rt, Table::Excerpt, &rows, "MOD")?;
-    Ok(())
+    reads_table(&rt, Table::Excerpt, &rows, "MOD");
 }
 
 #[test]
-fn titles_and_recordings(rt: HostRuntime) -> Result<(), Fail> {
+fn titles_and_recordings(rt: HostRuntime) {
     let rows = [
         (TitleType::Alternative, "AT"),
         (TitleType::FirstLine, "TE"),
@@ -140,23 +135,22 @@ fn titles_and_recordings(rt: HostRuntime) -> Result<(), Fail> {
         (TitleType::OriginalNational, "OL"),
         (TitleType::AlternativeNational, "AL"),
     ];
-    reads_table(&rt, Table::Title, &rows, "XX")?;
+    reads_table(&rt, Table::Title, &rows, "XX");
     let rows = [
         (RecordingFormat::Audio, "A"),
         (RecordingFormat::Visual, "V"),
     ];
-    reads_table(&rt, Table::Recording, &rows, "D")?;
+    reads_table(&rt, Table::Recording, &rows, "D");
     let rows = [
         (RecordingTechnique::Analogue, "A"),
         (RecordingTechnique::Digital, "D"),
         (RecordingTechnique::Unknown, "U"),
     ];
-    reads_table(&rt, Table::Technique, &rows, "V")?;
-    Ok(())
+    reads_table(&rt, Table::Technique, &rows, "V");
 }
 
 #[test]
-fn parties(rt: HostRuntime) -> Result<(), Fail> {
+fn parties(rt: HostRuntime) {
     let rows = [
         (PublisherType::OriginalPublisher, "E "),
         (PublisherType::Acquirer, "AQ"),
@@ -165,7 +159,7 @@ fn parties(rt: HostRuntime) -> Result<(), Fail> {
         (PublisherType::SubstitutedPublisher, "ES"),
         (PublisherType::SubPublisher, "SE"),
     ];
-    reads_table(&rt, Table::Publisher, &rows, " E")?;
+    reads_table(&rt, Table::Publisher, &rows, " E");
     let rows = [
         (WriterDesignation::Author, "A "),
         (WriterDesignation::Adaptor, "AD"),
@@ -177,12 +171,11 @@ fn parties(rt: HostRuntime) -> Result<(), Fail> {
         (WriterDesignation::SubArranger, "SR"),
         (WriterDesignation::Translator, "TR"),
     ];
-    reads_table(&rt, Table::Designation, &rows, "AX")?;
-    Ok(())
+    reads_table(&rt, Table::Designation, &rows, "AX");
 }
 
 #[test]
-fn messages(rt: HostRuntime) -> Result<(), Fail> {
+fn messages(rt: HostRuntime) {
     let rows = [
         (TransactionStatus::Conflict, "CO"),
         (TransactionStatus::Duplicate, "DU"),
@@ -195,7 +188,7 @@ fn messages(rt: HostRuntime) -> Result<(), Fail> {
         (TransactionStatus::NoParticipation, "NP"),
         (TransactionStatus::ClaimRejected, "RC"),
     ];
-    reads_table(&rt, Table::Status, &rows, "OK")?;
+    reads_table(&rt, Table::Status, &rows, "OK");
     let rows = [
         (MessageLevel::EntireFile, "E"),
         (MessageLevel::Group, "G"),
@@ -203,24 +196,22 @@ fn messages(rt: HostRuntime) -> Result<(), Fail> {
         (MessageLevel::Record, "R"),
         (MessageLevel::Field, "F"),
     ];
-    reads_table(&rt, Table::Message, &rows, "D")?;
-    Ok(())
+    reads_table(&rt, Table::Message, &rows, "D");
 }
 
 #[test]
-fn sender_types(rt: HostRuntime) -> Result<(), Fail> {
+fn sender_types(rt: HostRuntime) {
     let mut rows = [
         (SenderType::Publisher, "PB"),
         (SenderType::Society, "SO"),
         (SenderType::AdministrativeAgency, "AA"),
         (SenderType::Writer, "WR"),
     ];
-    reads_table(&rt, Table::Sender, &rows, "P1")?;
+    reads_table(&rt, Table::Sender, &rows, "P1");
     for (number, text) in [(0, "00"), (42, "42")] {
-        let digits = Number::<2>::new(number).ok_or("two digits")?;
+        let digits = Number::<2>::new(number).expect(&rt, "two digits");
         rows[0] = (SenderType::Digits(digits), text);
-        reads_table(&rt, Table::Sender, &rows, "4")?;
+        reads_table(&rt, Table::Sender, &rows, "4");
     }
     assert_eq!(rt; Number::<2>::new(100), None);
-    Ok(())
 }

@@ -3,29 +3,26 @@
 use cwr_fields::{Counted, DeviceFault, Source, Target};
 use std::io;
 use std::io::{BufRead, ErrorKind, Read, Write};
-use std::test::Fail;
 
 #[test]
-fn reads_through(rt: HostRuntime) -> Result<(), Fail> {
+fn reads_through(rt: HostRuntime) {
     let mut source = Counted::new(b"HDR".as_slice());
-    let bytes = source.fill()?;
+    let bytes = source.fill().expect(&rt, "no bytes");
     assert_eq!(rt; bytes, b"HDR".as_slice());
     source.consume(2);
-    let bytes = source.fill()?;
+    let bytes = source.fill().expect(&rt, "no bytes");
     assert_eq!(rt; bytes, b"R".as_slice());
     source.consume(1);
-    let bytes = source.fill()?;
+    let bytes = source.fill().expect(&rt, "no bytes");
     assert!(rt; bytes.is_empty());
-    Ok(())
 }
 
 #[test]
-fn writes_through(rt: HostRuntime) -> Result<(), Fail> {
+fn writes_through(rt: HostRuntime) {
     let mut target = Counted::new(Vec::new(rt.alloc()));
-    assert_eq!(rt; target.write(b"TRL")?, 3);
-    target.flush()?;
+    assert_eq!(rt; target.write(b"TRL"), Ok(3));
+    assert_eq!(rt; target.flush(), Ok(()));
     assert_eq!(rt; target.into_inner().as_slice(), b"TRL".as_slice());
-    Ok(())
 }
 
 /// A device that fails at each other call, and takes nothing.
@@ -69,17 +66,16 @@ impl Write for Broken {
 }
 
 #[test]
-fn devices_fail(rt: HostRuntime) -> Result<(), Fail> {
+fn devices_fail(rt: HostRuntime) {
     let mut source = Counted::new(Broken { works: false });
-    let bytes = source.fill()?;
+    let bytes = source.fill().expect(&rt, "no bytes");
     assert_eq!(rt; bytes, b"A".as_slice());
     source.consume(1);
     assert_eq!(rt; source.fill(), Err(DeviceFault));
-    let bytes = source.fill()?;
+    let bytes = source.fill().expect(&rt, "no bytes");
     assert_eq!(rt; bytes, b"A".as_slice());
     let mut target = Counted::new(Broken { works: true });
     assert_eq!(rt; target.write(b"A"), Err(DeviceFault));
     assert_eq!(rt; target.write(b""), Ok(0));
     assert_eq!(rt; target.flush(), Err(DeviceFault));
-    Ok(())
 }

@@ -7,7 +7,6 @@ use cwr_fields::{
     TimeOfDay,
 };
 use jiff::civil::{Date, date, time};
-use std::test::Fail;
 use std::time::Duration;
 
 /// Whether the cell is read, and written back as it was.
@@ -117,16 +116,22 @@ fn flags(rt: HostRuntime) {
 }
 
 #[test]
-fn prints(rt: HostRuntime) -> Result<(), Fail> {
+fn prints(rt: HostRuntime) {
     let alloc = rt.alloc();
-    let printed = format!(in alloc; "{}", Flag::Unknown)?;
+    let printed = format!(in alloc; "{}", Flag::Unknown).expect(&rt, "no memory");
     assert_eq!(rt; printed.as_str(), "U");
     if let (Some(seven), Some(third)) = (Number::<5>::new(7), Share::new(3305)) {
-        let printed = format!(in alloc; "{seven} {seven:03} {third} [{}]", Share::blank())?;
+        let printed = format!(in alloc; "{seven} {seven:03} {third} [{}]", Share::blank()).expect(
+            &rt,
+            "no memory",
+        );
         assert_eq!(rt; printed.as_str(), "7 007 33.05% []");
     }
     if let (Some(whole), Some(least)) = (Share::new(10000), Share::new(5)) {
-        let printed = format!(in alloc; "{whole} {least} [{:>3}]", Flag::Yes)?;
+        let printed = format!(in alloc; "{whole} {least} [{:>3}]", Flag::Yes).expect(
+            &rt,
+            "no memory",
+        );
         assert_eq!(rt; printed.as_str(), "100.00% 0.05% [  Y]");
     }
     if let (Some(day), Some(clock), Some(song)) = (
@@ -134,11 +139,13 @@ fn prints(rt: HostRuntime) -> Result<(), Fail> {
         TimeOfDay::new(4, 5, 6),
         PlayingTime::new(12, 3, 25),
     ) {
-        let printed = format!(in alloc; "{day} {clock} {song} {OutOfRange}")?;
+        let printed = format!(in alloc; "{day} {clock} {song} {OutOfRange}").expect(
+            &rt,
+            "no memory",
+        );
         assert_eq!(rt;
             printed.as_str(),
             "0987-02-03 04:05:06 12:03:25 out of the range of the cell"
         );
     }
-    Ok(())
 }

@@ -2,7 +2,6 @@
 
 use cwr_fields::{CellType, Table, Word};
 use cwr_layouts::{Kind, field, fields, width};
-use std::test::Fail;
 
 #[test]
 fn kinds_by_their_letters(rt: HostRuntime) {
@@ -49,20 +48,19 @@ fn widths_and_counts(rt: HostRuntime) {
 }
 
 #[test]
-fn fields_by_their_numbers(rt: HostRuntime) -> Result<(), Fail> {
-    let version = field(Kind::Hdr, 5).ok_or("no field")?;
+fn fields_by_their_numbers(rt: HostRuntime) {
+    let version = field(Kind::Hdr, 5).expect(&rt, "no field");
     assert_eq!(rt; version.name, "edi standard version");
     assert_eq!(rt; version.start, 59);
     assert_eq!(rt; version.width, 5);
     assert_eq!(rt; version.ty, CellType::Constant(Word::Edi));
     assert!(rt; !version.derived);
-    let status = field(Kind::Ack, 13).ok_or("no field")?;
+    let status = field(Kind::Ack, 13).expect(&rt, "no field");
     assert_eq!(rt; status.start, 157);
     assert_eq!(rt; status.ty, CellType::Code(Table::Status));
-    let count = field(Kind::Grt, 4).ok_or("no field")?;
+    let count = field(Kind::Grt, 4).expect(&rt, "no field");
     assert_eq!(rt; count.name, "record count");
     assert!(rt; count.derived);
     assert!(rt; field(Kind::Ack, 0).is_none());
     assert!(rt; field(Kind::Ack, 14).is_none());
-    Ok(())
 }

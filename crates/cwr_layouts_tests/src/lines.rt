@@ -4,7 +4,6 @@ ghost use Rattle.std.specs.Prelude.{◌≢◌};
 
 use cwr_layouts::{Kind, LineBuf, LineEnd};
 use std::process::Abort;
-use std::test::Fail;
 
 #[test]
 fn takes_by_pieces(rt: HostRuntime) {
@@ -124,9 +123,9 @@ const ACK: [u8; 159] =
     *b"ACK0000000000000000202401021015000000100000000NWRBLUE RIVER                                                  W0001                                   20240110AS";
 
 #[test]
-fn records_of_lines(rt: HostRuntime) -> Result<(), Fail> {
+fn records_of_lines(rt: HostRuntime) {
     let line = line_of(&ACK);
-    let found = line.cut().record().ok_or("no record")?;
+    let found = line.cut().record().expect(&rt, "no record");
     assert_eq!(rt; found.kind(), Kind::Ack);
     assert_eq!(rt; found.cell(13), Some(&b"AS"[..]));
     assert!(rt; found.cell(2).is_none());
@@ -139,5 +138,4 @@ fn records_of_lines(rt: HostRuntime) -> Result<(), Fail> {
     assert!(rt; longer.cut().excess());
     assert!(rt; longer.cut().record().is_some());
     assert!(rt; line_of(b"XYZ").cut().record().is_none());
-    Ok(())
 }

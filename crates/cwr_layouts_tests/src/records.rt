@@ -12,7 +12,6 @@ use cwr_fields::{
 use cwr_layouts::{Draft, DraftFault, Kind, Record, SetFault};
 use std::alloc::AllocError;
 use std::process::Abort;
-use std::test::Fail;
 
 /// The version of the EDI standard, as a cell type.
 #[derive(Clone, Copy)]
@@ -74,7 +73,7 @@ fn refuses_texts(rt: HostRuntime) {
 }
 
 /// An acknowledgement whose required cells are set, one after the other.
-fn acknowledgement(rt: &impl Abort) -> Result<Record, Fail> {
+fn acknowledgement(rt: &impl Abort) -> Record {
     let mut draft = Draft::blank(Kind::Ack);
     let cells: [(u8, &[u8], u8); 4] = [
         (6, b"00001", 7),
@@ -101,12 +100,12 @@ fn acknowledgement(rt: &impl Abort) -> Result<Record, Fail> {
         draft.set(9, b"BLACK\tRIVER"),
         Err(SetFault::Cell(CellFault::Control))
     );
-    Ok(draft.done().ok().ok_or("unfit")?)
+    draft.done().expect(rt, "unfit")
 }
 
 #[test]
-fn shows_cells(rt: HostRuntime) -> Result<(), Fail> {
-    let record = acknowledgement(&rt)?;
+fn shows_cells(rt: HostRuntime) {
+    let record = acknowledgement(&rt);
     let title = b"BLUE RIVER                                                  ";
     let cells: [(u8, Option<&[u8]>); 15] = [
         (0, None),
@@ -143,11 +142,10 @@ fn shows_cells(rt: HostRuntime) -> Result<(), Fail> {
     let copy = view.to_record();
     assert_eq!(rt; copy.view().kind(), Kind::Ack);
     assert_eq!(rt; copy.view().cell(8), Some(&b"NWR"[..]));
-    Ok(())
 }
 
 #[test]
-fn constants_stand(rt: HostRuntime) -> Result<(), Fail> {
+fn constants_stand(rt: HostRuntime) {
     let mut group = Draft::blank(Kind::Grh);
     assert_eq!(rt; group.set(2, b"ACK"), Ok(()));
     assert_eq!(rt;
@@ -155,7 +153,7 @@ fn constants_stand(rt: HostRuntime) -> Result<(), Fail> {
         Err(SetFault::Cell(CellFault::NotConstant))
     );
     assert_eq!(rt; group.set(5, b"0000000001"), Ok(()));
-    let record = group.done().ok().ok_or("unfit")?;
+    let record = group.done().expect(&rt, "unfit");
     assert_eq!(rt; record.view().cell(4), Some(&b"02.10"[..]));
     let mut header = Draft::blank(Kind::Hdr);
     let cells: [(u8, &[u8]); 6] = [
@@ -169,21 +167,23 @@ fn constants_stand(rt: HostRuntime) -> Result<(), Fail> {
     for (j, text) in cells {
         assert_eq!(rt; header.set(j, text), Ok(()));
     }
-    let record = header.done().ok().ok_or("unfit")?;
+    let record = header.done().expect(&rt, "unfit");
     let view = record.view();
     assert!(rt; view.read::<EdiVersion>(5).is_some());
     assert!(rt; view.read::<EdiVersion>(4).is_none());
     assert!(rt; view.read::<EdiVersion>(1).is_none());
     assert!(rt; view.read::<EdiVersion>(10).is_none());
-    Ok(())
 }
 
 #[test]
-fn faults_are_printed(rt: HostRuntime) -> Result<(), Fail> {
+fn faults_are_printed(rt: HostRuntime) {
     let mut draft = Draft::blank(Kind::Ack);
     let (no_field, control) = (draft.set(14, b""), draft.set(9, b"\t"));
     if let (Err(no_field), Err(control), Err(fault)) = (no_field, control, draft.done()) {
-        let text = format!(in rt.alloc(); "{no_field}, {control}, {fault}")?;
+        let text = format!(in rt.alloc(); "{no_field}, {control}, {fault}").expect(
+            &rt,
+            "no memory",
+        );
         assert_eq!(rt;
             text.as_str(),
             "no such field, control byte, field 6: blank cell"
@@ -198,20 +198,23 @@ fn faults_are_printed(rt: HostRuntime) -> Result<(), Fail> {
         (SetFault::Cell(CellFault::OverShare), "a share over 100%"),
     ];
     for (fault, text) in &faults {
-        assert_eq!(rt; format!(in rt.alloc(); "{fault}")?.as_str(), *text);
+        assert_eq!(rt;
+            format!(in rt.alloc(); "{fault}")
+                .expect(&rt, "no memory")
+                .as_str(),
+            *text
+        );
     }
-    Ok(())
 }
 
 #[test]
-fn trailers_are_records(rt: HostRuntime) -> Result<(), Fail> {
-    let record = Draft::blank(Kind::Grt).done().ok().ok_or("unfit")?;
+fn trailers_are_records(rt: HostRuntime) {
+    let record = Draft::blank(Kind::Grt).done().expect(&rt, "unfit");
     let view = record.view();
     assert_eq!(rt; view.kind(), Kind::Grt);
     assert!(rt; view.cell(4).is_none());
     assert_eq!(rt; view.cell(5), Some(&b"   "[..]));
     assert!(rt; Draft::blank(Kind::Trl).done().is_ok());
-    Ok(())
 }
 
 /// A copy is the same record.
@@ -222,16 +225,25 @@ fn copied(source: &Record) -> Result<Record, AllocError>
 }
 
 #[test]
-fn shown_to_programmers(rt: HostRuntime) -> Result<(), Fail> {
+fn shown_to_programmers(rt: HostRuntime) {
     let mut draft = Draft::blank(Kind::Grt);
     assert_eq!(rt; draft.set(5, b"E\"R"), Ok(()));
-    let text = format!(in rt.alloc(); "{draft:?}")?;
+    let text = format!(in rt.alloc(); "{draft:?}").expect(&rt, "no memory");
     let shown = r#"Grt {"currency": "E\"R", "total monetary value": "          "}"#;
     assert_eq!(rt; text.as_str(), shown);
-    let record = draft.done().ok().ok_or("unfit")?;
-    let copy = copied(&record)?;
+    let record = draft.done().expect(&rt, "unfit");
+    let copy = copied(&record).expect(&rt, "no memory");
     let view = copy.view();
-    assert_eq!(rt; format!(in rt.alloc(); "{record:?}")?.as_str(), shown);
-    assert_eq!(rt; format!(in rt.alloc(); "{view:?}")?.as_str(), shown);
-    Ok(())
+    assert_eq!(rt;
+        format!(in rt.alloc(); "{record:?}")
+            .expect(&rt, "no memory")
+            .as_str(),
+        shown
+    );
+    assert_eq!(rt;
+        format!(in rt.alloc(); "{view:?}")
+            .expect(&rt, "no memory")
+            .as_str(),
+        shown
+    );
 }

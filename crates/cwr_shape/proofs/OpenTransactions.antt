@@ -1,6 +1,6 @@
 -- The records of the open transaction, as they are counted behind its header, begin a transaction.
-use Rattle.std.proofs.Common.{◌≡◌, ℕ, ◌+◌, ◌-◌, Bool, true, cond, List, [], ◌∷◌, ◌++◌, length, drop, Option, None, refl, sym, ap, subst, ◌∙◌, arith, true≢false, append_assoc, append-nil}
-use Rattle.std.specs.List.{list_all, last_or, AllByRecursion, flat_map}
+use Rattle.std.proofs.Common.{◌≡◌, ℕ, ◌+◌, ◌-◌, Bool, true, cond, List, [], ◌∷◌, ◌++◌, length, drop, Option, None, sym, ap, subst, ◌∙◌, arith, true≢false, append_assoc, append-nil}
+use Rattle.std.specs.List.{list_all, AllByRecursion, flat_map}
 use Rattle.std.proofs.lemmas.Bool.{and_parts}
 use Rattle.std.proofs.lemmas.List.{length-append, drop_at}
 use Rattle.cwr_fields.specs.declared.codes.TransactionType.{TransactionType}

@@ -1,6 +1,6 @@
--- How far symbols have come, and what must still follow them.
-use Rattle.std.specs.Prelude.{◌≡◌, ℕ, ◌+◌, ◌≤◌, Bool, true, false, not, ◌&&◌, ◌==◌, nat_lt, List, length, take, drop, slice_index, count_by, Option, Some, None, if◌then◌else◌}
-use Rattle.std.specs.List.{prefix_len, after_last, last_or, filter, list_any}
+-- How far symbols have come.
+use Rattle.std.specs.Prelude.{Bool, true, false, not, List, Option, Some, None, if◌then◌else◌}
+use Rattle.std.specs.List.{after_last, last_or, filter, list_any}
 use Rattle.cwr_fields.specs.declared.codes.Role.{Role}
 use Rattle.cwr_fields.specs.declared.codes.Role.TheVariants.{Assignor, Acquirer}
 use Rattle.cwr_fields.specs.declared.codes.TransactionType.{TransactionType}
@@ -12,9 +12,6 @@ use Rattle.cwr_shape.specs.declared.stages.Stage.{Stage}
 use Rattle.cwr_shape.specs.declared.stages.Stage.TheVariants as stages
 use Rattle.cwr_shape.specs.declared.stages.Step.{Step}
 use Rattle.cwr_shape.specs.declared.stages.Step.TheVariants as steps
-use Rattle.cwr_shape.specs.declared.stages.Needs.{Needs}
-use Rattle.cwr_shape.specs.Outlines.{GroupOutline, IsOutline, symbols_of, BeginsWith}
-use Rattle.cwr_shape.specs.Numbers.{numbers_of, lengths_of}
 
 -- the symbol is a GRH
 abbrev pub is_grh : Symbol → Bool
@@ -87,35 +84,3 @@ stage_by (Some s) xs = stages.Within (group_of (latest is_grh xs)) (step_after s
 -- how far the symbols have come, by the last of them
 abbrev pub stage_after : List Symbol → Stage
 stage_after xs = stage_by (last_or None xs) xs
-
--- the numbers are those of a transaction's first record
-abbrev pub is_first_of_transaction : List ℕ → Bool
-is_first_of_transaction numbers = (length numbers == 2) && (slice_index numbers 1 == 0)
-
--- the numbers are those of a later record of a transaction
-abbrev pub is_later_of_transaction : List ℕ → Bool
-is_later_of_transaction numbers = (length numbers == 2) && nat_lt 0 (slice_index numbers 1)
-
--- how many records the first transaction has among records with these numbers; a record inside a transaction carries two
-abbrev pub next_transaction : List (List ℕ) → ℕ
-next_transaction rest = let from = drop (prefix_len (λ ns. not (is_first_of_transaction ns)) rest) rest in
-    prefix_len (λ ns. length ns == 2) (take 1 from) + prefix_len is_later_of_transaction (drop 1 from)
-
--- the further records of the open transaction, or where none is open the records of the next one
-abbrev pub transaction_to_come : Stage → List (List ℕ) → ℕ
-transaction_to_come (stages.Within ty steps.InGroup) rest = next_transaction rest
-transaction_to_come (stages.Within ty step) rest = prefix_len is_later_of_transaction rest
-transaction_to_come stage rest = next_transaction rest
-
--- the transmission goes on from the symbols by these numbers of records, of groups, and of records of the transaction
-pub record GoesOnBy (xs : List Symbol) (groups : List GroupOutline) (needs : Needs) : Type 0 where
-  pub begins : BeginsWith xs groups
-  pub records : length xs + needs.records ≡ length (symbols_of groups)
-  pub groups_more : count_by is_grh xs + needs.groups ≡ length groups
-  pub transaction : needs.transaction ≡ transaction_to_come (stage_after xs) (drop (length xs) (numbers_of (lengths_of groups)))
-
--- some transmission goes on by exactly these numbers, and none by fewer in any of them
-pub record AreNeeds (xs : List Symbol) (needs : Needs) : Type 0 where
-  pub met : (groups : List GroupOutline) × IsOutline groups × GoesOnBy xs groups needs
-  pub least : (groups : List GroupOutline) (more : Needs) → IsOutline groups → GoesOnBy xs groups more
-      → (needs.records ≤ more.records) × (needs.groups ≤ more.groups) × (needs.transaction ≤ more.transaction)

@@ -132,8 +132,8 @@ tells_accepted limits None verdict after t = tt
 tells_accepted limits (Some text) (Good groups transactions records) after t = λ v n a.
     let same = accepted_once limits text t.0 v (length t.1.input) n t.1.front.0 a in
     (t.2 ∙ ap good_verdict same.0, t.1.front.1 ∙ ap (λ (k : ℕ). Some (drop k text)) same.1)
-tells_accepted limits (Some text) (Refused refusal) after t = λ v n a. absurd (t.right.0.unaccepted v n a)
-tells_accepted limits (Some text) (Truncated records) after t = λ v n a. absurd (t.right.unaccepted v n a)
+tells_accepted limits (Some text) (Refused refusal) after t = λ v n a. absurd (t.right.ends.unaccepted v n a)
+tells_accepted limits (Some text) (Truncated records) after t = λ v n a. absurd (t.right.ends.unaccepted v n a)
 
 pub tells_canonical : (limits : Limits) (before : Option (List ℕ)) (verdict : Verdict) (after : Option (List ℕ)) → IsToldOf limits before verdict after → JudgesCanonical limits before verdict after
 tells_canonical limits before verdict after t v more whole within e =

@@ -1,8 +1,8 @@
-use Rattle.std.proofs.Common.{◌≡◌, ◌≤◌, subst}
+use Rattle.std.proofs.Common.{◌≡◌, ◌≤◌, subst, sym}
 use Rattle.std.specs.Prelude.{IfSome}
 use Rattle.cwr_decode.specs.Machines.{Standing, again, over}
+use Rattle.cwr_decode.specs.Calls.{IsLive, WantsMemory}
 use Rattle.cwr_decode.specs.Stands.{IsUnderWay}
-use Rattle.cwr_decode.proofs.FirstItems.{first_items}
 use Rattle.cwr_decode.proofs.decoders.Decoder.finish.Goals as goal
 
 pub returns-clause-stood : goal.returns-clause-stood
@@ -17,5 +17,13 @@ returns-clause-kept c =
     let was = c.self.invariant.under_way in
     subst (λ (d : Standing). d.tally.counts.records ≤ c.finish.new.self.tally.counts.records) c.self.view_is (c.finish.ensures.finishes.kept was.input was.given was.stands)
 
-pub returns-clause-first : goal.returns-clause-first
-returns-clause-first c = first_items c.finish.new.self
+pub returns-clause-empties : goal.returns-clause-empties
+returns-clause-empties c =
+    let was = c.self.invariant.under_way in
+    c.finish.ensures.finishes.empties was.input was.given was.stands
+
+pub returns-clause-memory : goal.returns-clause-memory
+returns-clause-memory c = λ is live.
+    let was = c.self.invariant.under_way in
+    subst (λ (d : Standing). WantsMemory d 0 c.finish.new.self) c.self.view_is
+    (c.finish.ensures.finishes.memory is (subst (λ (d : Standing). IsLive d.state) (sym c.self.view_is) live) was.input was.given was.stands)

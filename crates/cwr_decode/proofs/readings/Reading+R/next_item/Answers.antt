@@ -1,8 +1,6 @@
 use Rattle.std.proofs.Common.{None, inr, ap, refl, arith}
 use Rattle.cwr_decode.specs.Machines.{again}
 use Rattle.cwr_decode.proofs.FromReader.{reads_behind, wants_more, wants_waiting}
-use Rattle.cwr_decode.proofs.BoundedInputs.{input_bounded}
-use Rattle.cwr_decode.proofs.FirstItems.{first_items}
 use Rattle.cwr_decode.proofs.readings.Reading+R.next_item.Goals as goal
 
 pub read_on-requires-clause-reading : goal.read_on-requires-clause-reading
@@ -21,15 +19,3 @@ pub returns-clause-memory : goal.returns-clause-memory
 returns-clause-memory g c = λ is live.
     let on = c.in_default.ensures.goes_on None in
     inr (omega (arith, on.kept, wants_more c.settle.new.decoder c.read_on.new.decoder _ on.reading (c.read_on.ensures.reads.memory is (ap again on.reading))))
-
-pub returns-in-Some-clause-bounded : goal.returns-in-Some-clause-bounded
-returns-in-Some-clause-bounded g c = input_bounded c.settle.new.decoder
-
-pub returns-clause-bounded : goal.returns-clause-bounded
-returns-clause-bounded g c = input_bounded c.read_on.new.decoder
-
-pub returns-in-Some-clause-first : goal.returns-in-Some-clause-first
-returns-in-Some-clause-first g c = first_items c.settle.new.decoder
-
-pub returns-clause-first : goal.returns-clause-first
-returns-clause-first g c = first_items c.read_on.new.decoder
