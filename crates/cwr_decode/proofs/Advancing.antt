@@ -23,7 +23,7 @@ use Rattle.cwr_judge.specs.Ends.{IsRefused}
 use Rattle.cwr_judge.specs.Judged.{IsOfNone, IsFirstFault}
 use Rattle.cwr_decode.specs.Machines.{Standing, IsReady, Leaves, Judges, Tells, with_tally, stopped}
 use Rattle.cwr_decode.specs.declared.endings.End.TheVariants as ends
-use Rattle.cwr_decode.specs.Stands.{StandsFor, StandsIn, IsReading, IsInput, IsRight, IsStopped, MayFollow, IsEndAlways, EndsInLf, GoesTooFar, EndsLine, items_out, text_of}
+use Rattle.cwr_decode.specs.Represents.{Represents, RepresentsIn, IsReading, IsInput, IsRight, IsStopped, MayFollow, IsEndAlways, EndsInLf, GoesTooFar, EndsLine, items_out, text_of}
 use Rattle.cwr_decode.specs.Calls.{RefusesLast, Advances, Grows}
 use Rattle.cwr_decode.proofs.Ended.{accepts_whole}
 use Rattle.cwr_decode.proofs.StoppedRefused.{refused_line, refused_long}
@@ -33,15 +33,15 @@ use Rattle.cwr_decode.proofs.Moving.{IsPlain, Rest, follows_rest}
 -- ---- what an answer says
 
 -- the end of a transmission comes where one is accepted
-ended_right : (new : Standing) (over : Bool) (input seen tail : List ℕ) (given : List Item) → new.finished ≡ over → seen ≡ input ++ tail → (over ≡ true → tail ≡ []) → StandsFor new input given → new.state ≡ states.Ended
+ended_right : (new : Standing) (over : Bool) (input seen tail : List ℕ) (given : List Item) → new.finished ≡ over → seen ≡ input ++ tail → (over ≡ true → tail ≡ []) → Represents new input given → new.state ≡ states.Ended
     → IsRight new.tally.limits (outcomes.Item items.Ended) over input seen given
 ended_right new over input seen tail given f e none s state =
-    let here = subst (λ (q : State). StandsIn q new input given) state s.here in
+    let here = subst (λ (q : State). RepresentsIn q new input given) state s.here in
     let t = here.through in
     record { ends = accepts_whole new.tally t.lines t.records over input seen tail given s.in_range t.read here.whole (subst (λ (b : Bool). IsInput b input (text_of t.lines)) f t.split) e none t.given_are; comes = tt }
 
 -- an item or want of memory is right
-pub plain_right : (new : Standing) (o : Outcome) (over : Bool) (input seen tail : List ℕ) (given : List Item) → new.finished ≡ over → seen ≡ input ++ tail → (over ≡ true → tail ≡ []) → StandsFor new input given → Leaves o new.state → IsPlain o
+pub plain_right : (new : Standing) (o : Outcome) (over : Bool) (input seen tail : List ℕ) (given : List Item) → new.finished ≡ over → seen ≡ input ++ tail → (over ≡ true → tail ≡ []) → Represents new input given → Leaves o new.state → IsPlain o
     → IsRight new.tally.limits o over input seen given
 plain_right new outcomes.More over input seen tail given f e none s l p = absurd p
 plain_right new (outcomes.Item (items.Opened r)) over input seen tail given f e none s l p = record { ends = λ more may. tt; comes = tt }
@@ -138,12 +138,12 @@ taken_text d input given piece used line r fresh t =
     ap (λ (x : List ℕ). x ++ take used piece) (subst (λ (b : Bool). IsInput b input (text_of r.lines ++ d.line.bytes)) fresh r.split)
     ∙ append_assoc (text_of r.lines) d.line.bytes (take used piece) ∙ ap (λ (x : List ℕ). text_of r.lines ++ x) (sym t.text)
 
-reading_of : (d : Standing) (input : List ℕ) (given : List Item) → d.state ≡ states.Reading → StandsFor d input given → IsReading d input given
-reading_of d input given s st = subst (λ (q : State). StandsIn q d input given) s st.here
+reading_of : (d : Standing) (input : List ℕ) (given : List Item) → d.state ≡ states.Reading → Represents d input given → IsReading d input given
+reading_of d input given s st = subst (λ (q : State). RepresentsIn q d input given) s st.here
 
 -- the line ended
 line_ended : (d : Standing) (input : List ℕ) (given : List Item) (piece : List ℕ) (used : ℕ) (line : HeldLine) → d.state ≡ states.Reading → d.finished ≡ false → Takes d.line piece used line → IsHeld line → line.ended ≢ Open
-    → StandsFor d input given → HasLine (with_line d line) (input ++ take used piece) given
+    → Represents d input given → HasLine (with_line d line) (input ++ take used piece) given
 line_ended d input given piece used line s fresh t held ended st =
     let r = reading_of d input given s st in
     record {
@@ -161,13 +161,13 @@ line_ended d input given piece used line s fresh t held ended st =
 
 -- the line goes on
 line_goes_on : (d : Standing) (input : List ℕ) (given : List Item) (piece : List ℕ) (used : ℕ) (line : HeldLine) → d.state ≡ states.Reading → d.finished ≡ false → Takes d.line piece used line → IsHeld line → line.ended ≡ Open
-    → StandsFor d input given → StandsFor (with_line d line) (input ++ take used piece) given
+    → Represents d input given → Represents (with_line d line) (input ++ take used piece) given
 line_goes_on d input given piece used line s fresh t held ended st =
     let r = reading_of d input given s st in
     let text : held_text line ≡ line.bytes = ap (λ (x : LineEnd). text_by x line.bytes) ended in
     record {
       in_range = st.in_range;
-      here = subst (λ (q : State). StandsIn q (with_line d line) (input ++ take used piece) given) (sym s) (record {
+      here = subst (λ (q : State). RepresentsIn q (with_line d line) (input ++ take used piece) given) (sym s) (record {
         lines = r.lines;
         records = r.records;
         read = r.read;
@@ -293,7 +293,7 @@ advanced_line d t new piece used out s fresh takes held is ended j =
       limits = rest.limits ∙ limits;
     }
   where
-    at : (input : List ℕ) (given : List Item) → StandsFor d input given → HasLine t (input ++ take used piece) given
+    at : (input : List ℕ) (given : List Item) → Represents d input given → HasLine t (input ++ take used piece) given
     at input given st = subst (λ (q : Standing). HasLine q (input ++ take used piece) given) (sym is) (line_ended d input given piece used t.line s fresh takes held ended st)
 
 -- the piece ended before the line
@@ -304,7 +304,7 @@ advanced_open d t piece used s fresh takes held is ended =
     subst (λ (q : Standing). Advances d piece used (Some outcomes.More) q) (sym is) (record {
       within = takes.within;
       some = tt;
-      stands = λ input given st. subst (StandsFor (with_line d t.line) (input ++ take used piece)) (sym (append-nil given)) (line_goes_on d input given piece used t.line s fresh takes held ended st);
+      stands = λ input given st. subst (Represents (with_line d t.line) (input ++ take used piece)) (sym (append-nil given)) (line_goes_on d input given piece used t.line s fresh takes held ended st);
       right = λ input given st. record { ends = λ more may. tt; comes = (refl, ap (λ (x : List ℕ). input ++ x) (ap (λ (n : ℕ). take n piece) all ∙ take-length piece)) };
       ready = subst (λ (q : State). IsReady q d.finished t.line) (sym s) (ended, λ f. absurd (true≢false (sym f ∙ fresh)));
       leaves = s;

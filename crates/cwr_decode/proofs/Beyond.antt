@@ -26,7 +26,7 @@ use Rattle.cwr_values.proofs.Unique.{symbols-outline, outline_whole, records-row
 use Rattle.cwr_values.proofs.RowAt.{rows_split}
 use Rattle.cwr_judge.specs.Ends.{IsAccepted, IsNotAccepted}
 use Rattle.cwr_judge.specs.Judged.{IsOfNone}
-use Rattle.cwr_decode.specs.Stands.{AreAccepted, text_of}
+use Rattle.cwr_decode.specs.Represents.{AreAccepted, text_of}
 use Rattle.cwr_judge.proofs.NextLines.{line_is_next}
 use Rattle.cwr_judge.proofs.Given.{records_back}
 

@@ -19,7 +19,7 @@ use Rattle.cwr_decode.specs.declared.machine.State.{State}
 use Rattle.cwr_decode.specs.declared.machine.State.TheVariants as states
 use Rattle.cwr_decode.specs.Machines.{Standing}
 use Rattle.cwr_decode.specs.Readings.{FeedsOn}
-use Rattle.cwr_decode.specs.Stands.{AreAccepted, StandsFor, IsUnderWay, StandsIn, IsThrough, IsInput, text_of}
+use Rattle.cwr_decode.specs.Represents.{AreAccepted, Represents, RepresentsSome, RepresentsIn, IsThrough, IsInput, text_of}
 
 text_short : (rows : List Row) (lines : List (List ℕ)) → AllZip IsLineOf rows lines → length (text_of lines) ≤ 1025 * length rows
 text_short [] [] h = omega arith
@@ -71,7 +71,7 @@ text_long line_ends.Open bytes h = omega (arith, h)
 text_long line_ends.Line bytes h = omega (arith, h, length-append bytes (10 ∷ []))
 text_long line_ends.Over bytes h = omega (arith, h)
 
-bounded_in : (state : State) (d : Standing) (input : List ℕ) (given : List Item) → StandsIn state d input given → length input ≤ 1025 * d.tally.limits.records
+bounded_in : (state : State) (d : Standing) (input : List ℕ) (given : List Item) → RepresentsIn state d input given → length input ≤ 1025 * d.tally.limits.records
 bounded_in states.Reading d input given r = with_one_more d.tally r.lines r.records d.finished input d.line.bytes r.read r.left (omega (arith, r.line.short)) r.split
 bounded_in states.Pending d input given p =
     omega (arith, input_text d.finished input (text_of p.lines) p.split, accepted_text d.tally p.lines (p.records ++ p.last ∷ []) p.read, accepted_few d.tally p.lines (p.records ++ p.last ∷ []) p.read)
@@ -82,11 +82,11 @@ bounded_in (states.Truncated count) d input given c = through_bounded d input gi
 bounded_in states.Memory d input given f = through_bounded d input given f.through
 
 -- at most 1,025 bytes for each record that the limits hold are used
-pub input_bounded : (d : Standing) (input : List ℕ) (given : List Item) → StandsFor d input given → length input ≤ 1025 * d.tally.limits.records
+pub input_bounded : (d : Standing) (input : List ℕ) (given : List Item) → Represents d input given → length input ≤ 1025 * d.tally.limits.records
 input_bounded d input given s = bounded_in d.state d input given s.here
 
 -- so as many pieces at most are fed to a decoder that needs more
-pub feeds_short : (n : ℕ) (old : Standing) (left : Option (List ℕ)) (new : Standing) (after : Option (List ℕ)) → IsUnderWay old → FeedsOn n old left new after → n ≤ 103000000000
+pub feeds_short : (n : ℕ) (old : Standing) (left : Option (List ℕ)) (new : Standing) (after : Option (List ℕ)) → RepresentsSome old → FeedsOn n old left new after → n ≤ 103000000000
 feeds_short n old left new after way f =
     let stands = f.stands way.input way.given way.stands in
     omega (arith, f.count, length-append way.input f.bytes, input_bounded new (way.input ++ f.bytes) way.given stands, stands.in_range.most_records)

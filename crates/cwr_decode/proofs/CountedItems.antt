@@ -27,7 +27,7 @@ use Rattle.cwr_decode.specs.declared.machine.State.TheVariants as states
 use Rattle.cwr_judge.specs.Items.{is_in_transaction, group_items, value_items, item_records, records_in, opens_group, is_transaction}
 use Rattle.cwr_decode.specs.Machines.{Standing}
 use Rattle.cwr_judge.specs.Open.{items_so_far, open_of, goes_on_with, handed, item_of}
-use Rattle.cwr_decode.specs.Stands.{AreAccepted, IsThrough, StandsFor, StandsIn}
+use Rattle.cwr_decode.specs.Represents.{AreAccepted, IsThrough, Represents, RepresentsIn}
 use Rattle.cwr_decode.proofs.Entering.{few_records}
 use Rattle.cwr_judge.proofs.Given.{goes_on_stays, ends_closes, no_open, no_items}
 use Rattle.cwr_judge.proofs.ItemLaws.{all_last}
@@ -145,7 +145,7 @@ counts records h g few = walk [] records h g few (record {
   few = omega (arith, ap length no_items, ap (λ (rs : List RecordValue). length (handed rs)) no_open);
 })
 
--- ---- what a decoder stands for
+-- ---- what a decoder represents
 
 -- items are few, and so are their records
 abbrev AreFew : List Item → Type 0
@@ -178,7 +178,7 @@ waiting_few tally lines records last given range read are =
 through_few : (d : Standing) (input : List ℕ) (given : List Item) → AreInRange d.tally.limits → IsThrough d input given → AreFew given
 through_few d input given range t = read_few d.tally t.lines t.records given range t.read t.given_are
 
-few_in : (state : State) (d : Standing) (input : List ℕ) (given : List Item) → AreInRange d.tally.limits → StandsIn state d input given → AreFew given
+few_in : (state : State) (d : Standing) (input : List ℕ) (given : List Item) → AreInRange d.tally.limits → RepresentsIn state d input given → AreFew given
 few_in states.Reading d input given range s = read_few d.tally s.lines s.records given range s.read s.given_are
 few_in states.Pending d input given range s = waiting_few d.tally s.lines s.records s.last given range s.read s.given_are
 few_in states.Ended d input given range s = through_few d input given range s.through
@@ -187,7 +187,7 @@ few_in (states.Truncated count) d input given range s = through_few d input give
 few_in states.Memory d input given range s = through_few d input given range s.through
 
 -- the items that were handed out are few, and so are their records
-pub bounded : (d : Standing) (input : List ℕ) (given : List Item) → StandsFor d input given → (length given ≤ 199999998) × (length (records_in given) ≤ 99999999)
+pub bounded : (d : Standing) (input : List ℕ) (given : List Item) → Represents d input given → (length given ≤ 199999998) × (length (records_in given) ≤ 99999999)
 bounded d input given s = few_in d.state d input given s.in_range s.here
 
 -- ---- the items of a transmission

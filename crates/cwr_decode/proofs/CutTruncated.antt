@@ -9,7 +9,7 @@ use Rattle.cwr_values.proofs.RowAt.{length-rows_so_far}
 use Rattle.cwr_values.proofs.Unique.{lines_without_lf}
 use Rattle.cwr_judge.specs.Ends.{IsTruncated}
 use Rattle.cwr_decode.specs.Machines.{Standing}
-use Rattle.cwr_decode.specs.Stands.{IsCut, IsInput, text_of}
+use Rattle.cwr_decode.specs.Represents.{IsCut, IsInput, text_of}
 use Rattle.cwr_judge.proofs.AcceptedViable.{accepted_viable}
 use Rattle.cwr_decode.proofs.Beyond.{none_behind_cut}
 use Rattle.cwr_decode.proofs.RawLines.{raw_begins}

@@ -16,7 +16,7 @@ use Rattle.cwr_values.proofs.Built.{built}
 use Rattle.cwr_values.proofs.RowAt.{rows_whole}
 use Rattle.cwr_judge.specs.Items.{items, value_items}
 use Rattle.cwr_judge.specs.Open.{items_so_far}
-use Rattle.cwr_decode.specs.Stands.{text_of, IsInput, AreAccepted, IsEndAlways}
+use Rattle.cwr_decode.specs.Represents.{text_of, IsInput, AreAccepted, IsEndAlways}
 use Rattle.cwr_decode.specs.declared.endings.End.TheVariants as ends
 use Rattle.cwr_judge.proofs.Accepted.{closed_begins}
 use Rattle.cwr_judge.proofs.ItemLaws.{items_of_parts}

@@ -1,4 +1,4 @@
--- What a decoder stands for behind an accepted record.
+-- What a decoder represents behind an accepted record.
 use Rattle.std.proofs.Common.{◌≡◌, ℕ, ◌≤◌, Bool, true, false, cond, List, [], ◌∷◌, ◌++◌, length, map, Option, Some, None, refl, sym, ap, subst, ◌∙◌, append-nil, arith, true≢false}
 use Rattle.std.specs.Prelude.{MatchOption, IfSome}
 use Rattle.cwr_layouts.specs.declared.kinds.Kind.{Kind}
@@ -24,7 +24,7 @@ use Rattle.cwr_decode.specs.declared.machine.State.TheVariants as states
 use Rattle.cwr_judge.specs.Items.{is_in_transaction}
 use Rattle.cwr_decode.specs.Machines.{Standing, Empties, Enters, held_list, reading, stopped, held_of}
 use Rattle.cwr_judge.specs.Open.{items_so_far, open_of, item_of}
-use Rattle.cwr_decode.specs.Stands.{AreAccepted, IsInput, StandsFor, items_in, text_of}
+use Rattle.cwr_decode.specs.Represents.{AreAccepted, IsInput, Represents, items_in, text_of}
 use Rattle.cwr_judge.proofs.Trailers.{trailer_ends, whole_ends}
 
 -- ---- lists
@@ -73,7 +73,7 @@ not_whole kind records r e no_trailer w = no_trailer (sym e ∙ plain_kind r.kin
 
 -- reading goes on behind a record
 reads_on : (d : Standing) (input : List ℕ) (given : List Item) (kind : Kind) (r : RecordValue) (held : Option (List RecordValue)) (m : MayEnter d input given kind r) → (kind ≡ Trl → ⊥) → held ≡ held_of (open_of (m.records ++ r ∷ []))
-    → StandsFor (reading d held) input (given ++ item_of kind r)
+    → Represents (reading d held) input (given ++ item_of kind r)
 reads_on d input given kind r held m no_trailer h = record {
   in_range = m.in_range;
   here = record {
@@ -91,13 +91,13 @@ reads_on d input given kind r held m no_trailer h = record {
 
 -- an item of its own
 around : (d : Standing) (input : List ℕ) (given : List Item) (kind : Kind) (r : RecordValue) (item : Item) (out : Option Outcome) (new : Standing) → MayEnter d input given kind r → (kind ≡ Trl → ⊥)
-    → is_in_transaction kind ≡ false → item_of kind r ≡ item ∷ [] → (out ≡ Some (outcomes.Item item)) × (new ≡ reading d d.held) → StandsFor new input (given ++ items_in out)
+    → is_in_transaction kind ≡ false → item_of kind r ≡ item ∷ [] → (out ≡ Some (outcomes.Item item)) × (new ≡ reading d d.held) → Represents new input (given ++ items_in out)
 around d input given kind r item out new m no_trailer outside own e =
     let nothing : open_of (m.records ++ r ∷ []) ≡ [] = m.open_now ∙ ap (λ (b : Bool). cond b (held_list d.held ++ r ∷ []) []) outside in
     let held : d.held ≡ held_of (open_of (m.records ++ r ∷ [])) = m.none outside ∙ sym (ap held_of nothing) in
     let own_item : item_of kind r ≡ items_in out = own ∙ sym (ap items_in e.0) in
-    subst (λ (q : Standing). StandsFor q input (given ++ items_in out)) (sym e.1)
-    (subst (λ (is : List Item). StandsFor (reading d d.held) input (given ++ is)) own_item (reads_on d input given kind r d.held m no_trailer held))
+    subst (λ (q : Standing). Represents q input (given ++ items_in out)) (sym e.1)
+    (subst (λ (is : List Item). Represents (reading d d.held) input (given ++ is)) own_item (reads_on d input given kind r d.held m no_trailer held))
 
 -- the place behind a record inside a transaction
 pub inside_last : (kind : Kind) (records : List RecordValue) (r : RecordValue) → r.kind ≡ kind → is_in_transaction kind ≡ true → tallies.is_in_transaction (place_after (map symbol_of (records ++ r ∷ []))) ≡ true
@@ -115,15 +115,15 @@ inside_last kind records r e h =
 
 -- a record inside a transaction
 inside : (d : Standing) (input : List ℕ) (given : List Item) (kind : Kind) (r : RecordValue) (out : Option Outcome) (new : Standing) → MayEnter d input given kind r → (kind ≡ Trl → ⊥) → is_in_transaction kind ≡ true → item_of kind r ≡ []
-    → MatchOption out (new ≡ reading d (Some (held_list d.held ++ r ∷ []))) (λ o. (o ≡ outcomes.Memory) × (new ≡ stopped d states.Memory)) → StandsFor new input (given ++ items_in out)
+    → MatchOption out (new ≡ reading d (Some (held_list d.held ++ r ∷ []))) (λ o. (o ≡ outcomes.Memory) × (new ≡ stopped d states.Memory)) → Represents new input (given ++ items_in out)
 inside d input given kind r None new m no_trailer within own e =
     let opened : open_of (m.records ++ r ∷ []) ≡ held_list d.held ++ r ∷ [] = m.open_now ∙ ap (λ (b : Bool). cond b (held_list d.held ++ r ∷ []) []) within in
     let held : Some (held_list d.held ++ r ∷ []) ≡ held_of (open_of (m.records ++ r ∷ [])) = held_snoc (held_list d.held) r ∙ sym (ap held_of opened) in
-    subst (λ (q : Standing). StandsFor q input (given ++ [])) (sym e)
-    (subst (λ (is : List Item). StandsFor (reading d (Some (held_list d.held ++ r ∷ []))) input (given ++ is)) own (reads_on d input given kind r (Some (held_list d.held ++ r ∷ [])) m no_trailer held))
+    subst (λ (q : Standing). Represents q input (given ++ [])) (sym e)
+    (subst (λ (is : List Item). Represents (reading d (Some (held_list d.held ++ r ∷ []))) input (given ++ is)) own (reads_on d input given kind r (Some (held_list d.held ++ r ∷ [])) m no_trailer held))
 inside d input given kind r (Some o) new m no_trailer within own e =
     let all_items : given ++ items_in (Some o) ≡ items_so_far (m.records ++ r ∷ []) = ap (λ (x : Outcome). given ++ items_in (Some x)) e.0 ∙ ap (λ (is : List Item). given ++ is) (sym own) ∙ m.given_are in
-    subst (λ (q : Standing). StandsFor q input (given ++ items_in (Some o))) (sym e.1)
+    subst (λ (q : Standing). Represents q input (given ++ items_in (Some o))) (sym e.1)
     (record {
       in_range = m.in_range;
       here = record {
@@ -133,17 +133,17 @@ inside d input given kind r (Some o) new m no_trailer within own e =
     })
 
 -- TRL
-last : (d : Standing) (input : List ℕ) (given : List Item) (r : RecordValue) (out : Option Outcome) (new : Standing) → MayEnter d input given Trl r → Enters Trl r d out new → StandsFor new input (given ++ items_in out)
+last : (d : Standing) (input : List ℕ) (given : List Item) (r : RecordValue) (out : Option Outcome) (new : Standing) → MayEnter d input given Trl r → Enters Trl r d out new → Represents new input (given ++ items_in out)
 last d input given r out new m e =
     let symbol : symbol_of r ≡ Plain Trl = ap (λ (k : Kind). symbol_by k r) m.of_kind in
     let symbols : map symbol_of (m.records ++ r ∷ []) ≡ map symbol_of m.records ++ Plain Trl ∷ [] = map-snoc m.records r ∙ ap (λ (s : Symbol). map symbol_of m.records ++ s ∷ []) symbol in
     let whole : IsWhole (map symbol_of (m.records ++ r ∷ [])) = subst IsWhole (sym symbols) (trailer_ends (map symbol_of m.records) (subst (GoesOn Any) symbols m.read.counted.stands.begins)) in
-    subst (λ (q : Standing). StandsFor q input (given ++ items_in out)) (sym e.1)
-    (subst (λ (o : Option Outcome). StandsFor (stopped d states.Ended) input (given ++ items_in o)) (sym e.0)
+    subst (λ (q : Standing). Represents q input (given ++ items_in out)) (sym e.1)
+    (subst (λ (o : Option Outcome). Represents (stopped d states.Ended) input (given ++ items_in o)) (sym e.0)
     (record { in_range = m.in_range; here = record { through = record { lines = m.lines; records = m.records ++ r ∷ []; read = m.read; split = m.split; empty = refl; nothing = refl; given_are = m.given_are }; whole = whole } }))
 
 pub enters_stands : (d : Standing) (input : List ℕ) (given : List Item) (kind : Kind) (r : RecordValue) (out : Option Outcome) (new : Standing) → MayEnter d input given kind r → Enters kind r d out new
-    → StandsFor new input (given ++ items_in out)
+    → Represents new input (given ++ items_in out)
 enters_stands d input given Hdr r out new m e = around d input given Hdr r _ out new m (λ z. cc z) refl refl e
 enters_stands d input given Grh r out new m e = around d input given Grh r _ out new m (λ z. cc z) refl refl e
 enters_stands d input given Grt r out new m e = around d input given Grt r _ out new m (λ z. cc z) refl refl e

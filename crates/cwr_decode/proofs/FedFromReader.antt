@@ -14,7 +14,7 @@ use Rattle.cwr_decode.specs.declared.readings.ReadFault.{ReadFault}
 use Rattle.cwr_decode.specs.declared.readings.ReadFault.TheVariants as faults
 use Rattle.cwr_decode.specs.Machines.{Standing, Leaves, Empties, again}
 use Rattle.cwr_shape.specs.Ranges.{LimitValues}
-use Rattle.cwr_decode.specs.Stands.{StandsFor, IsUnderWay, IsRight, MayFollow, items_out}
+use Rattle.cwr_decode.specs.Represents.{Represents, RepresentsSome, IsRight, MayFollow, items_out}
 use Rattle.cwr_decode.specs.Calls.{IsLive, WantsMemory, seen}
 use Rattle.cwr_decode.specs.Readings.{answer_of, IsSpent, FeedsOn, Reads, IsRightOf}
 use Rattle.cwr_decode.proofs.FromReader.{needs_more, reads_called}
@@ -34,7 +34,7 @@ live_by states.Memory h = absurd (cc h)
 
 pub feeds_called : (n : ℕ) (old : Standing) (left : Option (List ℕ)) (outcome : Outcome) (new : Standing) (after : Option (List ℕ)) (bytes : List ℕ) → answer_of outcome ≡ None
     → n ≤ length bytes → Consumes left after bytes
-    → ((input : List ℕ) (given : List Item) → StandsFor old input given → StandsFor new (input ++ bytes) (given ++ items_out outcome))
+    → ((input : List ℕ) (given : List Item) → Represents old input given → Represents new (input ++ bytes) (given ++ items_out outcome))
     → Leaves outcome new.state → IfSome (again old.state) (λ o. outcome ≡ o) → new.finished ≡ false → old.tally.counts.records ≤ new.tally.counts.records → new.tally.limits ≡ old.tally.limits
     → FeedsOn n old left new after
 feeds_called n old left outcome new after bytes e count consumed stands leaves same fresh kept limits =
@@ -43,7 +43,7 @@ feeds_called n old left outcome new after bytes e count consumed stands leaves s
       bytes = bytes;
       count = count;
       consumed = consumed;
-      stands = λ input given h. subst (λ (l : List Item). StandsFor new (input ++ bytes) l) (ap (λ (o : Outcome). given ++ items_out o) more ∙ append-nil given) (stands input given h);
+      stands = λ input given h. subst (λ (l : List Item). Represents new (input ++ bytes) l) (ap (λ (o : Outcome). given ++ items_out o) more ∙ append-nil given) (stands input given h);
       live = live_by old.state (subst (λ (x : Outcome). IfSome (again old.state) (λ o. x ≡ o)) more same);
       reading = subst (λ (x : Outcome). Leaves x new.state) more leaves;
       fresh = fresh;
@@ -74,11 +74,11 @@ wants_of : (old new : Standing) (used : ℕ) (piece : List ℕ) → used ≤ len
 wants_of old new used piece within h = subst (λ (n : ℕ). WantsMemory old n new) (sym (length-take-le used piece within)) h
 
 pub reads_settled : (old new : Standing) (used : ℕ) (outcome : Outcome) (answer : Answer) → answer_of outcome ≡ Some answer → used ≤ length {A = ℕ} []
-    → ((input : List ℕ) (given : List Item) → StandsFor old input given → StandsFor new (input ++ take used []) (given ++ items_out outcome))
-    → (IsLive old.state → (input : List ℕ) (given : List Item) → StandsFor old input given → IsRight old.tally.limits outcome old.finished (input ++ take used []) (seen old.finished input []) (given ++ items_out outcome))
+    → ((input : List ℕ) (given : List Item) → Represents old input given → Represents new (input ++ take used []) (given ++ items_out outcome))
+    → (IsLive old.state → (input : List ℕ) (given : List Item) → Represents old input given → IsRight old.tally.limits outcome old.finished (input ++ take used []) (seen old.finished input []) (given ++ items_out outcome))
     → Leaves outcome new.state → Empties outcome new → IfSome (again old.state) (λ o. outcome ≡ o)
     → (outcome ≡ outcomes.Memory → IsLive old.state → WantsMemory old used new)
-    → new.finished ≡ old.finished → new.tally.limits ≡ old.tally.limits → IsUnderWay old → (left : Option (List ℕ)) → Reads old left answer new left
+    → new.finished ≡ old.finished → new.tally.limits ≡ old.tally.limits → RepresentsSome old → (left : Option (List ℕ)) → Reads old left answer new left
 reads_settled old new used outcome answer e within stands right leaves empties same memory finished limits way left = reads_called old left outcome answer new left e way (record {
   bytes = take used [];
   ahead = [];
@@ -106,9 +106,9 @@ behind_piece None piece h = tt
 behind_piece (Some rest) piece h = (drop (length piece) rest, tt, starts_with_rest rest piece h)
 
 pub reads_fed : (old new : Standing) (left after : Option (List ℕ)) (piece : List ℕ) (used : ℕ) (outcome : Outcome) (answer : Answer) → answer_of outcome ≡ Some answer
-    → IsUnderWay old → old.finished ≡ false → IfSome left (λ xs. StartsWith xs piece) → used ≤ length piece → Consumes left after (take used piece)
-    → ((input : List ℕ) (given : List Item) → StandsFor old input given → StandsFor new (input ++ take used piece) (given ++ items_out outcome))
-    → (IsLive old.state → (input : List ℕ) (given : List Item) → StandsFor old input given → IsRight old.tally.limits outcome old.finished (input ++ take used piece) (seen old.finished input piece) (given ++ items_out outcome))
+    → RepresentsSome old → old.finished ≡ false → IfSome left (λ xs. StartsWith xs piece) → used ≤ length piece → Consumes left after (take used piece)
+    → ((input : List ℕ) (given : List Item) → Represents old input given → Represents new (input ++ take used piece) (given ++ items_out outcome))
+    → (IsLive old.state → (input : List ℕ) (given : List Item) → Represents old input given → IsRight old.tally.limits outcome old.finished (input ++ take used piece) (seen old.finished input piece) (given ++ items_out outcome))
     → Leaves outcome new.state → Empties outcome new → IfSome (again old.state) (λ o. outcome ≡ o)
     → (outcome ≡ outcomes.Memory → IsLive old.state → WantsMemory old used new)
     → new.finished ≡ old.finished → new.tally.limits ≡ old.tally.limits → Reads old left answer new after
@@ -148,9 +148,9 @@ at_end None piece h e = tt
 at_end (Some xs) piece h e = h e
 
 pub reads_finished : (old new : Standing) (left after : Option (List ℕ)) (outcome : Outcome) (answer : Answer) → answer_of outcome ≡ Some answer
-    → IsUnderWay old → IsAtEnd left → Keeps left after
-    → ((input : List ℕ) (given : List Item) → StandsFor old input given → StandsFor new input (given ++ items_out outcome))
-    → (IsLive old.state → (input : List ℕ) (given : List Item) → StandsFor old input given → IsRight old.tally.limits outcome true input input (given ++ items_out outcome))
+    → RepresentsSome old → IsAtEnd left → Keeps left after
+    → ((input : List ℕ) (given : List Item) → Represents old input given → Represents new input (given ++ items_out outcome))
+    → (IsLive old.state → (input : List ℕ) (given : List Item) → Represents old input given → IsRight old.tally.limits outcome true input input (given ++ items_out outcome))
     → Leaves outcome new.state → Empties outcome new → IfSome (again old.state) (λ o. outcome ≡ o)
     → (outcome ≡ outcomes.Memory → IsLive old.state → WantsMemory old 0 new)
     → new.tally.limits ≡ old.tally.limits → Reads old left answer new after
@@ -159,7 +159,7 @@ reads_finished old new left after outcome answer e way end kept stands right lea
   ahead = [];
   over = true;
   consumed = Consumes-kept left left after [] (Consumes-nil left) kept;
-  stands = λ input given h. subst (λ (l : List ℕ). StandsFor new l (given ++ items_out outcome)) (sym (append-nil input)) (stands input given h);
+  stands = λ input given h. subst (λ (l : List ℕ). Represents new l (given ++ items_out outcome)) (sym (append-nil input)) (stands input given h);
   right = λ live input given h. subst (λ (l : List ℕ). IsRight old.tally.limits outcome true l l (given ++ items_out outcome)) (sym (append-nil input)) (right live input given h);
   whole = λ is. refl;
   behind = λ spent. behind_end left end;
@@ -186,7 +186,7 @@ pub reads_failed : (d : Standing) (left after : Option (List ℕ)) → d.state �
 reads_failed d left after reading kept = record {
   bytes = [];
   consumed = Consumes-kept left left after [] (Consumes-nil left) kept;
-  stands = λ input given h. subst (λ (l : List ℕ). StandsFor d l (given ++ [])) (sym (append-nil input)) (subst (StandsFor d input) (sym (append-nil given)) h);
+  stands = λ input given h. subst (λ (l : List ℕ). Represents d l (given ++ [])) (sym (append-nil input)) (subst (Represents d input) (sym (append-nil given)) h);
   right = λ live spent input given h. reader_right d.tally.limits left (input ++ []) input (given ++ []);
   leaves = reading;
   empties = tt;

@@ -27,7 +27,7 @@ use Rattle.cwr_decode.specs.declared.machine.State.TheVariants as states
 use Rattle.cwr_judge.specs.Items.{is_in_transaction}
 use Rattle.cwr_judge.specs.Ends.{IsTruncated}
 use Rattle.cwr_decode.specs.Machines.{Standing, IsReady, Settles, Enters, EntersHeld, Judges, ClosesLine, WaitsOutside, again, first, over, stopped, held_of}
-use Rattle.cwr_decode.specs.Stands.{StandsFor, StandsIn, IsReading, IsInput, IsRight, items_out, text_of}
+use Rattle.cwr_decode.specs.Represents.{Represents, RepresentsIn, IsReading, IsInput, IsRight, items_out, text_of}
 use Rattle.cwr_decode.specs.Calls.{IsLive, Grows, TakesEnd, Advances, Feeds, Finishes, seen}
 use Rattle.cwr_decode.proofs.Texts.{closed_text, closed_open}
 use Rattle.cwr_decode.proofs.CutTruncated.{cut_truncated}
@@ -99,12 +99,12 @@ settled_feeds old new piece o ready fresh e =
     let m = settled old.state old new (Some o) refl ready e in
     record {
       within = omega arith;
-      stands = λ input given st. subst (λ (x : List ℕ). StandsFor new x (given ++ items_out o)) (sym (append-nil input)) (m.stands input given st);
+      stands = λ input given st. subst (λ (x : List ℕ). Represents new x (given ++ items_out o)) (sym (append-nil input)) (m.stands input given st);
       right = λ l input given st.
           subst (λ (b : Bool). IsRight old.tally.limits o b (input ++ []) (seen b input piece) (given ++ items_out o)) (sym fresh)
           (subst (λ (k : LimitValues). IsRight k o false (input ++ []) (input ++ piece) (given ++ items_out o)) m.limits
           (plain_right new o false (input ++ []) (input ++ piece) piece (given ++ items_out o) (m.finished ∙ fresh) (ap (λ (x : List ℕ). x ++ piece) (sym (append-nil input))) (λ z. absurd (true≢false (sym z)))
-          (subst (λ (x : List ℕ). StandsFor new x (given ++ items_out o)) (sym (append-nil input)) (m.stands input given st)) m.leaves (settles_plain old.state old new o l e)));
+          (subst (λ (x : List ℕ). Represents new x (given ++ items_out o)) (sym (append-nil input)) (m.stands input given st)) m.leaves (settles_plain old.state old new o l e)));
       ready = m.ready;
       leaves = m.leaves;
       empties = m.empties;
@@ -123,14 +123,14 @@ settled_feeds old new piece o ready fresh e =
 -- so many bytes of the piece were used, and nothing was answered
 pub record Fed (old : Standing) (piece : List ℕ) (used : ℕ) (d : Standing) : Type 0 where
   pub within : used ≤ length piece
-  pub stands : (input : List ℕ) (given : List Item) → StandsFor old input given → StandsFor d (input ++ take used piece) given
+  pub stands : (input : List ℕ) (given : List Item) → Represents old input given → Represents d (input ++ take used piece) given
   pub reading : d.state ≡ states.Reading
   pub ready : IsReady d.state d.finished d.line
   pub fresh : d.finished ≡ false
   pub was_fresh : old.finished ≡ false
   pub live : IsLive old.state
   pub inside : ¬ WaitsOutside old
-  pub grows : (input : List ℕ) (given : List Item) → StandsFor old input given → old.tally.counts.records ≤ d.tally.counts.records
+  pub grows : (input : List ℕ) (given : List Item) → Represents old input given → old.tally.counts.records ≤ d.tally.counts.records
   pub limits : d.tally.limits ≡ old.tally.limits
 
 -- a record that is an item of its own isn't entered without an answer
@@ -154,7 +154,7 @@ fed_none old d piece ready fresh e =
     let live = settles_live old.state old d e in
     record {
       within = omega arith;
-      stands = λ input given st. subst (λ (x : List ℕ). StandsFor d x given) (sym (append-nil input)) (subst (StandsFor d input) (append-nil given) (m.stands input given st));
+      stands = λ input given st. subst (λ (x : List ℕ). Represents d x given) (sym (append-nil input)) (subst (Represents d input) (append-nil given) (m.stands input given st));
       reading = m.none live;
       ready = m.ready;
       fresh = m.finished ∙ fresh;
@@ -185,7 +185,7 @@ whole_piece input piece m = append_assoc input (take m piece) (drop m piece) ∙
 pub fed_more : (old d new : Standing) (piece : List ℕ) (used n : ℕ) → Fed old piece used d → Advances d (drop used piece) n None new → Fed old piece (used + n) new
 fed_more old d new piece used n f a = record {
   within = omega (arith, f.within, a.within, length-drop used piece);
-  stands = λ input given st. subst (λ (x : List ℕ). StandsFor new x given) (pieces input piece used n) (subst (StandsFor new ((input ++ take used piece) ++ take n (drop used piece))) (append-nil given) (a.stands (input ++ take used piece) given (f.stands input given st)));
+  stands = λ input given st. subst (λ (x : List ℕ). Represents new x given) (pieces input piece used n) (subst (Represents new ((input ++ take used piece) ++ take n (drop used piece))) (append-nil given) (a.stands (input ++ take used piece) given (f.stands input given st)));
   reading = a.none;
   ready = a.ready;
   fresh = a.finished ∙ f.fresh;
@@ -203,7 +203,7 @@ rest_smaller piece used n d new a = omega (arith, a.some, a.within, length-drop 
 pub fed_out : (old d new : Standing) (piece : List ℕ) (used n : ℕ) (o : Outcome) → Fed old piece used d → Advances d (drop used piece) n (Some o) new → Feeds old piece (used + n) o new
 fed_out old d new piece used n o f a = record {
   within = omega (arith, f.within, a.within, length-drop used piece);
-  stands = λ input given st. subst (λ (x : List ℕ). StandsFor new x (given ++ items_out o)) (pieces input piece used n) (a.stands (input ++ take used piece) given (f.stands input given st));
+  stands = λ input given st. subst (λ (x : List ℕ). Represents new x (given ++ items_out o)) (pieces input piece used n) (a.stands (input ++ take used piece) given (f.stands input given st));
   right = λ l input given st.
       subst (λ (b : Bool). IsRight old.tally.limits o b (input ++ take (used + n) piece) (seen b input piece) (given ++ items_out o)) (sym f.was_fresh)
       (subst (λ (k : LimitValues). IsRight k o false (input ++ take (used + n) piece) (input ++ piece) (given ++ items_out o)) f.limits
@@ -230,7 +230,7 @@ fed_out old d new piece used n o f a = record {
 pub finished_feeds : (old new : Standing) (piece : List ℕ) (o : Outcome) → old.finished ≡ true → Finishes old o new → Feeds old piece 0 o new
 finished_feeds old new piece o is_over f = record {
   within = omega arith;
-  stands = λ input given st. subst (λ (x : List ℕ). StandsFor new x (given ++ items_out o)) (sym (append-nil input)) (f.stands input given st);
+  stands = λ input given st. subst (λ (x : List ℕ). Represents new x (given ++ items_out o)) (sym (append-nil input)) (f.stands input given st);
   right = λ l input given st.
       subst (λ (b : Bool). IsRight old.tally.limits o b (input ++ []) (seen b input piece) (given ++ items_out o)) (sym is_over)
       (subst (λ (x : List ℕ). IsRight old.tally.limits o true x input (given ++ items_out o)) (sym (append-nil input)) (f.right l input given st));
@@ -260,8 +260,8 @@ no_bytes : (xs : List ℕ) → length xs ≡ 0 → xs ≡ []
 no_bytes [] q = refl
 no_bytes (x ∷ xs) q = absurd (omega (arith, q))
 
--- what it stands for once the input is over
-over_stands : (d : Standing) (input : List ℕ) (given : List Item) → IsReady d.state d.finished d.line → (d.state ≡ states.Reading → length d.line.bytes ≡ 0) → StandsFor d input given → StandsFor (over d) input given
+-- what it represents once the input is over
+over_stands : (d : Standing) (input : List ℕ) (given : List Item) → IsReady d.state d.finished d.line → (d.state ≡ states.Reading → length d.line.bytes ≡ 0) → Represents d input given → Represents (over d) input given
 over_stands d input given ready empty st = record { in_range = st.in_range; here = by d.state refl st.here }
   where
     -- whole lines stay as they are
@@ -269,7 +269,7 @@ over_stands d input given ready empty st = record { in_range = st.in_range; here
     whole_lines true lines s = s
     whole_lines false lines s = ap closed s ∙ closed_text lines
 
-    by : (s : State) → d.state ≡ s → StandsIn s d input given → StandsIn s (over d) input given
+    by : (s : State) → d.state ≡ s → RepresentsIn s d input given → RepresentsIn s (over d) input given
     by states.Reading e h =
         let none : d.line.bytes ≡ [] = no_bytes d.line.bytes (empty e) in
         record {
@@ -318,7 +318,7 @@ over_stands d input given ready empty st = record { in_range = st.in_range; here
 -- no last line is there
 pub ends_without : (old new : Standing) → IsReady old.state old.finished old.line → ClosesLine false old new → TakesEnd old None new
 ends_without old new ready c = subst (TakesEnd old None) (sym c.0) (record {
-  stands = λ input given st. subst (StandsFor (over old) input) (sym (append-nil given)) (over_stands old input given ready c.1 st);
+  stands = λ input given st. subst (Represents (over old) input) (sym (append-nil given)) (over_stands old input given ready c.1 st);
   right = λ input given st. tt;
   last = λ input given st. tt;
   ready = ready_over old.state ready c.1;
@@ -346,9 +346,9 @@ ends_without old new ready c = subst (TakesEnd old None) (sym c.0) (record {
     ready_over states.Memory r e = tt
 
 -- a last line without its line feed is there
-last_line : (old new : Standing) (input : List ℕ) (given : List Item) → IsReady old.state old.finished old.line → ClosesLine true old new → StandsFor old input given → HasLine new input given
+last_line : (old new : Standing) (input : List ℕ) (given : List Item) → IsReady old.state old.finished old.line → ClosesLine true old new → Represents old input given → HasLine new input given
 last_line old new input given ready c st =
-    let r = subst (λ (s : State). StandsIn s old input given) c.0 st.here in
+    let r = subst (λ (s : State). RepresentsIn s old input given) c.0 st.here in
     let is_open = subst (λ (s : State). IsReady s old.finished old.line) c.0 ready in
     let fresh : old.finished ≡ false = still old.finished (λ f. c.1 (sym (is_open.1 f))) in
     let some : 0 < length old.line.bytes = positive (length old.line.bytes) c.1 in
@@ -443,7 +443,7 @@ ends_finish old new o e = record {
 pub settles_finish : (old mid new : Standing) (o : Outcome) → TakesEnd old None mid → Settles mid.state mid (Some o) new → Finishes old o new
 settles_finish old mid new o e s =
     let m = settled mid.state mid new (Some o) refl e.ready s in
-    let there = λ (input : List ℕ) (given : List Item) (st : StandsFor old input given). subst (StandsFor mid input) (append-nil given) (e.stands input given st) in
+    let there = λ (input : List ℕ) (given : List Item) (st : Represents old input given). subst (Represents mid input) (append-nil given) (e.stands input given st) in
     record {
       stands = λ input given st. m.stands input given (there input given st);
       right = λ l input given st.
@@ -473,10 +473,10 @@ closed_lines d input given r reading finished ready =
     let empty = (subst (λ (s : State). IsReady s d.finished d.line) reading ready).1 finished in
     subst (λ (b : Bool). IsInput b input (text_of r.lines ++ d.line.bytes)) finished r.split ∙ ap (λ (x : List ℕ). text_of r.lines ++ x) (no_bytes d.line.bytes empty) ∙ append-nil (text_of r.lines)
 
-is_cut : (d : Standing) (count : ℕ) (input : List ℕ) (given : List Item) → StandsFor d input given → d.state ≡ states.Reading → d.finished ≡ true → IsReady d.state d.finished d.line → count ≡ d.tally.counts.records
-    → StandsFor (stopped d (states.Truncated count)) input given
+is_cut : (d : Standing) (count : ℕ) (input : List ℕ) (given : List Item) → Represents d input given → d.state ≡ states.Reading → d.finished ≡ true → IsReady d.state d.finished d.line → count ≡ d.tally.counts.records
+    → Represents (stopped d (states.Truncated count)) input given
 is_cut d count input given st reading finished ready n =
-    let r = subst (λ (s : State). StandsIn s d input given) reading st.here in
+    let r = subst (λ (s : State). RepresentsIn s d input given) reading st.here in
     let counts : d.tally.counts.records ≡ length (map symbol_of r.records) = ap (λ (c : Counts). c.records) r.read.counted.counted in
     record {
       in_range = st.in_range;
@@ -504,7 +504,7 @@ cut_finish old mid after new count e s stop n =
     let reading : after.state ≡ states.Reading = m.none live in
     let finished : after.finished ≡ true = m.finished ∙ e.finished in
     subst (Finishes old (outcomes.Truncated count)) (sym stop) (record {
-      stands = λ input given st. subst (StandsFor (stopped after (states.Truncated count)) input) (sym (append-nil given)) (is_cut after count input given (here input given st) reading finished m.ready n);
+      stands = λ input given st. subst (Represents (stopped after (states.Truncated count)) input) (sym (append-nil given)) (is_cut after count input given (here input given st) reading finished m.ready n);
       right = λ l input given st.
           let cut : IsTruncated old.tally.limits input count
           = subst (λ (k : LimitValues). IsTruncated k input count) (m.limits ∙ e.limits)
@@ -522,8 +522,8 @@ cut_finish old mid after new count e s stop n =
       limits = m.limits ∙ e.limits;
     })
   where
-    here : (input : List ℕ) (given : List Item) → StandsFor old input given → StandsFor after input given
-    here input given st = subst (StandsFor after input) (append-nil given) ((settled mid.state mid after None refl e.ready s).stands input given (subst (StandsFor mid input) (append-nil given) (e.stands input given st)))
+    here : (input : List ℕ) (given : List Item) → Represents old input given → Represents after input given
+    here input given st = subst (Represents after input) (append-nil given) ((settled mid.state mid after None refl e.ready s).stands input given (subst (Represents mid input) (append-nil given) (e.stands input given st)))
 
     by : (q : Option Outcome) → again old.state ≡ q → IfSome q (λ p. (no_answer ≡ None) × (mid ≡ over old)) → IsLive mid.state → IfSome q (λ p. (outcomes.Truncated count ≡ p) × (stopped after (states.Truncated count) ≡ over old))
     by None f h l = tt
@@ -539,8 +539,8 @@ unfolding rows_behind
 no_rows = tt
 
 -- nothing was read
-pub nothing_read : (d : Standing) → AreInRange d.tally.limits → tallies.StandsFor d.tally [] → d ≡ first d.tally → StandsFor d [] []
-nothing_read d in_range counted is = subst (λ (q : Standing). StandsFor q [] []) (sym is) (record {
+pub nothing_read : (d : Standing) → AreInRange d.tally.limits → tallies.StandsFor d.tally [] → d ≡ first d.tally → Represents d [] []
+nothing_read d in_range counted is = subst (λ (q : Standing). Represents q [] []) (sym is) (record {
   in_range = in_range;
   here = record {
     lines = [];

@@ -15,7 +15,7 @@ use Rattle.cwr_judge.proofs.Given.{ends_closes}
 use Rattle.cwr_decode.specs.declared.machine.State.{State}
 use Rattle.cwr_decode.specs.declared.machine.State.TheVariants as states
 use Rattle.cwr_decode.specs.Machines.{Standing}
-use Rattle.cwr_decode.specs.Stands.{AreAccepted, IsPending, IsThrough, StandsFor, StandsIn}
+use Rattle.cwr_decode.specs.Represents.{AreAccepted, IsPending, IsThrough, Represents, RepresentsIn}
 use Rattle.cwr_decode.proofs.BoundedInputs.{accepted_few}
 
 first_of : (tally : TallyValue) (lines : List (List ℕ)) (records : List RecordValue) (given : List Item) → AreInRange tally.limits → AreAccepted tally lines records → given ≡ items_so_far records
@@ -46,7 +46,7 @@ first_pending d input given range p =
 first_through : (d : Standing) (input : List ℕ) (given : List Item) → AreInRange d.tally.limits → IsThrough d input given → AreFirstItems d.tally.limits given
 first_through d input given range t = first_of d.tally t.lines t.records given range t.read t.given_are
 
-first_in : (state : State) (d : Standing) (input : List ℕ) (given : List Item) → AreInRange d.tally.limits → StandsIn state d input given → AreFirstItems d.tally.limits given
+first_in : (state : State) (d : Standing) (input : List ℕ) (given : List Item) → AreInRange d.tally.limits → RepresentsIn state d input given → AreFirstItems d.tally.limits given
 first_in states.Reading d input given range r = first_of d.tally r.lines r.records given range r.read r.given_are
 first_in states.Pending d input given range p = first_pending d input given range p
 first_in states.Ended d input given range e = first_through d input given range e.through
@@ -54,5 +54,5 @@ first_in (states.Refused refusal) d input given range s = first_of d.tally s.lin
 first_in (states.Truncated count) d input given range c = first_through d input given range c.through
 first_in states.Memory d input given range f = first_through d input given range f.through
 
-pub first_items : (d : Standing) (input : List ℕ) (given : List Item) → StandsFor d input given → AreFirstItems d.tally.limits given
+pub first_items : (d : Standing) (input : List ℕ) (given : List Item) → Represents d input given → AreFirstItems d.tally.limits given
 first_items d input given s = first_in d.state d input given s.in_range s.here

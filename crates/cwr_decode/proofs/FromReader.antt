@@ -17,7 +17,7 @@ use Rattle.cwr_decode.specs.declared.readings.ReadFault.TheVariants as faults
 use Rattle.cwr_judge.specs.declared.refusals.Refusal.{Refusal}
 use Rattle.cwr_judge.specs.Ends.{IsAccepted, IsRefused, IsTruncated}
 use Rattle.cwr_decode.specs.Machines.{Standing, Leaves, Empties, again}
-use Rattle.cwr_decode.specs.Stands.{StandsFor, IsUnderWay, IsRight, ComesAt, MayFollow, EndsLine, items_out}
+use Rattle.cwr_decode.specs.Represents.{Represents, RepresentsSome, IsRight, ComesAt, MayFollow, EndsLine, items_out}
 use Rattle.cwr_decode.specs.Headline.{IsEndOf, outcome_end}
 use Rattle.cwr_decode.specs.Calls.{IsLive, WantsMemory}
 use Rattle.cwr_decode.specs.Readings.{answer_of, items_read, EmptiesRead, EndsLineOf, IsRightOf, LeavesRead, IsSpent, FeedsOn, Reads}
@@ -144,8 +144,8 @@ pub record Calls (old : Standing) (left : Option (List ℕ)) (outcome : Outcome)
   pub ahead : List ℕ
   pub over : Bool
   pub consumed : Consumes left after bytes
-  pub stands : (input : List ℕ) (given : List Item) → StandsFor old input given → StandsFor new (input ++ bytes) (given ++ items_out outcome)
-  pub right : IsLive old.state → (input : List ℕ) (given : List Item) → StandsFor old input given → IsRight old.tally.limits outcome over (input ++ bytes) (input ++ ahead) (given ++ items_out outcome)
+  pub stands : (input : List ℕ) (given : List Item) → Represents old input given → Represents new (input ++ bytes) (given ++ items_out outcome)
+  pub right : IsLive old.state → (input : List ℕ) (given : List Item) → Represents old input given → IsRight old.tally.limits outcome over (input ++ bytes) (input ++ ahead) (given ++ items_out outcome)
   pub whole : over ≡ true → bytes ≡ ahead
   pub behind : IsSpent old left → IfSome left (λ rest. (more : List ℕ) × MayFollow over more × (rest ≡ ahead ++ more))
   pub leaves : Leaves outcome new.state
@@ -174,11 +174,11 @@ told_none old outcome over used seen given e same right
     (λ live. (subst (λ (x : Outcome). IsRight old.tally.limits x over used seen given) e (right live)).comes)
 
 pub reads_called : (old : Standing) (left : Option (List ℕ)) (outcome : Outcome) (answer : Answer) (new : Standing) (after : Option (List ℕ)) → answer_of outcome ≡ Some answer
-    → IsUnderWay old → Calls old left outcome new after → Reads old left answer new after
+    → RepresentsSome old → Calls old left outcome new after → Reads old left answer new after
 reads_called old left outcome answer new after e way c = record {
   bytes = c.bytes;
   consumed = c.consumed;
-  stands = λ input given h. subst (λ (l : List Item). StandsFor new (input ++ c.bytes) (given ++ l)) (sym (told_items outcome answer e)) (c.stands input given h);
+  stands = λ input given h. subst (λ (l : List Item). Represents new (input ++ c.bytes) (given ++ l)) (sym (told_items outcome answer e)) (c.stands input given h);
   right = λ live spent input given h. rights left input given (c.right live input given h) (c.behind spent);
   leaves = subst (λ (o : Option Answer). IfSome o (λ a. LeavesRead a new.state)) e (leaves_same outcome new.state c.leaves);
   empties = subst (λ (o : Option Answer). IfSome o (λ a. EmptiesRead a new)) e (empties_same outcome new c.empties);
@@ -198,8 +198,8 @@ reads_called old left outcome answer new after e way c = record {
 -- ---- one call behind another
 
 -- behind a first call, or before it
-pub was_under_way : (d first : Standing) → (d ≡ first) ⊎ IsUnderWay first → IsUnderWay d → IsUnderWay first
-was_under_way d first (inl e) way = subst IsUnderWay e way
+pub was_under_way : (d first : Standing) → (d ≡ first) ⊎ RepresentsSome first → RepresentsSome d → RepresentsSome first
+was_under_way d first (inl e) way = subst RepresentsSome e way
 was_under_way d first (inr was) way = was
 
 not_over : (d : Standing) (left : Option (List ℕ)) → d.finished ≡ false → IsSpent d left
@@ -215,7 +215,7 @@ feeds_none d left reading fresh = record {
   bytes = [];
   count = omega arith;
   consumed = Consumes-nil left;
-  stands = λ input given h. subst (λ (l : List ℕ). StandsFor d l given) (sym (append-nil input)) h;
+  stands = λ input given h. subst (λ (l : List ℕ). Represents d l given) (sym (append-nil input)) h;
   live = ap again reading;
   reading = reading;
   fresh = fresh;
@@ -228,7 +228,7 @@ feeds_both m n a p b q c r f g = record {
   bytes = f.bytes ++ g.bytes;
   count = omega (arith, f.count, g.count, length-append f.bytes g.bytes);
   consumed = Consumes-trans p q r f.bytes g.bytes f.consumed g.consumed;
-  stands = λ input given h. subst (λ (l : List ℕ). StandsFor c l given) (append_assoc input f.bytes g.bytes) (g.stands (input ++ f.bytes) given (f.stands input given h));
+  stands = λ input given h. subst (λ (l : List ℕ). Represents c l given) (append_assoc input f.bytes g.bytes) (g.stands (input ++ f.bytes) given (f.stands input given h));
   live = f.live;
   reading = g.reading;
   fresh = g.fresh;
@@ -264,7 +264,7 @@ pub reads_behind : (n : ℕ) (answer : Answer) (a : Standing) (p : Option (List 
 reads_behind n answer a p b q c r f g = record {
   bytes = f.bytes ++ g.bytes;
   consumed = Consumes-trans p q r f.bytes g.bytes f.consumed g.consumed;
-  stands = λ input given h. subst (λ (l : List ℕ). StandsFor c l (given ++ items_read answer)) (append_assoc input f.bytes g.bytes) (g.stands (input ++ f.bytes) given (f.stands input given h));
+  stands = λ input given h. subst (λ (l : List ℕ). Represents c l (given ++ items_read answer)) (append_assoc input f.bytes g.bytes) (g.stands (input ++ f.bytes) given (f.stands input given h));
   right = λ live spent input given h. right_behind a.tally.limits b.tally.limits answer p q f.bytes g.bytes input (given ++ items_read answer) f.limits f.consumed
       (g.right (ap again f.reading) (not_over b q f.fresh) (input ++ f.bytes) given (f.stands input given h));
   leaves = g.leaves;

@@ -24,7 +24,7 @@ use Rattle.cwr_judge.specs.Judged.{IsNext}
 use Rattle.cwr_judge.specs.Open.{open_of, goes_on_with}
 use Rattle.cwr_judge.proofs.Given.{goes_on_stays, ends_closes}
 use Rattle.cwr_decode.specs.Machines.{Standing, ClosesLine, HandsOut, HoldsOpen, FitsHeld, FitsWaiting, held_list}
-use Rattle.cwr_decode.specs.Stands.{IsUnderWay, StandsIn}
+use Rattle.cwr_decode.specs.Represents.{RepresentsSome, RepresentsIn}
 use Rattle.cwr_decode.specs.Calls.{TakesEnd}
 use Rattle.cwr_decode.proofs.Feeding.{Fed}
 use Rattle.cwr_decode.proofs.Entering.{few_records, inside_last, symbols-snoc}
@@ -83,9 +83,9 @@ entry_fits d h line s r goes_on taken left n g hands = λ inside. by goes_on ins
         fits_as (held_list left) r (open_of more) (alone ∙ ap (λ (q : Option (List RecordValue)). held_list q ++ r ∷ []) (sym o.1)) (open_fits h.records r goes inside)
 
 -- the record that waits begins a transaction, where it stands inside one
-pub waiting_fits : (d : Standing) → IsUnderWay d → FitsWaiting d
+pub waiting_fits : (d : Standing) → RepresentsSome d → FitsWaiting d
 waiting_fits d u = λ e.
-    let p = subst (λ (s : State). StandsIn s d u.input u.given) e u.stands.here in
+    let p = subst (λ (s : State). RepresentsIn s d u.input u.given) e u.stands.here in
     let more : List RecordValue = p.records ++ p.last ∷ [] in
     let goes : GoesOn Any (map symbol_of more) = p.read.counted.stands.begins in
     let few : length p.records ≤ 99999999 = omega (arith, few_records d.tally p.lines more u.stands.in_range p.read, length-map more symbol_of, length-append p.records (p.last ∷ [])) in
@@ -94,9 +94,9 @@ waiting_fits d u = λ e.
     (λ inside. fits_as (held_list d.held) p.last (open_of more) (closes.open_now ∙ ap (λ (b : Bool). cond b (p.last ∷ []) []) inside ∙ ap (λ (q : Option (List RecordValue)). held_list q ++ p.last ∷ []) (sym p.held)) (open_fits p.records p.last goes inside))
 
 -- while a decoder reads, the open transaction is held
-pub reading_holds : (d : Standing) → IsUnderWay d → d.state ≡ states.Reading → HoldsOpen d
+pub reading_holds : (d : Standing) → RepresentsSome d → d.state ≡ states.Reading → HoldsOpen d
 reading_holds d u e =
-    let r = subst (λ (s : State). StandsIn s d u.input u.given) e u.stands.here in
+    let r = subst (λ (s : State). RepresentsIn s d u.input u.given) e u.stands.here in
     record { in_range = u.stands.in_range; records = r.records; in_order = r.read.in_order; counted = r.read.counted; held = r.held }
 
 -- whatever its line is
@@ -120,14 +120,14 @@ inside_unless Trl a b c d = absurd (d refl)
 inside_unless kind a b c d = refl
 
 -- bytes were used, and nothing was answered
-pub fed_holds : (old d new : Standing) (piece : List ℕ) (used : ℕ) → IsUnderWay old → Fed old piece used d → new.tally ≡ d.tally → new.held ≡ d.held → HoldsOpen new
+pub fed_holds : (old d new : Standing) (piece : List ℕ) (used : ℕ) → RepresentsSome old → Fed old piece used d → new.tally ≡ d.tally → new.held ≡ d.held → HoldsOpen new
 fed_holds old d new piece used u f t e =
     holds_as d new t e (reading_holds d (record { input = u.input ++ take used piece; given = u.given; stands = f.stands u.input u.given u.stands }) f.reading)
 
 -- a last line without its line feed is there
-pub closed_holds : (old new : Standing) → IsUnderWay old → ClosesLine true old new → HoldsOpen new
+pub closed_holds : (old new : Standing) → RepresentsSome old → ClosesLine true old new → HoldsOpen new
 closed_holds old new u c = holds_as old new (ap (λ (q : Standing). q.tally) c.2) (ap (λ (q : Standing). q.held) c.2) (reading_holds old u c.0)
 
 -- the end of the input was taken, and nothing was answered
-pub ended_fits : (old new : Standing) → IsUnderWay old → TakesEnd old None new → FitsWaiting new
+pub ended_fits : (old new : Standing) → RepresentsSome old → TakesEnd old None new → FitsWaiting new
 ended_fits old new u t = waiting_fits new (record { input = u.input; given = u.given ++ []; stands = t.stands u.input u.given u.stands })

@@ -1,4 +1,4 @@
--- What a decoder stands for behind a line that is judged.
+-- What a decoder represents behind a line that is judged.
 use Rattle.std.proofs.Common.{◌≡◌, ℕ, ◌≤◌, Bool, true, false, cond, List, [], ◌∷◌, ◌++◌, length, map, Option, Some, None, refl, sym, ap, ap₂, subst, ◌∙◌, append-nil, arith, inl, inr, true≢false}
 use Rattle.std.specs.Prelude.{◌≢◌, IfSome}
 use Rattle.std.specs.List.{AllZip, AllByRecursion}
@@ -34,7 +34,7 @@ use Rattle.cwr_judge.specs.Judged.{IsNext, IsOfNone, IsFirstFault}
 use Rattle.cwr_decode.specs.Machines.{Standing, Empties, Accepts, Refuses, Tells, Judges, EntersHeld, Follows, with_tally, pending, stopped, held_list, held_of}
 use Rattle.cwr_judge.specs.Open.{items_so_far, open_of, goes_on_with, handed, item_of}
 use Rattle.cwr_decode.specs.Calls.{RefusesLast}
-use Rattle.cwr_decode.specs.Stands.{AreAccepted, IsInput, IsPending, IsStopped, StandsFor, StandsIn, items_in, items_out, text_of}
+use Rattle.cwr_decode.specs.Represents.{AreAccepted, IsInput, IsPending, IsStopped, Represents, RepresentsIn, items_in, items_out, text_of}
 use Rattle.cwr_judge.proofs.NextLines.{next_is_line}
 use Rattle.cwr_judge.proofs.Given.{goes_on_stays, ends_closes}
 use Rattle.cwr_decode.proofs.Texts.{text_of-push}
@@ -195,13 +195,13 @@ follows_empties d input given next r false None out new a h g f = enters_empties
 follows_empties d input given next r false (Some whole) out new a h g f = empties_by new (pending (with_tally d next)) out (Some (outcomes.Item (items.Transaction whole))) f.0 f.1 refl
 
 follows_stands : (d : Standing) (input : List ℕ) (given : List Item) (next : TallyValue) (r : RecordValue) (goes_on : Bool) (held : Option (List RecordValue)) (out : Option Outcome) (new : Standing) (a : Accepted d input given next r)
-    → held ≡ d.held → goes_on ≡ goes_on_with (map symbol_of a.records) (symbol_of r) → held_record d.line ≡ Some r → Follows goes_on held r (with_tally d next) out new → StandsFor new input (given ++ items_in out)
+    → held ≡ d.held → goes_on ≡ goes_on_with (map symbol_of a.records) (symbol_of r) → held_record d.line ≡ Some r → Follows goes_on held r (with_tally d next) out new → Represents new input (given ++ items_in out)
 follows_stands d input given next r true held out new a h g l f = enters_stands (with_tally d next) input given r.kind r out new (goes_in d input given next r a g) f
 follows_stands d input given next r false None out new a h g l f = enters_stands (with_tally d next) input given r.kind r out new (goes_behind d input given next r a h g) f
 follows_stands d input given next r false (Some whole) out new a h g l f =
     let held = something_held whole (open_of a.records) (h ∙ a.held) in
-    subst (λ (q : Standing). StandsFor q input (given ++ items_in out)) (sym f.1)
-    (subst (λ (o : Option Outcome). StandsFor (pending (with_tally d next)) input (given ++ items_in o)) (sym f.0)
+    subst (λ (q : Standing). Represents q input (given ++ items_in out)) (sym f.1)
+    (subst (λ (o : Option Outcome). Represents (pending (with_tally d next)) input (given ++ items_in o)) (sym f.0)
     (record {
       in_range = a.in_range;
       here = record {
@@ -251,7 +251,7 @@ same_going d input given out new h a =
     let symbol : symbol_of a.accepted ≡ a.symbol = (a.next xs h.read.counted).symbol in
     a.same xs h.read.counted ∙ ap (goes_on_with xs) (sym symbol)
 
-accept_stands : (d : Standing) (input : List ℕ) (given : List Item) (out : Option Outcome) (new : Standing) → HasLine d input given → Accepts d out new → StandsFor new input (given ++ items_in out)
+accept_stands : (d : Standing) (input : List ℕ) (given : List Item) (out : Option Outcome) (new : Standing) → HasLine d input given → Accepts d out new → Represents new input (given ++ items_in out)
 accept_stands d input given out new h a =
     follows_stands d input given a.tally a.accepted a.goes_on d.held out new (accepted_line d input given out new h a) refl (same_going d input given out new h a) a.carried a.follows
 
@@ -292,10 +292,10 @@ told_stopped d input given fault o new h none first t =
 
 told_stands : (d : Standing) (input : List ℕ) (given : List Item) (fault : LineFault) (o : Outcome) (new : Standing) → HasLine d input given
     → ((xs : List Symbol) → tallies.StandsFor d.tally xs → IsOfNone d.tally.limits xs d.line)
-    → ((xs : List Symbol) → tallies.StandsFor d.tally xs → IsFirstFault d.tally.limits xs d.line fault.field fault.reason) → Tells d (held_kind d.line) fault o new → StandsFor new input (given ++ items_out o)
+    → ((xs : List Symbol) → tallies.StandsFor d.tally xs → IsFirstFault d.tally.limits xs d.line fault.field fault.reason) → Tells d (held_kind d.line) fault o new → Represents new input (given ++ items_out o)
 told_stands d input given fault o new h none first t =
-    subst (λ (q : Standing). StandsFor q input (given ++ items_out o)) (sym t.stops)
-    (subst (λ (q : Outcome). StandsFor (stopped d (states.Refused t.refusal)) input (given ++ items_out q)) (sym t.told)
+    subst (λ (q : Standing). Represents q input (given ++ items_out o)) (sym t.stops)
+    (subst (λ (q : Outcome). Represents (stopped d (states.Refused t.refusal)) input (given ++ items_out q)) (sym t.told)
     (record { in_range = h.in_range; here = told_stopped d input given fault o new h none first t }))
 
 -- the refused line is the one that was judged
@@ -316,12 +316,12 @@ told_last d input given fault o new h none first t whole =
     (subst (λ (q : Outcome). RefusesLast q (stopped d (states.Refused t.refusal)) input (given ++ items_out q)) (sym t.told)
     (told_stopped d input given fault o new h none first t, whole))
 
-refuse_stands : (d : Standing) (input : List ℕ) (given : List Item) (out : Option Outcome) (new : Standing) → HasLine d input given → Refuses d out new → StandsFor new input (given ++ items_in out)
+refuse_stands : (d : Standing) (input : List ℕ) (given : List Item) (out : Option Outcome) (new : Standing) → HasLine d input given → Refuses d out new → Represents new input (given ++ items_in out)
 refuse_stands d input given None new h r = absurd r.tells
 refuse_stands d input given (Some o) new h r = told_stands d input given r.fault o new h r.none r.first r.tells
 
 -- what stands behind a line that is judged
-pub judged_stands : (d : Standing) (input : List ℕ) (given : List Item) (out : Option Outcome) (new : Standing) → HasLine d input given → Judges d out new → StandsFor new input (given ++ items_in out)
+pub judged_stands : (d : Standing) (input : List ℕ) (given : List Item) (out : Option Outcome) (new : Standing) → HasLine d input given → Judges d out new → Represents new input (given ++ items_in out)
 judged_stands d input given out new h (inl a) = accept_stands d input given out new h a
 judged_stands d input given out new h (inr r) = refuse_stands d input given out new h r
 
@@ -350,12 +350,12 @@ waits_in d input given p in_range =
       none = λ f. p.held;
     }
 
-pub waiting_stands : (d : Standing) (input : List ℕ) (given : List Item) (out : Option Outcome) (new : Standing) → d.state ≡ states.Pending → StandsFor d input given → EntersHeld (held_record d.line) d out new → StandsFor new input (given ++ items_in out)
+pub waiting_stands : (d : Standing) (input : List ℕ) (given : List Item) (out : Option Outcome) (new : Standing) → d.state ≡ states.Pending → Represents d input given → EntersHeld (held_record d.line) d out new → Represents new input (given ++ items_in out)
 waiting_stands d input given out new state s e =
-    let p = subst (λ (q : State). StandsIn q d input given) state s.here in
+    let p = subst (λ (q : State). RepresentsIn q d input given) state s.here in
     enters_stands d input given p.last.kind p.last out new (waits_in d input given p s.in_range) (subst (λ (o : Option RecordValue). EntersHeld o d out new) p.line e)
 
-pub waiting_empties : (d : Standing) (input : List ℕ) (given : List Item) (out : Option Outcome) (new : Standing) → d.state ≡ states.Pending → StandsFor d input given → EntersHeld (held_record d.line) d out new → IfSome out (λ o. Empties o new)
+pub waiting_empties : (d : Standing) (input : List ℕ) (given : List Item) (out : Option Outcome) (new : Standing) → d.state ≡ states.Pending → Represents d input given → EntersHeld (held_record d.line) d out new → IfSome out (λ o. Empties o new)
 waiting_empties d input given out new state s e =
-    let p = subst (λ (q : State). StandsIn q d input given) state s.here in
+    let p = subst (λ (q : State). RepresentsIn q d input given) state s.here in
     enters_empties d input given p.last.kind p.last out new (waits_in d input given p s.in_range) (subst (λ (o : Option RecordValue). EntersHeld o d out new) p.line e)

@@ -14,7 +14,7 @@ use Rattle.cwr_decode.specs.declared.outcomes.Outcome.TheVariants as outcomes
 use Rattle.cwr_decode.specs.declared.machine.State.{State}
 use Rattle.cwr_decode.specs.declared.machine.State.TheVariants as states
 use Rattle.cwr_decode.specs.Machines.{Standing, IsReady, Leaves, Empties, state_behind, Enters, EntersHeld, Follows, Settles, pending, reading, stopped, held_list}
-use Rattle.cwr_decode.specs.Stands.{StandsFor, items_in}
+use Rattle.cwr_decode.specs.Represents.{Represents, items_in}
 use Rattle.cwr_decode.specs.Calls.{IsLive, Moves}
 use Rattle.cwr_decode.proofs.LineJudged.{waiting_stands, waiting_empties}
 
@@ -82,7 +82,7 @@ follows_rest false (Some whole) r d out new o l i e =
 kept : (d new : Standing) (out o : Option Outcome) → IsReady d.state d.finished d.line → IfSome o (λ x. Leaves x d.state) → IfNone o (IsLive d.state → d.state ≡ states.Reading) → IfSome o (λ x. Empties x d) → items_in o ≡ [] → out ≡ o → new ≡ d → Moves d out new
 kept d new out o ready leaves none empties nothing e f =
     subst (λ (q : Option Outcome). Moves d q new) (sym e) (subst (λ (q : Standing). Moves d o q) (sym f) (record {
-      stands = λ input given s. subst (StandsFor d input) (sym (append-nil given) ∙ ap (λ (is : List Item). given ++ is) (sym nothing)) s;
+      stands = λ input given s. subst (Represents d input) (sym (append-nil given) ∙ ap (λ (is : List Item). given ++ is) (sym nothing)) s;
       ready = ready;
       leaves = leaves;
       none = none;

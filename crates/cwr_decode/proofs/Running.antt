@@ -1,9 +1,9 @@
 -- One call of a reading behind others: what was read so far goes on, up to all items or a fault.
-use Rattle.std.proofs.Common.{◌≡◌, ◌≤◌, ℕ, Bool, true, false, List, [], ◌∷◌, ◌++◌, length, drop, append-nil, Option, Some, None, refl, sym, ap, subst, ◌∙◌, inl, inr}
+use Rattle.std.proofs.Common.{◌≡◌, ◌≤◌, ℕ, Bool, true, false, List, [], ◌∷◌, ◌++◌, length, drop, append-nil, Option, Some, None, refl, sym, ap, subst, ◌∙◌, inl, inr, true≢false}
 use Rattle.std.specs.Prelude.{Result, Ok, Err, IfSome, IfOk, IfErr, MatchResult, ◌⊎◌}
 use Rattle.std.specs.Result.{IsErrAnd}
 use Rattle.std.proofs.Math.Seq.{drop-append_seam}
-use Rattle.std.proofs.KnownBytes.{Consumes-trans}
+use Rattle.std.proofs.KnownBytes.{Consumes-nil, Consumes-trans}
 use Rattle.std.specs.Io.KnownBytes.{Consumes}
 use Rattle.cwr_shape.specs.Ranges.{LimitValues}
 use Rattle.cwr_values.specs.declared.items.Item.{Item}
@@ -18,7 +18,7 @@ use Rattle.cwr_decode.specs.declared.readings.ReadFault.TheVariants as faults
 use Rattle.cwr_judge.specs.Items.{value_items}
 use Rattle.cwr_judge.specs.Ends.{IsAccepted}
 use Rattle.cwr_decode.specs.Machines.{Standing, again}
-use Rattle.cwr_decode.specs.Stands.{MayFollow, StandsIn}
+use Rattle.cwr_decode.specs.Represents.{MayFollow, RepresentsIn, Represents}
 use Rattle.cwr_decode.specs.Calls.{IsLive}
 use Rattle.cwr_decode.specs.Readings.{answer_of, items_read, IsRightOf, LeavesRead, IsSpent, Reads}
 use Rattle.cwr_decode.specs.Runs.{HasRead, EndsWhole, HasReadAll, IsReadingOn, AreItems, TakesFront, StopsRun, TellsAccepted, TellsCanonical}
@@ -65,6 +65,17 @@ run_right limits old new before left after given answer h live r = by before h.c
     by None lost spent = tt
     by (Some xs) lost spent = right_on limits old.tally.limits (Some xs) left h.input (h.input ++ r.bytes) (given ++ items_read answer) answer h.limits_are lost
         (r.right live spent h.input given h.stands)
+
+-- nothing was read
+pub nothing_read_yet : (limits : LimitValues) (d : Standing) (before now : Option (List ℕ)) → Represents d [] [] → d.tally.limits ≡ limits → IsLive d.state → d.finished ≡ false → now ≡ before → IsReadingOn limits d before now []
+nothing_read_yet limits d before now stands limits_are live fresh same = record {
+  read = record { input = []; stands = stands; consumed = subst (λ (n : Option (List ℕ)). Consumes before n []) (sym same) (Consumes-nil before); spent = by before; limits_are = limits_are };
+  here = inl live;
+}
+  where
+    by : (b : Option (List ℕ)) → IfSome b (λ _. IsSpent d now)
+    by None = tt
+    by (Some text) = λ is. absurd (true≢false (sym is ∙ fresh))
 
 -- ---- one call more
 
@@ -135,7 +146,7 @@ fault_read limits old new before left after given fault B C h r same = record {
 
 pub all_items : (limits : LimitValues) (before now : Option (List ℕ)) (given : List Item) → HasReadAll limits before now given → AreItems given
 all_items limits before now given h =
-    let e = subst (λ (s : State). StandsIn s h.decoder h.read.input given) h.ends.0 h.read.stands.here in
+    let e = subst (λ (s : State). RepresentsIn s h.decoder h.read.input given) h.ends.0 h.read.stands.here in
     let w = spells_whole h.decoder.tally e.through.lines e.through.records h.read.stands.in_range e.through.read e.whole in
     record { value = w.value; whole = w.whole; given_are = e.through.given_are ∙ w.given }
 
@@ -144,7 +155,7 @@ pub all_taken : (limits : LimitValues) (before now : Option (List ℕ)) (given :
 all_taken limits before now given t h same =
     let d : Standing = h.decoder in
     let input : List ℕ = h.read.input in
-    let e = subst (λ (s : State). StandsIn s d input given) h.ends.0 h.read.stands.here in
+    let e = subst (λ (s : State). RepresentsIn s d input given) h.ends.0 h.read.stands.here in
     let a = accepts_whole d.tally e.through.lines e.through.records d.finished input input [] given h.read.stands.in_range e.through.read e.whole e.through.split (sym (append-nil input)) (λ z. refl) e.through.given_are in
     let end = a [] (nothing d.finished) in
     let accepted : IsAccepted d.tally.limits (input ++ []) end.0 (length input) = end.1 in

@@ -20,7 +20,7 @@ use Rattle.cwr_values.specs.Begins.{row_behind, rows_behind, rows_so_far}
 use Rattle.cwr_judge.specs.declared.refusals.Refusal.{Refusal}
 use Rattle.cwr_judge.specs.Ends.{kind_behind}
 use Rattle.cwr_decode.specs.Machines.{Standing}
-use Rattle.cwr_decode.specs.Stands.{IsStopped}
+use Rattle.cwr_decode.specs.Represents.{IsStopped}
 
 -- what is open behind a record is told by its kind
 place_of_record : (r : RecordValue) → place_by (Some (symbol_of r)) ≡ place_behind (Some r.kind)

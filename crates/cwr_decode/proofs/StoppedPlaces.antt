@@ -16,7 +16,7 @@ use Rattle.cwr_values.specs.Begins.{rows_so_far}
 use Rattle.cwr_judge.specs.Places.{Viable, IsBadAt, IsFirstBad, last_place}
 use Rattle.cwr_judge.specs.GoodFronts.{HasGoodFront}
 use Rattle.cwr_judge.specs.Judged.{IsFirstBy, IsFirstFault, IsWrongAt}
-use Rattle.cwr_decode.specs.Stands.{AreAccepted}
+use Rattle.cwr_decode.specs.Represents.{AreAccepted}
 use Rattle.cwr_judge.proofs.AcceptedViable.{accepted_viable}
 use Rattle.cwr_judge.proofs.FrontsBeforeFaults.{wrong_field, front_before}
 use Rattle.cwr_judge.proofs.NoneAtFaults.{none_at_fault}

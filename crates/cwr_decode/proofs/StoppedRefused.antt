@@ -18,7 +18,7 @@ use Rattle.cwr_judge.specs.Places.{IsFirstBad}
 use Rattle.cwr_judge.proofs.FirstReasons.{first_reason}
 use Rattle.cwr_judge.proofs.LineRecords.{as_many}
 use Rattle.cwr_decode.specs.Machines.{Standing}
-use Rattle.cwr_decode.specs.Stands.{IsInput, IsStopped, MayFollow, text_of}
+use Rattle.cwr_decode.specs.Represents.{IsInput, IsStopped, MayFollow, text_of}
 use Rattle.cwr_decode.proofs.Beyond.{none_behind_line, none_behind_long}
 use Rattle.cwr_decode.proofs.LongLines.{long_line}
 use Rattle.cwr_decode.proofs.RawLines.{raw_behind}

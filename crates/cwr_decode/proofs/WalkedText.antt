@@ -23,7 +23,7 @@ use Rattle.cwr_judge.specs.Open.{items_so_far}
 use Rattle.cwr_judge.proofs.Trailers.{trailer_ends, whole_ends}
 use Rattle.cwr_decode.specs.declared.machine.State.TheVariants as states
 use Rattle.cwr_decode.specs.Machines.{Standing, first}
-use Rattle.cwr_decode.specs.Stands.{AreAccepted, IsInput, IsStopped, MayFollow, text_of}
+use Rattle.cwr_decode.specs.Represents.{AreAccepted, IsInput, IsStopped, MayFollow, text_of}
 use Rattle.cwr_decode.specs.TextLines.{AcceptsLine, FirstLine, IsCutOff, IsLastLine, RefusesLine}
 use Rattle.cwr_decode.proofs.CutTruncated.{cut_truncated}
 use Rattle.cwr_decode.proofs.Ended.{accepts_whole}

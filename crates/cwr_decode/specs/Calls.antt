@@ -1,4 +1,4 @@
--- What a call of a decoder does to what the decoder stands for, and what its answer says of the input.
+-- What a call of a decoder does to what the decoder represents, and what its answer says of the input.
 use Rattle.std.specs.Prelude.{◌≡◌, ◌≢◌, ◌⊎◌, ℕ, ◌<◌, ◌≤◌, Bool, true, false, List, ◌++◌, length, take, Option, Some, None, IfSome, IfNone}
 use Rattle.cwr_layouts.specs.declared.lines.LineEnd.TheVariants as line_ends
 use Rattle.cwr_values.specs.declared.items.Item.{Item}
@@ -8,7 +8,7 @@ use Rattle.cwr_decode.specs.declared.outcomes.Outcome.TheVariants as outcomes
 use Rattle.cwr_decode.specs.declared.machine.State.{State}
 use Rattle.cwr_decode.specs.declared.machine.State.TheVariants.{Reading, Pending}
 use Rattle.cwr_decode.specs.Machines.{Standing, IsReady, Leaves, Empties, WaitsOutside, again, over}
-use Rattle.cwr_decode.specs.Stands.{StandsFor, IsStopped, IsRight, items_in, items_out}
+use Rattle.cwr_decode.specs.Represents.{Represents, IsStopped, IsRight, items_in, items_out}
 
 -- nothing was answered for good
 abbrev pub IsLive : State → Type 0
@@ -30,12 +30,12 @@ RefusesLast outcome d input given = Unit {0}
 
 -- a step without a further byte
 pub record Moves (old : Standing) (out : Option Outcome) (new : Standing) : Type 0 where
-  pub stands : (input : List ℕ) (given : List Item) → StandsFor old input given → StandsFor new input (given ++ items_in out)
+  pub stands : (input : List ℕ) (given : List Item) → Represents old input given → Represents new input (given ++ items_in out)
   pub ready : IsReady new.state new.finished new.line
   pub leaves : IfSome out (λ outcome. Leaves outcome new.state)
   pub none : IfNone out (IsLive old.state → new.state ≡ Reading)
   pub counts : new.tally.counts.records ≡ old.tally.counts.records
-  pub empties : (input : List ℕ) (given : List Item) → StandsFor old input given → IfSome out (λ outcome. Empties outcome new)
+  pub empties : (input : List ℕ) (given : List Item) → Represents old input given → IfSome out (λ outcome. Empties outcome new)
   pub finished : new.finished ≡ old.finished
   pub limits : new.tally.limits ≡ old.tally.limits
 
@@ -46,16 +46,16 @@ seen true input piece = input
 
 -- the end of the input is taken, and with it a last line that had no line feed
 pub record TakesEnd (old : Standing) (out : Option Outcome) (new : Standing) : Type 0 where
-  pub stands : (input : List ℕ) (given : List Item) → StandsFor old input given → StandsFor new input (given ++ items_in out)
-  pub right : (input : List ℕ) (given : List Item) → StandsFor old input given → IfSome out (λ outcome. IsRight old.tally.limits outcome true input input (given ++ items_out outcome))
-  pub last : (input : List ℕ) (given : List Item) → StandsFor old input given → IfSome out (λ outcome. RefusesLast outcome new input (given ++ items_out outcome))
+  pub stands : (input : List ℕ) (given : List Item) → Represents old input given → Represents new input (given ++ items_in out)
+  pub right : (input : List ℕ) (given : List Item) → Represents old input given → IfSome out (λ outcome. IsRight old.tally.limits outcome true input input (given ++ items_out outcome))
+  pub last : (input : List ℕ) (given : List Item) → Represents old input given → IfSome out (λ outcome. RefusesLast outcome new input (given ++ items_out outcome))
   pub ready : IsReady new.state new.finished new.line
   pub leaves : IfSome out (λ outcome. Leaves outcome new.state)
   pub more : out ≡ Some More → ⊥
   pub none : IfNone out (IsLive old.state → IsLive new.state)
   pub waits : IfNone out (new.state ≡ Pending → old.state ≡ Pending)
-  pub grows : (input : List ℕ) (given : List Item) → StandsFor old input given → Grows old.tally.counts.records out new.tally.counts.records
-  pub empties : (input : List ℕ) (given : List Item) → StandsFor old input given → IfSome out (λ outcome. Empties outcome new)
+  pub grows : (input : List ℕ) (given : List Item) → Represents old input given → Grows old.tally.counts.records out new.tally.counts.records
+  pub empties : (input : List ℕ) (given : List Item) → Represents old input given → IfSome out (λ outcome. Empties outcome new)
   pub stays : IfSome (again old.state) (λ o. (out ≡ None) × (new ≡ over old))
   pub finished : new.finished ≡ true
   pub limits : new.tally.limits ≡ old.tally.limits
@@ -64,47 +64,47 @@ pub record TakesEnd (old : Standing) (out : Option Outcome) (new : Standing) : T
 pub record Advances (old : Standing) (piece : List ℕ) (used : ℕ) (out : Option Outcome) (new : Standing) : Type 0 where
   pub within : used ≤ length piece
   pub some : IfNone out (0 < used)
-  pub stands : (input : List ℕ) (given : List Item) → StandsFor old input given → StandsFor new (input ++ take used piece) (given ++ items_in out)
-  pub right : (input : List ℕ) (given : List Item) → StandsFor old input given
+  pub stands : (input : List ℕ) (given : List Item) → Represents old input given → Represents new (input ++ take used piece) (given ++ items_in out)
+  pub right : (input : List ℕ) (given : List Item) → Represents old input given
       → IfSome out (λ outcome. IsRight old.tally.limits outcome false (input ++ take used piece) (input ++ piece) (given ++ items_out outcome))
   pub ready : IsReady new.state new.finished new.line
   pub leaves : IfSome out (λ outcome. Leaves outcome new.state)
   pub more : out ≡ Some More → used ≡ length piece
   pub none : IfNone out (new.state ≡ Reading)
-  pub grows : (input : List ℕ) (given : List Item) → StandsFor old input given → Grows old.tally.counts.records out new.tally.counts.records
-  pub empties : (input : List ℕ) (given : List Item) → StandsFor old input given → IfSome out (λ outcome. Empties outcome new)
+  pub grows : (input : List ℕ) (given : List Item) → Represents old input given → Grows old.tally.counts.records out new.tally.counts.records
+  pub empties : (input : List ℕ) (given : List Item) → Represents old input given → IfSome out (λ outcome. Empties outcome new)
   pub finished : new.finished ≡ old.finished
   pub limits : new.tally.limits ≡ old.tally.limits
 
 -- a piece is fed
 pub record Feeds (old : Standing) (piece : List ℕ) (used : ℕ) (outcome : Outcome) (new : Standing) : Type 0 where
   pub within : used ≤ length piece
-  pub stands : (input : List ℕ) (given : List Item) → StandsFor old input given → StandsFor new (input ++ take used piece) (given ++ items_out outcome)
-  pub right : IsLive old.state → (input : List ℕ) (given : List Item) → StandsFor old input given
+  pub stands : (input : List ℕ) (given : List Item) → Represents old input given → Represents new (input ++ take used piece) (given ++ items_out outcome)
+  pub right : IsLive old.state → (input : List ℕ) (given : List Item) → Represents old input given
       → IsRight old.tally.limits outcome old.finished (input ++ take used piece) (seen old.finished input piece) (given ++ items_out outcome)
   pub ready : IsReady new.state new.finished new.line
   pub leaves : Leaves outcome new.state
-  pub empties : (input : List ℕ) (given : List Item) → StandsFor old input given → Empties outcome new
+  pub empties : (input : List ℕ) (given : List Item) → Represents old input given → Empties outcome new
   pub again : IfSome (again old.state) (λ o. (outcome ≡ o) × (used ≡ 0) × (new ≡ old))
   pub more : outcome ≡ More → (used ≡ length piece) × (old.finished ≡ false)
   pub unused : old.finished ≡ true → used ≡ 0
   pub alone : WaitsOutside old → (used ≡ 0) × (outcome ≢ More)
-  pub memory : outcome ≡ Memory → IsLive old.state → (input : List ℕ) (given : List Item) → StandsFor old input given → WantsMemory old used new
-  pub kept : (input : List ℕ) (given : List Item) → StandsFor old input given → old.tally.counts.records ≤ new.tally.counts.records
+  pub memory : outcome ≡ Memory → IsLive old.state → (input : List ℕ) (given : List Item) → Represents old input given → WantsMemory old used new
+  pub kept : (input : List ℕ) (given : List Item) → Represents old input given → old.tally.counts.records ≤ new.tally.counts.records
   pub finished : new.finished ≡ old.finished
   pub limits : new.tally.limits ≡ old.tally.limits
 
 -- the input is over
 pub record Finishes (old : Standing) (outcome : Outcome) (new : Standing) : Type 0 where
-  pub stands : (input : List ℕ) (given : List Item) → StandsFor old input given → StandsFor new input (given ++ items_out outcome)
-  pub right : IsLive old.state → (input : List ℕ) (given : List Item) → StandsFor old input given → IsRight old.tally.limits outcome true input input (given ++ items_out outcome)
-  pub last : IsLive old.state → (input : List ℕ) (given : List Item) → StandsFor old input given → RefusesLast outcome new input (given ++ items_out outcome)
+  pub stands : (input : List ℕ) (given : List Item) → Represents old input given → Represents new input (given ++ items_out outcome)
+  pub right : IsLive old.state → (input : List ℕ) (given : List Item) → Represents old input given → IsRight old.tally.limits outcome true input input (given ++ items_out outcome)
+  pub last : IsLive old.state → (input : List ℕ) (given : List Item) → Represents old input given → RefusesLast outcome new input (given ++ items_out outcome)
   pub ready : IsReady new.state new.finished new.line
   pub leaves : Leaves outcome new.state
-  pub empties : (input : List ℕ) (given : List Item) → StandsFor old input given → Empties outcome new
+  pub empties : (input : List ℕ) (given : List Item) → Represents old input given → Empties outcome new
   pub again : IfSome (again old.state) (λ o. (outcome ≡ o) × (new ≡ over old))
   pub more : outcome ≡ More → ⊥
-  pub memory : outcome ≡ Memory → IsLive old.state → (input : List ℕ) (given : List Item) → StandsFor old input given → WantsMemory old 0 new
-  pub kept : (input : List ℕ) (given : List Item) → StandsFor old input given → old.tally.counts.records ≤ new.tally.counts.records
+  pub memory : outcome ≡ Memory → IsLive old.state → (input : List ℕ) (given : List Item) → Represents old input given → WantsMemory old 0 new
+  pub kept : (input : List ℕ) (given : List Item) → Represents old input given → old.tally.counts.records ≤ new.tally.counts.records
   pub finished : new.finished ≡ true
   pub limits : new.tally.limits ≡ old.tally.limits

@@ -13,7 +13,7 @@ use Rattle.cwr_decode.specs.declared.readings.ReadFault.{ReadFault}
 use Rattle.cwr_decode.specs.declared.readings.ReadFault.TheVariants as faults
 use Rattle.cwr_decode.specs.Headline.{IsEndOf, answer_end}
 use Rattle.cwr_decode.specs.Machines.{Standing, Empties, state_behind}
-use Rattle.cwr_decode.specs.Stands.{EndsInLf, GoesTooFar, StandsFor}
+use Rattle.cwr_decode.specs.Represents.{EndsInLf, GoesTooFar, Represents}
 use Rattle.cwr_decode.specs.Calls.{IsLive, WantsMemory}
 
 -- what a decoder's answer is told as; where more is needed, nothing is told
@@ -80,20 +80,20 @@ pub record FeedsOn (least : ℕ) (old : Standing) (left : Option (List ℕ)) (ne
   pub bytes : List ℕ
   pub count : least ≤ length bytes
   pub consumed : Consumes left after bytes
-  pub stands : (input : List ℕ) (given : List Item) → StandsFor old input given → StandsFor new (input ++ bytes) given
+  pub stands : (input : List ℕ) (given : List Item) → Represents old input given → Represents new (input ++ bytes) given
   pub live : IsLive old.state
   pub reading : new.state ≡ states.Reading
   pub fresh : new.finished ≡ false
   pub kept : old.tally.counts.records ≤ new.tally.counts.records
   pub limits : new.tally.limits ≡ old.tally.limits
 
--- Something is read. Just the bytes that the reader loses are fed: whatever the decoder stood for before, with these and
--- with the item that is read it stands for that. Where the reader's bytes are known, what is told is right of all of them.
+-- Something is read. Just the bytes that the reader loses are fed: whatever the decoder represented before, with these and
+-- with the item that is read it represents that. Where the reader's bytes are known, what is told is right of all of them.
 pub record Reads (old : Standing) (left : Option (List ℕ)) (answer : Result (Option Item) ReadFault) (new : Standing) (after : Option (List ℕ)) : Type 0 where
   pub bytes : List ℕ
   pub consumed : Consumes left after bytes
-  pub stands : (input : List ℕ) (given : List Item) → StandsFor old input given → StandsFor new (input ++ bytes) (given ++ items_read answer)
-  pub right : IsLive old.state → IsSpent old left → (input : List ℕ) (given : List Item) → StandsFor old input given
+  pub stands : (input : List ℕ) (given : List Item) → Represents old input given → Represents new (input ++ bytes) (given ++ items_read answer)
+  pub right : IsLive old.state → IsSpent old left → (input : List ℕ) (given : List Item) → Represents old input given
       → IfSome left (λ rest. IsRightOf old.tally.limits answer (input ++ bytes) (input ++ rest) (given ++ items_read answer))
   pub leaves : LeavesRead answer new.state
   pub empties : EmptiesRead answer new

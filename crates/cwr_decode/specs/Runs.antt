@@ -18,14 +18,14 @@ use Rattle.cwr_judge.specs.Ends.{IsAccepted}
 use Rattle.cwr_decode.specs.declared.endings.End.TheVariants as ends
 use Rattle.cwr_decode.specs.Headline.{EndsSo}
 use Rattle.cwr_decode.specs.Machines.{Standing}
-use Rattle.cwr_decode.specs.Stands.{StandsFor}
+use Rattle.cwr_decode.specs.Represents.{Represents}
 use Rattle.cwr_decode.specs.Calls.{IsLive}
 use Rattle.cwr_decode.specs.Readings.{IsRightOf, IsSpent, LeavesRead}
 
--- these items were read so far: the decoder stands for them and for the bytes that the reader lost
+-- these items were read so far: the decoder represents them and the bytes that the reader lost
 pub record HasRead (limits : LimitValues) (d : Standing) (before now : Option (List ℕ)) (given : List Item) : Type 0 where
   pub input : List ℕ
-  pub stands : StandsFor d input given
+  pub stands : Represents d input given
   pub consumed : Consumes before now input
   pub spent : IfSome before (λ _. IsSpent d now)
   pub limits_are : d.tally.limits ≡ limits

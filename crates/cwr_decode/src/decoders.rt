@@ -1,12 +1,13 @@
 //! Reading a transmission in pieces of any size.
 
-ghost use Rattle.std.specs.Prelude.{◌≡◌, ◌≢◌, ◌≤◌, ◌++◌, [], List, ℕ, length, take, IfSome, true, false};
-ghost use Rattle.cwr_decode.specs.Calls.{IsLive, RefusesLast, WantsMemory, seen};
-ghost use Rattle.cwr_decode.specs.Machines.{Empties, Leaves, WaitsOutside, again, held_list, over};
-ghost use Rattle.cwr_decode.specs.Stands.{IsRight, IsUnderWay, StandsFor, items_out};
+ghost use Rattle.std.specs.Prelude.{◌≡◌, ◌≢◌, ◌≤◌, ◌++◌, [], List, ℕ, length, take, IfSome, None, true, false};
+ghost use Rattle.cwr_decode.specs.Calls.{RefusesLast, WantsMemory, seen};
+ghost use Rattle.cwr_decode.specs.Decoding.{StandsAfter, accepted_records, final_answer, is_over, limits_of};
+ghost use Rattle.cwr_decode.specs.Machines.{Empties, WaitsOutside, held_list, over};
+ghost use Rattle.cwr_decode.specs.Represents.{IsRight, RepresentsSome, Represents, items_out};
 ghost use Rattle.cwr_values.specs.declared.items.Item.{Item};
 
-use crate::machine::{Machine, State};
+use crate::machine::Machine;
 use crate::outcomes::{Outcome, Step};
 use cwr_shape::Limits;
 use std::alloc::Global;
@@ -20,7 +21,7 @@ pub struct Decoder {
 
 impl Model for Decoder {
     ghost use Rattle.cwr_decode.specs.Machines.{Standing};
-    ghost use Rattle.cwr_decode.specs.Stands.{IsSound};
+    ghost use Rattle.cwr_decode.specs.Represents.{IsSound};
 
     ghost Value = { Standing };
 
@@ -32,10 +33,10 @@ impl Model for Decoder {
 impl Decoder {
     /// A decoder of a transmission within the limits, of which nothing was read.
     pub fn new(alloc: Global, limits: Limits) -> Self
-        ensures stands { StandsFor result [] [] }
-        ensures limits { result.tally.limits ≡ limits }
-        ensures reading { result.state ≡ State.Reading }
-        ensures fresh { result.finished ≡ false }
+        ensures represents { Represents result [] [] }
+        ensures limits { limits_of result ≡ limits }
+        ensures open { final_answer result ≡ None }
+        ensures fresh { is_over result ≡ false }
     {
         Decoder {
             machine: Machine::new(alloc, limits),
@@ -44,7 +45,7 @@ impl Decoder {
 
     /// How many records were accepted.
     pub fn records(&self) -> u32
-        ensures { result ≡ self.now.tally.counts.records }
+        ensures { result ≡ accepted_records self.now }
     {
         self.machine.records()
     }
@@ -60,32 +61,30 @@ impl Decoder {
 
     /// Takes the next piece of the input, up to the next item. `feed` after `finish` uses nothing and answers as that.
     pub fn feed(&mut self, piece: &[u8]) -> Step
+        // What it represents: some input, and the items of that. Afterwards with the used bytes, and the item answered.
         ensures used { result.used ≤ length piece.now }
-        // It stood for some input and some items. Whatever it stood for, with the bytes that were used and the item that is
-        // answered it stands for that.
-        ensures stood { IsUnderWay self.old }
-        ensures stands { (input : List ℕ) (given : List Item) → StandsFor self.old input given
-            → StandsFor self.new (input ++ take result.used piece.now) (given ++ items_out result.outcome) }
-        // The end of a transmission is answered where one is accepted, and a refusal or the end of the input where none is.
-        // A refusal comes with the line feed of the refused line, before its byte too many, or once the input is over.
-        ensures right { IsLive self.old.state → (input : List ℕ) (given : List Item) → StandsFor self.old input given
-            → IsRight self.old.tally.limits result.outcome self.old.finished (input ++ take result.used piece.now)
-            (seen self.old.finished input piece.now) (given ++ items_out result.outcome) }
-        ensures leaves { Leaves result.outcome self.new.state }
-        // Behind an item nothing is held, but behind a transaction the line that ended it.
+        ensures some { RepresentsSome self.old }
+        ensures represents { (input : List ℕ) (given : List Item) → Represents self.old input given
+            → Represents self.new (input ++ take result.used piece.now) (given ++ items_out result.outcome) }
+        // What the answer means: the end that it reports is the input's, however that continues. A refusal comes with the
+        // line feed of the refused line, before its byte too many, or once the input is over.
+        ensures right { final_answer self.old ≡ None → (input : List ℕ) (given : List Item) → Represents self.old input given
+            → IsRight (limits_of self.old) result.outcome (is_over self.old) (input ++ take result.used piece.now)
+            (seen (is_over self.old) input piece.now) (given ++ items_out result.outcome) }
+        ensures more { result.outcome ≡ Outcome.More → (result.used ≡ length piece.now) × (is_over self.old ≡ false) }
+        // What stays held: behind an item nothing, but behind a transaction the line that ended it.
+        ensures leaves { StandsAfter result.outcome self.new }
         ensures empties { Empties result.outcome self.new }
-        ensures again { IfSome (again self.old.state) (λ outcome. (result.outcome ≡ outcome) × (result.used ≡ 0) × (self.new ≡ self.old)) }
-        ensures more { result.outcome ≡ Outcome.More → (result.used ≡ length piece.now) × (self.old.finished ≡ false) }
-        // Once the input is over, no byte is used.
-        ensures unused { self.old.finished ≡ true → result.used ≡ 0 }
-        // A record that waits and is an item of its own is answered with no byte used.
+        // What uses no byte: a record that waits and is an item of its own, and all once the input is over.
         ensures alone { WaitsOutside self.old → (result.used ≡ 0) × (result.outcome ≢ Outcome.More) }
-        // Want of memory comes only with a record that was being added: the one that waited, with no byte used, or one
-        // that was accepted.
-        ensures memory { result.outcome ≡ Outcome.Memory → IsLive self.old.state → WantsMemory self.old result.used self.new }
-        ensures kept { self.old.tally.counts.records ≤ self.new.tally.counts.records }
-        ensures finished { self.new.finished ≡ self.old.finished }
-        ensures limits { self.new.tally.limits ≡ self.old.tally.limits }
+        ensures unused { is_over self.old ≡ true → result.used ≡ 0 }
+        // What was answered for good is answered again.
+        ensures again { IfSome (final_answer self.old) (λ outcome. (result.outcome ≡ outcome) × (result.used ≡ 0) × (self.new ≡ self.old)) }
+        // Want of memory comes only with a record that was being added: the one that waited, or one that was accepted.
+        ensures memory { result.outcome ≡ Outcome.Memory → final_answer self.old ≡ None → WantsMemory self.old result.used self.new }
+        ensures kept { accepted_records self.old ≤ accepted_records self.new }
+        ensures over { is_over self.new ≡ is_over self.old }
+        ensures limits { limits_of self.new ≡ limits_of self.old }
     {
         self.machine.feed(piece)
     }
@@ -93,26 +92,28 @@ impl Decoder {
     /// Takes the end of the input, and answers an item, a refusal, `Memory`, `Truncated` or `Done`; after an item it is
     /// called again. A last line without its line feed is one that has it. No byte is used.
     pub fn finish(&mut self) -> Step
+        // What it represents: some input, and the items of that. Afterwards the same input, with the item answered.
         ensures used { result.used ≡ 0 }
-        ensures stood { IsUnderWay self.old }
-        ensures stands { (input : List ℕ) (given : List Item) → StandsFor self.old input given
-            → StandsFor self.new input (given ++ items_out result.outcome) }
-        ensures right { IsLive self.old.state → (input : List ℕ) (given : List Item) → StandsFor self.old input given
-            → IsRight self.old.tally.limits result.outcome true input input (given ++ items_out result.outcome) }
-        // What it refuses is the last line, which ended with the input and isn't too long.
-        ensures last { IsLive self.old.state → (input : List ℕ) (given : List Item) → StandsFor self.old input given
+        ensures some { RepresentsSome self.old }
+        ensures represents { (input : List ℕ) (given : List Item) → Represents self.old input given
+            → Represents self.new input (given ++ items_out result.outcome) }
+        // What the answer means: the end that it reports is the input's. What it refuses is the last line, which ended with
+        // the input and isn't too long.
+        ensures right { final_answer self.old ≡ None → (input : List ℕ) (given : List Item) → Represents self.old input given
+            → IsRight (limits_of self.old) result.outcome true input input (given ++ items_out result.outcome) }
+        ensures last { final_answer self.old ≡ None → (input : List ℕ) (given : List Item) → Represents self.old input given
             → RefusesLast result.outcome self.new input (given ++ items_out result.outcome) }
-        ensures leaves { Leaves result.outcome self.new.state }
-        // Behind an item nothing is held, but behind a transaction the line that ended it.
-        ensures empties { Empties result.outcome self.new }
-        ensures again { IfSome (again self.old.state) (λ outcome. (result.outcome ≡ outcome) × (self.new ≡ over self.old)) }
         ensures more { result.outcome ≡ Outcome.More → ⊥ }
-        // Want of memory comes only with a record that was being added: the one that waited, with no byte used, or one
-        // that was accepted.
-        ensures memory { result.outcome ≡ Outcome.Memory → IsLive self.old.state → WantsMemory self.old 0 self.new }
-        ensures kept { self.old.tally.counts.records ≤ self.new.tally.counts.records }
-        ensures finished { self.new.finished ≡ true }
-        ensures limits { self.new.tally.limits ≡ self.old.tally.limits }
+        // What stays held: behind an item nothing, but behind a transaction the line that ended it.
+        ensures leaves { StandsAfter result.outcome self.new }
+        ensures empties { Empties result.outcome self.new }
+        // What was answered for good is answered again.
+        ensures again { IfSome (final_answer self.old) (λ outcome. (result.outcome ≡ outcome) × (self.new ≡ over self.old)) }
+        // Want of memory comes only with a record that was being added: the one that waited, or one that was accepted.
+        ensures memory { result.outcome ≡ Outcome.Memory → final_answer self.old ≡ None → WantsMemory self.old 0 self.new }
+        ensures kept { accepted_records self.old ≤ accepted_records self.new }
+        ensures over { is_over self.new ≡ true }
+        ensures limits { limits_of self.new ≡ limits_of self.old }
     {
         self.machine.finish()
     }

@@ -11,7 +11,7 @@ ghost use Rattle.cwr_judge.specs.Places.{IsFirstBad};
 ghost use Rattle.cwr_judge.specs.declared.refusals.Refusal.{Refusal};
 ghost use Rattle.cwr_values.specs.declared.items.Item.{Item};
 ghost use Rattle.cwr_decode.specs.Machines.{Standing};
-ghost use Rattle.cwr_decode.specs.Stands.{StandsFor};
+ghost use Rattle.cwr_decode.specs.Represents.{Represents};
 ghost use Rattle.cwr_layouts.specs.Lines.{closed, raw_lines};
 ghost use Rattle.cwr_shape.specs.declared.limits.Limits.{Limits};
 ghost use Rattle.cwr_values.specs.Rows.{canonical_text, rows};
@@ -73,11 +73,11 @@ pub fn viable_where_cells_are_good()
 
 /// Over a whole run at most 1,025 bytes are used for each record that the limits hold: no decoder represents more.
 pub fn used_bytes_are_bounded()
-    ensures { (d : Standing) (input : List ℕ) (given : List Item) → StandsFor d input given → length input ≤ 1025 * d.tally.limits.records }
+    ensures { (d : Standing) (input : List ℕ) (given : List Item) → Represents d input given → length input ≤ 1025 * d.tally.limits.records }
 {}
 
 /// The items that a decoder handed out are the first of those of some transmission within its limits: a transaction is a
 /// whole one of its group's type, and each comes in its place.
 pub fn items_are_the_first()
-    ensures { (d : Standing) (input : List ℕ) (given : List Item) → StandsFor d input given → AreFirstItems d.tally.limits given }
+    ensures { (d : Standing) (input : List ℕ) (given : List Item) → Represents d input given → AreFirstItems d.tally.limits given }
 {}

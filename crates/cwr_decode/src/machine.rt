@@ -8,7 +8,7 @@ ghost use Rattle.cwr_shape.specs.declared.symbols.Symbol.{Symbol};
 ghost use Rattle.cwr_judge.specs.Items.{is_in_transaction};
 ghost use Rattle.cwr_judge.specs.Open.{goes_on_with};
 ghost use Rattle.cwr_decode.specs.Machines.{Adds, ClosesLine, EntersHeld, GoesOn, HandsOut, HasRecord, HoldsOpen, FitsHeld, FitsWaiting, IsReady, Judges, Settles, Tells, first, held_list, reading, stopped};
-ghost use Rattle.cwr_decode.specs.Stands.{IsSound};
+ghost use Rattle.cwr_decode.specs.Represents.{IsSound};
 ghost use Rattle.cwr_decode.specs.Calls.{TakesEnd, Feeds, Finishes};
 ghost use Rattle.cwr_values.specs.Begun.{BeginsWithOneMore};
 

@@ -1,8 +1,8 @@
 //! Reading a transmission from a reader, item by item.
 
-ghost use Rattle.std.specs.Prelude.{◌≡◌, ◌<◌, ◌⊎◌, ℕ, List, [], Option, Err, IfNone, IfSome, IsSome, Some, true, false};
-ghost use Rattle.cwr_decode.specs.Calls.{IsLive};
-ghost use Rattle.cwr_decode.specs.Stands.{IsUnderWay, StandsFor};
+ghost use Rattle.std.specs.Prelude.{◌≡◌, ◌<◌, ◌⊎◌, ℕ, List, [], Option, Err, IfNone, IfSome, IsSome, None, Some, true, false};
+ghost use Rattle.cwr_decode.specs.Decoding.{HasWaiting, accepted_records, final_answer, is_over, limits_of};
+ghost use Rattle.cwr_decode.specs.Represents.{RepresentsSome, Represents};
 ghost use Rattle.cwr_decode.specs.Machines.{WaitsOutside, again};
 ghost use Rattle.cwr_decode.specs.Readings.{answer_of, CountsReader, FeedsOn, Reads};
 
@@ -85,7 +85,7 @@ fn answer(outcome: Outcome) -> Option<Result<Option<Item>, ReadFault>>
 fn pull<R: Source>(decoder: &mut Decoder, reader: &mut R) -> Option<Result<Option<Item>, ReadFault>>
     requires reading { decoder.old.state ≡ State.Reading }
     requires fresh { decoder.old.finished ≡ false }
-    ensures stood { IfNone result (IsUnderWay decoder.old) }
+    ensures stood { IfNone result (RepresentsSome decoder.old) }
     ensures goes_on { IfNone result (FeedsOn 1 decoder.old (R.remaining reader.old) decoder.new (R.remaining reader.new)) }
     ensures reads { IfSome result (λ answer. Reads decoder.old (R.remaining reader.old) answer decoder.new (R.remaining reader.new)) }
     ensures same { IfNone result (R.failures reader.new ≡ R.failures reader.old) }
@@ -136,10 +136,10 @@ impl<'a, R: Source> Reading<'a, R> {
     pub fn new(alloc: Global, limits: Limits, reader: &'a mut R) -> Reading<'a, R>
         ensures same_reference { result.reader.ghost_name ≡ reader.entry.ghost_name }
         ensures kept { result.reader.now ≡ reader.old }
-        ensures stands { StandsFor result.decoder [] [] }
-        ensures limits { result.decoder.tally.limits ≡ limits }
-        ensures reading { result.decoder.state ≡ State.Reading }
-        ensures fresh { result.decoder.finished ≡ false }
+        ensures represents { Represents result.decoder [] [] }
+        ensures limits { limits_of result.decoder ≡ limits }
+        ensures open { final_answer result.decoder ≡ None }
+        ensures fresh { is_over result.decoder ≡ false }
     {
         Reading {
             reader,
@@ -158,14 +158,14 @@ impl<'a, R: Source> Reading<'a, R> {
         ensures failures { CountsReader result (R.failures self.old.reader.now) (R.failures self.new.reader.now) }
         // Want of memory comes only with a record that was being added: the one that waited, with the reader as it was, or
         // one that was accepted in this call.
-        ensures memory { result ≡ Err ReadFault.Memory → IsLive self.old.decoder.state
-            → ((self.old.decoder.state ≡ State.Pending) × (self.new.reader.now ≡ self.old.reader.now))
-            ⊎ (self.old.decoder.tally.counts.records < self.new.decoder.tally.counts.records) }
+        ensures memory { result ≡ Err ReadFault.Memory → final_answer self.old.decoder ≡ None
+            → (HasWaiting self.old.decoder × (self.new.reader.now ≡ self.old.reader.now))
+            ⊎ (accepted_records self.old.decoder < accepted_records self.new.decoder) }
         // Behind the end or a fault of the input, that is answered again, and nothing changes.
-        ensures again { IfSome (again self.old.decoder.state) (λ outcome. (Some result ≡ answer_of outcome)
+        ensures again { IfSome (final_answer self.old.decoder) (λ outcome. (Some result ≡ answer_of outcome)
             × (self.new.decoder ≡ self.old.decoder) × (self.new.reader.now ≡ self.old.reader.now)) }
         // Once the reader was at its end, it is asked no more.
-        ensures over { self.old.decoder.finished ≡ true → self.new.reader.now ≡ self.old.reader.now }
+        ensures over { is_over self.old.decoder ≡ true → self.new.reader.now ≡ self.old.reader.now }
         // Nor is it where a record waits that is an item of its own.
         ensures alone { WaitsOutside self.old.decoder → self.new.reader.now ≡ self.old.reader.now }
     {

@@ -1,5 +1,5 @@
 -- What was read so far is counted, and what a run over it tells follows from how the reading ends.
-use Rattle.std.proofs.Common.{◌≡◌, ℕ, ◌+◌, ◌≤◌, Bool, cond, List, [], ◌∷◌, ◌++◌, length, drop, Option, Some, None, sym, ap, subst, ◌∙◌, arith}
+use Rattle.std.proofs.Common.{◌≡◌, ℕ, ◌+◌, ◌≤◌, Bool, cond, List, [], ◌∷◌, ◌++◌, length, drop, Option, Some, None, refl, sym, ap, subst, ◌∙◌, arith}
 use Rattle.std.specs.Prelude.{Result, Ok, count_by, sum_by, IfSome, IfErr, IfOk}
 use Rattle.std.proofs.lemmas.List.{length-append}
 use Rattle.std.proofs.lemmas.List.Sums.{count_by-le-length, sum_by-append}
@@ -33,6 +33,10 @@ pub record IsCount (c : Counts) (given : List Item) : Type 0 where
   pub groups : c.groups ≡ count_by opens_group given
   pub transactions : c.transactions ≡ count_by is_transaction given
   pub records : c.records ≡ length (records_in given)
+
+-- none were handed out
+pub counts_none : (c : Counts) → c ≡ record { groups = 0; transactions = 0; records = 0 } → IsCount c []
+counts_none c e = subst (λ (x : Counts). IsCount x []) (sym e) (record { groups = refl; transactions = refl; records = refl })
 
 count_by-snoc : (p : Item → Bool) (given : List Item) (item : Item) → count_by p (given ++ item ∷ []) ≡ count_by p given + count_by p (item ∷ [])
 count_by-snoc p given item = sum_by-append (λ (x : Item). cond (p x) 1 0) given (item ∷ [])

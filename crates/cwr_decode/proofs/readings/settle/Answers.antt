@@ -7,10 +7,10 @@ pub returns-clause-goes_on : goal.returns-clause-goes_on
 returns-clause-goes_on c = told_none c.answer.result _ (λ e left.
     let none = sym c.answer.ensures ∙ e in
     feeds_called 0 c.args.decoder.now left c.feed.result.outcome c.feed.new.self left (take c.feed.result.used []) none (omega arith) (keeps_none c.feed.result.used left)
-    c.feed.ensures.stands c.feed.ensures.leaves (same_fed _ _ _ _ c.feed.ensures.again)
-    (c.feed.ensures.finished ∙ (c.feed.ensures.more (needs_more c.feed.result.outcome none)).1) c.feed.ensures.kept c.feed.ensures.limits)
+    c.feed.ensures.represents c.feed.ensures.leaves (same_fed _ _ _ _ c.feed.ensures.again)
+    (c.feed.ensures.over ∙ (c.feed.ensures.more (needs_more c.feed.result.outcome none)).1) c.feed.ensures.kept c.feed.ensures.limits)
 
 pub returns-clause-reads : goal.returns-clause-reads
 returns-clause-reads c = told_some c.answer.result _ (λ answer e.
     reads_settled c.args.decoder.now c.feed.new.self c.feed.result.used c.feed.result.outcome answer (sym c.answer.ensures ∙ e) c.feed.ensures.used
-    c.feed.ensures.stands c.feed.ensures.right c.feed.ensures.leaves c.feed.ensures.empties (same_fed _ _ _ _ c.feed.ensures.again) c.feed.ensures.memory c.feed.ensures.finished c.feed.ensures.limits c.feed.ensures.stood)
+    c.feed.ensures.represents c.feed.ensures.right c.feed.ensures.leaves c.feed.ensures.empties (same_fed _ _ _ _ c.feed.ensures.again) c.feed.ensures.memory c.feed.ensures.over c.feed.ensures.limits c.feed.ensures.some)

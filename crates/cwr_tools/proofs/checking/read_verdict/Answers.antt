@@ -1,12 +1,22 @@
-use Rattle.std.proofs.Common.{rules, sym, ap, subst, ◌∙◌, arith}
+use Rattle.std.proofs.Common.{rules, [], refl, sym, ap, subst, ◌∙◌, arith}
 use Rattle.std.specs.Prelude.{IfErr, IfOk}
 use Rattle.cwr_decode.specs.Runs.{HasReadAll}
-use Rattle.cwr_decode.proofs.Running.{fault_read, none_read}
+use Rattle.cwr_decode.proofs.Running.{fault_read, none_read, nothing_read_yet}
 use Rattle.cwr_tools.specs.declared.verdicts.Verdict.{Verdict}
 use Rattle.cwr_tools.specs.declared.checking.Counts.{Counts}
 use Rattle.cwr_tools.specs.Told.{counted, IsToldOf, StopsReading}
-use Rattle.cwr_tools.proofs.Checked.{IsCounting, counts_on, fault_stops, fault_told, good_told, room_in, total_grows}
+use Rattle.cwr_tools.proofs.Checked.{IsCounting, counts_none, counts_on, fault_stops, fault_told, good_told, room_in, total_grows}
 use Rattle.cwr_tools.proofs.checking.read_verdict.Goals as goal
+
+pub items-init : goal.items-init
+items-init g c =
+    let new = c.new-reading.ensures in
+    let reading = nothing_read_yet c.args.limits c.new-reading.result.decoder (g.R.Source.remaining c.args.reader.now) (g.R.Source.remaining c.new-reading.result.reader.now) new.represents new.limits new.open new.fresh (ap g.R.Source.remaining new.kept) in
+    record {
+      counting = record { given = []; reading = reading; counts = counts_none c.new-counts.result c.new-counts.ensures };
+      failures = ap g.R.Source.failures new.kept;
+      same = refl;
+    }
 
 pub count-requires-clause-groups : goal.count-requires-clause-groups
 count-requires-clause-groups g c =

@@ -2,11 +2,11 @@ use Rattle.std.proofs.Common.{◌≡◌, ◌≤◌, subst, sym}
 use Rattle.std.specs.Prelude.{IfSome}
 use Rattle.cwr_decode.specs.Machines.{Standing, again}
 use Rattle.cwr_decode.specs.Calls.{IsLive, WantsMemory}
-use Rattle.cwr_decode.specs.Stands.{IsUnderWay}
+use Rattle.cwr_decode.specs.Represents.{RepresentsSome}
 use Rattle.cwr_decode.proofs.decoders.Decoder.feed.Goals as goal
 
-pub returns-clause-stood : goal.returns-clause-stood
-returns-clause-stood c = subst IsUnderWay c.self.view_is c.self.invariant.under_way
+pub returns-clause-some : goal.returns-clause-some
+returns-clause-some c = subst RepresentsSome c.self.view_is c.self.invariant.under_way
 
 pub returns-clause-again : goal.returns-clause-again
 returns-clause-again c =

@@ -9,5 +9,5 @@ invariant_of-result c = record {
   under_way = record { input = []; given = []; stands = nothing_read c.new.result c.new.ensures.in_range c.new.ensures.stands c.new.ensures.first };
 }
 
-pub returns-clause-stands : goal.returns-clause-stands
-returns-clause-stands c = nothing_read c.new.result c.new.ensures.in_range c.new.ensures.stands c.new.ensures.first
+pub returns-clause-represents : goal.returns-clause-represents
+returns-clause-represents c = nothing_read c.new.result c.new.ensures.in_range c.new.ensures.stands c.new.ensures.first

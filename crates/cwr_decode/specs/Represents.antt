@@ -1,4 +1,4 @@
--- What a decoder stands for: the input so far, and the items that were handed out.
+-- What a decoder represents: the input so far, and the items that were handed out.
 use Rattle.std.specs.Prelude.{◌≡◌, ◌≢◌, ◌⊎◌, ℕ, ◌+◌, Bool, true, false, IsTrue, IsFalse, List, [], ◌∷◌, ◌++◌, length, map, Option, Some, None}
 use Rattle.std.specs.List.{AllZip, AllByRecursion, flat_map, list_any}
 use Rattle.cwr_layouts.specs.declared.lines.LineEnd.TheVariants as line_ends
@@ -117,29 +117,29 @@ pub record IsStopped (d : Standing) (input : List ℕ) (given : List Item) (refu
   pub nothing : d.held ≡ None
   pub given_are : given ≡ items_so_far records
 
-abbrev pub StandsIn : State → Standing → List ℕ → List Item → Type 0
-StandsIn Reading d input given = IsReading d input given
-StandsIn Pending d input given = IsPending d input given
-StandsIn Ended d input given = IsEnded d input given
-StandsIn (Refused refusal) d input given = IsStopped d input given refusal
-StandsIn (Truncated count) d input given = IsCut d input given count
-StandsIn Memory d input given = IsFull d input given
+abbrev pub RepresentsIn : State → Standing → List ℕ → List Item → Type 0
+RepresentsIn Reading d input given = IsReading d input given
+RepresentsIn Pending d input given = IsPending d input given
+RepresentsIn Ended d input given = IsEnded d input given
+RepresentsIn (Refused refusal) d input given = IsStopped d input given refusal
+RepresentsIn (Truncated count) d input given = IsCut d input given count
+RepresentsIn Memory d input given = IsFull d input given
 
--- the decoder stands for the input so far and the items that were handed out
-pub record StandsFor (d : Standing) (input : List ℕ) (given : List Item) : Type 0 where
+-- the decoder represents the input so far and the items that were handed out
+pub record Represents (d : Standing) (input : List ℕ) (given : List Item) : Type 0 where
   pub in_range : AreInRange d.tally.limits
-  pub here : StandsIn d.state d input given
+  pub here : RepresentsIn d.state d input given
 
--- the decoder stands for some input and some items
-pub record IsUnderWay (d : Standing) : Type 0 where
+-- the decoder represents some input and some items
+pub record RepresentsSome (d : Standing) : Type 0 where
   pub input : List ℕ
   pub given : List Item
-  pub stands : StandsFor d input given
+  pub stands : Represents d input given
 
 -- what a decoder is at each time
 pub record IsSound (d : Standing) : Type 0 where
   pub ready : IsReady d.state d.finished d.line
-  pub under_way : IsUnderWay d
+  pub under_way : RepresentsSome d
 
 -- ---- what an answer says of the input
 
