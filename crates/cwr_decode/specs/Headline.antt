@@ -15,14 +15,7 @@ use Rattle.cwr_decode.specs.declared.endings.End.TheVariants as ends
 use Rattle.cwr_decode.specs.declared.readings.ReadFault.{ReadFault}
 use Rattle.cwr_decode.specs.declared.readings.ReadFault.TheVariants.{Reader, Refused, Truncated, Memory}
 
--- The answer is the text's end: the transmission with which it is accepted, the refusal with which it is refused, or the
--- number of records after which it is truncated. Out of memory says nothing of the text, which has no reader that fails.
-abbrev pub Means : LimitValues → List ℕ → Result TransmissionValue ReadFault → Type 0
-Means limits text (Ok v) = (n : ℕ) × IsAccepted limits text v n
-Means limits text (Err (Refused refusal)) = IsRefused limits text refusal
-Means limits text (Err (Truncated records)) = IsTruncated limits text records
-Means limits text (Err Reader) = ⊥
-Means limits text (Err Memory) = Unit {0}
+-- ---- the end of a text
 
 -- the text has that end
 abbrev pub HasEnd : LimitValues → List ℕ → End → Type 0
@@ -30,9 +23,9 @@ HasEnd limits text (ends.Accepted used) = (v : TransmissionValue) × IsAccepted 
 HasEnd limits text (ends.Refused refusal) = IsRefused limits text refusal
 HasEnd limits text (ends.Truncated records) = IsTruncated limits text records
 
--- ---- ends that are reported call by call
+-- ---- an end that a call reports
 
--- the text has that end; where it is accepted, these are the items of its transmission
+-- the text has that end, and where it is accepted, these are the items of its transmission
 abbrev pub EndsSo : LimitValues → List ℕ → List Item → End → Type 0
 EndsSo limits text given (ends.Accepted used) = (v : TransmissionValue) × IsAccepted limits text v used × (given ≡ value_items v)
 EndsSo limits text given (ends.Refused refusal) = IsRefused limits text refusal
@@ -56,7 +49,16 @@ answer_end used (Err (Refused refusal)) = Some (ends.Refused refusal)
 answer_end used (Err (Truncated records)) = Some (ends.Truncated records)
 answer_end used answer = None
 
--- ---- the end of a whole run
+-- ---- the answer of a whole run
+
+-- The answer is the text's end: the transmission with which it is accepted, the refusal with which it is refused, or the
+-- number of records after which it is truncated. Out of memory says nothing of the text, which has no reader that fails.
+abbrev pub Means : LimitValues → List ℕ → Result TransmissionValue ReadFault → Type 0
+Means limits text (Ok v) = (n : ℕ) × IsAccepted limits text v n
+Means limits text (Err (Refused refusal)) = IsRefused limits text refusal
+Means limits text (Err (Truncated records)) = IsTruncated limits text records
+Means limits text (Err Reader) = ⊥
+Means limits text (Err Memory) = Unit {0}
 
 -- pieces put together
 abbrev pub text_in : List (Bor (List ℕ)) → List ℕ
