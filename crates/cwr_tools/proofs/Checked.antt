@@ -1,5 +1,5 @@
 -- What was read so far is counted, and what a run over it tells follows from how the reading ends.
-use Rattle.std.proofs.Common.{◌≡◌, ℕ, ◌+◌, ◌≤◌, Bool, cond, List, [], ◌∷◌, ◌++◌, length, drop, Option, Some, None, refl, sym, ap, subst, ◌∙◌, arith}
+use Rattle.std.proofs.Common.{◌≡◌, ℕ, ◌+◌, ◌≤◌, Bool, cond, List, [], ◌∷◌, ◌++◌, length, drop, Option, Some, None, refl, sym, ap, subst, ◌∙◌, arith, inl}
 use Rattle.std.specs.Prelude.{Result, Ok, count_by, sum_by, IfSome, IfErr, IfOk}
 use Rattle.std.proofs.lemmas.List.{length-append}
 use Rattle.std.proofs.lemmas.List.Sums.{count_by-le-length, sum_by-append}
@@ -114,7 +114,7 @@ pub fault_stops : (limits : Limits) (before after : Option (List ℕ)) (fault : 
 fault_stops limits before after faults.Reader result h e = subst (λ (r : Result Verdict ToolFault). IfErr r (λ f. StopsReading limits f before after)) (sym e) h
 fault_stops limits before after (faults.Refused refusal) result h e = subst (λ (r : Result Verdict ToolFault). IfErr r (λ f. StopsReading limits f before after)) (sym e) tt
 fault_stops limits before after (faults.Truncated records) result h e = subst (λ (r : Result Verdict ToolFault). IfErr r (λ f. StopsReading limits f before after)) (sym e) tt
-fault_stops limits before after faults.Memory result h e = subst (λ (r : Result Verdict ToolFault). IfErr r (λ f. StopsReading limits f before after)) (sym e) tt
+fault_stops limits before after faults.Memory result h e = subst (λ (r : Result Verdict ToolFault). IfErr r (λ f. StopsReading limits f before after)) (sym e) (inl h)
 
 pub good_told : (limits : Limits) (before after : Option (List ℕ)) (given : List Item) (c : Counts) → HasReadAll limits before after given → IsCount c given
     → IsToldOf limits before (Good c.groups c.transactions c.records) after

@@ -1,5 +1,5 @@
 -- What `check` tells of the bytes that a reader has.
-use Rattle.std.specs.Prelude.{◌≡◌, ℕ, ◌+◌, ◌≤◌, List, [], ◌∷◌, ◌++◌, count_by, length, take, drop, Option, Some, IfSome, Result, Ok, Err}
+use Rattle.std.specs.Prelude.{◌≡◌, ◌⊎◌, ℕ, ◌+◌, ◌≤◌, List, [], ◌∷◌, ◌++◌, count_by, length, take, drop, Option, Some, IfSome, Result, Ok, Err}
 use Rattle.std.specs.Io.KnownBytes.{Appends}
 use Rattle.cwr_fields.specs.Failures.{one_more_failure}
 use Rattle.cwr_shape.specs.declared.limits.Limits.{Limits}
@@ -55,9 +55,11 @@ IsReadingsFault Reader old new = new ≡ one_more_failure old
 IsReadingsFault Memory old new = new ≡ old
 IsReadingsFault fault old new = ⊥
 
--- where the reader failed, it did so while the transmission was being read
+-- Where the reader failed, it did so while the transmission was being read. Where memory was refused, the reader lost what
+-- was read before that: of the transmission, or all of it, as a verdict has it, where memory for that one's line was refused.
 abbrev pub StopsReading : Limits → ToolFault → Option (List ℕ) → Option (List ℕ) → Type 0
 StopsReading limits Reader before after = StopsRun limits read_faults.Reader before after
+StopsReading limits Memory before after = StopsRun limits read_faults.Memory before after ⊎ ((verdict : Verdict) × IsToldOf limits before verdict after)
 StopsReading limits fault before after = Unit {0}
 
 -- a run of `check` fails by its reader, its writer or memory alone; of the writer's fault the fact holds
