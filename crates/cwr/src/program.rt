@@ -1,8 +1,8 @@
 //! The program between its words and its devices.
 
-ghost use Rattle.std.specs.Prelude.{◌≡◌, ◌≢◌, ◌↔◌, ◌≤◌, IsOkAnd};
+ghost use Rattle.std.specs.Prelude.{◌≡◌, ◌≢◌, ◌≤◌};
 ghost use Rattle.clap.specs.Values.{kind_of};
-ghost use Rattle.cwr.specs.Endings.{IsGood};
+ghost use Rattle.cwr.specs.Endings.{EndsAs};
 
 use crate::faults::Fault;
 use crate::words::{Task, task_of};
@@ -119,7 +119,7 @@ fn check_one<'a, I: Read + Drop, O: Write + Drop>(
 
 /// What a run over texts means for the program.
 fn ending<'a>(outcome: Result<Verdict, ToolFault>) -> Result<Status, Fault<'a>>
-    ensures { (result ≡ Ok Status.Good) ↔ IsOkAnd outcome IsGood }
+    ensures { EndsAs outcome result }
 {
     match outcome {
         Ok(Verdict::Good { .. }) => Ok(Status::Good),
