@@ -12,6 +12,8 @@ mod decoders;
 #[cfg(test)]
 mod endings;
 #[cfg(test)]
+mod library_example;
+#[cfg(test)]
 mod readings;
 #[cfg(test)]
 mod refused_lines;

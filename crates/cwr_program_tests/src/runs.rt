@@ -1,6 +1,6 @@
 //! Runs over memory, and over files that are there or missing wherever the tests run.
 
-use crate::program::run;
+use cwr_program::run;
 use cwr_worked::texts::{ONE_ACKNOWLEDGEMENT, TWO_ACKNOWLEDGEMENTS, canonical};
 use std::io;
 use std::io::{Read, Write};
@@ -70,6 +70,42 @@ fn words_that_are_answered_by_a_text(rt: HostRuntime) {
         assert!(rt; ran.output.is_empty(), "at {word}");
         assert!(rt; !ran.error.is_empty(), "at {word}");
     }
+}
+
+/// Whether the text has the other one in it.
+fn has(text: &[u8], part: &[u8]) -> bool {
+    text.windows(part.len().max(1)).any(|it| it == part)
+}
+
+#[test]
+fn version_and_help(rt: HostRuntime) {
+    let version = run_over(&rt, ["cwr", "--version"].as_slice(), Failing);
+    assert_eq!(rt; version.error.as_slice(), b"cwr 0.1.0\n".as_slice());
+    let help = run_over(&rt, ["cwr", "--help"].as_slice(), Failing);
+    for part in [
+        "GOOD groups G transactions T records R",
+        "REFUSED record R field F level L REASON",
+        "TRUNCATED records R",
+        "Exit status: 0 good, 1 refused or truncated",
+        "Example: cwr check works.cwr",
+    ] {
+        assert!(rt; has(help.error.as_slice(), part.as_bytes()), "at {part}");
+    }
+}
+
+#[test]
+fn file_in_place_of_a_subcommand(rt: HostRuntime) {
+    let there = run_over(&rt, ["cwr", "/proc/version"].as_slice(), Failing);
+    assert_eq!(rt; there.status, 2);
+    assert!(rt;
+        there
+            .error
+            .as_slice()
+            .ends_with(b"\nTo check that file: cwr check /proc/version\n")
+    );
+    let missing = run_over(&rt, ["cwr", "/no/such/file.cwr"].as_slice(), Failing);
+    assert_eq!(rt; missing.status, 2);
+    assert!(rt; !has(missing.error.as_slice(), b"To check that file"));
 }
 
 #[test]

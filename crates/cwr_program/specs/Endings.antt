@@ -4,10 +4,10 @@ use Rattle.cwr_tools.specs.declared.verdicts.Verdict.{Verdict}
 use Rattle.cwr_tools.specs.declared.verdicts.Verdict.TheVariants.{Good, Refused, Truncated}
 use Rattle.cwr_tools.specs.declared.verdicts.ToolFault.{ToolFault}
 use Rattle.cwr_tools.specs.declared.verdicts.ToolFault.TheVariants as tool_faults
-use Rattle.cwr.specs.declared.program.Status.{Status}
-use Rattle.cwr.specs.declared.program.Status.TheVariants as statuses
-use Rattle.cwr.specs.declared.faults.Fault.{Fault}
-use Rattle.cwr.specs.declared.faults.Fault.TheVariants as faults
+use Rattle.cwr_program.specs.declared.program.Status.{Status}
+use Rattle.cwr_program.specs.declared.program.Status.TheVariants as statuses
+use Rattle.cwr_program.specs.declared.faults.Fault.{Fault}
+use Rattle.cwr_program.specs.declared.faults.Fault.TheVariants as faults
 
 -- an input that is good ends so, one that is refused or ends too early otherwise, and the fault of a device or of memory is told
 abbrev pub EndsAs : Result Verdict ToolFault → Result Status Fault → Type 0

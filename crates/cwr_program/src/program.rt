@@ -2,7 +2,7 @@
 
 ghost use Rattle.std.specs.Prelude.{◌≡◌, ◌≢◌, ◌≤◌};
 ghost use Rattle.clap.specs.Values.{kind_of};
-ghost use Rattle.cwr.specs.Endings.{EndsAs};
+ghost use Rattle.cwr_program.specs.Endings.{EndsAs};
 
 use crate::faults::Fault;
 use crate::words::{Task, task_of};
@@ -45,7 +45,7 @@ pub fn run<R: Files + AllocGlobal, S: AsStr, I: Read + Drop, O: Write + Drop, E:
             Ok(status) => status,
             Err(fault) => tell(error, fault),
         },
-        Err(answer) => answer_words(error, &answer),
+        Err(answer) => answer_words(error, &answer, file_in_place(rt, words, &answer)),
     };
     status as u8
 }
@@ -63,8 +63,27 @@ pub fn refuse_words<E: Write + Drop>(fault: &io::Error, mut error: E) -> u8
     status as u8
 }
 
-/// Writes what `clap` answers in place of a task, help included.
-fn answer_words<E: Write + Drop>(mut error: E, answer: &clap::Error) -> Status
+/// The first word, where `clap` took it for a subcommand that isn't there, and it is the name of a file.
+fn file_in_place<'a, R: Files, S: AsStr>(
+    rt: &R,
+    words: &'a [S],
+    answer: &clap::Error,
+) -> Option<&'a str> {
+    if !matches!(
+        answer.kind(),
+        ErrorKind::InvalidSubcommand | ErrorKind::UnknownArgument
+    ) {
+        return None;
+    }
+    let word = words.get(1)?.as_str();
+    match rt.metadata(word) {
+        Ok(found) if found.is_file() => Some(word),
+        _ => None,
+    }
+}
+
+/// Writes what `clap` answers in place of a task, help included, and how to check the file that a word names.
+fn answer_words<E: Write + Drop>(mut error: E, answer: &clap::Error, file: Option<&str>) -> Status
     ensures memory { kind_of answer.now ≡ ErrorKind.OutOfMemory → result ≡ Status.Fault }
     ensures words { kind_of answer.now ≢ ErrorKind.OutOfMemory → result ≡ Status.CommandLine }
 {
@@ -73,6 +92,9 @@ fn answer_words<E: Write + Drop>(mut error: E, answer: &clap::Error) -> Status
     }
     // What standard error doesn't take is lost.
     let _ = write!(error, "{answer}");
+    if let Some(name) = file {
+        let _ = writeln!(error, "\nTo check that file: cwr check {name}");
+    }
     Status::CommandLine
 }
 

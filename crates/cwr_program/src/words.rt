@@ -62,10 +62,26 @@ fn check<'a>(alloc: Global) -> Result<Command<'a>, AllocError> {
     with_limits(alloc, judges)?.arg(file)
 }
 
+/// The version of the program.
+const VERSION: &str = "0.1.0";
+
+/// What stands at the end of the program's help.
+const OUTCOMES: &str = "\
+Standard output gets one line:
+  GOOD groups G transactions T records R     the input begins with a transmission
+  REFUSED record R field F level L REASON    no transmission continues from that field of line R
+  TRUNCATED records R                        the input ended too early, after R records
+
+Exit status: 0 good, 1 refused or truncated, 2 a wrong command line (or help), 3 a file, a device or memory failed
+
+Example: cwr check works.cwr";
+
 /// The program's words.
 fn command<'a>(alloc: Global) -> Result<Command<'a>, AllocError> {
     Command::new(alloc, "cwr")
+        .version(VERSION)
         .about("Reads CWR 2.1 transmissions; without words it is `cwr check`")
+        .after_help(OUTCOMES)
         .subcommand(check(alloc)?)
 }
 
@@ -92,7 +108,7 @@ fn limits_of(matches: &ArgMatches<'_>) -> Option<Limits>
 }
 
 /// What is asked for. `None` where a limit is missing or out of its range.
-fn asked<'a>(matches: &ArgMatches<'a>) -> Option<Task<'a>>
+fn task_in<'a>(matches: &ArgMatches<'a>) -> Option<Task<'a>>
     // Without a subcommand it is a check of standard input within the largest limits.
     ensures { has_subcommand matches.now ≡ false → result ≡ Some (Task.Check None (limit_values 99999999 99999 999999)) }
 {
@@ -112,7 +128,7 @@ fn asked<'a>(matches: &ArgMatches<'a>) -> Option<Task<'a>>
 pub fn task_of<'a, S: AsStr>(alloc: Global, words: &'a [S]) -> Result<Task<'a>, Error> {
     let mut command = command(alloc)?;
     let matches = command.try_get_matches_from_mut(words)?;
-    match asked(&matches) {
+    match task_in(&matches) {
         Some(task) => Ok(task),
         // `clap` has judged the numbers already, but its clauses don't say so of a subcommand's.
         None => Err(command.error(ErrorKind::ValueValidation, "a limit is out of its range")?),

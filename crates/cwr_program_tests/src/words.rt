@@ -1,6 +1,6 @@
 //! What the program's words ask for. The limits are those of this profile.
 
-use crate::words::{Task, task_of};
+use cwr_program::{Task, task_of};
 use cwr_shape::Limits;
 use std::process::Abort;
 use std::test::Fail;

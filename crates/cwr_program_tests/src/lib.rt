@@ -1,0 +1,7 @@
+//! Tests of `cwr_program`, over its public calls.
+#![tactic(auto)]
+
+#[cfg(test)]
+mod runs;
+#[cfg(test)]
+mod words;
