@@ -1,17 +1,52 @@
-//! Bars and faults as errors, which print.
+//! The words for limits, reasons, levels, bars and faults.
+
+ghost use Rattle.std.specs.Prelude.{Some};
+ghost use Rattle.cwr_shape.specs.ReasonTexts.{level_text, limit_text, reason_text};
 
 use crate::limits::{LimitKind, LimitsFault};
+use crate::reasons::{Level, Reason};
 use crate::tallies::Bar;
 use std::error::Error;
 use std::fmt::{self, Display, Formatter, Write};
 
 impl Display for LimitKind {
+    ghost output = { λ limit. Some (limit_text limit) };
+
     fn fmt<O: Write>(&self, f: &mut Formatter<O>) -> fmt::Result {
-        f.pad(match self {
-            LimitKind::Records => "records",
-            LimitKind::Groups => "groups",
-            LimitKind::Transaction => "transaction",
-        })
+        match self {
+            LimitKind::Records => f.pad("records"),
+            LimitKind::Groups => f.pad("groups"),
+            LimitKind::Transaction => f.pad("transaction"),
+        }
+    }
+}
+
+impl Display for Reason {
+    ghost output = { λ reason. Some (reason_text reason) };
+
+    fn fmt<O: Write>(&self, f: &mut Formatter<O>) -> fmt::Result {
+        match self {
+            Reason::UnknownKind => f.pad("unknown kind"),
+            Reason::Misplaced => f.pad("misplaced"),
+            Reason::Cell(fault) => write!(f, "{fault}"),
+            Reason::Number { expected } => write!(f, "number expected {expected}"),
+            Reason::Limit(limit) => write!(f, "limit {limit}"),
+            Reason::Excess => f.pad("excess"),
+        }
+    }
+}
+
+impl Display for Level {
+    ghost output = { λ level. Some (level_text level) };
+
+    fn fmt<O: Write>(&self, f: &mut Formatter<O>) -> fmt::Result {
+        match self {
+            Level::E => f.pad("E"),
+            Level::G => f.pad("G"),
+            Level::T => f.pad("T"),
+            Level::R => f.pad("R"),
+            Level::F => f.pad("F"),
+        }
     }
 }
 
@@ -29,12 +64,10 @@ impl Error for LimitsFault {}
 
 impl Display for Bar {
     fn fmt<O: Write>(&self, f: &mut Formatter<O>) -> fmt::Result {
-        f.pad(match self {
-            Bar::Misplaced => "misplaced",
-            Bar::Limit(LimitKind::Records) => "limit records",
-            Bar::Limit(LimitKind::Groups) => "limit groups",
-            Bar::Limit(LimitKind::Transaction) => "limit transaction",
-        })
+        match self {
+            Bar::Misplaced => write!(f, "{}", Reason::Misplaced),
+            Bar::Limit(limit) => write!(f, "{}", Reason::Limit(*limit)),
+        }
     }
 }
 

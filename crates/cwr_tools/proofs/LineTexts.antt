@@ -9,6 +9,3 @@ if_ok (Err e) f h = tt
 
 pub seven : (s a b c d e f g : List ℕ) → s ≡ a ++ (b ++ (c ++ (d ++ (e ++ (f ++ g))))) → s ≡ a ++ b ++ c ++ d ++ e ++ f ++ g
 seven s a b c d e f g h = simp append_assoc h
-
-pub nine : (s a b c d e f g i j : List ℕ) → s ≡ a ++ (b ++ (c ++ (d ++ (e ++ (f ++ (g ++ (i ++ j))))))) → s ≡ a ++ b ++ c ++ d ++ e ++ f ++ g ++ i ++ j
-nine s a b c d e f g i j h = simp append_assoc h

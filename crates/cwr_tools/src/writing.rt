@@ -6,7 +6,7 @@ ghost use Rattle.cwr_fields.specs.Failures.{CountsFailure};
 
 use cwr_fields::Target;
 
-/// Writes a text and hands it on, or tells how many of its bytes were written before the writer failed.
+/// Writes a text and hands it on, or answers how many of its bytes were written before the writer failed.
 pub fn write_text<W: Target>(writer: &mut W, text: &[u8]) -> Result<(), usize>
     ensures whole { OnOk result (Appends (W.contents writer.old) (W.contents writer.new) text.now) }
     ensures part { IfErr result (λ written. (written ≤ length text.now) × Appends (W.contents writer.old) (W.contents writer.new) (take written text.now)) }

@@ -1,6 +1,6 @@
 use Rattle.std.proofs.Common.{ℕ, ◌∙◌, arith}
 use Rattle.std.proofs.lemmas.List.{take_rest, length-take, length-drop}
-use Rattle.cwr_tools.proofs.Moves.{writes_on}
+use Rattle.cwr_tools.proofs.TextsInParts.{writes_on}
 use Rattle.cwr_tools.proofs.writing.write_text.Goals as goal
 
 pub loop-written-preserved : goal.loop-written-preserved
