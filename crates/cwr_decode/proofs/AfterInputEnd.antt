@@ -1,5 +1,5 @@
 -- What a decoder represents after the end of the input, and with it a last line.
-use Rattle.std.proofs.Common.{◌≡◌, ℕ, zero, suc, ◌+◌, ◌-◌, ◌<◌, Bool, true, false, List, [], ◌∷◌, ◌++◌, length, map, Option, Some, None, refl, sym, ap, subst, ◌∙◌, append-nil, arith}
+use Rattle.std.proofs.Common.{◌≡◌, ℕ, zero, suc, ◌<◌, Bool, true, false, List, [], ◌∷◌, ◌++◌, length, map, Option, Some, None, refl, sym, ap, subst, ◌∙◌, append-nil, arith}
 use Rattle.std.specs.Prelude.{◌≢◌, IfSome}
 use Rattle.cwr_layouts.specs.declared.lines.LineEnd.{LineEnd}
 use Rattle.cwr_layouts.specs.declared.lines.LineEnd.TheVariants.{Open, Line, Over}
@@ -10,7 +10,7 @@ use Rattle.cwr_values.specs.Values.{symbol_of}
 use Rattle.cwr_decode.specs.declared.outcomes.Outcome.{Outcome}
 use Rattle.cwr_decode.specs.declared.machine.State.{State}
 use Rattle.cwr_decode.specs.declared.machine.State.TheVariants as states
-use Rattle.cwr_decode.specs.Machines.{Standing, IsReady, Judges, ClosesLine, again, at_start, end_input}
+use Rattle.cwr_decode.specs.Machines.{Standing, IsReady, Judges, ClosesLine, again, end_input}
 use Rattle.cwr_decode.specs.Represents.{Represents, RepresentsIn, IsInput, IsRight, items_out, text_of}
 use Rattle.cwr_decode.specs.Calls.{IsLive, Grows, TakesEnd}
 use Rattle.cwr_decode.proofs.ClosedTexts.{closed_text, closed_open}

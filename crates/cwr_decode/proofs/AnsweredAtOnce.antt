@@ -1,6 +1,6 @@
 -- What is answered before a piece is looked at.
-use Rattle.std.proofs.Common.{◌≡◌, ℕ, ◌+◌, ◌-◌, Bool, false, List, [], ◌++◌, Option, Some, None, refl, sym, ap, subst, ◌∙◌, append-nil, arith, inl, true≢false}
-use Rattle.std.specs.Prelude.{◌≢◌, IfSome}
+use Rattle.std.proofs.Common.{◌≡◌, ℕ, Bool, false, List, [], ◌++◌, Option, Some, None, refl, sym, ap, subst, ◌∙◌, append-nil, arith, inl, true≢false}
+use Rattle.std.specs.Prelude.{IfSome}
 use Rattle.cwr_layouts.specs.Records.{RecordValue}
 use Rattle.cwr_layouts.specs.Held.{held_record}
 use Rattle.cwr_shape.specs.Ranges.{LimitValues}

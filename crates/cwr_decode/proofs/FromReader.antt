@@ -14,8 +14,6 @@ use Rattle.cwr_decode.specs.declared.machine.State.{State}
 use Rattle.cwr_decode.specs.declared.machine.State.TheVariants as states
 use Rattle.cwr_decode.specs.declared.readings.ReadFault.{ReadFault}
 use Rattle.cwr_decode.specs.declared.readings.ReadFault.TheVariants as faults
-use Rattle.cwr_judge.specs.declared.refusals.Refusal.{Refusal}
-use Rattle.cwr_judge.specs.Ends.{IsAccepted, IsRefused, IsTruncated}
 use Rattle.cwr_decode.specs.Machines.{Standing, Leaves, Empties, again}
 use Rattle.cwr_decode.specs.Represents.{Represents, RepresentsSome, IsRight, ComesAt, MayFollow, EndsLine, items_out}
 use Rattle.cwr_decode.specs.Headline.{IsEndOf, outcome_end}

@@ -1,5 +1,5 @@
 -- A decoder of which nothing was read represents no input and no items.
-use Rattle.std.proofs.Common.{◌≡◌, ◌+◌, List, [], ◌∷◌, ◌++◌, None, refl, sym, ap, subst, arith}
+use Rattle.std.proofs.Common.{◌≡◌, List, [], ◌∷◌, ◌++◌, None, refl, sym, ap, subst, arith}
 use Rattle.std.specs.List.{AllZip}
 use Rattle.cwr_layouts.specs.Lines.{IsLineOf}
 use Rattle.cwr_shape.specs.declared.symbols.Symbol.{Symbol}

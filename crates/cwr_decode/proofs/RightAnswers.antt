@@ -23,8 +23,8 @@ use Rattle.cwr_decode.proofs.WholeLinesAccepted.{accepts_whole}
 use Rattle.cwr_decode.proofs.StoppedRefused.{refused_line, refused_long}
 use Rattle.cwr_decode.proofs.AfterAcceptedLine.{HasLine}
 use Rattle.cwr_decode.proofs.AfterLine.{reported_as, judged_stands}
-use Rattle.cwr_decode.proofs.StepsWithoutBytes.{IsPlain, Rest, follows_rest}
-use Rattle.cwr_decode.proofs.StepsWithoutBytes.{IsPlain, Rest, follows_rest}
+use Rattle.cwr_decode.proofs.StepsWithoutBytes.{IsPlain, follows_rest}
+use Rattle.cwr_decode.proofs.StepsWithoutBytes.{IsPlain, follows_rest}
 
 -- ---- what an answer says
 

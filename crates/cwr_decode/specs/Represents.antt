@@ -12,7 +12,6 @@ use Rattle.cwr_shape.specs.Outlines.{IsWhole}
 use Rattle.cwr_shape.specs.Tallies as tallies
 use Rattle.cwr_shape.specs.Tallies.{TallyValue, passed_limit, place_after}
 use Rattle.cwr_values.specs.declared.items.Item.{Item}
-use Rattle.cwr_values.specs.declared.items.Item.TheVariants as items
 use Rattle.cwr_values.specs.Values.{symbol_of}
 use Rattle.cwr_values.specs.Begins.{rows_so_far}
 use Rattle.cwr_decode.specs.declared.outcomes.Outcome.{Outcome}

@@ -21,7 +21,7 @@ use Rattle.cwr_shape.specs.Tallies.{is_header_of, type_after, transactions_begun
 use Rattle.cwr_shape.proofs.OneMore.{last_or-snoc, after_last-snoc, open_type-snoc}
 use Rattle.cwr_shape.proofs.StageStands.{next_exact}
 use Rattle.cwr_values.specs.declared.items.Item.{Item}
-use Rattle.cwr_values.specs.declared.items.Item.TheVariants.{Opened, Transaction}
+use Rattle.cwr_values.specs.declared.items.Item.TheVariants.{Transaction}
 use Rattle.cwr_values.specs.Values.{symbol_of}
 use Rattle.cwr_values.specs.Begins.{row_after, rows_after, rows_so_far}
 use Rattle.cwr_judge.specs.Items.{stands_in_transaction, record_sequence, continues_transaction, ends_transaction, transaction_at_end, own_item, items_after}

@@ -8,7 +8,6 @@ use Rattle.cwr_layouts.specs.declared.kinds.Kind.TheVariants as kinds
 use Rattle.cwr_layouts.specs.Records.{RecordValue, IsRecord, Row, record_of}
 use Rattle.cwr_layouts.proofs.RowLaws.{record_of-row_of}
 use Rattle.cwr_shape.specs.declared.symbols.Symbol.{Symbol}
-use Rattle.cwr_shape.specs.declared.symbols.Symbol.TheVariants.{Grh}
 use Rattle.cwr_shape.specs.Outlines.{Continues}
 use Rattle.cwr_shape.specs.Stages.{is_grh}
 use Rattle.cwr_shape.specs.Left.{Any}

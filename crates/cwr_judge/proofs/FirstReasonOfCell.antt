@@ -1,5 +1,5 @@
 -- Where a cell is not one of its type, or not the number that belongs there, the reason is the first that holds there.
-use Rattle.std.proofs.Common.{◌≡◌, ℕ, suc, ◌+◌, ◌-◌, ◌≤◌, true, List, [], ◌∷◌, ◌++◌, length, map, take, refl, sym, ap, ap₂, subst, ◌∙◌, arith, append_assoc, lit≤}
+use Rattle.std.proofs.Common.{◌≡◌, ℕ, suc, ◌-◌, ◌≤◌, true, List, [], ◌∷◌, ◌++◌, length, map, take, refl, sym, ap, ap₂, subst, ◌∙◌, arith, append_assoc, lit≤}
 use Rattle.std.specs.Prelude.{Some, None, slice_get, slice_index_or, option_and_then}
 use Rattle.std.specs.List.{IsAmong}
 use Rattle.std.proofs.lemmas.Option.{get_or_from_slice_get}
@@ -25,7 +25,7 @@ use Rattle.cwr_values.specs.Values.{symbol_of}
 use Rattle.cwr_values.specs.Begins.{rows_so_far}
 use Rattle.cwr_values.proofs.RowAt.{length-rows_so_far}
 use Rattle.cwr_judge.specs.Reasons.{Applies, IsReason, IsNumber, cell_of, field_of}
-use Rattle.cwr_judge.specs.Judged.{MayComeOf, named_symbol, cell}
+use Rattle.cwr_judge.specs.Judged.{MayComeOf, named_symbol}
 use Rattle.cwr_judge.proofs.FirstFaults.{candidate_kind}
 use Rattle.cwr_judge.proofs.FrontsBeforeFaults.{GoodBelow, symbol_below}
 use Rattle.cwr_judge.proofs.NoneAtFaults.{among_all}

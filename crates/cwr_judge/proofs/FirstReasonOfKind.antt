@@ -1,5 +1,5 @@
 -- Where no record of the line's kind may come, the reason is the first that holds at its first cell.
-use Rattle.std.proofs.Common.{◌≡◌, ℕ, ◌+◌, ◌≤◌, List, [], ◌∷◌, ◌++◌, length, map, take, sym, ap, ap₂, subst, ◌∙◌, arith, lit≤}
+use Rattle.std.proofs.Common.{◌≡◌, ℕ, ◌≤◌, List, [], ◌∷◌, ◌++◌, length, map, take, sym, ap, ap₂, subst, ◌∙◌, arith, lit≤}
 use Rattle.std.specs.Prelude.{Option, Some, None, slice_index_or, option_and_then}
 use Rattle.std.specs.List.{AllZip, AllByRecursion}
 use Rattle.cwr_fields.specs.declared.cell_types.CellFault.{CellFault}
@@ -25,13 +25,11 @@ use Rattle.cwr_shape.specs.Tallies.{ContinuesWith, IsBarredAmong, IsBarredFirst}
 use Rattle.cwr_values.specs.Values.{symbol_of}
 use Rattle.cwr_values.specs.Begins.{rows_so_far}
 use Rattle.cwr_judge.specs.Reasons.{Applies, IsReason, field_of, line_candidates, rank}
-use Rattle.cwr_judge.specs.Judged.{bar_reason, cell}
+use Rattle.cwr_judge.specs.Judged.{bar_reason}
 use Rattle.cwr_judge.proofs.RecordType.{type_holds, type_has_no_number}
 use Rattle.cwr_judge.proofs.BarsOfLines.{BarsWith, bars_seen, seen_bars, first_bars, any_with}
 use Rattle.cwr_judge.proofs.SymbolsOfLines.{named_by_lines, with_among}
 use Rattle.cwr_judge.proofs.NamedSymbols.{first_names}
-use Rattle.cwr_judge.proofs.MixedCells.{taken_at}
-use Rattle.cwr_judge.proofs.MixedCells.{taken_at}
 
 -- the lines are those of records in order, and the line after them, which is of a kind, is cut as it was taken
 pub record FollowsLines (records : List RecordValue) (lines : List (List ℕ)) (h : HeldLine) (line : List ℕ) (kind : Kind) : Type 0 where

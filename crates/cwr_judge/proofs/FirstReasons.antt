@@ -1,5 +1,5 @@
 -- The first field that is wrong of a line has the first reason that holds there.
-use Rattle.std.proofs.Common.{◌≡◌, ℕ, zero, suc, ◌+◌, ◌-◌, ◌≤◌, Bool, true, false, List, [], ◌∷◌, ◌++◌, length, map, take, refl, sym, ap, subst, ◌∙◌, arith, true≢false, lit≤}
+use Rattle.std.proofs.Common.{◌≡◌, ℕ, zero, suc, ◌+◌, ◌≤◌, Bool, true, false, List, [], ◌∷◌, ◌++◌, length, map, take, refl, sym, ap, subst, ◌∙◌, arith, true≢false, lit≤}
 use Rattle.std.specs.Prelude.{Option, Some, None, IsSomeAnd, slice_get, option_and_then}
 use Rattle.std.specs.List.{AllZip, AllByRecursion, IsAmong}
 use Rattle.std.proofs.lemmas.Option.{slice_get_past}

@@ -1,5 +1,5 @@
 -- From lines that were accepted, and the first good cells of one more, some transmission within the limits continues.
-use Rattle.std.proofs.Common.{◌≡◌, ℕ, zero, suc, ◌+◌, ◌-◌, ◌<◌, ◌≤◌, Bool, true, false, List, [], ◌∷◌, ◌++◌, length, map, take, drop, refl, sym, ap, subst, ◌∙◌, arith, append_assoc, ltb-true, ltb-false}
+use Rattle.std.proofs.Common.{◌≡◌, ℕ, zero, suc, ◌<◌, ◌≤◌, Bool, true, false, List, [], ◌∷◌, ◌++◌, length, map, take, drop, refl, sym, ap, subst, ◌∙◌, arith, append_assoc, ltb-true, ltb-false}
 use Rattle.std.specs.Prelude.{Option, Some, None, slice_get, nat_lt, unwrap_or, IsFalse, option_and_then}
 use Rattle.std.specs.List.{AllZip, AllByRecursion, IsAmong}
 use Rattle.std.proofs.lemmas.List.{map-append, take_all}

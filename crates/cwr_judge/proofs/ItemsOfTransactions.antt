@@ -19,8 +19,8 @@ use Rattle.cwr_values.specs.Values.{symbol_by}
 use Rattle.cwr_values.proofs.RowsByParts.{rows_inside, rows_of_transactions}
 use Rattle.cwr_values.specs.declared.items.Item.{Item}
 use Rattle.cwr_values.specs.declared.items.Item.TheVariants.{Transaction}
-use Rattle.cwr_judge.specs.Items.{stands_in_transaction, record_sequence, continues_transaction, ends_transaction, transaction_at_end, own_item, items_at, items_after, items, group_items, value_items}
-use Rattle.cwr_judge.specs.Items.{stands_in_transaction, record_sequence, continues_transaction, ends_transaction, transaction_at_end, own_item, items_at, items_after, items, group_items, value_items}
+use Rattle.cwr_judge.specs.Items.{stands_in_transaction, record_sequence, continues_transaction, ends_transaction, transaction_at_end, own_item, items_at, items_after}
+use Rattle.cwr_judge.specs.Items.{stands_in_transaction, record_sequence, continues_transaction, ends_transaction, transaction_at_end, own_item, items_at, items_after}
 
 pub items-append : (before xs ys : List Row) → items_after before (xs ++ ys) ≡ items_after before xs ++ items_after (before ++ xs) ys
 unfolding items_after

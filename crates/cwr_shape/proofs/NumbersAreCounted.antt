@@ -1,5 +1,5 @@
 -- The numbers of a transmission, record by record: counters give the same as sums over its groups and transactions.
-use Rattle.std.proofs.Common.{◌≡◌, ℕ, suc, ◌+◌, ◌-◌, Bool, false, cond, List, [], ◌∷◌, ◌++◌, length, map, refl, sym, ap, ap₂, subst, ◌∙◌, arith}
+use Rattle.std.proofs.Common.{◌≡◌, ℕ, suc, ◌+◌, Bool, false, cond, List, [], ◌∷◌, ◌++◌, length, map, refl, sym, ap, ap₂, subst, ◌∙◌, arith}
 use Rattle.std.specs.Prelude.{sum, sum_by, slice_index_or}
 use Rattle.std.specs.List.{AllByRecursion, flat_map, enumerate_from}
 use Rattle.std.proofs.lemmas.List.{length-map}
@@ -15,7 +15,6 @@ use Rattle.cwr_shape.specs.Outlines.{GroupOutline, group_symbols, symbols_of, Is
 use Rattle.cwr_shape.specs.Numbers.{transaction_numbers, group_records, group_numbers, all_records, numbers_of, lengths_of, symbol_kind}
 use Rattle.cwr_shape.specs.Tallies.{is_header_of, open_type, counts_of}
 use Rattle.cwr_shape.specs.Counting.{counts_with_group, counts_with_header, counts_with_other, expected_numbers}
-use Rattle.cwr_shape.proofs.HeadFirst.{rest_after_head}
 use Rattle.cwr_shape.proofs.OneMore.{types_after, open_type_after}
 use Rattle.cwr_shape.proofs.TransactionNumbers.{walk, counts_after, walk-append, counts_after-append, types_after-append, walk_at, counted, Moved, walks_transaction}
 

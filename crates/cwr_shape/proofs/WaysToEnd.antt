@@ -1,5 +1,5 @@
 -- From each stage one way to end has exactly the numbers of the table.
-use Rattle.std.proofs.Common.{◌≡◌, ◌+◌, true, List, [], ◌∷◌, ◌++◌, length, Some, refl, sym, ap, subst, ◌∙◌, true≢false, append-nil}
+use Rattle.std.proofs.Common.{◌≡◌, true, List, [], ◌∷◌, ◌++◌, length, Some, refl, sym, ap, subst, ◌∙◌, true≢false, append-nil}
 use Rattle.std.specs.List.{count_by}
 use Rattle.std.proofs.lemmas.Bool.{and_parts}
 use Rattle.cwr_fields.specs.declared.codes.Role.TheVariants.{Assignor, Acquirer}

@@ -1,5 +1,5 @@
 -- The texts that `check` and `show` write for the items and the end of a text.
-use Rattle.std.specs.Prelude.{ℕ, Bool, true, false, not, List, [], ◌∷◌, ◌++◌, codes, decimal, length, filter, take, zip, count_by, if◌then◌else◌, flat_map, sum_by}
+use Rattle.std.specs.Prelude.{ℕ, not, List, [], ◌∷◌, ◌++◌, codes, decimal, length, filter, take, zip, count_by, if◌then◌else◌, flat_map, sum_by}
 use Rattle.std.specs.List.{after_last, enumerate_from}
 use Rattle.cwr_fields.specs.Bytes.{is_spaces, trimmed}
 use Rattle.cwr_layouts.specs.Kinds.{letters}

@@ -8,7 +8,6 @@ use Rattle.cwr_layouts.specs.declared.kinds.Kind.TheVariants as kinds
 use Rattle.cwr_layouts.specs.Records.{RecordValue}
 use Rattle.cwr_values.specs.Values.{TransmissionValue}
 use Rattle.cwr_values.specs.Rows.{rows}
-use Rattle.cwr_values.specs.declared.items.Item.TheVariants.{Transaction}
 use Rattle.cwr_judge.specs.Items.{items, items_after}
 use Rattle.cwr_shape.specs.declared.reasons.Level.{Level}
 use Rattle.cwr_shape.specs.declared.reasons.Level.TheVariants.{T, R, F}
