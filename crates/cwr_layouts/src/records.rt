@@ -161,6 +161,14 @@ impl<'a> RecordRef<'a> {
         C::read(self.cell(j)?)
     }
 
+    /// The whole line that it is kept in. The bytes of its derived cells say nothing.
+    pub(crate) fn whole_line(&self) -> &'a [u8]
+        ensures whole { length result.now ≡ line_width self.now.kind }
+        ensures carries { self.now ≡ record_in self.now.kind result.now }
+    {
+        self.line
+    }
+
     /// The record, copied out of where it is kept. It takes no memory.
     pub fn to_record(&self) -> Record
         ensures value { result ≡ self.now }

@@ -237,6 +237,13 @@ impl Tally {
         }
     }
 
+    /// The limits that the transmission is to keep to.
+    pub fn limits(&self) -> Limits
+        ensures { result ≡ self.now.limits }
+    {
+        self.limits
+    }
+
     /// How far the records have come.
     pub fn stage(&self) -> Stage
         ensures value { result ≡ self.now.stage }
