@@ -1,2 +1,5 @@
 pub mod Moves
 pub mod Puts
+pub mod CountedOn
+pub mod TransactionTexts
+pub mod PutRows
