@@ -16,7 +16,7 @@ pub(crate) fn put_row<W: Target>(
     sink: &mut Sink<W>,
     line: &mut CanonicalLine,
     shown: &RecordRef<'_>,
-    numbers: &[u32],
+    numbers: &[u64],
 ) -> Result<(), SinkFault>
     requires { has_failed sink.old ≡ false }
     ensures puts { Puts W.contents W.failures (canonical_line (row_of numbers.now shown.now)) result sink.old sink.new }
@@ -31,7 +31,7 @@ pub(crate) fn put_transaction<W: Target>(
     sink: &mut Sink<W>,
     line: &mut CanonicalLine,
     transaction: &Transaction,
-    number: u32,
+    number: u64,
 ) -> Result<(), SinkFault>
     requires unfailed { has_failed sink.old ≡ false }
     requires few { length transaction.now ≤ 999999 }
@@ -40,7 +40,7 @@ pub(crate) fn put_transaction<W: Target>(
 {
     let mut i = 0;
     while let Some(shown) = transaction.record(i) {
-        put_row(sink, line, &shown, &[number, i as u32])?;
+        put_row(sink, line, &shown, &[number, i as u64])?;
         i += 1;
     }
     Ok(())

@@ -102,6 +102,13 @@ impl<W: Target> Sink<W> {
         self.written
     }
 
+    /// Whether the writer failed.
+    pub(crate) fn has_failed(&self) -> bool
+        ensures { result ≡ has_failed self.now }
+    {
+        self.failed
+    }
+
     /// The writer, with what was written.
     pub fn into_inner(self) -> W
         ensures { result ≡ writer_of self }

@@ -29,7 +29,7 @@ fn push(text: &mut Buffer, bytes: &[u8])
 
 /// Writes the number's last decimal digits, as many as the cell is wide, with leading zeros.
 #[inline(always)]
-fn write_digits(cell: &mut [u8], number: u32)
+fn write_digits(cell: &mut [u8], number: u64)
     ensures { cell.new ≡ digits (length cell.old) number }
 {
     let mut rest = number;
@@ -43,7 +43,7 @@ fn write_digits(cell: &mut [u8], number: u32)
 
 /// Appends the number's last decimal digits, so many, with leading zeros.
 #[inline(always)]
-fn push_digits<const WIDTH: usize>(text: &mut Buffer, number: u32)
+fn push_digits<const WIDTH: usize>(text: &mut Buffer, number: u64)
     requires { length text.old.items + WIDTH ≤ LONGEST }
     ensures value { text.new.items ≡ text.old.items ++ digits WIDTH number }
     ensures len { length text.new.items ≡ length text.old.items + WIDTH }
@@ -88,7 +88,7 @@ fn letters(kind: Kind) -> &'static [u8]
 
 /// Number `i` of those given, and 0 where there is none.
 #[inline(always)]
-fn number(numbers: &[u32], i: usize) -> u32
+fn number(numbers: &[u64], i: usize) -> u64
     ensures { result ≡ slice_index numbers.now i }
 {
     numbers.get(i).copied().unwrap_or(0)
@@ -97,7 +97,7 @@ fn number(numbers: &[u32], i: usize) -> u32
 /// Appends what a line of the kind has after its record type: the numbers, and from a whole line of the kind all that
 /// isn't one.
 #[inline(always)]
-fn push_numbered(text: &mut Buffer, kind: Kind, line: &[u8], numbers: &[u32])
+fn push_numbered(text: &mut Buffer, kind: Kind, line: &[u8], numbers: &[u64])
     requires begun { length text.old.items ≡ 3 }
     requires whole { length line.now ≡ line_width kind }
     ensures value { text.new.items ≡ text.old.items ++ numbered_part kind numbers.now line.now }
@@ -158,7 +158,7 @@ impl CanonicalLine {
     /// Sets the line of a record: its cells in full width, in the place of its derived cells the numbers, in their
     /// order and with leading zeros, and then CR and LF. A number that isn't given is 0, and of one that is too large
     /// for its cell the last digits are set.
-    pub fn set(&mut self, shown: &RecordRef<'_>, numbers: &[u32])
+    pub fn set(&mut self, shown: &RecordRef<'_>, numbers: &[u64])
         ensures { self.new ≡ full_line (row_of numbers.now shown.now) ++ 13 ∷ 10 ∷ [] }
     {
         let kind = shown.kind();
