@@ -6,3 +6,5 @@ pub mod PutRows
 pub mod Comes
 pub mod Adding
 pub mod Groups
+pub mod Ready
+pub mod Reaching
