@@ -8,3 +8,6 @@ pub mod Adding
 pub mod Groups
 pub mod Ready
 pub mod Reaching
+pub mod CountedAll
+pub mod OpenTypes
+pub mod Transactions

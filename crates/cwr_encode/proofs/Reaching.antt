@@ -1,30 +1,28 @@
 -- Within which limits a transmission goes on by a whole transaction of the open group's type: by sums.
-use Rattle.std.proofs.Common.{◌≡◌, ℕ, ◌+◌, ◌-◌, ◌≤◌, Bool, true, false, cond, List, [], ◌∷◌, ◌++◌, length, refl, sym, ap, ap₂, subst, ◌∙◌, arith, append_assoc, append-nil}
+use Rattle.std.proofs.Common.{◌≡◌, ℕ, ◌+◌, ◌≤◌, Bool, true, false, cond, List, [], ◌∷◌, ◌++◌, length, refl, sym, ap, subst, ◌∙◌, arith, append_assoc, append-nil}
 use Rattle.std.specs.Prelude.{◌↔◌}
-use Rattle.std.specs.List.{count_by, list_all}
+use Rattle.std.specs.List.{count_by}
 use Rattle.std.proofs.lemmas.List.{length-append}
 use Rattle.cwr_fields.specs.declared.codes.TransactionType.{TransactionType}
-use Rattle.cwr_fields.specs.declared.codes.TransactionType.TheVariants.{Acknowledgement}
 use Rattle.cwr_layouts.specs.declared.kinds.Kind.TheVariants as kinds
 use Rattle.cwr_shape.specs.declared.symbols.Symbol.{Symbol}
 use Rattle.cwr_shape.specs.declared.symbols.Symbol.TheVariants.{Plain}
 use Rattle.cwr_shape.specs.declared.stages.Stage.{Stage}
 use Rattle.cwr_shape.specs.declared.limits.LimitKind.TheVariants.{Records, Groups, Transaction}
 use Rattle.cwr_shape.specs.declared.tallies.Counts.{Counts}
-use Rattle.cwr_shape.specs.Ranges.{LimitValues}
 use Rattle.cwr_shape.specs.Shapes.{IsShape}
 use Rattle.cwr_shape.specs.Stages.{is_grh, stage_after}
 use Rattle.cwr_shape.specs.Needs.{needs_at}
 use Rattle.cwr_shape.specs.Outlines.{KeepsTo, IsWithin, GoesOn}
 use Rattle.cwr_shape.specs.Left.{Any, StandsAt}
 use Rattle.cwr_shape.specs.Tallies.{TallyValue, StandsFor, open_type, counts_of, open_records}
-use Rattle.cwr_shape.specs.Counting.{open_at, counts_with, counts_with_header}
-use Rattle.cwr_shape.proofs.Walks.{headed_shape, is_inner}
+use Rattle.cwr_shape.specs.Counting.{counts_with, counts_with_header}
+use Rattle.cwr_shape.proofs.Walks.{headed_shape}
 use Rattle.cwr_shape.proofs.Within.{Keeps, is_inside, open_by, inner_forth}
 use Rattle.cwr_shape.proofs.Reach.{records_reach, groups_reach, transaction_reach, transaction_goes, within_goes, open_named, KeptSoFar, kept_within, to_start}
 use Rattle.cwr_encode.specs.Encoders.{reached, IsInGroup, IsBetween}
 use Rattle.cwr_encode.proofs.Comes.{Ending, ending_at, least_transaction}
-use Rattle.cwr_encode.proofs.CountedOn.{Inside, behind_transaction}
+use Rattle.cwr_encode.proofs.CountedOn.{behind_transaction}
 use Rattle.cwr_encode.proofs.Ready.{takes}
 
 at_most : (b : Bool) (n limit : ℕ) → n ≤ limit → cond b n 0 ≤ limit

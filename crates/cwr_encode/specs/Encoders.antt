@@ -1,7 +1,8 @@
 -- What an encoder represents: the records that it accepted. What its writer has is their part of the canonical text.
-use Rattle.std.specs.Prelude.{◌≡◌, ℕ, Bool, true, false, List, [], ◌∷◌, ◌++◌, map, Option, Some, None, unwrap_or, Result, Ok, Err}
+use Rattle.std.specs.Prelude.{◌≡◌, ℕ, ◌+◌, Bool, true, false, List, [], ◌∷◌, ◌++◌, map, Option, Some, None, unwrap_or, Result, Ok, Err, nat_lt, if◌then◌else◌}
 use Rattle.std.specs.List.{AllByRecursion, last_or, flat_map}
 use Rattle.cwr_fields.specs.Failures.{one_more_failure}
+use Rattle.cwr_fields.specs.declared.codes.TransactionType.{TransactionType}
 use Rattle.cwr_layouts.specs.declared.kinds.Kind.{Kind}
 use Rattle.cwr_layouts.specs.declared.kinds.Kind.TheVariants as kinds
 use Rattle.cwr_layouts.specs.Records.{RecordValue, IsRecord}
@@ -13,6 +14,8 @@ use Rattle.cwr_shape.specs.declared.stages.Step.TheVariants as steps
 use Rattle.cwr_shape.specs.declared.tallies.Bar.{Bar}
 use Rattle.cwr_shape.specs.declared.tallies.Bar.TheVariants as bars
 use Rattle.cwr_shape.specs.Numbers.{symbol_kind, number_in}
+use Rattle.cwr_shape.specs.declared.limits.LimitKind.{LimitKind}
+use Rattle.cwr_shape.specs.declared.limits.LimitKind.TheVariants.{Records, Transaction}
 use Rattle.cwr_shape.specs.Ranges.{LimitValues}
 use Rattle.cwr_shape.specs.Outlines.{IsWithin, GoesOn}
 use Rattle.cwr_shape.specs.Left.{Any}
@@ -152,3 +155,14 @@ IsNextNumber t kind j n = (xs : List Symbol) (s : Symbol) → tallies.StandsFor 
 abbrev pub fault_of : Bar → EncodeFault
 fault_of bars.Misplaced = OutOfOrder
 fault_of (bars.Limit limit) = Limit limit
+
+-- a group of the type is open, in which each transaction is whole
+pub record IsReady (ty : TransactionType) (xs : List Symbol) : Type 0 where
+  pub same_type : open_type xs ≡ ty
+  pub inside : IsInGroup (reached xs)
+  pub between : IsBetween xs
+
+-- the first limit that is passed with a transaction of so many records more, and GRT and TRL
+abbrev pub passed_with : TallyValue → ℕ → Option LimitKind
+passed_with t n = if nat_lt t.limits.records (t.counts.records + 2 + n) then Some Records
+    else (if nat_lt t.limits.transaction n then Some Transaction else None)

@@ -1,20 +1,22 @@
 //! Transmissions that are written call by call.
 
-ghost use Rattle.std.specs.Prelude.{◌≡◌, ◌↔◌, IsTrue, ℕ, List, Option, [], ◌∷◌, map, true, false, IfErr};
+ghost use Rattle.std.specs.Prelude.{◌≡◌, ◌↔◌, ◌≤◌, IsTrue, ℕ, List, Option, [], ◌∷◌, length, map, true, false, IfErr, MatchOption};
 ghost use Rattle.cwr_layouts.specs.Records.{RecordValue, row_of};
 ghost use Rattle.cwr_shape.specs.declared.symbols.Symbol.{Symbol};
 ghost use Rattle.cwr_shape.specs.Tallies.{StandsFor};
 ghost use Rattle.cwr_values.specs.Values.{symbol_of as symbol_by_cells};
 ghost use Rattle.cwr_values.specs.Rows.{canonical_line};
 ghost use Rattle.cwr_encode.specs.Sinks.{Puts};
-ghost use Rattle.cwr_encode.specs.Encoders.{Encodes, Adds, AnswersAgain, IsInGroup, IsNextNumber, JudgesFoot, JudgesGroup, JudgesOpening, MayBeginGroup, fault_of, reached, reached_at, is_stopped, limits_of, target_of, bytes_written};
+ghost use Rattle.cwr_encode.specs.Texts.{text_from};
+ghost use Rattle.cwr_encode.specs.Encoders.{Encodes, Adds, AnswersAgain, IsBetween, IsInGroup, IsNextNumber, IsReady, JudgesTransaction, JudgesFoot, JudgesGroup, JudgesOpening, MayBeginGroup, fault_of, reached, reached_at, is_stopped, limits_of, target_of, bytes_written};
 
-use crate::rows::put_row;
+use crate::checks::{count_all, has_header, may_end, passed};
+use crate::rows::{put_row, put_transaction};
 use crate::sinks::Sink;
-use cwr_fields::Target;
+use cwr_fields::{Target, TransactionType};
 use cwr_layouts::{CanonicalLine, Kind, Record, RecordRef};
 use cwr_shape::{Bar, LimitKind, Limits, Stage, Step, Symbol, Tally};
-use cwr_values::symbol_of;
+use cwr_values::{Transaction, symbol_of};
 use std::error::Error;
 use std::fmt::{self, Display, Formatter, Write};
 
@@ -189,6 +191,66 @@ impl<W: Target> Encoder<W> {
             }
             Err(bar) => Err(fault_of(bar)),
         }
+    }
+
+    /// The type of the open group. `None` where none is open, and where a transaction is open that isn't whole.
+    fn open_type(&self) -> Option<TransactionType>
+        ensures { MatchOption result ((xs : List Symbol) → StandsFor self.now.tally xs → IsBetween xs → ¬ IsInGroup (reached xs))
+            (λ ty. (xs : List Symbol) → StandsFor self.now.tally xs → IsReady ty xs) }
+    {
+        let stage = self.tally.stage();
+        match stage {
+            Stage::Within(ty, step) => match step {
+                Step::InGroup => Some(ty),
+                _ => { if may_end(stage) { Some(ty) } else { None } }
+            },
+            _ => None,
+        }
+    }
+
+    /// Puts the text of a whole transaction, which has that number in its group.
+    fn put_all(&mut self, transaction: &Transaction, number: u64) -> Result<(), EncodeFault>
+        requires unfailed { is_stopped self.old ≡ false }
+        requires few { length transaction.now ≤ 999999 }
+        ensures puts { Puts W.contents W.failures (text_from number 0 transaction.now) result self.old.sink self.new.sink }
+        ensures fault { IfErr result (λ e. e ≡ EncodeFault.Writer (bytes_written self.new)) }
+        ensures tally { self.new.tally ≡ self.old.tally }
+    {
+        match put_transaction(&mut self.sink, &mut self.line, transaction, number) {
+            Ok(()) => Ok(()),
+            Err(fault) => Err(EncodeFault::Writer {
+                written: fault.written,
+            }),
+        }
+    }
+
+    /// Writes a whole transaction of the open group's type. `Limit` is answered where no transmission within the
+    /// limits has it here.
+    pub fn transaction(&mut self, transaction: &Transaction) -> Result<(), EncodeFault>
+        ensures again { is_stopped self.old ≡ true → AnswersAgain result self.old self.new }
+        ensures judged { is_stopped self.old ≡ false → (start : Option (List ℕ)) (records : List RecordValue) → Encodes W.contents start records self.old
+            → JudgesTransaction (limits_of self.old) transaction.now (map symbol_by_cells records) result }
+        ensures adds { is_stopped self.old ≡ false → Adds W.contents W.failures transaction.now result self.old self.new }
+        ensures limits { limits_of self.new ≡ limits_of self.old }
+    {
+        if self.is_stopped() {
+            return Err(self.fault());
+        }
+        let Some(ty) = self.open_type() else {
+            return Err(EncodeFault::OutOfOrder);
+        };
+        if !has_header(transaction, ty) {
+            return Err(EncodeFault::WrongKind);
+        }
+        if !transaction.complete() {
+            return Err(EncodeFault::Incomplete);
+        }
+        if let Some(limit) = passed(&self.tally, transaction.len()) {
+            return Err(EncodeFault::Limit(limit));
+        }
+        let number = self.number(transaction.kind(), 2);
+        count_all(&mut self.tally, transaction);
+        self.put_all(transaction, number)
     }
 
     /// Writes the GRT of the open group, which has a transaction.
