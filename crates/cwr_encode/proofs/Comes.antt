@@ -179,6 +179,31 @@ trailer_comes t xs st e = by t.stage refl (reached_stands xs t.stage st.stands �
     by (stages.Within ty steps.InGroup) at h = absurd (cc h)
     by (stages.Within ty step) at h = absurd (cc h)
 
+no_trailer : (ty : TransactionType) → header_step ty (Plain kinds.Trl) ≡ None
+no_trailer Agreement = refl
+no_trailer NewWork = refl
+no_trailer RevisedWork = refl
+no_trailer Acknowledgement = refl
+
+pub trailer_last : (t : TallyValue) (xs : List Symbol) → StandsFor t xs → MayCome t.limits xs (Plain kinds.Trl) → reached xs ≡ reached_to.GroupFoot
+trailer_last t xs st g = sym (reached_stands xs t.stage st.stands) ∙ by t.stage ((next_exact xs t.stage (Plain kinds.Trl) (next_stage t.stage (Plain kinds.Trl)) refl st.stands).1 (g.0, g.1, tt, g.3))
+  where
+    next_none : (ty : TransactionType) → is_some (within ty (header_step ty (Plain kinds.Trl))) ≡ true → ⊥
+    next_none ty h = true≢false (sym h ∙ ap (λ (o : Option Step). is_some (within ty o)) (no_trailer ty))
+
+    by : (stage : Stage) → is_some (next_stage stage (Plain kinds.Trl)) ≡ true → reached_at stage ≡ reached_to.GroupFoot
+    by stages.Closed h = refl
+    by stages.Start h = absurd (true≢false (sym h))
+    by stages.Opened h = absurd (true≢false (sym h))
+    by stages.Ended h = absurd (true≢false (sym h))
+    by (stages.Within ty steps.InGroup) h = absurd (next_none ty h)
+    by (stages.Within ty steps.Acked) h = absurd (next_none ty h)
+    by (stages.Within ty steps.Both) h = absurd (next_none ty h)
+    by (stages.Within ty steps.Writer) h = absurd (next_none ty h)
+    by (stages.Within ty steps.OtherWriter) h = absurd (next_none ty h)
+    by (stages.Within ty steps.Tail) h = absurd (next_none ty h)
+    by (stages.Within ty step) h = absurd (true≢false (sym h))
+
 -- ---- GRH
 
 -- where a group may begin, transmissions go on by a GRH of each type

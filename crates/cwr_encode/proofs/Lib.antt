@@ -11,3 +11,4 @@ pub mod Reaching
 pub mod CountedAll
 pub mod OpenTypes
 pub mod Transactions
+pub mod Ends

@@ -166,3 +166,8 @@ pub record IsReady (ty : TransactionType) (xs : List Symbol) : Type 0 where
 abbrev pub passed_with : TallyValue → ℕ → Option LimitKind
 passed_with t n = if nat_lt t.limits.records (t.counts.records + 2 + n) then Some Records
     else (if nat_lt t.limits.transaction n then Some Transaction else None)
+
+-- why a transmission may not end: after HDR it has no group, and else the call is out of order
+abbrev pub end_fault : Reached → EncodeFault
+end_fault reached_to.Opening = Incomplete
+end_fault r = OutOfOrder

@@ -1,20 +1,23 @@
 //! Transmissions that are written call by call.
 
-ghost use Rattle.std.specs.Prelude.{◌≡◌, ◌↔◌, ◌≤◌, IsTrue, ℕ, List, Option, [], ◌∷◌, length, map, true, false, IfErr, MatchOption};
+ghost use Rattle.std.specs.Prelude.{◌≡◌, ◌↔◌, ◌≤◌, IsTrue, ℕ, List, Option, [], ◌∷◌, length, map, true, false, IfErr, MatchOption, IfOk, Err};
 ghost use Rattle.cwr_layouts.specs.Records.{RecordValue, row_of};
 ghost use Rattle.cwr_shape.specs.declared.symbols.Symbol.{Symbol};
 ghost use Rattle.cwr_shape.specs.Tallies.{StandsFor};
 ghost use Rattle.cwr_values.specs.Values.{symbol_of as symbol_by_cells};
-ghost use Rattle.cwr_values.specs.Rows.{canonical_line};
-ghost use Rattle.cwr_encode.specs.Sinks.{Puts};
+ghost use Rattle.cwr_values.specs.Rows.{canonical_line, trailer};
+ghost use Rattle.cwr_encode.specs.Sinks.{Puts, writer_of, written_of};
 ghost use Rattle.cwr_encode.specs.Texts.{text_from};
-ghost use Rattle.cwr_encode.specs.Encoders.{Encodes, Adds, AnswersAgain, IsBetween, IsInGroup, IsNextNumber, IsReady, JudgesTransaction, JudgesFoot, JudgesGroup, JudgesOpening, MayBeginGroup, fault_of, reached, reached_at, is_stopped, limits_of, target_of, bytes_written};
+ghost use Rattle.cwr_encode.specs.Encoders.{Encodes, Adds, AnswersAgain, IsBetween, IsInGroup, IsNextNumber, IsReady, JudgesTransaction, JudgesFoot, JudgesGroup, JudgesOpening, MayBeginGroup, end_fault, fault_of, reached, reached_at, is_stopped, limits_of, target_of, bytes_written};
+ghost use Rattle.std.specs.Io.KnownBytes.{Keeps};
+ghost use Rattle.cwr_fields.specs.Failures.{one_more_failure};
+ghost use Rattle.cwr_encode.specs.Finishes.{Finishes, JudgesEnd};
 
 use crate::checks::{count_all, has_header, may_end, passed};
 use crate::rows::{put_row, put_transaction};
 use crate::sinks::Sink;
 use cwr_fields::{Target, TransactionType};
-use cwr_layouts::{CanonicalLine, Kind, Record, RecordRef};
+use cwr_layouts::{CanonicalLine, Draft, Kind, Record, RecordRef};
 use cwr_shape::{Bar, LimitKind, Limits, Stage, Step, Symbol, Tally};
 use cwr_values::{Transaction, symbol_of};
 use std::error::Error;
@@ -281,6 +284,43 @@ impl<W: Target> Encoder<W> {
         self.put(&shown, &[group, transactions, records])
     }
 
+    /// Writes TRL.
+    fn end(&mut self) -> Result<(), EncodeFault>
+        ensures again { is_stopped self.old ≡ true → AnswersAgain result self.old self.new }
+        ensures judged { is_stopped self.old ≡ false → (start : Option (List ℕ)) (records : List RecordValue) → Encodes W.contents start records self.old
+            → JudgesEnd (limits_of self.old) (map symbol_by_cells records) result }
+        ensures adds { is_stopped self.old ≡ false → Adds W.contents W.failures (trailer ∷ []) result self.old self.new }
+        ensures limits { limits_of self.new ≡ limits_of self.old }
+    {
+        if self.is_stopped() {
+            return Err(self.fault());
+        }
+        if self.tally.admits(Symbol::Plain(Kind::Trl)).is_err() {
+            return Err(end_fault(self.reached()));
+        }
+        let groups = self.number(Kind::Trl, 2);
+        let transactions = self.number(Kind::Trl, 3);
+        let records = self.number(Kind::Trl, 4);
+        self.tally.step(Symbol::Plain(Kind::Trl));
+        let last = trailer();
+        self.put(&last.view(), &[groups, transactions, records])
+    }
+
+    /// Writes TRL, and has the writer hand on all that was written. Gives the writer back, and answers how many bytes
+    /// were written in all: the length of the transmission's canonical text.
+    pub fn finish(self) -> (W, Result<u64, EncodeFault>)
+        ensures again { is_stopped self ≡ true → (result.0 ≡ target_of self) × (result.1 ≡ Err (EncodeFault.Writer (bytes_written self))) }
+        ensures judged { is_stopped self ≡ false → (start : Option (List ℕ)) (records : List RecordValue) → Encodes W.contents start records self
+            → JudgesEnd (limits_of self) (map symbol_by_cells records) result.1 }
+        ensures finishes { is_stopped self ≡ false → Finishes W.contents W.failures self result.0 result.1 }
+    {
+        let mut encoder = self;
+        match encoder.end() {
+            Ok(()) => flushed(encoder.sink),
+            Err(fault) => (encoder.sink.into_inner(), Err(fault)),
+        }
+    }
+
     /// Gives the writer back, with what was written. Nothing more is written.
     pub fn abandon(self) -> W
         ensures { result ≡ target_of self }
@@ -318,6 +358,40 @@ fn is_of(shown: &RecordRef<'_>, kind: Kind) -> bool
     ensures { IsTrue result ↔ (shown.now.kind ≡ kind) }
 {
     shown.kind() == kind
+}
+
+/// Why a transmission may not end: after HDR it has no group, and else the call is out of order.
+fn end_fault(reached: Reached) -> EncodeFault
+    ensures { result ≡ end_fault reached }
+{
+    match reached {
+        Reached::Opening => EncodeFault::Incomplete,
+        _ => EncodeFault::OutOfOrder,
+    }
+}
+
+/// A TRL record.
+fn trailer() -> Record
+    ensures { result ≡ trailer }
+{
+    match Draft::blank(Kind::Trl).done() {
+        Ok(last) => last,
+        Err(_) => unreachable!(),
+    }
+}
+
+/// The writer of a sink, once it handed on what was written, and how many bytes that are.
+fn flushed<W: Target>(sink: Sink<W>) -> (W, Result<u64, EncodeFault>)
+    ensures kept { Keeps (W.contents (writer_of sink)) (W.contents result.0) }
+    ensures ok { IfOk result.1 (λ n. (n ≡ written_of sink) × (W.failures result.0 ≡ W.failures (writer_of sink))) }
+    ensures err { IfErr result.1 (λ e. (e ≡ EncodeFault.Writer (written_of sink)) × (W.failures result.0 ≡ one_more_failure (W.failures (writer_of sink)))) }
+{
+    let written = sink.written();
+    let mut writer = sink.into_inner();
+    match writer.flush() {
+        Ok(()) => (writer, Ok(written)),
+        Err(_) => (writer, Err(EncodeFault::Writer { written })),
+    }
 }
 
 /// What came last, at a stage.
