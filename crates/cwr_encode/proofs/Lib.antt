@@ -12,3 +12,4 @@ pub mod CountedAll
 pub mod OpenTypes
 pub mod Transactions
 pub mod Ends
+pub mod PartLaws
