@@ -78,6 +78,17 @@ enum Reached {
 
 /// Writes a transmission call by call, with its sequence numbers, group IDs and counts: `open` with its HDR record,
 /// for each group `group`, its transactions by `transaction`, and `end_group`, and at last `finish`.
+///
+/// ```
+/// let mut encoder = Encoder::new(writer, limits);
+/// encoder.open(&opening)?;
+/// encoder.group(&head)?;
+/// for transaction in &transactions {
+///     encoder.transaction(transaction)?;
+/// }
+/// encoder.end_group(&foot)?;
+/// let (writer, written) = encoder.finish();
+/// ```
 #[derive(Drop)]
 pub struct Encoder<W: Target> {
     sink: Sink<W>,
