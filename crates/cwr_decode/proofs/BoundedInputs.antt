@@ -28,7 +28,7 @@ text_short (row ∷ rows) [] h = absurd h
 text_short (row ∷ rows) (line ∷ lines) h
     = omega (arith, text_short rows lines h.1, h.0.1, length-append (line ++ 10 ∷ []) (text_of lines), length-append line (10 ∷ []))
 
--- the limits hold each accepted record, and behind those that aren't a whole transmission one more
+-- the limits hold each accepted record, and after those that aren't a whole transmission one more
 pub accepted_few : (tally : TallyValue) (lines : List (List ℕ)) (records : List RecordValue) → AreAccepted tally lines records → length records ≤ tally.limits.records
 accepted_few tally lines records read = by read.counted.within.3
   where
@@ -49,7 +49,7 @@ one_more tally lines records read left = by read.counted.within.3
     by (s ∷ rest, e) = omega (arith, read.counted.within.2.0, ap length e, length-append xs (s ∷ rest), length-map records symbol_of)
 
 -- the input is no longer than its text
-input_text : (over : Bool) (input text : List ℕ) → IsInput over input text → length input ≤ length text
+input_text : (input_ended : Bool) (input text : List ℕ) → IsInput input_ended input text → length input ≤ length text
 input_text false input text h = omega (arith, ap length h)
 input_text true input text h = let c = closed_begins input in omega (arith, ap length h, ap length c.1, length-append input c.0)
 
@@ -57,10 +57,10 @@ accepted_text : (tally : TallyValue) (lines : List (List ℕ)) (records : List R
 accepted_text tally lines records read = omega (arith, text_short (rows_so_far records) lines read.rows, length-rows_so_far records)
 
 -- the accepted lines, and bytes of one more
-with_one_more : (tally : TallyValue) (lines : List (List ℕ)) (records : List RecordValue) (over : Bool) (input bytes : List ℕ) → AreAccepted tally lines records → ¬ IsWhole (map symbol_of records)
-    → length bytes ≤ 1025 → IsInput over input (text_of lines ++ bytes) → length input ≤ 1025 * tally.limits.records
-with_one_more tally lines records over input bytes read left short split =
-    omega (arith, input_text over input (text_of lines ++ bytes) split, length-append (text_of lines) bytes, accepted_text tally lines records read, one_more tally lines records read left, short)
+with_one_more : (tally : TallyValue) (lines : List (List ℕ)) (records : List RecordValue) (input_ended : Bool) (input bytes : List ℕ) → AreAccepted tally lines records → ¬ IsWhole (map symbol_of records)
+    → length bytes ≤ 1025 → IsInput input_ended input (text_of lines ++ bytes) → length input ≤ 1025 * tally.limits.records
+with_one_more tally lines records input_ended input bytes read left short split =
+    omega (arith, input_text input_ended input (text_of lines ++ bytes) split, length-append (text_of lines) bytes, accepted_text tally lines records read, one_more tally lines records read left, short)
 
 through_bounded : (d : Standing) (input : List ℕ) (given : List Item) → IsThrough d input given → length input ≤ 1025 * d.tally.limits.records
 through_bounded d input given t =
@@ -77,7 +77,7 @@ bounded_in states.Pending d input given p =
     omega (arith, input_text d.finished input (text_of p.lines) p.split, accepted_text d.tally p.lines (p.records ++ p.last ∷ []) p.read, accepted_few d.tally p.lines (p.records ++ p.last ∷ []) p.read)
 bounded_in states.Ended d input given e = through_bounded d input given e.through
 bounded_in (states.Refused refusal) d input given s =
-    with_one_more d.tally s.lines s.records s.over input (text_by s.line.ended s.line.bytes) s.read s.left (text_long s.line.ended s.line.bytes s.is_held.short) s.split
+    with_one_more d.tally s.lines s.records s.input_ended input (text_by s.line.ended s.line.bytes) s.read s.left (text_long s.line.ended s.line.bytes s.is_held.short) s.split
 bounded_in (states.Truncated count) d input given c = through_bounded d input given c.through
 bounded_in states.Memory d input given f = through_bounded d input given f.through
 

@@ -13,24 +13,25 @@ use Rattle.cwr_layouts.specs.declared.kinds.Kind.TheVariants as kinds
 use Rattle.cwr_layouts.specs.Records.{RecordValue, IsRecord}
 use Rattle.cwr_shape.specs.declared.symbols.Symbol.{Symbol}
 use Rattle.cwr_shape.specs.Ranges.{AreInRange}
-use Rattle.cwr_shape.specs.Outlines.{GoesOn}
+use Rattle.cwr_shape.specs.Outlines.{Continues}
 use Rattle.cwr_shape.specs.Left.{Any}
 use Rattle.cwr_shape.specs.Tallies.{TallyValue}
 use Rattle.cwr_values.specs.declared.items.Item.{Item}
 use Rattle.cwr_values.specs.declared.items.Item.TheVariants.{Opened, GroupOpened, Transaction, GroupClosed, Ended}
 use Rattle.cwr_values.specs.Values.{GroupValue, TransmissionValue, symbol_of}
 use Rattle.cwr_values.specs.Rows.{rows, records_of, records_of_group, trailer}
-use Rattle.cwr_values.proofs.Built.{is_trailer}
+use Rattle.cwr_values.proofs.OneTransmissionOfRecords.{is_trailer}
 use Rattle.cwr_values.proofs.Spelling.{length-rows}
 use Rattle.cwr_decode.specs.declared.machine.State.{State}
 use Rattle.cwr_decode.specs.declared.machine.State.TheVariants as states
-use Rattle.cwr_judge.specs.Items.{is_in_transaction, group_items, value_items, item_records, records_in, opens_group, is_transaction}
+use Rattle.cwr_judge.specs.Items.{stands_in_transaction, group_items, value_items, item_records, records_in, opens_group, is_transaction}
 use Rattle.cwr_decode.specs.Machines.{Standing}
-use Rattle.cwr_judge.specs.Open.{items_so_far, open_of, goes_on_with, handed, item_of}
+use Rattle.cwr_judge.specs.Open.{items_so_far, open_of, continues_open, ended_transaction, item_of}
 use Rattle.cwr_decode.specs.Represents.{AreAccepted, IsThrough, Represents, RepresentsIn}
-use Rattle.cwr_decode.proofs.Entering.{few_records}
-use Rattle.cwr_judge.proofs.Given.{goes_on_stays, ends_closes, no_open, no_items}
-use Rattle.cwr_judge.proofs.ItemLaws.{all_last}
+use Rattle.cwr_decode.proofs.AfterRecord.{few_records}
+use Rattle.cwr_judge.proofs.EndingRecord.{ends_closes}
+use Rattle.cwr_judge.proofs.ContinuingRecord.{continuing_stays, no_open, no_items}
+use Rattle.cwr_judge.proofs.ItemsOfTransactions.{all_last}
 
 -- ---- fronts
 
@@ -38,19 +39,19 @@ all_front : (P : RecordValue → Type 0) (xs ys : List RecordValue) → AllByRec
 all_front P [] ys h = tt
 all_front P (x ∷ xs) ys h = (h.0, all_front P xs ys h.1)
 
--- a front of what goes on goes on
-front_goes : (xs ys : List Symbol) → GoesOn Any (xs ++ ys) → GoesOn Any xs
+-- a front of what continues continues
+front_goes : (xs ys : List Symbol) → Continues Any (xs ++ ys) → Continues Any xs
 front_goes xs ys (groups, whole, any, more) = (groups, whole, any, (ys ++ more.0, more.1 ∙ append_assoc xs ys more.0))
 
 -- ---- the item of the open transaction
 
 -- it has just the open records
-records_handed : (rs : List RecordValue) → records_in (handed rs) ≡ rs
+records_handed : (rs : List RecordValue) → records_in (ended_transaction rs) ≡ rs
 records_handed [] = refl
 records_handed (r ∷ rs) = append-nil (r ∷ rs)
 
 -- and is one at most
-few_handed : (rs : List RecordValue) → length (handed rs) ≤ 1
+few_handed : (rs : List RecordValue) → length (ended_transaction rs) ≤ 1
 few_handed [] = omega arith
 few_handed (r ∷ rs) = omega arith
 
@@ -60,17 +61,17 @@ few_handed (r ∷ rs) = omega arith
 -- items than records.
 record Counts (records : List RecordValue) : Type 0 where
   all : records_in (items_so_far records) ++ open_of records ≡ records
-  few : length (items_so_far records) + length (handed (open_of records)) ≤ length records
+  few : length (items_so_far records) + length (ended_transaction (open_of records)) ≤ length records
 
--- a record behind which the open transaction was handed out is in its own item, or begins a transaction
-own_record : (kind : Kind) (r : RecordValue) → r.kind ≡ kind → IsRecord r → records_in (item_of kind r) ++ cond (is_in_transaction kind) (r ∷ []) [] ≡ r ∷ []
+-- a record after which the open transaction was handed out is in its own item, or begins a transaction
+own_record : (kind : Kind) (r : RecordValue) → r.kind ≡ kind → IsRecord r → records_in (item_of kind r) ++ cond (stands_in_transaction kind) (r ∷ []) [] ≡ r ∷ []
 own_record kinds.Hdr r e h = refl
 own_record kinds.Grh r e h = refl
 own_record kinds.Grt r e h = refl
 own_record kinds.Trl r e h = ap (λ (x : RecordValue). x ∷ []) (sym (is_trailer r e h))
 own_record kind r e h = refl
 
-own_few : (kind : Kind) (r : RecordValue) → length (item_of kind r) + length (handed (cond (is_in_transaction kind) (r ∷ []) [])) ≤ 1
+own_few : (kind : Kind) (r : RecordValue) → length (item_of kind r) + length (ended_transaction (cond (stands_in_transaction kind) (r ∷ []) [])) ≤ 1
 own_few kinds.Hdr r = omega arith
 own_few kinds.Grh r = omega arith
 own_few kinds.Grt r = omega arith
@@ -78,16 +79,16 @@ own_few kinds.Trl r = omega arith
 own_few kind r = omega arith
 
 -- the items with that of the open transaction have the records
-records_with_open : (records : List RecordValue) → records_in (items_so_far records) ++ open_of records ≡ records → records_in (items_so_far records ++ handed (open_of records)) ≡ records
+records_with_open : (records : List RecordValue) → records_in (items_so_far records) ++ open_of records ≡ records → records_in (items_so_far records ++ ended_transaction (open_of records)) ≡ records
 records_with_open records all =
-    flat_map-append item_records (items_so_far records) (handed (open_of records))
+    flat_map-append item_records (items_so_far records) (ended_transaction (open_of records))
     ∙ ap (λ (rs : List RecordValue). records_in (items_so_far records) ++ rs) (records_handed (open_of records))
     ∙ all
 
-counts_stay : (records : List RecordValue) (r : RecordValue) → AllByRecursion IsRecord (records ++ r ∷ []) → GoesOn Any (map symbol_of (records ++ r ∷ [])) → length records ≤ 99999999
-    → goes_on_with (map symbol_of records) (symbol_of r) ≡ true → Counts records → Counts (records ++ r ∷ [])
+counts_stay : (records : List RecordValue) (r : RecordValue) → AllByRecursion IsRecord (records ++ r ∷ []) → Continues Any (map symbol_of (records ++ r ∷ [])) → length records ≤ 99999999
+    → continues_open (map symbol_of records) (symbol_of r) ≡ true → Counts records → Counts (records ++ r ∷ [])
 counts_stay records r h g few e c =
-    let s = goes_on_stays records r h g few e in
+    let s = continuing_stays records r h g few e in
     record {
       all = ap₂ (λ (is : List Item) (rs : List RecordValue). records_in is ++ rs) s.nothing s.longer
           ∙ sym (append_assoc (records_in (items_so_far records)) (open_of records) (r ∷ []))
@@ -95,13 +96,13 @@ counts_stay records r h g few e c =
       few = omega (arith, ap length s.nothing, few_handed (open_of (records ++ r ∷ [])), c.few, length-append records (r ∷ []));
     }
 
-counts_close : (records : List RecordValue) (r : RecordValue) → AllByRecursion IsRecord (records ++ r ∷ []) → GoesOn Any (map symbol_of (records ++ r ∷ [])) → length records ≤ 99999999
-    → goes_on_with (map symbol_of records) (symbol_of r) ≡ false → Counts records → Counts (records ++ r ∷ [])
+counts_close : (records : List RecordValue) (r : RecordValue) → AllByRecursion IsRecord (records ++ r ∷ []) → Continues Any (map symbol_of (records ++ r ∷ [])) → length records ≤ 99999999
+    → continues_open (map symbol_of records) (symbol_of r) ≡ false → Counts records → Counts (records ++ r ∷ [])
 counts_close records r h g few e c =
     let s = ends_closes records r h g few e in
-    let before : List Item = items_so_far records ++ handed (open_of records) in
+    let before : List Item = items_so_far records ++ ended_transaction (open_of records) in
     let own : List Item = item_of r.kind r in
-    let open_now : List RecordValue = cond (is_in_transaction r.kind) (r ∷ []) [] in
+    let open_now : List RecordValue = cond (stands_in_transaction r.kind) (r ∷ []) [] in
     let given : records_in (items_so_far (records ++ r ∷ [])) ≡ records ++ records_in own =
     ap records_in s.given ∙ flat_map-append item_records before own ∙ ap (λ (rs : List RecordValue). rs ++ records_in own) (records_with_open records c.all) in
     record {
@@ -112,37 +113,37 @@ counts_close records r h g few e c =
         arith,
         ap length s.given,
         length-append before own,
-        length-append (items_so_far records) (handed (open_of records)),
-        ap (λ (rs : List RecordValue). length (handed rs)) s.open_now,
+        length-append (items_so_far records) (ended_transaction (open_of records)),
+        ap (λ (rs : List RecordValue). length (ended_transaction rs)) s.open_now,
         own_few r.kind r,
         c.few,
         length-append records (r ∷ []),
       );
     }
 
-counts_more : (records : List RecordValue) (r : RecordValue) → AllByRecursion IsRecord (records ++ r ∷ []) → GoesOn Any (map symbol_of (records ++ r ∷ [])) → length records ≤ 99999999
+counts_more : (records : List RecordValue) (r : RecordValue) → AllByRecursion IsRecord (records ++ r ∷ []) → Continues Any (map symbol_of (records ++ r ∷ [])) → length records ≤ 99999999
     → Counts records → Counts (records ++ r ∷ [])
-counts_more records r h g few c = by (goes_on_with (map symbol_of records) (symbol_of r)) refl
+counts_more records r h g few c = by (continues_open (map symbol_of records) (symbol_of r)) refl
   where
-    by : (b : Bool) → goes_on_with (map symbol_of records) (symbol_of r) ≡ b → Counts (records ++ r ∷ [])
+    by : (b : Bool) → continues_open (map symbol_of records) (symbol_of r) ≡ b → Counts (records ++ r ∷ [])
     by true e = counts_stay records r h g few e c
     by false e = counts_close records r h g few e c
 
-walk : (before rest : List RecordValue) → AllByRecursion IsRecord (before ++ rest) → GoesOn Any (map symbol_of (before ++ rest)) → length (before ++ rest) ≤ 99999999 → Counts before → Counts (before ++ rest)
+walk : (before rest : List RecordValue) → AllByRecursion IsRecord (before ++ rest) → Continues Any (map symbol_of (before ++ rest)) → length (before ++ rest) ≤ 99999999 → Counts before → Counts (before ++ rest)
 walk before [] h g few c = subst Counts (sym (append-nil before)) c
 walk before (r ∷ rest) h g few c =
     let more : List RecordValue = before ++ r ∷ [] in
     let same : more ++ rest ≡ before ++ r ∷ rest = append_assoc before (r ∷ []) rest in
     let all : AllByRecursion IsRecord (more ++ rest) = subst (AllByRecursion IsRecord) (sym same) h in
-    let goes : GoesOn Any (map symbol_of (more ++ rest)) = subst (λ (rs : List RecordValue). GoesOn Any (map symbol_of rs)) (sym same) g in
-    let front : GoesOn Any (map symbol_of more) = front_goes (map symbol_of more) (map symbol_of rest) (subst (GoesOn Any) (map-append symbol_of more rest) goes) in
+    let goes : Continues Any (map symbol_of (more ++ rest)) = subst (λ (rs : List RecordValue). Continues Any (map symbol_of rs)) (sym same) g in
+    let front : Continues Any (map symbol_of more) = front_goes (map symbol_of more) (map symbol_of rest) (subst (Continues Any) (map-append symbol_of more rest) goes) in
     let next : Counts more = counts_more before r (all_front IsRecord more rest all) front (omega (arith, few, length-append before (r ∷ rest))) c in
     subst Counts same (walk more rest all goes (omega (arith, few, ap length same)) next)
 
-counts : (records : List RecordValue) → AllByRecursion IsRecord records → GoesOn Any (map symbol_of records) → length records ≤ 99999999 → Counts records
+counts : (records : List RecordValue) → AllByRecursion IsRecord records → Continues Any (map symbol_of records) → length records ≤ 99999999 → Counts records
 counts records h g few = walk [] records h g few (record {
   all = ap₂ (λ (is : List Item) (rs : List RecordValue). records_in is ++ rs) no_items no_open;
-  few = omega (arith, ap length no_items, ap (λ (rs : List RecordValue). length (handed rs)) no_open);
+  few = omega (arith, ap length no_items, ap (λ (rs : List RecordValue). length (ended_transaction rs)) no_open);
 })
 
 -- ---- what a decoder represents
@@ -163,15 +164,15 @@ read_few tally lines records given range read are =
 
 -- with the last record still waiting
 waiting_few : (tally : TallyValue) (lines : List (List ℕ)) (records : List RecordValue) (last : RecordValue) (given : List Item) → AreInRange tally.limits → AreAccepted tally lines (records ++ last ∷ [])
-    → given ≡ items_so_far records ++ handed (open_of records) → AreFew given
+    → given ≡ items_so_far records ++ ended_transaction (open_of records) → AreFew given
 waiting_few tally lines records last given range read are =
     let most : length (records ++ last ∷ []) ≤ 99999999 = few_read tally lines (records ++ last ∷ []) range read in
     let few : length records ≤ 99999999 = omega (arith, most, length-append records (last ∷ [])) in
-    let goes : GoesOn Any (map symbol_of records) =
-    front_goes (map symbol_of records) (symbol_of last ∷ []) (subst (GoesOn Any) (map-append symbol_of records (last ∷ [])) read.counted.stands.begins) in
+    let goes : Continues Any (map symbol_of records) =
+    front_goes (map symbol_of records) (symbol_of last ∷ []) (subst (Continues Any) (map-append symbol_of records (last ∷ [])) read.counted.stands.begins) in
     let c = counts records (all_front IsRecord records (last ∷ []) read.in_order) goes few in
     subst AreFew (sym are) (
-      omega (arith, few, c.few, length-append (items_so_far records) (handed (open_of records))),
+      omega (arith, few, c.few, length-append (items_so_far records) (ended_transaction (open_of records))),
       omega (arith, few, ap length (records_with_open records c.all)),
     )
 

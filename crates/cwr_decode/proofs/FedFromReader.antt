@@ -15,7 +15,7 @@ use Rattle.cwr_decode.specs.declared.readings.ReadFault.TheVariants as faults
 use Rattle.cwr_decode.specs.Machines.{Standing, Leaves, Empties, again}
 use Rattle.cwr_shape.specs.Ranges.{LimitValues}
 use Rattle.cwr_decode.specs.Represents.{Represents, RepresentsSome, IsRight, MayFollow, items_out}
-use Rattle.cwr_decode.specs.Calls.{IsLive, WantsMemory, seen}
+use Rattle.cwr_decode.specs.Calls.{IsLive, RunsOutOfMemory, seen_input}
 use Rattle.cwr_decode.specs.Readings.{answer_of, IsSpent, FeedsOn, Reads, IsRightOf}
 use Rattle.cwr_decode.proofs.FromReader.{needs_more, reads_called}
 
@@ -60,34 +60,34 @@ take_none (suc n) = refl
 pub keeps_none : (n : ℕ) (left : Option (List ℕ)) → Consumes left left (take n [])
 keeps_none n left = subst (Consumes left left) (sym (take_none n)) (Consumes-nil left)
 
-seen_none : (over : Bool) (input : List ℕ) → seen over input [] ≡ input ++ []
+seen_none : (input_ended : Bool) (input : List ℕ) → seen_input input_ended input [] ≡ input ++ []
 seen_none false input = refl
 seen_none true input = sym (append-nil input)
 
-behind_none : (over : Bool) (left : Option (List ℕ)) → (over ≡ true → IsAtEnd left) → IfSome left (λ rest. (more : List ℕ) × MayFollow over more × (rest ≡ [] ++ more))
-behind_none over None h = tt
-behind_none false (Some rest) h = (rest, tt, refl)
-behind_none true (Some rest) h = (rest, h refl, refl)
+after_none : (input_ended : Bool) (left : Option (List ℕ)) → (input_ended ≡ true → IsAtEnd left) → IfSome left (λ rest. (more : List ℕ) × MayFollow input_ended more × (rest ≡ [] ++ more))
+after_none input_ended None h = tt
+after_none false (Some rest) h = (rest, tt, refl)
+after_none true (Some rest) h = (rest, h refl, refl)
 
--- want of memory, told of the bytes that were used
-wants_of : (old new : Standing) (used : ℕ) (piece : List ℕ) → used ≤ length piece → WantsMemory old used new → WantsMemory old (length (take used piece)) new
-wants_of old new used piece within h = subst (λ (n : ℕ). WantsMemory old n new) (sym (length-take-le used piece within)) h
+-- out of memory, with the bytes that were used
+wants_of : (old new : Standing) (used : ℕ) (piece : List ℕ) → used ≤ length piece → RunsOutOfMemory old used new → RunsOutOfMemory old (length (take used piece)) new
+wants_of old new used piece within h = subst (λ (n : ℕ). RunsOutOfMemory old n new) (sym (length-take-le used piece within)) h
 
 pub reads_settled : (old new : Standing) (used : ℕ) (outcome : Outcome) (answer : Answer) → answer_of outcome ≡ Some answer → used ≤ length {A = ℕ} []
     → ((input : List ℕ) (given : List Item) → Represents old input given → Represents new (input ++ take used []) (given ++ items_out outcome))
-    → (IsLive old.state → (input : List ℕ) (given : List Item) → Represents old input given → IsRight old.tally.limits outcome old.finished (input ++ take used []) (seen old.finished input []) (given ++ items_out outcome))
+    → (IsLive old.state → (input : List ℕ) (given : List Item) → Represents old input given → IsRight old.tally.limits outcome old.finished (input ++ take used []) (seen_input old.finished input []) (given ++ items_out outcome))
     → Leaves outcome new.state → Empties outcome new → IfSome (again old.state) (λ o. outcome ≡ o)
-    → (outcome ≡ outcomes.Memory → IsLive old.state → WantsMemory old used new)
+    → (outcome ≡ outcomes.Memory → IsLive old.state → RunsOutOfMemory old used new)
     → new.finished ≡ old.finished → new.tally.limits ≡ old.tally.limits → RepresentsSome old → (left : Option (List ℕ)) → Reads old left answer new left
 reads_settled old new used outcome answer e within stands right leaves empties same memory finished limits way left = reads_called old left outcome answer new left e way (record {
   bytes = take used [];
   ahead = [];
-  over = old.finished;
+  input_ended = old.finished;
   consumed = keeps_none used left;
   stands = stands;
   right = λ live input given h. subst (λ (l : List ℕ). IsRight old.tally.limits outcome old.finished (input ++ take used []) l (given ++ items_out outcome)) (seen_none old.finished input) (right live input given h);
   whole = λ is. take_none used;
-  behind = behind_none old.finished left;
+  remains = after_none old.finished left;
   leaves = leaves;
   empties = empties;
   again = same;
@@ -101,42 +101,42 @@ reads_settled old new used outcome answer e within stands right leaves empties s
 
 -- ---- a piece that the reader showed
 
-behind_piece : (left : Option (List ℕ)) (piece : List ℕ) → IfSome left (λ xs. StartsWith xs piece) → IfSome left (λ rest. (more : List ℕ) × MayFollow false more × (rest ≡ piece ++ more))
-behind_piece None piece h = tt
-behind_piece (Some rest) piece h = (drop (length piece) rest, tt, starts_with_rest rest piece h)
+after_piece : (left : Option (List ℕ)) (piece : List ℕ) → IfSome left (λ xs. StartsWith xs piece) → IfSome left (λ rest. (more : List ℕ) × MayFollow false more × (rest ≡ piece ++ more))
+after_piece None piece h = tt
+after_piece (Some rest) piece h = (drop (length piece) rest, tt, starts_with_rest rest piece h)
 
 pub reads_fed : (old new : Standing) (left after : Option (List ℕ)) (piece : List ℕ) (used : ℕ) (outcome : Outcome) (answer : Answer) → answer_of outcome ≡ Some answer
     → RepresentsSome old → old.finished ≡ false → IfSome left (λ xs. StartsWith xs piece) → used ≤ length piece → Consumes left after (take used piece)
     → ((input : List ℕ) (given : List Item) → Represents old input given → Represents new (input ++ take used piece) (given ++ items_out outcome))
-    → (IsLive old.state → (input : List ℕ) (given : List Item) → Represents old input given → IsRight old.tally.limits outcome old.finished (input ++ take used piece) (seen old.finished input piece) (given ++ items_out outcome))
+    → (IsLive old.state → (input : List ℕ) (given : List Item) → Represents old input given → IsRight old.tally.limits outcome old.finished (input ++ take used piece) (seen_input old.finished input piece) (given ++ items_out outcome))
     → Leaves outcome new.state → Empties outcome new → IfSome (again old.state) (λ o. outcome ≡ o)
-    → (outcome ≡ outcomes.Memory → IsLive old.state → WantsMemory old used new)
+    → (outcome ≡ outcomes.Memory → IsLive old.state → RunsOutOfMemory old used new)
     → new.finished ≡ old.finished → new.tally.limits ≡ old.tally.limits → Reads old left answer new after
 reads_fed old new left after piece used outcome answer e way fresh shown within consumed stands right leaves empties same memory finished limits = reads_called old left outcome answer new after e way (record {
   bytes = take used piece;
   ahead = piece;
-  over = false;
+  input_ended = false;
   consumed = consumed;
   stands = stands;
-  right = λ live input given h. subst (λ (b : Bool). IsRight old.tally.limits outcome b (input ++ take used piece) (seen b input piece) (given ++ items_out outcome)) fresh (right live input given h);
+  right = λ live input given h. subst (λ (b : Bool). IsRight old.tally.limits outcome b (input ++ take used piece) (seen_input b input piece) (given ++ items_out outcome)) fresh (right live input given h);
   whole = λ is. absurd (true≢false (sym is));
-  behind = λ spent. behind_piece left piece shown;
+  remains = λ spent. after_piece left piece shown;
   leaves = leaves;
   empties = empties;
   again = same;
   memory = λ is live. wants_of old new used piece within (memory is live);
-  at_end = λ spent. not_over left;
+  at_end = λ spent. not_ended left;
   limits = limits;
 }) where
-  not_over : (l : Option (List ℕ)) → IfSome l (λ _. IsSpent new after)
-  not_over None = tt
-  not_over (Some xs) = λ is. absurd (true≢false (sym is ∙ finished ∙ fresh))
+  not_ended : (l : Option (List ℕ)) → IfSome l (λ _. IsSpent new after)
+  not_ended None = tt
+  not_ended (Some xs) = λ is. absurd (true≢false (sym is ∙ finished ∙ fresh))
 
 -- ---- the end of the input
 
-behind_end : (left : Option (List ℕ)) → IsAtEnd left → IfSome left (λ rest. (more : List ℕ) × MayFollow true more × (rest ≡ [] ++ more))
-behind_end None h = tt
-behind_end (Some rest) h = (rest, h, refl)
+after_end : (left : Option (List ℕ)) → IsAtEnd left → IfSome left (λ rest. (more : List ℕ) × MayFollow true more × (rest ≡ [] ++ more))
+after_end None h = tt
+after_end (Some rest) h = (rest, h, refl)
 
 kept_end : (d : Standing) (left after : Option (List ℕ)) → Keeps left after → IsAtEnd left → IfSome left (λ _. IsSpent d after)
 kept_end d None after k h = tt
@@ -152,17 +152,17 @@ pub reads_finished : (old new : Standing) (left after : Option (List ℕ)) (outc
     → ((input : List ℕ) (given : List Item) → Represents old input given → Represents new input (given ++ items_out outcome))
     → (IsLive old.state → (input : List ℕ) (given : List Item) → Represents old input given → IsRight old.tally.limits outcome true input input (given ++ items_out outcome))
     → Leaves outcome new.state → Empties outcome new → IfSome (again old.state) (λ o. outcome ≡ o)
-    → (outcome ≡ outcomes.Memory → IsLive old.state → WantsMemory old 0 new)
+    → (outcome ≡ outcomes.Memory → IsLive old.state → RunsOutOfMemory old 0 new)
     → new.tally.limits ≡ old.tally.limits → Reads old left answer new after
 reads_finished old new left after outcome answer e way end kept stands right leaves empties same memory limits = reads_called old left outcome answer new after e way (record {
   bytes = [];
   ahead = [];
-  over = true;
+  input_ended = true;
   consumed = Consumes-kept left left after [] (Consumes-nil left) kept;
   stands = λ input given h. subst (λ (l : List ℕ). Represents new l (given ++ items_out outcome)) (sym (append-nil input)) (stands input given h);
   right = λ live input given h. subst (λ (l : List ℕ). IsRight old.tally.limits outcome true l l (given ++ items_out outcome)) (sym (append-nil input)) (right live input given h);
   whole = λ is. refl;
-  behind = λ spent. behind_end left end;
+  remains = λ spent. after_end left end;
   leaves = leaves;
   empties = empties;
   again = same;
@@ -192,19 +192,19 @@ reads_failed d left after reading kept = record {
   empties = tt;
   none = λ is. absurd (cc is);
   memory = λ is. absurd (cc is);
-  over = kept_spent d left after kept;
+  input_ended = kept_spent d left after kept;
   limits = refl;
 }
 
--- ---- what is told, if anything is
+-- ---- what is reported, if anything is
 
-pub told_none : (told : Option Answer) (P : Type 0) → (told ≡ None → P) → IfNone told P
-told_none None P h = h refl
-told_none (Some answer) P h = tt
+pub reported_none : (reported : Option Answer) (P : Type 0) → (reported ≡ None → P) → IfNone reported P
+reported_none None P h = h refl
+reported_none (Some answer) P h = tt
 
-pub told_some : (told : Option Answer) (P : Answer → Type 0) → ((answer : Answer) → told ≡ Some answer → P answer) → IfSome told P
-told_some None P h = tt
-told_some (Some answer) P h = h answer refl
+pub reported_some : (reported : Option Answer) (P : Answer → Type 0) → ((answer : Answer) → reported ≡ Some answer → P answer) → IfSome reported P
+reported_some None P h = tt
+reported_some (Some answer) P h = h answer refl
 
 pub same_fed : (o : Option Outcome) (outcome : Outcome) (B C : Type 0) → IfSome o (λ x. (outcome ≡ x) × B × C) → IfSome o (λ x. outcome ≡ x)
 same_fed None outcome B C h = tt

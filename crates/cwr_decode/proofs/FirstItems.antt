@@ -4,14 +4,14 @@ use Rattle.std.proofs.lemmas.List.{length-append}
 use Rattle.cwr_layouts.specs.Records.{RecordValue}
 use Rattle.cwr_shape.specs.Ranges.{AreInRange}
 use Rattle.cwr_shape.specs.Left.{Any}
-use Rattle.cwr_shape.specs.Outlines.{GoesOn}
+use Rattle.cwr_shape.specs.Outlines.{Continues}
 use Rattle.cwr_shape.specs.Tallies.{TallyValue}
 use Rattle.cwr_values.specs.declared.items.Item.{Item}
 use Rattle.cwr_values.specs.Values.{symbol_of}
 use Rattle.cwr_judge.specs.Items.{AreFirstItems}
 use Rattle.cwr_judge.specs.Open.{items_so_far, item_of, Closes}
 use Rattle.cwr_judge.proofs.BegunItems.{begun_items}
-use Rattle.cwr_judge.proofs.Given.{ends_closes}
+use Rattle.cwr_judge.proofs.EndingRecord.{ends_closes}
 use Rattle.cwr_decode.specs.declared.machine.State.{State}
 use Rattle.cwr_decode.specs.declared.machine.State.TheVariants as states
 use Rattle.cwr_decode.specs.Machines.{Standing}
@@ -30,7 +30,7 @@ first_pending d input given range p =
     let all : List RecordValue = p.records ++ p.last ∷ [] in
     let first = first_of d.tally p.lines all (items_so_far all) range p.read (λ i. items_so_far all) in
     let g = p.read.counted.within in
-    let any : GoesOn Any (map symbol_of all) = (g.0, g.1, tt, g.3) in
+    let any : Continues Any (map symbol_of all) = (g.0, g.1, tt, g.3) in
     let few : length p.records ≤ 99999999 = omega (arith, range.most_records, accepted_few d.tally p.lines all p.read, length-append p.records (p.last ∷ [])) in
     let closes : Closes p.records p.last = ends_closes p.records p.last p.read.in_order any few p.ends in
     let own : List Item = item_of p.last.kind p.last in

@@ -14,12 +14,10 @@ use Rattle.cwr_decode.specs.declared.machine.State.{State}
 use Rattle.cwr_decode.specs.declared.machine.State.TheVariants as states
 use Rattle.cwr_decode.specs.declared.readings.ReadFault.{ReadFault}
 use Rattle.cwr_decode.specs.declared.readings.ReadFault.TheVariants as faults
-use Rattle.cwr_judge.specs.declared.refusals.Refusal.{Refusal}
-use Rattle.cwr_judge.specs.Ends.{IsAccepted, IsRefused, IsTruncated}
 use Rattle.cwr_decode.specs.Machines.{Standing, Leaves, Empties, again}
 use Rattle.cwr_decode.specs.Represents.{Represents, RepresentsSome, IsRight, ComesAt, MayFollow, EndsLine, items_out}
 use Rattle.cwr_decode.specs.Headline.{IsEndOf, outcome_end}
-use Rattle.cwr_decode.specs.Calls.{IsLive, WantsMemory}
+use Rattle.cwr_decode.specs.Calls.{IsLive, RunsOutOfMemory}
 use Rattle.cwr_decode.specs.Readings.{answer_of, items_read, EmptiesRead, EndsLineOf, IsRightOf, LeavesRead, IsSpent, FeedsOn, Reads}
 
 abbrev Answer : Type 0
@@ -39,7 +37,7 @@ consumes_taken (Some xs) (Some ys) after piece used k h within lost
     = subst (λ (o : Option (List ℕ)). Consumes (Some xs) o (take used piece)) (sym lost)
     (front_taken xs piece used h within ∙ ap (λ (l : List ℕ). take used piece ++ drop used l) (sym k))
 
--- ---- what an answer is told as
+-- ---- what an answer is reported as
 
 items_same : (outcome : Outcome) → IfSome (answer_of outcome) (λ answer. items_read answer ≡ items_out outcome)
 items_same outcomes.More = tt
@@ -65,7 +63,7 @@ empties_same (outcomes.Truncated records) d h = tt
 empties_same outcomes.Memory d h = tt
 empties_same outcomes.Done d h = tt
 
--- nothing is told only where more is needed
+-- nothing is reported only where more is needed
 pub needs_more : (outcome : Outcome) → answer_of outcome ≡ None → outcome ≡ outcomes.More
 needs_more outcomes.More e = refl
 needs_more (outcomes.Item item) e = absurd (cc e)
@@ -74,7 +72,7 @@ needs_more (outcomes.Truncated records) e = absurd (cc e)
 needs_more outcomes.Memory e = absurd (cc e)
 needs_more outcomes.Done e = absurd (cc e)
 
--- `Ok(None)` is told for `Done`
+-- `Ok(None)` is reported for `Done`
 done_only : (outcome : Outcome) → answer_of outcome ≡ Some (Ok None) → outcome ≡ outcomes.Done
 done_only outcomes.More e = absurd (cc e)
 done_only (outcomes.Item item) e = absurd (cc e)
@@ -83,7 +81,7 @@ done_only (outcomes.Truncated records) e = absurd (cc e)
 done_only outcomes.Memory e = absurd (cc e)
 done_only outcomes.Done e = refl
 
--- want of memory is told for itself
+-- out of memory is reported as it is
 memory_only : (outcome : Outcome) → answer_of outcome ≡ Some (Err faults.Memory) → outcome ≡ outcomes.Memory
 memory_only outcomes.More e = absurd (cc e)
 memory_only (outcomes.Item item) e = absurd (cc e)
@@ -92,8 +90,8 @@ memory_only (outcomes.Truncated records) e = absurd (cc e)
 memory_only outcomes.Memory e = refl
 memory_only outcomes.Done e = absurd (cc e)
 
--- where a refused line ends, told of all of the input
-ends_line : (over : Bool) (used seen more text : List ℕ) → text ≡ seen ++ more → MayFollow over more → (over ≡ true → used ≡ seen) → EndsLine over used seen → EndsLineOf used text
+-- where a refused line ends, reported of all of the input
+ends_line : (input_ended : Bool) (used seen more text : List ℕ) → text ≡ seen ++ more → MayFollow input_ended more → (input_ended ≡ true → used ≡ seen) → EndsLine input_ended used seen → EndsLineOf used text
 ends_line false used seen more text split may whole (inl feed) = inl (inl feed)
 ends_line false used seen more text split may whole (inr far) = inl (inr (record {
   front = far.front;
@@ -108,21 +106,21 @@ ends_line false used seen more text split may whole (inr far) = inl (inr (record
 }))
 ends_line true used seen more text split may whole h = inr (whole refl ∙ sym (append-nil seen) ∙ ap (λ (l : List ℕ). seen ++ l) (sym may) ∙ sym split)
 
-right_same : (limits : LimitValues) (outcome : Outcome) (over : Bool) (used seen more text : List ℕ) (given : List Item) → text ≡ seen ++ more → MayFollow over more → (over ≡ true → used ≡ seen)
-    → IsRight limits outcome over used seen given → IfSome (answer_of outcome) (λ answer. IsRightOf limits answer used text given)
-right_same limits outcome over used seen more text given split may whole h = by outcome h.comes ended
+right_same : (limits : LimitValues) (outcome : Outcome) (input_ended : Bool) (used seen more text : List ℕ) (given : List Item) → text ≡ seen ++ more → MayFollow input_ended more → (input_ended ≡ true → used ≡ seen)
+    → IsRight limits outcome input_ended used seen given → IfSome (answer_of outcome) (λ answer. IsRightOf limits answer used text given)
+right_same limits outcome input_ended used seen more text given split may whole h = by outcome h.comes ended
   where
     ended : IsEndOf limits text given (outcome_end (length used) outcome)
     ended = subst (λ (t : List ℕ). IsEndOf limits t given (outcome_end (length used) outcome)) (sym split) (h.ends more may)
 
-    by : (o : Outcome) → ComesAt o over used seen → IsEndOf limits text given (outcome_end (length used) o) → IfSome (answer_of o) (λ answer. IsRightOf limits answer used text given)
+    by : (o : Outcome) → ComesAt o input_ended used seen → IsEndOf limits text given (outcome_end (length used) o) → IfSome (answer_of o) (λ answer. IsRightOf limits answer used text given)
     by outcomes.More c e = tt
     by (outcomes.Item items.Ended) c e = record { ends = e; comes = tt }
     by (outcomes.Item (items.Opened r)) c e = record { ends = tt; comes = tt }
     by (outcomes.Item (items.GroupOpened r)) c e = record { ends = tt; comes = tt }
     by (outcomes.Item (items.Transaction r)) c e = record { ends = tt; comes = tt }
     by (outcomes.Item (items.GroupClosed r)) c e = record { ends = tt; comes = tt }
-    by (outcomes.Refused refusal) c e = record { ends = e; comes = ends_line over used seen more text split may whole c }
+    by (outcomes.Refused refusal) c e = record { ends = e; comes = ends_line input_ended used seen more text split may whole c }
     by (outcomes.Truncated records) c e = record { ends = e; comes = tt }
     by outcomes.Memory c e = record { ends = tt; comes = tt }
     by outcomes.Done c e = absurd c
@@ -138,77 +136,77 @@ was_ended states.Memory h live = absurd (cc h)
 
 -- ---- a call of the decoder
 
--- bytes were fed, of which the decoder also saw those behind them; `over` where the input was over
+-- bytes were fed, of which the decoder also saw those after them; `input_ended` where the input had ended
 pub record Calls (old : Standing) (left : Option (List ℕ)) (outcome : Outcome) (new : Standing) (after : Option (List ℕ)) : Type 0 where
   pub bytes : List ℕ
   pub ahead : List ℕ
-  pub over : Bool
+  pub input_ended : Bool
   pub consumed : Consumes left after bytes
   pub stands : (input : List ℕ) (given : List Item) → Represents old input given → Represents new (input ++ bytes) (given ++ items_out outcome)
-  pub right : IsLive old.state → (input : List ℕ) (given : List Item) → Represents old input given → IsRight old.tally.limits outcome over (input ++ bytes) (input ++ ahead) (given ++ items_out outcome)
-  pub whole : over ≡ true → bytes ≡ ahead
-  pub behind : IsSpent old left → IfSome left (λ rest. (more : List ℕ) × MayFollow over more × (rest ≡ ahead ++ more))
+  pub right : IsLive old.state → (input : List ℕ) (given : List Item) → Represents old input given → IsRight old.tally.limits outcome input_ended (input ++ bytes) (input ++ ahead) (given ++ items_out outcome)
+  pub whole : input_ended ≡ true → bytes ≡ ahead
+  pub remains : IsSpent old left → IfSome left (λ rest. (more : List ℕ) × MayFollow input_ended more × (rest ≡ ahead ++ more))
   pub leaves : Leaves outcome new.state
   pub empties : Empties outcome new
   pub again : IfSome (again old.state) (λ o. outcome ≡ o)
-  pub memory : outcome ≡ outcomes.Memory → IsLive old.state → WantsMemory old (length bytes) new
+  pub memory : outcome ≡ outcomes.Memory → IsLive old.state → RunsOutOfMemory old (length bytes) new
   pub at_end : IsSpent old left → IfSome left (λ _. IsSpent new after)
   pub limits : new.tally.limits ≡ old.tally.limits
 
-told_items : (outcome : Outcome) (answer : Answer) → answer_of outcome ≡ Some answer → items_read answer ≡ items_out outcome
-told_items outcome answer e = subst (λ (o : Option Answer). IfSome o (λ a. items_read a ≡ items_out outcome)) e (items_same outcome)
+reported_items : (outcome : Outcome) (answer : Answer) → answer_of outcome ≡ Some answer → items_read answer ≡ items_out outcome
+reported_items outcome answer e = subst (λ (o : Option Answer). IfSome o (λ a. items_read a ≡ items_out outcome)) e (items_same outcome)
 
-told_right : (limits : LimitValues) (outcome : Outcome) (answer : Answer) (over : Bool) (used seen : List ℕ) (text : Option (List ℕ)) (before : List Item) → answer_of outcome ≡ Some answer
-    → IfSome text (λ t. (more : List ℕ) × MayFollow over more × (t ≡ seen ++ more)) → (over ≡ true → used ≡ seen)
-    → IsRight limits outcome over used seen (before ++ items_out outcome) → IfSome text (λ t. IsRightOf limits answer used t (before ++ items_read answer))
-told_right limits outcome answer over used seen None before e split whole h = tt
-told_right limits outcome answer over used seen (Some text) before e split whole h
-    = subst (λ (l : List Item). IsRightOf limits answer used text (before ++ l)) (sym (told_items outcome answer e))
+reported_right : (limits : LimitValues) (outcome : Outcome) (answer : Answer) (input_ended : Bool) (used seen : List ℕ) (text : Option (List ℕ)) (before : List Item) → answer_of outcome ≡ Some answer
+    → IfSome text (λ t. (more : List ℕ) × MayFollow input_ended more × (t ≡ seen ++ more)) → (input_ended ≡ true → used ≡ seen)
+    → IsRight limits outcome input_ended used seen (before ++ items_out outcome) → IfSome text (λ t. IsRightOf limits answer used t (before ++ items_read answer))
+reported_right limits outcome answer input_ended used seen None before e split whole h = tt
+reported_right limits outcome answer input_ended used seen (Some text) before e split whole h
+    = subst (λ (l : List Item). IsRightOf limits answer used text (before ++ l)) (sym (reported_items outcome answer e))
     (subst (λ (o : Option Answer). IfSome o (λ a. IsRightOf limits a used text (before ++ items_out outcome))) e
-    (right_same limits outcome over used seen split.0 text (before ++ items_out outcome) split.2 split.1 whole h))
+    (right_same limits outcome input_ended used seen split.0 text (before ++ items_out outcome) split.2 split.1 whole h))
 
-told_none : (old : Standing) (outcome : Outcome) (over : Bool) (used seen : List ℕ) (given : List Item) → outcome ≡ outcomes.Done → IfSome (again old.state) (λ o. outcome ≡ o)
-    → (IsLive old.state → IsRight old.tally.limits outcome over used seen given) → old.state ≡ states.Ended
-told_none old outcome over used seen given e same right
+reported_none : (old : Standing) (outcome : Outcome) (input_ended : Bool) (used seen : List ℕ) (given : List Item) → outcome ≡ outcomes.Done → IfSome (again old.state) (λ o. outcome ≡ o)
+    → (IsLive old.state → IsRight old.tally.limits outcome input_ended used seen given) → old.state ≡ states.Ended
+reported_none old outcome input_ended used seen given e same right
     = was_ended old.state (subst (λ (x : Outcome). IfSome (again old.state) (λ o. x ≡ o)) e same)
-    (λ live. (subst (λ (x : Outcome). IsRight old.tally.limits x over used seen given) e (right live)).comes)
+    (λ live. (subst (λ (x : Outcome). IsRight old.tally.limits x input_ended used seen given) e (right live)).comes)
 
 pub reads_called : (old : Standing) (left : Option (List ℕ)) (outcome : Outcome) (answer : Answer) (new : Standing) (after : Option (List ℕ)) → answer_of outcome ≡ Some answer
     → RepresentsSome old → Calls old left outcome new after → Reads old left answer new after
 reads_called old left outcome answer new after e way c = record {
   bytes = c.bytes;
   consumed = c.consumed;
-  stands = λ input given h. subst (λ (l : List Item). Represents new (input ++ c.bytes) (given ++ l)) (sym (told_items outcome answer e)) (c.stands input given h);
-  right = λ live spent input given h. rights left input given (c.right live input given h) (c.behind spent);
+  stands = λ input given h. subst (λ (l : List Item). Represents new (input ++ c.bytes) (given ++ l)) (sym (reported_items outcome answer e)) (c.stands input given h);
+  right = λ live spent input given h. rights left input given (c.right live input given h) (c.remains spent);
   leaves = subst (λ (o : Option Answer). IfSome o (λ a. LeavesRead a new.state)) e (leaves_same outcome new.state c.leaves);
   empties = subst (λ (o : Option Answer). IfSome o (λ a. EmptiesRead a new)) e (empties_same outcome new c.empties);
-  none = λ is. told_none old outcome c.over (way.input ++ c.bytes) (way.input ++ c.ahead) (way.given ++ items_out outcome) (done_only outcome (e ∙ ap (λ (a : Answer). Some a) is)) c.again
+  none = λ is. reported_none old outcome c.input_ended (way.input ++ c.bytes) (way.input ++ c.ahead) (way.given ++ items_out outcome) (done_only outcome (e ∙ ap (λ (a : Answer). Some a) is)) c.again
       (λ live. c.right live way.input way.given way.stands);
   memory = λ is live. c.memory (memory_only outcome (e ∙ ap (λ (a : Answer). Some a) is)) live;
-  over = c.at_end;
+  input_ended = c.at_end;
   limits = c.limits;
 } where
-  rights : (l : Option (List ℕ)) (input : List ℕ) (given : List Item) → IsRight old.tally.limits outcome c.over (input ++ c.bytes) (input ++ c.ahead) (given ++ items_out outcome)
-      → IfSome l (λ rest. (more : List ℕ) × MayFollow c.over more × (rest ≡ c.ahead ++ more))
+  rights : (l : Option (List ℕ)) (input : List ℕ) (given : List Item) → IsRight old.tally.limits outcome c.input_ended (input ++ c.bytes) (input ++ c.ahead) (given ++ items_out outcome)
+      → IfSome l (λ rest. (more : List ℕ) × MayFollow c.input_ended more × (rest ≡ c.ahead ++ more))
       → IfSome l (λ rest. IsRightOf old.tally.limits answer (input ++ c.bytes) (input ++ rest) (given ++ items_read answer))
-  rights None input given h behind = tt
-  rights (Some rest) input given h behind = told_right old.tally.limits outcome answer c.over (input ++ c.bytes) (input ++ c.ahead) (Some (input ++ rest)) given e
-      (behind.0, behind.1, ap (λ (l : List ℕ). input ++ l) behind.2 ∙ sym (append_assoc input c.ahead behind.0)) (λ is. ap (λ (l : List ℕ). input ++ l) (c.whole is)) h
+  rights None input given h remains = tt
+  rights (Some rest) input given h remains = reported_right old.tally.limits outcome answer c.input_ended (input ++ c.bytes) (input ++ c.ahead) (Some (input ++ rest)) given e
+      (remains.0, remains.1, ap (λ (l : List ℕ). input ++ l) remains.2 ∙ sym (append_assoc input c.ahead remains.0)) (λ is. ap (λ (l : List ℕ). input ++ l) (c.whole is)) h
 
--- ---- one call behind another
+-- ---- one call after another
 
--- behind a first call, or before it
+-- after a first call, or before it
 pub was_under_way : (d first : Standing) → (d ≡ first) ⊎ RepresentsSome first → RepresentsSome d → RepresentsSome first
 was_under_way d first (inl e) way = subst RepresentsSome e way
 was_under_way d first (inr was) way = was
 
-not_over : (d : Standing) (left : Option (List ℕ)) → d.finished ≡ false → IsSpent d left
-not_over d left fresh is = absurd (true≢false (sym is ∙ fresh))
+not_ended : (d : Standing) (left : Option (List ℕ)) → d.finished ≡ false → IsSpent d left
+not_ended d left fresh is = absurd (true≢false (sym is ∙ fresh))
 
-spent_behind : (p q r : Option (List ℕ)) (bytes : List ℕ) (d : Standing) → Consumes p q bytes → IfSome q (λ _. IsSpent d r) → IfSome p (λ _. IsSpent d r)
-spent_behind None q r bytes d lost h = tt
-spent_behind (Some xs) None r bytes d lost h = absurd lost
-spent_behind (Some xs) (Some ys) r bytes d lost h = h
+spent_after : (p q r : Option (List ℕ)) (bytes : List ℕ) (d : Standing) → Consumes p q bytes → IfSome q (λ _. IsSpent d r) → IfSome p (λ _. IsSpent d r)
+spent_after None q r bytes d lost h = tt
+spent_after (Some xs) None r bytes d lost h = absurd lost
+spent_after (Some xs) (Some ys) r bytes d lost h = h
 
 pub feeds_none : (d : Standing) (left : Option (List ℕ)) → d.state ≡ states.Reading → d.finished ≡ false → FeedsOn 0 d left d left
 feeds_none d left reading fresh = record {
@@ -236,42 +234,42 @@ feeds_both m n a p b q c r f g = record {
   limits = g.limits ∙ f.limits;
 }
 
--- a decoder that reads wants memory only with one more record
-pub wants_more : (d new : Standing) (used : ℕ) → d.state ≡ states.Reading → WantsMemory d used new → d.tally.counts.records < new.tally.counts.records
+-- a decoder that reads is out of memory only with one more record
+pub wants_more : (d new : Standing) (used : ℕ) → d.state ≡ states.Reading → RunsOutOfMemory d used new → d.tally.counts.records < new.tally.counts.records
 wants_more d new used reading (inl waits) = absurd (not_both (sym reading ∙ waits.0))
   where
     not_both : states.Reading ≡ states.Pending → ⊥
     not_both e = cc e
 wants_more d new used reading (inr more) = more
 
--- a record that waits wants memory with what the fact says
-pub wants_waiting : (d new : Standing) (used : ℕ) (P : Type 0) → P → WantsMemory d used new → ((d.state ≡ states.Pending) × P) ⊎ (d.tally.counts.records < new.tally.counts.records)
+-- a record that waits is out of memory with what the fact says
+pub wants_waiting : (d new : Standing) (used : ℕ) (P : Type 0) → P → RunsOutOfMemory d used new → ((d.state ≡ states.Pending) × P) ⊎ (d.tally.counts.records < new.tally.counts.records)
 wants_waiting d new used P h (inl waits) = inl (waits.0, h)
 wants_waiting d new used P h (inr more) = inr more
 
-right_behind : (limits after_limits : LimitValues) (answer : Answer) (p q : Option (List ℕ)) (bytes more input : List ℕ) (given : List Item) → after_limits ≡ limits → Consumes p q bytes
+right_after : (limits after_limits : LimitValues) (answer : Answer) (p q : Option (List ℕ)) (bytes more input : List ℕ) (given : List Item) → after_limits ≡ limits → Consumes p q bytes
     → IfSome q (λ rest. IsRightOf after_limits answer ((input ++ bytes) ++ more) ((input ++ bytes) ++ rest) given)
     → IfSome p (λ rest. IsRightOf limits answer (input ++ (bytes ++ more)) (input ++ rest) given)
-right_behind limits after_limits answer None q bytes more input given same lost h = tt
-right_behind limits after_limits answer (Some xs) None bytes more input given same lost h = absurd lost
-right_behind limits after_limits answer (Some xs) (Some ys) bytes more input given same lost h =
+right_after limits after_limits answer None q bytes more input given same lost h = tt
+right_after limits after_limits answer (Some xs) None bytes more input given same lost h = absurd lost
+right_after limits after_limits answer (Some xs) (Some ys) bytes more input given same lost h =
     let texts : (input ++ bytes) ++ ys ≡ input ++ xs = append_assoc input bytes ys ∙ ap (λ (l : List ℕ). input ++ l) (sym lost) in
     subst (λ (l : LimitValues). IsRightOf l answer (input ++ (bytes ++ more)) (input ++ xs) given) same
     (subst (λ (l : List ℕ). IsRightOf after_limits answer l (input ++ xs) given) (append_assoc input bytes more)
     (subst (λ (l : List ℕ). IsRightOf after_limits answer ((input ++ bytes) ++ more) l given) texts h))
 
-pub reads_behind : (n : ℕ) (answer : Answer) (a : Standing) (p : Option (List ℕ)) (b : Standing) (q : Option (List ℕ)) (c : Standing) (r : Option (List ℕ)) → FeedsOn n a p b q → Reads b q answer c r → Reads a p answer c r
-reads_behind n answer a p b q c r f g = record {
+pub reads_after : (n : ℕ) (answer : Answer) (a : Standing) (p : Option (List ℕ)) (b : Standing) (q : Option (List ℕ)) (c : Standing) (r : Option (List ℕ)) → FeedsOn n a p b q → Reads b q answer c r → Reads a p answer c r
+reads_after n answer a p b q c r f g = record {
   bytes = f.bytes ++ g.bytes;
   consumed = Consumes-trans p q r f.bytes g.bytes f.consumed g.consumed;
   stands = λ input given h. subst (λ (l : List ℕ). Represents c l (given ++ items_read answer)) (append_assoc input f.bytes g.bytes) (g.stands (input ++ f.bytes) given (f.stands input given h));
-  right = λ live spent input given h. right_behind a.tally.limits b.tally.limits answer p q f.bytes g.bytes input (given ++ items_read answer) f.limits f.consumed
-      (g.right (ap again f.reading) (not_over b q f.fresh) (input ++ f.bytes) given (f.stands input given h));
+  right = λ live spent input given h. right_after a.tally.limits b.tally.limits answer p q f.bytes g.bytes input (given ++ items_read answer) f.limits f.consumed
+      (g.right (ap again f.reading) (not_ended b q f.fresh) (input ++ f.bytes) given (f.stands input given h));
   leaves = g.leaves;
   empties = g.empties;
   none = λ is. absurd (reading_ends (sym f.reading ∙ g.none is));
   memory = λ is live. inr (omega (arith, f.kept, wants_more b c (length g.bytes) f.reading (g.memory is (ap again f.reading))));
-  over = λ spent. spent_behind p q r f.bytes c f.consumed (g.over (not_over b q f.fresh));
+  input_ended = λ spent. spent_after p q r f.bytes c f.consumed (g.input_ended (not_ended b q f.fresh));
   limits = g.limits ∙ f.limits;
 } where
   reading_ends : states.Reading ≡ states.Ended → ⊥

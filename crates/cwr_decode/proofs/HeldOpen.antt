@@ -1,34 +1,35 @@
--- What is held when a record is entered: the record goes on with that, or begins a transaction where nothing is held.
-use Rattle.std.proofs.Common.{◌≡◌, ℕ, ◌-◌, ◌≤◌, Bool, true, false, cond, List, [], ◌∷◌, ◌++◌, length, map, take, drop, Option, Some, None, refl, sym, ap, subst, ◌∙◌, arith}
+-- What is held when a record is entered: the record continues that, or begins a transaction where nothing is held.
+use Rattle.std.proofs.Common.{◌≡◌, ℕ, ◌-◌, ◌≤◌, Bool, true, false, cond, List, [], ◌∷◌, ◌++◌, length, map, take, drop, Option, None, refl, sym, ap, subst, ◌∙◌, arith}
 use Rattle.std.specs.Prelude.{IfSome}
 use Rattle.std.specs.List.{AllByRecursion}
 use Rattle.std.proofs.lemmas.List.{length-append, length-map, drop-map}
 use Rattle.cwr_layouts.specs.declared.kinds.Kind.{Kind}
 use Rattle.cwr_layouts.specs.declared.kinds.Kind.TheVariants.{Hdr, Grh, Grt, Trl}
 use Rattle.cwr_layouts.specs.Records.{RecordValue, IsRecord}
-use Rattle.cwr_layouts.specs.Held.{HeldLine, held_record}
+use Rattle.cwr_layouts.specs.Held.{HeldLine}
 use Rattle.cwr_shape.specs.declared.symbols.Symbol.{Symbol}
 use Rattle.cwr_shape.specs.Shapes.{BeginsShape}
-use Rattle.cwr_shape.specs.Outlines.{GoesOn}
+use Rattle.cwr_shape.specs.Outlines.{Continues}
 use Rattle.cwr_shape.specs.Left.{Any}
 use Rattle.cwr_shape.specs.Ranges.{AreInRange}
-use Rattle.cwr_shape.specs.Tallies.{TallyValue, StandsFor as CountsFor, open_records}
+use Rattle.cwr_shape.specs.Tallies.{TallyValue, IsTallyOf as CountsFor, open_records}
 use Rattle.cwr_shape.proofs.OpenTransactions.{open_begins}
-use Rattle.cwr_shape.proofs.Within.{fits_along, none_passed}
+use Rattle.cwr_shape.proofs.WithinByFronts.{fits_along, none_passed}
 use Rattle.cwr_values.specs.Values.{symbol_of}
 use Rattle.cwr_values.specs.Begun.{BeginsWithOneMore}
 use Rattle.cwr_decode.specs.declared.machine.State.{State}
 use Rattle.cwr_decode.specs.declared.machine.State.TheVariants as states
-use Rattle.cwr_judge.specs.Items.{is_in_transaction}
+use Rattle.cwr_judge.specs.Items.{stands_in_transaction}
 use Rattle.cwr_judge.specs.Judged.{IsNext}
-use Rattle.cwr_judge.specs.Open.{open_of, goes_on_with}
-use Rattle.cwr_judge.proofs.Given.{goes_on_stays, ends_closes}
+use Rattle.cwr_judge.specs.Open.{open_of, continues_open}
+use Rattle.cwr_judge.proofs.EndingRecord.{ends_closes}
+use Rattle.cwr_judge.proofs.ContinuingRecord.{continuing_stays}
 use Rattle.cwr_decode.specs.Machines.{Standing, ClosesLine, HandsOut, HoldsOpen, FitsHeld, FitsWaiting, held_list}
 use Rattle.cwr_decode.specs.Represents.{RepresentsSome, RepresentsIn}
 use Rattle.cwr_decode.specs.Calls.{TakesEnd}
-use Rattle.cwr_decode.proofs.Feeding.{Fed}
-use Rattle.cwr_decode.proofs.Entering.{few_records, inside_last, symbols-snoc}
-use Rattle.cwr_decode.proofs.LineJudged.{all_snoc, list_held}
+use Rattle.cwr_decode.proofs.AfterPiece.{Fed}
+use Rattle.cwr_decode.proofs.AfterRecord.{few_records, inside_last, symbols-snoc}
+use Rattle.cwr_decode.proofs.AfterAcceptedLine.{all_snoc, list_held}
 
 -- the symbols of the open transaction's records
 open_symbols : (records : List RecordValue)
@@ -37,8 +38,8 @@ open_symbols records =
     let xs : List Symbol = map symbol_of records in
     sym (drop-map symbol_of (length records - open_records xs) records) ∙ ap (λ (n : ℕ). drop (n - open_records xs) xs) (sym (length-map records symbol_of))
 
--- behind a record that stands inside transactions, the open one's records begin a transaction
-open_fits : (records : List RecordValue) (r : RecordValue) → GoesOn Any (map symbol_of (records ++ r ∷ [])) → is_in_transaction r.kind ≡ true → BeginsShape (map symbol_of (open_of (records ++ r ∷ [])))
+-- after a record that stands inside transactions, the open one's records begin a transaction
+open_fits : (records : List RecordValue) (r : RecordValue) → Continues Any (map symbol_of (records ++ r ∷ [])) → stands_in_transaction r.kind ≡ true → BeginsShape (map symbol_of (open_of (records ++ r ∷ [])))
 open_fits records r g inside =
     subst BeginsShape (sym (open_symbols (records ++ r ∷ []))) (open_begins (map symbol_of (records ++ r ∷ [])) g (inside_last r.kind records r refl inside))
 
@@ -54,9 +55,9 @@ few_counted tally records in_range counted =
     omega (arith, keeps.records, in_range.most_records, length-map records symbol_of)
 
 -- a record that may come next fits what is held once the open transaction was handed out where it had to be
-pub entry_fits : (d : Standing) (h : HoldsOpen d) (line : HeldLine) (s : Symbol) (r : RecordValue) (goes_on : Bool) (taken left : Option (List RecordValue)) → IsNext d.tally.limits (map symbol_of h.records) line s r
-    → goes_on ≡ goes_on_with (map symbol_of h.records) s → HandsOut goes_on d.held taken left → FitsHeld r left
-entry_fits d h line s r goes_on taken left n g hands = λ inside. by goes_on inside (g ∙ ap (goes_on_with xs) (sym n.symbol)) hands
+pub entry_fits : (d : Standing) (h : HoldsOpen d) (line : HeldLine) (s : Symbol) (r : RecordValue) (continues : Bool) (taken left : Option (List RecordValue)) → IsNext d.tally.limits (map symbol_of h.records) line s r
+    → continues ≡ continues_open (map symbol_of h.records) s → HandsOut continues d.held taken left → FitsHeld r left
+entry_fits d h line s r continues taken left n g hands = λ inside. by continues inside (g ∙ ap (continues_open xs) (sym n.symbol)) hands
   where
     xs : List Symbol
     xs = map symbol_of h.records
@@ -67,16 +68,16 @@ entry_fits d h line s r goes_on taken left n g hands = λ inside. by goes_on ins
     in_order : AllByRecursion IsRecord more
     in_order = all_snoc h.records r h.in_order n.in_order
 
-    goes : GoesOn Any (map symbol_of more)
-    goes = subst (GoesOn Any) (sym (symbols-snoc h.records r ∙ ap (λ (x : Symbol). xs ++ x ∷ []) n.symbol)) (n.may_come.0, n.may_come.1, tt, n.may_come.3)
+    goes : Continues Any (map symbol_of more)
+    goes = subst (Continues Any) (sym (symbols-snoc h.records r ∙ ap (λ (x : Symbol). xs ++ x ∷ []) n.symbol)) (n.may_come.0, n.may_come.1, tt, n.may_come.3)
 
     few : length h.records ≤ 99999999
     few = few_counted d.tally h.records h.in_range h.counted
 
-    by : (b : Bool) → is_in_transaction r.kind ≡ true → b ≡ goes_on_with xs (symbol_of r) → HandsOut b d.held taken left → BeginsWithOneMore (held_list left) r
+    by : (b : Bool) → stands_in_transaction r.kind ≡ true → b ≡ continues_open xs (symbol_of r) → HandsOut b d.held taken left → BeginsWithOneMore (held_list left) r
     by true inside e o =
         let kept : held_list left ≡ open_of h.records = ap held_list (o.1 ∙ h.held) ∙ list_held (open_of h.records) in
-        let now = (goes_on_stays h.records r in_order goes few (sym e)).longer ∙ ap (λ (q : List RecordValue). q ++ r ∷ []) (sym kept) in
+        let now = (continuing_stays h.records r in_order goes few (sym e)).longer ∙ ap (λ (q : List RecordValue). q ++ r ∷ []) (sym kept) in
         fits_as (held_list left) r (open_of more) now (open_fits h.records r goes inside)
     by false inside e o =
         let alone = (ends_closes h.records r in_order goes few (sym e)).open_now ∙ ap (λ (b : Bool). cond b (r ∷ []) []) inside in
@@ -87,7 +88,7 @@ pub waiting_fits : (d : Standing) → RepresentsSome d → FitsWaiting d
 waiting_fits d u = λ e.
     let p = subst (λ (s : State). RepresentsIn s d u.input u.given) e u.stands.here in
     let more : List RecordValue = p.records ++ p.last ∷ [] in
-    let goes : GoesOn Any (map symbol_of more) = p.read.counted.stands.begins in
+    let goes : Continues Any (map symbol_of more) = p.read.counted.stands.begins in
     let few : length p.records ≤ 99999999 = omega (arith, few_records d.tally p.lines more u.stands.in_range p.read, length-map more symbol_of, length-append p.records (p.last ∷ [])) in
     let closes = ends_closes p.records p.last p.read.in_order goes few p.ends in
     subst (λ (q : Option RecordValue). IfSome q (λ r. FitsHeld r d.held)) (sym p.line)
@@ -109,10 +110,10 @@ holds_as d new t e h = record {
   held = e ∙ h.held;
 }
 
--- ---- behind the steps of a call
+-- ---- after the steps of a call
 
 -- records of any other kinds stand inside transactions
-pub inside_unless : (kind : Kind) → (kind ≡ Hdr → ⊥) → (kind ≡ Grh → ⊥) → (kind ≡ Grt → ⊥) → (kind ≡ Trl → ⊥) → is_in_transaction kind ≡ true
+pub inside_unless : (kind : Kind) → (kind ≡ Hdr → ⊥) → (kind ≡ Grh → ⊥) → (kind ≡ Grt → ⊥) → (kind ≡ Trl → ⊥) → stands_in_transaction kind ≡ true
 inside_unless Hdr a b c d = absurd (a refl)
 inside_unless Grh a b c d = absurd (b refl)
 inside_unless Grt a b c d = absurd (c refl)

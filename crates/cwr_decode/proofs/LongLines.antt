@@ -1,4 +1,4 @@
--- The first line of a text that goes on, behind bytes without a line feed, by one that is no line feed.
+-- The first line of a text that continues, after bytes without a line feed, with one that is no line feed.
 use Rattle.std.proofs.Common.{◌≡◌, ◌≢◌, ℕ, Bool, true, false, ◌||◌, List, [], ◌∷◌, ◌++◌, refl, sym, ap, ap₂, ◌∙◌, arith, append_assoc, inl, inr}
 use Rattle.std.specs.Prelude.{◌⊎◌, ◌==◌}
 use Rattle.std.proofs.lemmas.Bool.{ne_eqb, eqb-true}
@@ -6,7 +6,7 @@ use Rattle.std.proofs.lemmas.List.{length-append}
 use Rattle.cwr_fields.proofs.LineFeeds.{NoLf, NoLf-append}
 use Rattle.cwr_layouts.specs.Lines.{closed}
 use Rattle.cwr_layouts.proofs.LineLaws.{text_of-cons}
-use Rattle.cwr_decode.proofs.Texts.{closed_line, closed_more}
+use Rattle.cwr_decode.proofs.ClosedTexts.{closed_line, closed_more}
 
 -- a text up to its first line feed
 record Parted (text : List ℕ) : Type 0 where
@@ -24,7 +24,7 @@ first_part (b ∷ text) = by (b == 10) refl (first_part text)
     by false e (inl h) = inl (ap₂ (λ (p q : Bool). p || q) e h)
     by false e (inr p) = inr (record { front = b ∷ p.front; after = p.after; split = ap (λ (t : List ℕ). b ∷ t) p.split; no_lf = ap₂ (λ (p q : Bool). p || q) e p.no_lf })
 
--- the first raw line of bytes that go on by one that is no line feed
+-- the first raw line of bytes that continue with one that is no line feed
 pub record LongLine (bytes : List ℕ) (next : ℕ) (rest : List ℕ) : Type 0 where
   pub more : List ℕ
   pub after : List ℕ

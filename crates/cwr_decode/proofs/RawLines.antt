@@ -25,6 +25,6 @@ raw_begins [] rest h = refl
 raw_begins (line ∷ lines) rest h =
     ap raw_lines (text_of-cons line lines rest) ∙ raw_line line (text_of lines ++ rest) h.0 ∙ ap (λ (l : List (List ℕ)). line ∷ l) (raw_begins lines rest h.1)
 
--- so is the line behind them
-pub raw_behind : (lines : List (List ℕ)) (line rest : List ℕ) → AllByRecursion NoLf lines → NoLf line → raw_lines (text_of lines ++ (line ++ 10 ∷ rest)) ≡ lines ++ line ∷ raw_lines rest
-raw_behind lines line rest h no_lf = raw_begins lines (line ++ 10 ∷ rest) h ∙ ap (λ (l : List (List ℕ)). lines ++ l) (raw_line line rest no_lf)
+-- so is the line after them
+pub raw_after : (lines : List (List ℕ)) (line rest : List ℕ) → AllByRecursion NoLf lines → NoLf line → raw_lines (text_of lines ++ (line ++ 10 ∷ rest)) ≡ lines ++ line ∷ raw_lines rest
+raw_after lines line rest h no_lf = raw_begins lines (line ++ 10 ∷ rest) h ∙ ap (λ (l : List (List ℕ)). lines ++ l) (raw_line line rest no_lf)

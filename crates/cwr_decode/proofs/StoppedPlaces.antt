@@ -1,4 +1,4 @@
--- A line that is that of no record that may come next is first bad at the field that is told, behind lines that were accepted.
+-- A line that is that of no record that may come next is first bad at the field that is reported, after lines that were accepted.
 use Rattle.std.proofs.Common.{◌≡◌, ℕ, zero, suc, ◌+◌, ◌<◌, ◌≤◌, List, [], ◌∷◌, ◌++◌, length, map, refl, sym, ap, ap₂, subst, ◌∙◌, arith}
 use Rattle.std.specs.Prelude.{Option, Some, None}
 use Rattle.std.specs.List.{AllZip}
@@ -22,7 +22,7 @@ use Rattle.cwr_judge.proofs.FrontsBeforeFaults.{wrong_field, front_before}
 use Rattle.cwr_judge.proofs.NoneAtFaults.{none_at_fault}
 use Rattle.cwr_judge.proofs.OneEnd.{same_line}
 use Rattle.cwr_judge.proofs.SomeEnd.{is_first}
-use Rattle.cwr_judge.proofs.ViableCells.{viable_front, goes_on_viable}
+use Rattle.cwr_judge.proofs.ViableCells.{viable_front, continuing_viable}
 
 -- the fronts of a line: those before the field are good, and that up to the field isn't
 record Fronts (limits : LimitValues) (xs : List Symbol) (line : List ℕ) (field : ℕ) : Type 0 where
@@ -54,7 +54,7 @@ fronts_by limits xs h line field reason (Some kind) cut known w =
       bad = λ m e g. none_at_fault limits xs h line kind m reason cut known (subst (λ (n : ℕ). IsWrongAt limits xs h kind n reason) e w.here) g;
     }
 
--- Each place in the lines, and each before the field of the last one, goes on, and that field doesn't.
+-- Each place in the lines, and each before the field of the last one, continues, and that field doesn't.
 pub record StopsAt (limits : LimitValues) (lines : List (List ℕ)) (line : List ℕ) (field : ℕ) : Type 0 where
   pub from : 0 < field
   pub to : field ≤ last_place (line_kind line)
@@ -76,7 +76,7 @@ stops_at tally lines records h line field reason read held holds first =
   where
     viable_at : (k : ℕ) → 0 < k → k < field → Fronts tally.limits (map symbol_of records) line field → Viable tally.limits lines line k
     viable_at zero from early f = absurd (omega (arith, from))
-    viable_at (suc m) from early f = goes_on_viable tally.limits lines line m (record { records = records; in_order = read.in_order; lines = read.rows; front = f.before m early })
+    viable_at (suc m) from early f = continuing_viable tally.limits lines line m (record { records = records; in_order = read.in_order; lines = read.rows; front = f.before m early })
 
     bad_at : (k : ℕ) → field ≡ k → Fronts tally.limits (map symbol_of records) line field → Viable tally.limits lines line field → ⊥
     bad_at zero e f v = absurd (omega (arith, e, f.from))
@@ -96,8 +96,8 @@ earlier_line [] (y ∷ ys) a b us vs l e =
     record { rest = ys; are = ap (λ (z : List ℕ). z ∷ ys) (sym first) }
 earlier_line (x ∷ xs) (y ∷ ys) a b us vs l e =
     let first : x ≡ y = cc e in
-    let behind : xs ++ a ∷ us ≡ ys ++ b ∷ vs = cc e in
-    let r = earlier_line xs ys a b us vs (omega (arith, l)) behind in
+    let same_tail : xs ++ a ∷ us ≡ ys ++ b ∷ vs = cc e in
+    let r = earlier_line xs ys a b us vs (omega (arith, l)) same_tail in
     record { rest = r.rest; are = ap₂ (λ (z : List ℕ) (zs : List (List ℕ)). z ∷ zs) (sym first) r.are }
 
 -- in a text of these lines that is the first bad place

@@ -13,7 +13,7 @@ use Rattle.cwr_shape.specs.declared.symbols.Symbol.{Symbol}
 use Rattle.cwr_shape.specs.declared.symbols.Symbol.TheVariants.{Plain}
 use Rattle.cwr_shape.specs.Ranges.{LimitValues, AreInRange}
 use Rattle.cwr_shape.specs.Left.{Any}
-use Rattle.cwr_shape.specs.Outlines.{GoesOn, IsWhole}
+use Rattle.cwr_shape.specs.Outlines.{Continues, IsWhole}
 use Rattle.cwr_shape.specs.Tallies as tallies
 use Rattle.cwr_shape.specs.Tallies.{TallyValue}
 use Rattle.cwr_values.specs.Values.{TransmissionValue, symbol_of}
@@ -22,36 +22,36 @@ use Rattle.cwr_judge.specs.Ends.{IsAccepted, IsRefused, IsTruncated}
 use Rattle.cwr_judge.specs.Open.{items_so_far}
 use Rattle.cwr_judge.proofs.Trailers.{trailer_ends, whole_ends}
 use Rattle.cwr_decode.specs.declared.machine.State.TheVariants as states
-use Rattle.cwr_decode.specs.Machines.{Standing, first}
+use Rattle.cwr_decode.specs.Machines.{Standing, at_start}
 use Rattle.cwr_decode.specs.Represents.{AreAccepted, IsInput, IsStopped, MayFollow, text_of}
 use Rattle.cwr_decode.specs.TextLines.{AcceptsLine, FirstLine, IsCutOff, IsLastLine, RefusesLine}
 use Rattle.cwr_decode.proofs.CutTruncated.{cut_truncated}
-use Rattle.cwr_decode.proofs.Ended.{accepts_whole}
-use Rattle.cwr_decode.proofs.Feeding.{nothing_read}
-use Rattle.cwr_decode.proofs.LineJudged.{is_line, reads_more}
+use Rattle.cwr_decode.proofs.WholeLinesAccepted.{accepts_whole}
+use Rattle.cwr_decode.proofs.NothingRead.{nothing_read}
+use Rattle.cwr_decode.proofs.AfterAcceptedLine.{is_line, reads_more}
 use Rattle.cwr_decode.proofs.StoppedRefused.{refused_line, refused_long}
-use Rattle.cwr_decode.proofs.Texts.{closed_open, closed_text, text_of-push}
+use Rattle.cwr_decode.proofs.ClosedTexts.{closed_open, closed_text, text_of-push}
 
 -- so many bytes of the text are the lines of records with which a transmission within the limits begins, and not a whole one
 pub record WalkedTo (limits : LimitValues) (text : List ℕ) (used : ℕ) (tally : TallyValue) : Type 0 where
   pub lines : List (List ℕ)
   pub records : List RecordValue
-  pub over : Bool
+  pub input_ended : Bool
   pub in_range : AreInRange tally.limits
   pub limits_are : tally.limits ≡ limits
   pub read : AreAccepted tally lines records
   pub left : ¬ IsWhole (map symbol_of records)
   pub within : used ≤ length text
-  pub late : over ≡ true → used ≡ length text
-  pub split : IsInput over (take used text) (text_of lines)
+  pub late : input_ended ≡ true → used ≡ length text
+  pub split : IsInput input_ended (take used text) (text_of lines)
 
-pub walked_none : (limits : LimitValues) (text : List ℕ) (tally : TallyValue) → tally.limits ≡ limits → AreInRange tally.limits → tallies.StandsFor tally [] → WalkedTo limits text 0 tally
+pub walked_none : (limits : LimitValues) (text : List ℕ) (tally : TallyValue) → tally.limits ≡ limits → AreInRange tally.limits → tallies.IsTallyOf tally [] → WalkedTo limits text 0 tally
 walked_none limits text tally limits_are range stands =
-    let r = (nothing_read (first tally) range stands refl).here in
+    let r = (nothing_read (at_start tally) range stands refl).here in
     record {
       lines = r.lines;
       records = r.records;
-      over = false;
+      input_ended = false;
       in_range = range;
       limits_are = limits_are;
       read = r.read;
@@ -76,12 +76,12 @@ record GoesFurther (text : List ℕ) (used : ℕ) : Type 0 where
 
 -- the next line of the text, which ends with the text or before that
 pub record LineAt (text : List ℕ) (used : ℕ) (lines : List (List ℕ)) (line : HeldLine) : Type 0 where
-  pub over : Bool
+  pub input_ended : Bool
   pub within : used ≤ length text
-  pub late : over ≡ true → used ≡ length text
-  pub split : IsInput over (take used text) (text_of lines ++ held_text line)
+  pub late : input_ended ≡ true → used ≡ length text
+  pub split : IsInput input_ended (take used text) (text_of lines ++ held_text line)
   further : line.ended ≡ Over → GoesFurther text used
-  early : line.ended ≡ Over → over ≡ false
+  early : line.ended ≡ Over → input_ended ≡ false
 
 first_of : (used : ℕ) (piece : List ℕ) → used < length piece → (rest : List ℕ) × (drop used piece ≡ slice_index piece used ∷ rest)
 first_of used [] h = absurd (omega (arith, h))
@@ -90,14 +90,14 @@ first_of (suc used) (b ∷ piece) h = first_of used piece (omega (arith, h))
 
 pub line_at : (limits : LimitValues) (text : List ℕ) (used count : ℕ) (tally : TallyValue) (line : HeldLine) (w : WalkedTo limits text used tally) → FirstLine (drop used text) count line
     → LineAt text (used + count) w.lines line
-line_at limits text used count tally line w f = by w.over w.late w.split f.taken
+line_at limits text used count tally line w f = by w.input_ended w.late w.split f.taken
   where
     inside : used + count ≤ length text
     inside = omega (arith, f.within, length-drop used text, w.within)
 
     cut_off : take used text ≡ text_of w.lines → IsCutOff (drop used text) count line → LineAt text (used + count) w.lines line
     cut_off split c = record {
-      over = false;
+      input_ended = false;
       within = inside;
       late = λ e. absurd (true≢false (sym e));
       split = take-add used count text ∙ ap₂ (λ (x y : List ℕ). x ++ y) split (sym c.text_is);
@@ -115,7 +115,7 @@ line_at limits text used count tally line w f = by w.over w.late w.split f.taken
         ap (λ (n : ℕ). take n text) all ∙ take-length text ∙ sym (take-append-drop used text) ∙ ap₂ (λ (x y : List ℕ). x ++ y) split (sym l.bytes) in
         let some : 0 < length line.bytes = omega (arith, f.some, l.all, ap length l.bytes) in
         record {
-          over = true;
+          input_ended = true;
           within = inside;
           late = λ e. all;
           split = ap closed whole ∙ closed_open w.lines line.bytes f.held.no_lf some ∙ ap (λ (e : LineEnd). text_of w.lines ++ text_by e line.bytes) (sym l.ends);
@@ -158,17 +158,17 @@ walked_more limits text used count tally new line w f a =
     record {
       lines = w.lines ++ line.bytes ∷ [];
       records = w.records ++ a.accepted ∷ [];
-      over = l.over;
+      input_ended = l.input_ended;
       in_range = subst AreInRange (sym a.limits) w.in_range;
       limits_are = a.limits ∙ w.limits_are;
       read = m.read;
       left = λ whole. true≢false (sym (a.trailer.1 (whole_ends (map symbol_of w.records) a.symbol (subst IsWhole m.symbols whole))));
       within = l.within;
       late = l.late;
-      split = subst (IsInput l.over (take (used + count) text)) m.text l.split;
+      split = subst (IsInput l.input_ended (take (used + count) text)) m.text l.split;
     }
 
-nothing_more : (over : Bool) → MayFollow over []
+nothing_more : (input_ended : Bool) → MayFollow input_ended []
 nothing_more false = tt
 nothing_more true = refl
 
@@ -180,13 +180,13 @@ walked_accepted limits text used count tally new line w f a =
     let l = line_at limits text used count tally line w f in
     let all : List RecordValue = w.records ++ a.accepted ∷ [] in
     let trailer : a.symbol ≡ Plain Trl = a.trailer.0 refl in
-    let comes : GoesOn Any (xs ++ a.symbol ∷ []) = (a.next.may_come.0, a.next.may_come.1, tt, a.next.may_come.3) in
+    let comes : Continues Any (xs ++ a.symbol ∷ []) = (a.next.may_come.0, a.next.may_come.1, tt, a.next.may_come.3) in
     let whole : IsWhole (map symbol_of all) =
-    subst IsWhole (sym (m.symbols ∙ ap (λ (s : Symbol). xs ++ s ∷ []) trailer)) (trailer_ends xs (subst (λ (s : Symbol). GoesOn Any (xs ++ s ∷ [])) trailer comes)) in
+    subst IsWhole (sym (m.symbols ∙ ap (λ (s : Symbol). xs ++ s ∷ []) trailer)) (trailer_ends xs (subst (λ (s : Symbol). Continues Any (xs ++ s ∷ [])) trailer comes)) in
     let input : List ℕ = take (used + count) text in
     let tail : List ℕ = drop (used + count) text in
-    let e = accepts_whole new (w.lines ++ line.bytes ∷ []) all l.over input text tail (items_so_far all) (subst AreInRange (sym a.limits) w.in_range) m.read whole
-    (subst (IsInput l.over input) m.text l.split) (sym (take-append-drop (used + count) text)) (λ z. drop_all (used + count) text (omega (arith, l.late z))) refl [] (nothing_more l.over) in
+    let e = accepts_whole new (w.lines ++ line.bytes ∷ []) all l.input_ended input text tail (items_so_far all) (subst AreInRange (sym a.limits) w.in_range) m.read whole
+    (subst (IsInput l.input_ended input) m.text l.split) (sym (take-append-drop (used + count) text)) (λ z. drop_all (used + count) text (omega (arith, l.late z))) refl [] (nothing_more l.input_ended) in
     let taken : length input ≡ used + count = length-take-le (used + count) text l.within in
     let accepted : IsAccepted new.limits text e.0 (used + count) =
     subst (IsAccepted new.limits text e.0) taken (subst (λ (x : List ℕ). IsAccepted new.limits x e.0 (length input)) (append-nil text) e.1) in
@@ -205,7 +205,7 @@ walked_refused limits text used count tally line refusal w f r = subst (λ (k : 
     input = take (used + count) text
 
     d : Standing
-    d = record { line = empty_line; tally = tally; held = None; state = states.Refused refusal; finished = l.over }
+    d = record { line = empty_line; tally = tally; held = None; state = states.Refused refusal; finished = l.input_ended }
 
     stopped : IsStopped d input (items_so_far w.records) refusal
     stopped = record {
@@ -216,7 +216,7 @@ walked_refused limits text used count tally line refusal w f r = subst (λ (k : 
       line = line;
       ended = f.ended;
       is_held = f.held;
-      over = l.over;
+      input_ended = l.input_ended;
       late = λ e. e;
       split = l.split;
       none = r.none;
@@ -237,7 +237,7 @@ walked_refused limits text used count tally line refusal w f r = subst (λ (k : 
 
     by : (e : LineEnd) → line.ended ≡ e → IsRefused tally.limits text refusal
     by Open q = absurd (f.ended q)
-    by Line q = subst (λ (x : List ℕ). IsRefused tally.limits x refusal) whole (refused_line d input (items_so_far w.records) refusal (drop (used + count) text) stopped q (follows l.over l.late))
+    by Line q = subst (λ (x : List ℕ). IsRefused tally.limits x refusal) whole (refused_line d input (items_so_far w.records) refusal (drop (used + count) text) stopped q (follows l.input_ended l.late))
     by Over q =
         let g = l.further q in
         subst (λ (x : List ℕ). IsRefused tally.limits x refusal) (ap (λ (x : List ℕ). input ++ x) (sym g.split) ∙ whole)
@@ -249,8 +249,8 @@ pub walked_truncated : (limits : LimitValues) (text : List ℕ) (used count : �
     → IsTruncated limits text count
 walked_truncated limits text used count tally w nothing counted =
     subst (λ (k : LimitValues). IsTruncated k text count) w.limits_are (cut_truncated d text (items_so_far w.records) count (record {
-      through = record { lines = w.lines; records = w.records; read = w.read; split = by w.over (subst (λ (x : List ℕ). IsInput w.over x (text_of w.lines)) whole w.split); empty = refl; nothing = refl; given_are = refl };
-      over = refl;
+      through = record { lines = w.lines; records = w.records; read = w.read; split = by w.input_ended (subst (λ (x : List ℕ). IsInput w.input_ended x (text_of w.lines)) whole w.split); empty = refl; nothing = refl; given_are = refl };
+      input_ended = refl;
       left = w.left;
       counted = counted ∙ length-map w.records symbol_of;
     }))

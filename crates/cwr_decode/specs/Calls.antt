@@ -7,21 +7,21 @@ use Rattle.cwr_decode.specs.declared.outcomes.Outcome.TheVariants.{More, Memory}
 use Rattle.cwr_decode.specs.declared.outcomes.Outcome.TheVariants as outcomes
 use Rattle.cwr_decode.specs.declared.machine.State.{State}
 use Rattle.cwr_decode.specs.declared.machine.State.TheVariants.{Reading, Pending}
-use Rattle.cwr_decode.specs.Machines.{Standing, IsReady, Leaves, Empties, WaitsOutside, again, over}
+use Rattle.cwr_decode.specs.Machines.{Standing, IsReady, Leaves, Empties, WaitsOutside, again, end_input}
 use Rattle.cwr_decode.specs.Represents.{Represents, IsStopped, IsRight, items_in, items_out}
 
 -- nothing was answered for good
 abbrev pub IsLive : State → Type 0
 IsLive state = again state ≡ None
 
--- no accepted record is forgotten, and want of memory comes with one more
+-- no accepted record is forgotten, and out of memory comes with one more
 abbrev pub Grows : ℕ → Option Outcome → ℕ → Type 0
 Grows old out new = (old ≤ new) × (out ≡ Some Memory → old < new)
 
--- Want of memory comes only with a record that was being added: the one that waited, with no byte used, or one that was
+-- Out of memory comes only with a record that was being added: the one that waited, with no byte used, or one that was
 -- accepted.
-abbrev pub WantsMemory : Standing → ℕ → Standing → Type 0
-WantsMemory old used new = ((old.state ≡ Pending) × (used ≡ 0)) ⊎ (old.tally.counts.records < new.tally.counts.records)
+abbrev pub RunsOutOfMemory : Standing → ℕ → Standing → Type 0
+RunsOutOfMemory old used new = ((old.state ≡ Pending) × (used ≡ 0)) ⊎ (old.tally.counts.records < new.tally.counts.records)
 
 -- what the end of the input refuses is the last line, which ended there and isn't too long
 abbrev pub RefusesLast : Outcome → Standing → List ℕ → List Item → Type 0
@@ -39,10 +39,10 @@ pub record Moves (old : Standing) (out : Option Outcome) (new : Standing) : Type
   pub finished : new.finished ≡ old.finished
   pub limits : new.tally.limits ≡ old.tally.limits
 
--- the bytes that the decoder has seen of the input: all that it was given, and once the input is over no more
-abbrev pub seen : Bool → List ℕ → List ℕ → List ℕ
-seen false input piece = input ++ piece
-seen true input piece = input
+-- the bytes that the decoder has seen of the input: all that it was given, and once the input has ended no more
+abbrev pub seen_input : Bool → List ℕ → List ℕ → List ℕ
+seen_input false input piece = input ++ piece
+seen_input true input piece = input
 
 -- the end of the input is taken, and with it a last line that had no line feed
 pub record TakesEnd (old : Standing) (out : Option Outcome) (new : Standing) : Type 0 where
@@ -56,7 +56,7 @@ pub record TakesEnd (old : Standing) (out : Option Outcome) (new : Standing) : T
   pub waits : IfNone out (new.state ≡ Pending → old.state ≡ Pending)
   pub grows : (input : List ℕ) (given : List Item) → Represents old input given → Grows old.tally.counts.records out new.tally.counts.records
   pub empties : (input : List ℕ) (given : List Item) → Represents old input given → IfSome out (λ outcome. Empties outcome new)
-  pub stays : IfSome (again old.state) (λ o. (out ≡ None) × (new ≡ over old))
+  pub stays : IfSome (again old.state) (λ o. (out ≡ None) × (new ≡ end_input old))
   pub finished : new.finished ≡ true
   pub limits : new.tally.limits ≡ old.tally.limits
 
@@ -81,7 +81,7 @@ pub record Feeds (old : Standing) (piece : List ℕ) (used : ℕ) (outcome : Out
   pub within : used ≤ length piece
   pub stands : (input : List ℕ) (given : List Item) → Represents old input given → Represents new (input ++ take used piece) (given ++ items_out outcome)
   pub right : IsLive old.state → (input : List ℕ) (given : List Item) → Represents old input given
-      → IsRight old.tally.limits outcome old.finished (input ++ take used piece) (seen old.finished input piece) (given ++ items_out outcome)
+      → IsRight old.tally.limits outcome old.finished (input ++ take used piece) (seen_input old.finished input piece) (given ++ items_out outcome)
   pub ready : IsReady new.state new.finished new.line
   pub leaves : Leaves outcome new.state
   pub empties : (input : List ℕ) (given : List Item) → Represents old input given → Empties outcome new
@@ -89,12 +89,12 @@ pub record Feeds (old : Standing) (piece : List ℕ) (used : ℕ) (outcome : Out
   pub more : outcome ≡ More → (used ≡ length piece) × (old.finished ≡ false)
   pub unused : old.finished ≡ true → used ≡ 0
   pub alone : WaitsOutside old → (used ≡ 0) × (outcome ≢ More)
-  pub memory : outcome ≡ Memory → IsLive old.state → (input : List ℕ) (given : List Item) → Represents old input given → WantsMemory old used new
+  pub memory : outcome ≡ Memory → IsLive old.state → (input : List ℕ) (given : List Item) → Represents old input given → RunsOutOfMemory old used new
   pub kept : (input : List ℕ) (given : List Item) → Represents old input given → old.tally.counts.records ≤ new.tally.counts.records
   pub finished : new.finished ≡ old.finished
   pub limits : new.tally.limits ≡ old.tally.limits
 
--- the input is over
+-- the input has ended
 pub record Finishes (old : Standing) (outcome : Outcome) (new : Standing) : Type 0 where
   pub stands : (input : List ℕ) (given : List Item) → Represents old input given → Represents new input (given ++ items_out outcome)
   pub right : IsLive old.state → (input : List ℕ) (given : List Item) → Represents old input given → IsRight old.tally.limits outcome true input input (given ++ items_out outcome)
@@ -102,9 +102,9 @@ pub record Finishes (old : Standing) (outcome : Outcome) (new : Standing) : Type
   pub ready : IsReady new.state new.finished new.line
   pub leaves : Leaves outcome new.state
   pub empties : (input : List ℕ) (given : List Item) → Represents old input given → Empties outcome new
-  pub again : IfSome (again old.state) (λ o. (outcome ≡ o) × (new ≡ over old))
+  pub again : IfSome (again old.state) (λ o. (outcome ≡ o) × (new ≡ end_input old))
   pub more : outcome ≡ More → ⊥
-  pub memory : outcome ≡ Memory → IsLive old.state → (input : List ℕ) (given : List Item) → Represents old input given → WantsMemory old 0 new
+  pub memory : outcome ≡ Memory → IsLive old.state → (input : List ℕ) (given : List Item) → Represents old input given → RunsOutOfMemory old 0 new
   pub kept : (input : List ℕ) (given : List Item) → Represents old input given → old.tally.counts.records ≤ new.tally.counts.records
   pub finished : new.finished ≡ true
   pub limits : new.tally.limits ≡ old.tally.limits

@@ -14,8 +14,8 @@ abbrev pub accepted_records : Standing → ℕ
 accepted_records d = d.tally.counts.records
 
 -- the end of the input was taken
-abbrev pub is_over : Standing → Bool
-is_over d = d.finished
+abbrev pub has_ended : Standing → Bool
+has_ended d = d.finished
 
 -- what was answered for good and is answered again, if anything was
 abbrev pub final_answer : Standing → Option Outcome

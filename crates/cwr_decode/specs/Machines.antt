@@ -10,7 +10,7 @@ use Rattle.cwr_layouts.specs.Held.{HeldLine, held_excess, held_kind, held_record
 use Rattle.cwr_shape.specs.declared.symbols.Symbol.{Symbol}
 use Rattle.cwr_shape.specs.Levels.{level_of}
 use Rattle.cwr_shape.specs.Ranges.{AreInRange}
-use Rattle.cwr_shape.specs.Tallies.{TallyValue, StandsFor, place_after}
+use Rattle.cwr_shape.specs.Tallies.{TallyValue, IsTallyOf, place_after}
 use Rattle.cwr_values.specs.declared.items.Item.{Item}
 use Rattle.cwr_values.specs.declared.items.Item.TheVariants as items
 use Rattle.cwr_judge.specs.declared.judging.LineFault.{LineFault}
@@ -20,13 +20,13 @@ use Rattle.cwr_decode.specs.declared.machine.State.{State}
 use Rattle.cwr_decode.specs.declared.machine.State.TheVariants.{Reading, Pending, Ended, Refused, Truncated, Memory}
 use Rattle.cwr_judge.specs.declared.refusals.Refusal.{Refusal}
 use Rattle.cwr_judge.specs.Judged.{IsNext, IsOfNone, IsFirstFault}
-use Rattle.cwr_judge.specs.Items.{is_in_transaction}
+use Rattle.cwr_judge.specs.Items.{stands_in_transaction}
 use Rattle.cwr_values.specs.Values.{symbol_of}
 use Rattle.cwr_values.specs.Begun.{BeginsWithOneMore}
-use Rattle.cwr_judge.specs.Open.{goes_on_with, open_of}
+use Rattle.cwr_judge.specs.Open.{continues_open, open_of}
 
 -- what a decoder holds: the line that is read or waits, what is counted of the records, and the records of the open
--- transaction; what it does next, and whether the input is over
+-- transaction; what it does next, and whether the input has ended
 pub record Standing : Type 0 where
   pub line : HeldLine
   pub tally : TallyValue
@@ -39,7 +39,7 @@ pub record HasRecord (line : HeldLine) : Type 0 where
   pub ended : line.ended ≢ line_ends.Open
   pub carries : IsSomeAnd (held_record line) IsRecord
 
--- while it reads, the line is open, and empty once the input is over; while a record waits, the line has it
+-- while it reads, the line is open, and empty once the input has ended; while a record waits, the line has it
 abbrev pub IsReady : State → Bool → HeldLine → Type 0
 IsReady Reading finished line = (line.ended ≡ line_ends.Open) × (finished ≡ true → length line.bytes ≡ 0)
 IsReady Pending finished line = HasRecord line
@@ -50,7 +50,7 @@ IsReady Memory finished line = Unit {0}
 
 -- a record waits that is an item of its own
 abbrev pub WaitsOutside : Standing → Type 0
-WaitsOutside d = (d.state ≡ Pending) × IsSomeAnd (held_record d.line) (λ r. is_in_transaction r.kind ≡ false)
+WaitsOutside d = (d.state ≡ Pending) × IsSomeAnd (held_record d.line) (λ r. stands_in_transaction r.kind ≡ false)
 
 -- what is answered for good, once it was answered
 abbrev pub again : State → Option Outcome
@@ -61,25 +61,25 @@ again (Refused refusal) = Some (outcomes.Refused refusal)
 again (Truncated records) = Some (outcomes.Truncated records)
 again Memory = Some outcomes.Memory
 
--- the state behind an item: behind a transaction the record waits that ended it, and behind any other but the end a line
+-- the state after an item: after a transaction the record waits that ended it, and after any other but the end a line
 -- is read
-abbrev pub state_behind : Item → State
-state_behind (items.Opened r) = Reading
-state_behind (items.GroupOpened r) = Reading
-state_behind (items.Transaction records) = Pending
-state_behind (items.GroupClosed r) = Reading
-state_behind items.Ended = Ended
+abbrev pub state_after : Item → State
+state_after (items.Opened r) = Reading
+state_after (items.GroupOpened r) = Reading
+state_after (items.Transaction records) = Pending
+state_after (items.GroupClosed r) = Reading
+state_after items.Ended = Ended
 
--- the state behind an answer
+-- the state after an answer
 abbrev pub Leaves : Outcome → State → Type 0
 Leaves outcomes.More state = state ≡ Reading
-Leaves (outcomes.Item item) state = state ≡ state_behind item
+Leaves (outcomes.Item item) state = state ≡ state_after item
 Leaves (outcomes.Refused refusal) state = state ≡ Refused refusal
 Leaves (outcomes.Truncated records) state = state ≡ Truncated records
 Leaves outcomes.Memory state = state ≡ Memory
 Leaves outcomes.Done state = state ≡ Ended
 
--- behind a transaction its records aren't held, and behind any other item neither those nor bytes of a line
+-- after a transaction its records aren't held, and after any other item neither those nor bytes of a line
 abbrev pub Empties : Outcome → Standing → Type 0
 Empties (outcomes.Item (items.Transaction records)) d = d.held ≡ None
 Empties (outcomes.Item item) d = (d.line.bytes ≡ []) × (d.held ≡ None)
@@ -88,8 +88,8 @@ Empties outcome d = Unit {0}
 -- ---- one step
 
 -- nothing was read within the limits
-abbrev pub first : TallyValue → Standing
-first tally = record { line = empty_line; tally = tally; held = None; state = Reading; finished = false }
+abbrev pub at_start : TallyValue → Standing
+at_start tally = record { line = empty_line; tally = tally; held = None; state = Reading; finished = false }
 
 -- stopped for good
 abbrev pub stopped : Standing → State → Standing
@@ -114,18 +114,18 @@ pub record HoldsOpen (d : Standing) : Type 0 where
   pub in_range : AreInRange d.tally.limits
   pub records : List RecordValue
   pub in_order : AllByRecursion IsRecord records
-  pub counted : StandsFor d.tally (map symbol_of records)
+  pub counted : IsTallyOf d.tally (map symbol_of records)
   pub held : d.held ≡ held_of (open_of records)
 
--- a record that stands inside transactions goes on with the one that is held, or begins one where none is
+-- a record that stands inside transactions continues the one that is held, or begins one where none is
 abbrev pub FitsHeld : RecordValue → Option (List RecordValue) → Type 0
-FitsHeld r held = is_in_transaction r.kind ≡ true → BeginsWithOneMore (held_list held) r
+FitsHeld r held = stands_in_transaction r.kind ≡ true → BeginsWithOneMore (held_list held) r
 
 -- so does the record that waits, if one does
 abbrev pub FitsWaiting : Standing → Type 0
 FitsWaiting d = d.state ≡ Pending → IfSome (held_record d.line) (λ r. FitsHeld r d.held)
 
--- the open transaction is taken out, unless the next record goes on with it
+-- the open transaction is taken out, unless the next record continues it
 abbrev pub HandsOut : Bool → Option (List RecordValue) → Option (List RecordValue) → Option (List RecordValue) → Type 0
 HandsOut true old result new = (result ≡ None) × (new ≡ old)
 HandsOut false old result new = (result ≡ old) × (new ≡ None)
@@ -138,12 +138,12 @@ Adds Grt r old result new = (result ≡ Ok (Some (items.GroupClosed r))) × (new
 Adds Trl r old result new = (result ≡ Ok (Some items.Ended)) × (new ≡ old)
 Adds kind r old result new = MatchResult result (λ item. (item ≡ None) × (new ≡ Some (held_list old ++ r ∷ []))) (λ fault. Unit {0})
 
--- behind an accepted record a new line begins, unless that was the last one or found no memory
-abbrev pub GoesOn : Result (Option Item) AllocError → Standing → Option Outcome → Standing → Type 0
-GoesOn (Err fault) old result new = (result ≡ Some outcomes.Memory) × (new ≡ stopped old Memory)
-GoesOn (Ok None) old result new = (result ≡ None) × (new ≡ reading old old.held)
-GoesOn (Ok (Some items.Ended)) old result new = (result ≡ Some (outcomes.Item items.Ended)) × (new ≡ stopped old Ended)
-GoesOn (Ok (Some item)) old result new = (result ≡ Some (outcomes.Item item)) × (new ≡ reading old old.held)
+-- after an accepted record a new line begins, unless that was the last one or found no memory
+abbrev pub FinishesRecord : Result (Option Item) AllocError → Standing → Option Outcome → Standing → Type 0
+FinishesRecord (Err fault) old result new = (result ≡ Some outcomes.Memory) × (new ≡ stopped old Memory)
+FinishesRecord (Ok None) old result new = (result ≡ None) × (new ≡ reading old old.held)
+FinishesRecord (Ok (Some items.Ended)) old result new = (result ≡ Some (outcomes.Item items.Ended)) × (new ≡ stopped old Ended)
+FinishesRecord (Ok (Some item)) old result new = (result ≡ Some (outcomes.Item item)) × (new ≡ reading old old.held)
 
 -- an accepted record of the kind is entered
 abbrev pub Enters : Kind → RecordValue → Standing → Option Outcome → Standing → Type 0
@@ -161,7 +161,7 @@ with_tally old tally = record { line = old.line; tally = tally; held = old.held;
 abbrev pub pending : Standing → Standing
 pending old = record { line = old.line; tally = old.tally; held = None; state = Pending; finished = old.finished }
 
--- a record is entered at once where it goes on with the open transaction or none is open; else that is handed out first
+-- a record is entered at once where it continues the open transaction or none is open; else that is handed out first
 abbrev pub Follows : Bool → Option (List RecordValue) → RecordValue → Standing → Option Outcome → Standing → Type 0
 Follows true held r old result new = Enters r.kind r old result new
 Follows false None r old result new = Enters r.kind r old result new
@@ -174,30 +174,30 @@ pub record Accepts (old : Standing) (result : Option Outcome) (new : Standing) :
   pub carried : held_record old.line ≡ Some accepted
   pub in_order : IsRecord accepted
   pub excess : held_excess old.line ≡ false
-  pub next : (xs : List Symbol) → StandsFor old.tally xs → IsNext old.tally.limits xs old.line symbol accepted
+  pub next : (xs : List Symbol) → IsTallyOf old.tally xs → IsNext old.tally.limits xs old.line symbol accepted
   pub tally : TallyValue
   pub limits : tally.limits ≡ old.tally.limits
-  pub stands : (xs : List Symbol) → StandsFor old.tally xs → StandsFor tally (xs ++ symbol ∷ [])
-  pub goes_on : Bool
-  pub same : (xs : List Symbol) → StandsFor old.tally xs → goes_on ≡ goes_on_with xs symbol
-  pub follows : Follows goes_on old.held accepted (with_tally old tally) result new
+  pub stands : (xs : List Symbol) → IsTallyOf old.tally xs → IsTallyOf tally (xs ++ symbol ∷ [])
+  pub continues : Bool
+  pub same : (xs : List Symbol) → IsTallyOf old.tally xs → continues ≡ continues_open xs symbol
+  pub follows : Follows continues old.held accepted (with_tally old tally) result new
 
--- the fault of a line of the kind is told, and nothing is held from then on
-pub record Tells (old : Standing) (kind : Option Kind) (fault : LineFault) (outcome : Outcome) (new : Standing) : Type 0 where
+-- the fault of a line of the kind is reported, and nothing is held from then on
+pub record ReportsFault (old : Standing) (kind : Option Kind) (fault : LineFault) (outcome : Outcome) (new : Standing) : Type 0 where
   pub refusal : Refusal
   pub number : refusal.rec ≡ old.tally.counts.records + 1
   pub field : refusal.field ≡ fault.field
   pub reason : refusal.reason ≡ fault.reason
-  pub level : (xs : List Symbol) → StandsFor old.tally xs → refusal.level ≡ level_of kind fault.field fault.reason (place_after xs)
-  pub told : outcome ≡ outcomes.Refused refusal
+  pub level : (xs : List Symbol) → IsTallyOf old.tally xs → refusal.level ≡ level_of kind fault.field fault.reason (place_after xs)
+  pub reported : outcome ≡ outcomes.Refused refusal
   pub stops : new ≡ stopped old (Refused refusal)
 
 -- the line is refused
 pub record Refuses (old : Standing) (result : Option Outcome) (new : Standing) : Type 0 where
   pub fault : LineFault
-  pub none : (xs : List Symbol) → StandsFor old.tally xs → IsOfNone old.tally.limits xs old.line
-  pub first : (xs : List Symbol) → StandsFor old.tally xs → IsFirstFault old.tally.limits xs old.line fault.field fault.reason
-  pub tells : IsSomeAnd result (λ outcome. Tells old (held_kind old.line) fault outcome new)
+  pub none : (xs : List Symbol) → IsTallyOf old.tally xs → IsOfNone old.tally.limits xs old.line
+  pub first : (xs : List Symbol) → IsTallyOf old.tally xs → IsFirstFault old.tally.limits xs old.line fault.field fault.reason
+  pub reports : IsSomeAnd result (λ outcome. ReportsFault old (held_kind old.line) fault outcome new)
 
 -- the line is accepted or refused
 abbrev pub Judges : Standing → Option Outcome → Standing → Type 0
@@ -217,12 +217,12 @@ Settles (Refused refusal) old result new = (result ≡ Some (outcomes.Refused re
 Settles (Truncated records) old result new = (result ≡ Some (outcomes.Truncated records)) × (new ≡ old)
 Settles Memory old result new = (result ≡ Some outcomes.Memory) × (new ≡ old)
 
--- the input is over
-abbrev pub over : Standing → Standing
-over old = record { line = old.line; tally = old.tally; held = old.held; state = old.state; finished = true }
+-- the input has ended
+abbrev pub end_input : Standing → Standing
+end_input old = record { line = old.line; tally = old.tally; held = old.held; state = old.state; finished = true }
 
--- the input is over, and a last line is there that had no line feed, or not
+-- the input has ended, and a last line is there that had no line feed, or not
 abbrev pub ClosesLine : Bool → Standing → Standing → Type 0
 ClosesLine true old new = (old.state ≡ Reading) × (0 ≢ length old.line.bytes)
     × (new ≡ record { line = record { bytes = old.line.bytes; ended = line_ends.Line }; tally = old.tally; held = old.held; state = old.state; finished = true })
-ClosesLine false old new = (new ≡ over old) × (old.state ≡ Reading → length old.line.bytes ≡ 0)
+ClosesLine false old new = (new ≡ end_input old) × (old.state ≡ Reading → length old.line.bytes ≡ 0)

@@ -1,10 +1,9 @@
--- Reading a transmission from a reader: what is told, and what that says of the bytes that the reader had.
+-- Reading a transmission from a reader: what is reported, and what that says of the bytes that the reader had.
 use Rattle.std.specs.Prelude.{◌≡◌, ◌⊎◌, ℕ, ◌≤◌, true, false, List, [], ◌∷◌, ◌++◌, length, Option, Some, None, IfSome, Result, Ok, Err}
 use Rattle.std.specs.Io.KnownBytes.{Consumes, IsAtEnd}
 use Rattle.cwr_fields.specs.Failures.{one_more_failure}
 use Rattle.cwr_shape.specs.Ranges.{LimitValues}
 use Rattle.cwr_values.specs.declared.items.Item.{Item}
-use Rattle.cwr_values.specs.declared.items.Item.TheVariants as items
 use Rattle.cwr_decode.specs.declared.outcomes.Outcome.{Outcome}
 use Rattle.cwr_decode.specs.declared.outcomes.Outcome.TheVariants as outcomes
 use Rattle.cwr_decode.specs.declared.machine.State.{State}
@@ -12,11 +11,11 @@ use Rattle.cwr_decode.specs.declared.machine.State.TheVariants as states
 use Rattle.cwr_decode.specs.declared.readings.ReadFault.{ReadFault}
 use Rattle.cwr_decode.specs.declared.readings.ReadFault.TheVariants as faults
 use Rattle.cwr_decode.specs.Headline.{IsEndOf, answer_end}
-use Rattle.cwr_decode.specs.Machines.{Standing, Empties, state_behind}
+use Rattle.cwr_decode.specs.Machines.{Standing, Empties, state_after}
 use Rattle.cwr_decode.specs.Represents.{EndsInLf, GoesTooFar, Represents}
-use Rattle.cwr_decode.specs.Calls.{IsLive, WantsMemory}
+use Rattle.cwr_decode.specs.Calls.{IsLive, RunsOutOfMemory}
 
--- what a decoder's answer is told as; where more is needed, nothing is told
+-- what a decoder's answer is reported as; where more is needed, nothing is reported
 abbrev pub answer_of : Outcome → Option (Result (Option Item) ReadFault)
 answer_of outcomes.More = None
 answer_of (outcomes.Item item) = Some (Ok (Some item))
@@ -35,32 +34,32 @@ items_read (Err fault) = []
 abbrev pub EndsLineOf : List ℕ → List ℕ → Type 0
 EndsLineOf used input = (EndsInLf used ⊎ GoesTooFar used input) ⊎ (used ≡ input)
 
--- where it is told: a refusal where a line ends; `Ok(None)` comes only behind the end
-abbrev pub TellsAt : Result (Option Item) ReadFault → List ℕ → List ℕ → Type 0
-TellsAt (Ok None) used input = ⊥
-TellsAt (Err (faults.Refused refusal)) used input = EndsLineOf used input
-TellsAt answer used input = Unit {0}
+-- where it is reported: a refusal where a line ends; `Ok(None)` comes only after the end
+abbrev pub ReportsAt : Result (Option Item) ReadFault → List ℕ → List ℕ → Type 0
+ReportsAt (Ok None) used input = ⊥
+ReportsAt (Err (faults.Refused refusal)) used input = EndsLineOf used input
+ReportsAt answer used input = Unit {0}
 
--- what is told is right of the input, of which these bytes were used
+-- what is reported is right of the input, of which these bytes were used
 pub record IsRightOf (limits : LimitValues) (answer : Result (Option Item) ReadFault) (used input : List ℕ) (given : List Item) : Type 0 where
   pub ends : IsEndOf limits input given (answer_end (length used) answer)
-  pub comes : TellsAt answer used input
+  pub comes : ReportsAt answer used input
 
--- the state behind what is told
+-- the state after what is reported
 abbrev pub LeavesRead : Result (Option Item) ReadFault → State → Type 0
 LeavesRead (Ok None) state = state ≡ states.Ended
-LeavesRead (Ok (Some item)) state = state ≡ state_behind item
+LeavesRead (Ok (Some item)) state = state ≡ state_after item
 LeavesRead (Err faults.Reader) state = state ≡ states.Reading
 LeavesRead (Err (faults.Refused refusal)) state = state ≡ states.Refused refusal
 LeavesRead (Err (faults.Truncated records)) state = state ≡ states.Truncated records
 LeavesRead (Err faults.Memory) state = state ≡ states.Memory
 
--- behind an item nothing is held of what comes after it: no byte is fed that the item doesn't need
+-- after an item nothing is held of what comes after it: no byte is fed that the item doesn't need
 abbrev pub EmptiesRead : Result (Option Item) ReadFault → Standing → Type 0
 EmptiesRead (Ok (Some item)) d = Empties (outcomes.Item item) d
 EmptiesRead answer d = Unit {0}
 
--- a reader's failures count one more where its fault is told, and else they stay
+-- a reader's failures count one more where its fault is reported, and else they stay
 abbrev pub CountsFault : ReadFault → ℕ → ℕ → Type 0
 CountsFault faults.Reader old new = new ≡ one_more_failure old
 CountsFault (faults.Refused refusal) old new = new ≡ old
@@ -71,7 +70,7 @@ abbrev pub CountsReader : Result (Option Item) ReadFault → ℕ → ℕ → Typ
 CountsReader (Ok item) old new = new ≡ old
 CountsReader (Err fault) old new = CountsFault fault old new
 
--- where the decoder was told that the input is over, the reader has nothing left
+-- where the decoder was given the end of the input, the reader has nothing left
 abbrev pub IsSpent : Standing → Option (List ℕ) → Type 0
 IsSpent d left = d.finished ≡ true → IsAtEnd left
 
@@ -88,7 +87,7 @@ pub record FeedsOn (least : ℕ) (old : Standing) (left : Option (List ℕ)) (ne
   pub limits : new.tally.limits ≡ old.tally.limits
 
 -- Something is read. Just the bytes that the reader loses are fed: whatever the decoder represented before, with these and
--- with the item that is read it represents that. Where the reader's bytes are known, what is told is right of all of them.
+-- with the item that is read it represents that. Where the reader's bytes are known, what is reported is right of all of them.
 pub record Reads (old : Standing) (left : Option (List ℕ)) (answer : Result (Option Item) ReadFault) (new : Standing) (after : Option (List ℕ)) : Type 0 where
   pub bytes : List ℕ
   pub consumed : Consumes left after bytes
@@ -98,6 +97,6 @@ pub record Reads (old : Standing) (left : Option (List ℕ)) (answer : Result (O
   pub leaves : LeavesRead answer new.state
   pub empties : EmptiesRead answer new
   pub none : answer ≡ Ok None → old.state ≡ states.Ended
-  pub memory : answer ≡ Err faults.Memory → IsLive old.state → WantsMemory old (length bytes) new
-  pub over : IsSpent old left → IfSome left (λ _. IsSpent new after)
+  pub memory : answer ≡ Err faults.Memory → IsLive old.state → RunsOutOfMemory old (length bytes) new
+  pub input_ended : IsSpent old left → IfSome left (λ _. IsSpent new after)
   pub limits : new.tally.limits ≡ old.tally.limits

@@ -10,9 +10,8 @@ use Rattle.cwr_shape.specs.Ranges.{LimitValues, AreInRange}
 use Rattle.cwr_shape.specs.Levels.{level_of}
 use Rattle.cwr_shape.specs.Outlines.{IsWhole}
 use Rattle.cwr_shape.specs.Tallies as tallies
-use Rattle.cwr_shape.specs.Tallies.{TallyValue, passed, place_after}
+use Rattle.cwr_shape.specs.Tallies.{TallyValue, passed_limit, place_after}
 use Rattle.cwr_values.specs.declared.items.Item.{Item}
-use Rattle.cwr_values.specs.declared.items.Item.TheVariants as items
 use Rattle.cwr_values.specs.Values.{symbol_of}
 use Rattle.cwr_values.specs.Begins.{rows_so_far}
 use Rattle.cwr_decode.specs.declared.outcomes.Outcome.{Outcome}
@@ -24,13 +23,13 @@ use Rattle.cwr_judge.specs.Judged.{IsOfNone, IsFirstFault}
 use Rattle.cwr_decode.specs.declared.endings.End.{End}
 use Rattle.cwr_decode.specs.Headline.{IsEndOf, outcome_end}
 use Rattle.cwr_decode.specs.Machines.{Standing, IsReady, held_of}
-use Rattle.cwr_judge.specs.Open.{items_so_far, open_of, goes_on_with, handed}
+use Rattle.cwr_judge.specs.Open.{items_so_far, open_of, continues_open, ended_transaction}
 
 -- the lines, each with its line feed
 abbrev pub text_of : List (List ℕ) → List ℕ
 text_of lines = flat_map (λ line. line ++ 10 ∷ []) lines
 
--- the input so far is the text; once it is over, it is the text but for a line feed at its end
+-- the input so far is the text; once it has ended, it is the text but for a line feed at its end
 abbrev pub IsInput : Bool → List ℕ → List ℕ → Type 0
 IsInput false input text = input ≡ text
 IsInput true input text = closed input ≡ text
@@ -38,12 +37,12 @@ IsInput true input text = closed input ≡ text
 -- The lines were accepted as those of the records: a transmission begins with these, none of its limits is passed at
 -- any of them, and each line is that of its record's row.
 pub record AreAccepted (tally : TallyValue) (lines : List (List ℕ)) (records : List RecordValue) : Type 0 where
-  pub counted : tallies.StandsFor tally (map symbol_of records)
+  pub counted : tallies.IsTallyOf tally (map symbol_of records)
   pub in_order : AllByRecursion IsRecord records
   pub rows : AllZip IsLineOf (rows_so_far records) lines
-  pub within : (front rest : List Symbol) → map symbol_of records ≡ front ++ rest → passed tally.limits front ≡ None
+  pub within : (front rest : List Symbol) → map symbol_of records ≡ front ++ rest → passed_limit tally.limits front ≡ None
 
--- all lines of the input were accepted, and the bytes behind them are those of the line that is read
+-- all lines of the input were accepted, and the bytes after them are those of the line that is read
 pub record IsReading (d : Standing) (input : List ℕ) (given : List Item) : Type 0 where
   pub lines : List (List ℕ)
   pub records : List RecordValue
@@ -64,10 +63,10 @@ pub record IsPending (d : Standing) (input : List ℕ) (given : List Item) : Typ
   pub last : RecordValue
   pub read : AreAccepted d.tally lines (records ++ last ∷ [])
   pub split : IsInput d.finished input (text_of lines)
-  pub ends : goes_on_with (map symbol_of records) (symbol_of last) ≡ false
+  pub ends : continues_open (map symbol_of records) (symbol_of last) ≡ false
   pub line : held_record d.line ≡ Some last
   pub held : d.held ≡ None
-  pub given_are : given ≡ items_so_far records ++ handed (open_of records)
+  pub given_are : given ≡ items_so_far records ++ ended_transaction (open_of records)
 
 -- all lines of the input were accepted, all their items were handed out, and nothing is held
 pub record IsThrough (d : Standing) (input : List ℕ) (given : List Item) : Type 0 where
@@ -80,23 +79,23 @@ pub record IsThrough (d : Standing) (input : List ℕ) (given : List Item) : Typ
   pub given_are : given ≡ items_so_far records
 
 -- the last record stands in a transaction, and found no memory there
-pub record IsFull (d : Standing) (input : List ℕ) (given : List Item) : Type 0 where
+pub record IsOutOfMemory (d : Standing) (input : List ℕ) (given : List Item) : Type 0 where
   pub through : IsThrough d input given
-  pub inside : IsTrue (tallies.is_in_transaction (place_after (map symbol_of through.records)))
+  pub inside : IsTrue (tallies.has_open_transaction (place_after (map symbol_of through.records)))
 
 -- the records of all lines are those of a whole transmission
 pub record IsEnded (d : Standing) (input : List ℕ) (given : List Item) : Type 0 where
   pub through : IsThrough d input given
   pub whole : IsWhole (map symbol_of through.records)
 
--- the input is over, and the records of all its lines aren't a whole transmission
+-- the input has ended, and the records of all its lines aren't a whole transmission
 pub record IsCut (d : Standing) (input : List ℕ) (given : List Item) (count : ℕ) : Type 0 where
   pub through : IsThrough d input given
-  pub over : d.finished ≡ true
+  pub input_ended : d.finished ≡ true
   pub left : ¬ IsWhole (map symbol_of through.records)
   pub counted : count ≡ length through.records
 
--- The line behind the accepted ones is that of no record that may come next, and nothing is held. Once the input is over,
+-- The line after the accepted ones is that of no record that may come next, and nothing is held. Once the input has ended,
 -- that line may have ended with it.
 pub record IsStopped (d : Standing) (input : List ℕ) (given : List Item) (refusal : Refusal) : Type 0 where
   pub lines : List (List ℕ)
@@ -106,9 +105,9 @@ pub record IsStopped (d : Standing) (input : List ℕ) (given : List Item) (refu
   pub line : HeldLine
   pub ended : line.ended ≢ line_ends.Open
   pub is_held : IsHeld line
-  pub over : Bool
-  pub late : over ≡ true → d.finished ≡ true
-  pub split : IsInput over input (text_of lines ++ held_text line)
+  pub input_ended : Bool
+  pub late : input_ended ≡ true → d.finished ≡ true
+  pub split : IsInput input_ended input (text_of lines ++ held_text line)
   pub none : IsOfNone d.tally.limits (map symbol_of records) line
   pub first : IsFirstFault d.tally.limits (map symbol_of records) line refusal.field refusal.reason
   pub number : refusal.rec ≡ length records + 1
@@ -123,7 +122,7 @@ RepresentsIn Pending d input given = IsPending d input given
 RepresentsIn Ended d input given = IsEnded d input given
 RepresentsIn (Refused refusal) d input given = IsStopped d input given refusal
 RepresentsIn (Truncated count) d input given = IsCut d input given count
-RepresentsIn Memory d input given = IsFull d input given
+RepresentsIn Memory d input given = IsOutOfMemory d input given
 
 -- the decoder represents the input so far and the items that were handed out
 pub record Represents (d : Standing) (input : List ℕ) (given : List Item) : Type 0 where
@@ -156,14 +155,14 @@ abbrev pub items_in : Option Outcome → List Item
 items_in None = []
 items_in (Some outcome) = items_out outcome
 
--- once the input is over, nothing goes on from it
+-- once the input has ended, nothing continues from it
 abbrev pub MayFollow : Bool → List ℕ → Type 0
 MayFollow false more = Unit {0}
 MayFollow true more = more ≡ []
 
 -- however the input continues, it has the end that is reported
 abbrev pub IsEndAlways : LimitValues → Bool → List ℕ → List Item → Option End → Type 0
-IsEndAlways limits over seen given reported = (more : List ℕ) → MayFollow over more → IsEndOf limits (seen ++ more) given reported
+IsEndAlways limits input_ended seen given reported = (more : List ℕ) → MayFollow input_ended more → IsEndOf limits (seen ++ more) given reported
 
 -- the bytes end with a line feed
 abbrev pub EndsInLf : List ℕ → Type 0
@@ -188,15 +187,15 @@ EndsLine false used seen = EndsInLf used ⊎ GoesTooFar used seen
 EndsLine true used seen = Unit {0}
 
 -- Where an answer comes: `More` once all that was seen is used, a refusal where a line ends, and the end of a truncated input
--- once the input is over. `Done` comes only behind `Ended`.
+-- once the input has ended. `Done` comes only after `Ended`.
 abbrev pub ComesAt : Outcome → Bool → List ℕ → List ℕ → Type 0
-ComesAt outcomes.More over used seen = (over ≡ false) × (used ≡ seen)
-ComesAt (outcomes.Refused refusal) over used seen = EndsLine over used seen
-ComesAt (outcomes.Truncated records) over used seen = over ≡ true
-ComesAt outcomes.Done over used seen = ⊥
-ComesAt outcome over used seen = Unit {0}
+ComesAt outcomes.More input_ended used seen = (input_ended ≡ false) × (used ≡ seen)
+ComesAt (outcomes.Refused refusal) input_ended used seen = EndsLine input_ended used seen
+ComesAt (outcomes.Truncated records) input_ended used seen = input_ended ≡ true
+ComesAt outcomes.Done input_ended used seen = ⊥
+ComesAt outcome input_ended used seen = Unit {0}
 
 -- an answer is right of the input, of which these bytes were used, and these were seen
-pub record IsRight (limits : LimitValues) (outcome : Outcome) (over : Bool) (used seen : List ℕ) (given : List Item) : Type 0 where
-  pub ends : IsEndAlways limits over seen given (outcome_end (length used) outcome)
-  pub comes : ComesAt outcome over used seen
+pub record IsRight (limits : LimitValues) (outcome : Outcome) (input_ended : Bool) (used seen : List ℕ) (given : List Item) : Type 0 where
+  pub ends : IsEndAlways limits input_ended seen given (outcome_end (length used) outcome)
+  pub comes : ComesAt outcome input_ended used seen

@@ -51,7 +51,7 @@ pub record AreItems (given : List Item) : Type 0 where
   pub whole : IsTransmission value
   pub given_are : given ≡ value_items value
 
--- the items go on as those of a group of that GRH record: whole transactions of its type, and a GRT record
+-- the items continue as those of a group of that GRH record: whole transactions of its type, and a GRT record
 pub record AreGroupItems (head : RecordValue) (given : List Item) : Type 0 where
   pub head_is : IsRecordOf kinds.Grh head
   pub transactions : List (List RecordValue)
@@ -71,7 +71,7 @@ pub record TakesFront (limits : LimitValues) (before : Option (List ℕ)) (v : T
   pub accepted : IsAccepted limits input v (length input)
   pub front : IfSome before (λ text. IsAccepted limits text v (length input) × (after ≡ Some (drop (length input) text)))
 
--- these items were read before the fault, and the decoder stopped for what is told
+-- these items were read before the fault, and the decoder stopped for what is reported
 pub record StopsRun (limits : LimitValues) (fault : ReadFault) (before after : Option (List ℕ)) : Type 0 where
   pub decoder : Standing
   pub given : List Item
@@ -79,12 +79,12 @@ pub record StopsRun (limits : LimitValues) (fault : ReadFault) (before after : O
   pub leaves : fault ≢ Memory → LeavesRead (Err fault) decoder.state
   pub right : IfSome before (λ text. IsRightOf limits (Err fault) read.input text given)
 
--- of a text that is accepted the run tells that transmission and takes its bytes, unless the reader or memory failed
-abbrev pub TellsAccepted : LimitValues → Option (List ℕ) → Result TransmissionValue ReadFault → Option (List ℕ) → Type 0
-TellsAccepted limits before result after = IfSome before (λ text. (v : TransmissionValue) (n : ℕ) → IsAccepted limits text v n
+-- of a text that is accepted the run answers that transmission and takes its bytes, unless the reader or memory failed
+abbrev pub ReportsAccepted : LimitValues → Option (List ℕ) → Result TransmissionValue ReadFault → Option (List ℕ) → Type 0
+ReportsAccepted limits before result after = IfSome before (λ text. (v : TransmissionValue) (n : ℕ) → IsAccepted limits text v n
     → MatchResult result (λ t. (t ≡ v) × (after ≡ Some (drop n text))) (λ fault. (fault ≡ Reader) ⊎ (fault ≡ Memory)))
 
 -- the canonical text of a transmission within the limits is so read back, and what follows it stays unread
-abbrev pub TellsCanonical : LimitValues → Option (List ℕ) → Result TransmissionValue ReadFault → Option (List ℕ) → Type 0
-TellsCanonical limits before result after = (v : TransmissionValue) (more : List ℕ) → IsTransmission v → FitsIn limits v → before ≡ Some (canonical_text v ++ more)
+abbrev pub ReportsCanonical : LimitValues → Option (List ℕ) → Result TransmissionValue ReadFault → Option (List ℕ) → Type 0
+ReportsCanonical limits before result after = (v : TransmissionValue) (more : List ℕ) → IsTransmission v → FitsIn limits v → before ≡ Some (canonical_text v ++ more)
     → MatchResult result (λ t. (t ≡ v) × (after ≡ Some more)) (λ fault. (fault ≡ Reader) ⊎ (fault ≡ Memory))

@@ -7,7 +7,7 @@ use Rattle.cwr_layouts.specs.Held.{HeldLine, IsHeld, Stops, held_kind, held_text
 use Rattle.cwr_shape.specs.declared.symbols.Symbol.{Symbol}
 use Rattle.cwr_shape.specs.declared.symbols.Symbol.TheVariants.{Plain}
 use Rattle.cwr_shape.specs.Levels.{level_of}
-use Rattle.cwr_shape.specs.Tallies.{TallyValue, StandsFor, place_after}
+use Rattle.cwr_shape.specs.Tallies.{TallyValue, IsTallyOf, place_after}
 use Rattle.cwr_judge.specs.declared.refusals.Refusal.{Refusal}
 use Rattle.cwr_judge.specs.Judged.{IsNext, IsOfNone, IsFirstFault}
 
@@ -36,7 +36,7 @@ pub record AcceptsLine (old : TallyValue) (xs : List Symbol) (line : HeldLine) (
   pub accepted : RecordValue
   pub next : IsNext old.limits xs line symbol accepted
   pub limits : new.limits ≡ old.limits
-  pub stands : StandsFor new (xs ++ symbol ∷ [])
+  pub stands : IsTallyOf new (xs ++ symbol ∷ [])
   pub trailer : IsTrue last ↔ (symbol ≡ Plain Trl)
 
 -- the line is that of no record that may come next, and this says where, why and how much that rejects

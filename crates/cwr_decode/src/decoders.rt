@@ -1,9 +1,9 @@
 //! Reading a transmission in pieces of any size.
 
 ghost use Rattle.std.specs.Prelude.{◌≡◌, ◌≢◌, ◌≤◌, ◌++◌, [], List, ℕ, length, take, IfSome, None, true, false};
-ghost use Rattle.cwr_decode.specs.Calls.{RefusesLast, WantsMemory, seen};
-ghost use Rattle.cwr_decode.specs.Decoding.{StandsAfter, accepted_records, final_answer, is_over, limits_of};
-ghost use Rattle.cwr_decode.specs.Machines.{Empties, WaitsOutside, held_list, over};
+ghost use Rattle.cwr_decode.specs.Calls.{RefusesLast, RunsOutOfMemory, seen_input};
+ghost use Rattle.cwr_decode.specs.Decoding.{StandsAfter, accepted_records, final_answer, has_ended, limits_of};
+ghost use Rattle.cwr_decode.specs.Machines.{Empties, WaitsOutside, held_list, end_input};
 ghost use Rattle.cwr_decode.specs.Represents.{IsRight, RepresentsSome, Represents, items_out};
 ghost use Rattle.cwr_values.specs.declared.items.Item.{Item};
 
@@ -36,7 +36,7 @@ impl Decoder {
         ensures represents { Represents result [] [] }
         ensures limits { limits_of result ≡ limits }
         ensures open { final_answer result ≡ None }
-        ensures fresh { is_over result ≡ false }
+        ensures fresh { has_ended result ≡ false }
     {
         Decoder {
             machine: Machine::new(alloc, limits),
@@ -67,23 +67,23 @@ impl Decoder {
         ensures represents { (input : List ℕ) (given : List Item) → Represents self.old input given
             → Represents self.new (input ++ take result.used piece.now) (given ++ items_out result.outcome) }
         // What the answer means: the end that it reports is the input's, however that continues. A refusal comes with the
-        // line feed of the refused line, before its byte too many, or once the input is over.
+        // line feed of the refused line, before its byte too many, or once the input has ended.
         ensures right { final_answer self.old ≡ None → (input : List ℕ) (given : List Item) → Represents self.old input given
-            → IsRight (limits_of self.old) result.outcome (is_over self.old) (input ++ take result.used piece.now)
-            (seen (is_over self.old) input piece.now) (given ++ items_out result.outcome) }
-        ensures more { result.outcome ≡ Outcome.More → (result.used ≡ length piece.now) × (is_over self.old ≡ false) }
-        // What stays held: behind an item nothing, but behind a transaction the line that ended it.
+            → IsRight (limits_of self.old) result.outcome (has_ended self.old) (input ++ take result.used piece.now)
+            (seen_input (has_ended self.old) input piece.now) (given ++ items_out result.outcome) }
+        ensures more { result.outcome ≡ Outcome.More → (result.used ≡ length piece.now) × (has_ended self.old ≡ false) }
+        // What stays held: after an item nothing, but after a transaction the line that ended it.
         ensures leaves { StandsAfter result.outcome self.new }
         ensures empties { Empties result.outcome self.new }
-        // What uses no byte: a record that waits and is an item of its own, and all once the input is over.
+        // What uses no byte: a record that waits and is an item of its own, and all once the input has ended.
         ensures alone { WaitsOutside self.old → (result.used ≡ 0) × (result.outcome ≢ Outcome.More) }
-        ensures unused { is_over self.old ≡ true → result.used ≡ 0 }
+        ensures unused { has_ended self.old ≡ true → result.used ≡ 0 }
         // What was answered for good is answered again.
         ensures again { IfSome (final_answer self.old) (λ outcome. (result.outcome ≡ outcome) × (result.used ≡ 0) × (self.new ≡ self.old)) }
-        // Want of memory comes only with a record that was being added: the one that waited, or one that was accepted.
-        ensures memory { result.outcome ≡ Outcome.Memory → final_answer self.old ≡ None → WantsMemory self.old result.used self.new }
+        // Out of memory comes only with a record that was being added: the one that waited, or one that was accepted.
+        ensures memory { result.outcome ≡ Outcome.Memory → final_answer self.old ≡ None → RunsOutOfMemory self.old result.used self.new }
         ensures kept { accepted_records self.old ≤ accepted_records self.new }
-        ensures over { is_over self.new ≡ is_over self.old }
+        ensures input_ended { has_ended self.new ≡ has_ended self.old }
         ensures limits { limits_of self.new ≡ limits_of self.old }
     {
         self.machine.feed(piece)
@@ -104,15 +104,15 @@ impl Decoder {
         ensures last { final_answer self.old ≡ None → (input : List ℕ) (given : List Item) → Represents self.old input given
             → RefusesLast result.outcome self.new input (given ++ items_out result.outcome) }
         ensures more { result.outcome ≡ Outcome.More → ⊥ }
-        // What stays held: behind an item nothing, but behind a transaction the line that ended it.
+        // What stays held: after an item nothing, but after a transaction the line that ended it.
         ensures leaves { StandsAfter result.outcome self.new }
         ensures empties { Empties result.outcome self.new }
         // What was answered for good is answered again.
-        ensures again { IfSome (final_answer self.old) (λ outcome. (result.outcome ≡ outcome) × (self.new ≡ over self.old)) }
-        // Want of memory comes only with a record that was being added: the one that waited, or one that was accepted.
-        ensures memory { result.outcome ≡ Outcome.Memory → final_answer self.old ≡ None → WantsMemory self.old 0 self.new }
+        ensures again { IfSome (final_answer self.old) (λ outcome. (result.outcome ≡ outcome) × (self.new ≡ end_input self.old)) }
+        // Out of memory comes only with a record that was being added: the one that waited, or one that was accepted.
+        ensures memory { result.outcome ≡ Outcome.Memory → final_answer self.old ≡ None → RunsOutOfMemory self.old 0 self.new }
         ensures kept { accepted_records self.old ≤ accepted_records self.new }
-        ensures over { is_over self.new ≡ true }
+        ensures input_ended { has_ended self.new ≡ true }
         ensures limits { limits_of self.new ≡ limits_of self.old }
     {
         self.machine.finish()

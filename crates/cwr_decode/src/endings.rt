@@ -1,9 +1,9 @@
-//! The end of a text that lies in memory.
+//! The end of a text in memory.
 
 ghost use Rattle.std.specs.Prelude.{◌≡◌, ◌≢◌, ◌↔◌, ◌++◌, [], ◌∷◌, List, length, IsNone, IsTrue, IfSome, IfOk, IfErr};
 ghost use Rattle.cwr_layouts.specs.Held.{empty_line};
 ghost use Rattle.cwr_shape.specs.declared.symbols.Symbol.{Symbol};
-ghost use Rattle.cwr_shape.specs.Tallies.{StandsFor};
+ghost use Rattle.cwr_shape.specs.Tallies.{IsTallyOf};
 ghost use Rattle.cwr_decode.specs.Headline.{HasEnd};
 ghost use Rattle.cwr_decode.specs.TextLines.{AcceptsLine, FirstLine, RefusesLine};
 
@@ -54,8 +54,8 @@ fn is_trailer(symbol: Symbol) -> bool
 /// Counts the record of a line that may come next, and answers whether it is the last one; else why the line is refused.
 fn judge_line(tally: &mut Tally, line: &LineBuf) -> Result<bool, Refusal>
     requires { line.now.ended ≢ LineEnd.Open }
-    ensures ok { (xs : List Symbol) → StandsFor tally.old xs → IfOk result (λ last. AcceptsLine tally.old xs line.now last tally.new) }
-    ensures err { (xs : List Symbol) → StandsFor tally.old xs → IfErr result (λ refusal. RefusesLine tally.old xs line.now refusal) }
+    ensures ok { (xs : List Symbol) → IsTallyOf tally.old xs → IfOk result (λ last. AcceptsLine tally.old xs line.now last tally.new) }
+    ensures err { (xs : List Symbol) → IsTallyOf tally.old xs → IfErr result (λ refusal. RefusesLine tally.old xs line.now refusal) }
 {
     let cut = line.cut();
     match judge(tally, &cut) {

@@ -3,7 +3,7 @@
 ghost use Rattle.std.specs.Prelude.{List, length, ℕ, ◌++◌, ◌*◌, ◌≡◌, ◌≤◌};
 ghost use Rattle.std.specs.Prelude.{suc, ◌↔◌};
 ghost use Rattle.cwr_shape.specs.Ranges.{LimitValues};
-ghost use Rattle.cwr_judge.specs.GoodFronts.{GoesOnFrom};
+ghost use Rattle.cwr_judge.specs.GoodFronts.{ContinuesFrom};
 ghost use Rattle.cwr_judge.specs.Places.{Viable};
 ghost use Rattle.cwr_judge.specs.Ends.{IsAccepted, IsNotAccepted, IsRefused, IsTruncated};
 ghost use Rattle.cwr_judge.specs.Items.{AreFirstItems, items, value_items};
@@ -17,7 +17,7 @@ ghost use Rattle.cwr_shape.specs.declared.limits.Limits.{Limits};
 ghost use Rattle.cwr_values.specs.Rows.{canonical_text, rows};
 ghost use Rattle.cwr_values.specs.Values.{FitsIn, IsTransmission, TransmissionValue};
 
-pub use cwr_shape::laws::no_transmission_goes_on;
+pub use cwr_shape::laws::no_transmission_continues;
 pub use cwr_values::laws::{
     canonical_text_spells, line_has_one_row, numbers_fit_their_fields,
     text_begins_with_one_spelling,
@@ -56,19 +56,19 @@ pub fn one_end_at_most()
         → IsTruncated limits text records → IsTruncated limits text others → records ≡ others }
 {}
 
-/// A text has some end: one that isn't accepted, and in which no place is the first at which nothing goes on, is
+/// A text has some end: one that isn't accepted, and in which no place is the first at which nothing continues, is
 /// truncated, with as many lines as it has.
 pub fn some_end()
     ensures { (limits : Limits) (text : List ℕ) → IsNotAccepted limits text → ((i k : ℕ) → ¬ IsFirstBad limits text i k)
         → IsTruncated limits text (length (raw_lines (closed text))) }
 {}
 
-/// Some transmission within the limits goes on from lines and from the first cells of one more exactly where the lines
+/// Some transmission within the limits continues from lines and from the first cells of one more exactly where the lines
 /// are those of records, each of its row, these cells are good, and the order and the limits let a record with such a
 /// symbol come.
 pub fn viable_where_cells_are_good()
     ensures { (limits : LimitValues) (before : List (List ℕ)) (line : List ℕ) (m : ℕ)
-        → Viable limits before line (suc m) ↔ GoesOnFrom limits before line m }
+        → Viable limits before line (suc m) ↔ ContinuesFrom limits before line m }
 {}
 
 /// Over a whole run at most 1,025 bytes are used for each record that the limits hold: no decoder represents more.

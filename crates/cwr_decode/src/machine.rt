@@ -3,11 +3,11 @@
 ghost use Rattle.std.specs.Prelude.{List, ◌∷◌, ◌++◌, [], ◌≡◌, ◌≢◌, length, true, false, None, Some, IsTrue, IsFalse, IsSomeAnd, IfSome, OnOk};
 ghost use Rattle.cwr_layouts.specs.Held.{IsHeld, Takes, held_record};
 ghost use Rattle.cwr_shape.specs.Ranges.{AreInRange};
-ghost use Rattle.cwr_shape.specs.Tallies.{IsAdmitted, StandsFor};
+ghost use Rattle.cwr_shape.specs.Tallies.{IsAdmitted, IsTallyOf};
 ghost use Rattle.cwr_shape.specs.declared.symbols.Symbol.{Symbol};
-ghost use Rattle.cwr_judge.specs.Items.{is_in_transaction};
-ghost use Rattle.cwr_judge.specs.Open.{goes_on_with};
-ghost use Rattle.cwr_decode.specs.Machines.{Adds, ClosesLine, EntersHeld, GoesOn, HandsOut, HasRecord, HoldsOpen, FitsHeld, FitsWaiting, IsReady, Judges, Settles, Tells, first, held_list, reading, stopped};
+ghost use Rattle.cwr_judge.specs.Items.{stands_in_transaction};
+ghost use Rattle.cwr_judge.specs.Open.{continues_open};
+ghost use Rattle.cwr_decode.specs.Machines.{Adds, ClosesLine, EntersHeld, FinishesRecord, HandsOut, HasRecord, HoldsOpen, FitsHeld, FitsWaiting, IsReady, Judges, Settles, ReportsFault, at_start, held_list, reading, stopped};
 ghost use Rattle.cwr_decode.specs.Represents.{IsSound};
 ghost use Rattle.cwr_decode.specs.Calls.{TakesEnd, Feeds, Finishes};
 ghost use Rattle.cwr_values.specs.Begun.{BeginsWithOneMore};
@@ -31,7 +31,7 @@ pub enum State {
     Ended,
     /// A line was refused.
     Refused(Refusal),
-    /// The input ended too early, behind so many lines.
+    /// The input ended too early, after so many lines.
     Truncated(u32),
     /// Memory was refused.
     Memory,
@@ -47,7 +47,7 @@ pub struct Machine {
     /// The records of the open transaction.
     held: Option<Transaction>,
     state: State,
-    /// The input is over.
+    /// The input has ended.
     finished: bool,
 }
 
@@ -59,21 +59,21 @@ impl Model for Machine {
     ghost view = { λ m. record { line = m.line; tally = m.tally; held = m.held; state = m.state; finished = m.finished } };
 }
 
-/// Counts an accepted record, and tells whether it goes on with the open transaction.
-fn goes_on(tally: &mut Tally, symbol: Symbol) -> bool
+/// Counts an accepted record, and answers whether it continues the open transaction.
+fn step_continues_open(tally: &mut Tally, symbol: Symbol) -> bool
     requires { IsAdmitted tally.old symbol }
     ensures limits { tally.new.limits ≡ tally.old.limits }
-    ensures stands { (xs : List Symbol) → StandsFor tally.old xs → StandsFor tally.new (xs ++ symbol ∷ []) }
-    ensures same { (xs : List Symbol) → StandsFor tally.old xs → result ≡ goes_on_with xs symbol }
+    ensures stands { (xs : List Symbol) → IsTallyOf tally.old xs → IsTallyOf tally.new (xs ++ symbol ∷ []) }
+    ensures same { (xs : List Symbol) → IsTallyOf tally.old xs → result ≡ continues_open xs symbol }
 {
     let begun = tally.transactions();
     tally.step(symbol);
     tally.transactions() == begun && matches!(tally.place(), Place::Transaction)
 }
 
-/// Whether records of the kind stand inside transactions, behind the header.
-fn stands_behind_header(kind: Option<Kind>) -> bool
-    ensures { IsTrue result → IsSomeAnd kind (λ known. is_in_transaction known ≡ true) }
+/// Whether records of the kind stand inside transactions, after the header.
+fn stands_after_header(kind: Option<Kind>) -> bool
+    ensures { IsTrue result → IsSomeAnd kind (λ known. stands_in_transaction known ≡ true) }
 {
     let Some(known) = kind else {
         return false;
@@ -85,11 +85,11 @@ fn stands_behind_header(kind: Option<Kind>) -> bool
     }
 }
 
-/// Takes the open transaction out, unless the next record goes on with it.
-fn hand_out(goes_on: bool, held: &mut Option<Transaction>) -> Option<Transaction>
-    ensures { HandsOut goes_on held.old result held.new }
+/// Takes the open transaction out, unless the next record continues it.
+fn hand_out(continues: bool, held: &mut Option<Transaction>) -> Option<Transaction>
+    ensures { HandsOut continues held.old result held.new }
 {
-    if goes_on { None } else { held.take() }
+    if continues { None } else { held.take() }
 }
 
 /// Adds a record to the transaction that is held, or begins one with it.
@@ -119,7 +119,7 @@ fn add(
 }
 
 /// Adds an accepted record to the transaction that is held, or begins one with it, or answers its own item.
-fn entered(
+fn add_accepted(
     alloc: Global,
     held: &mut Option<Transaction>,
     accepted: RecordRef<'_>,
@@ -145,8 +145,8 @@ impl Machine {
     pub fn new(alloc: Global, limits: Limits) -> Self
         ensures limits { result.tally.limits ≡ limits }
         ensures in_range { AreInRange result.tally.limits }
-        ensures stands { StandsFor result.tally [] }
-        ensures first { result ≡ first result.tally }
+        ensures stands { IsTallyOf result.tally [] }
+        ensures at_start { result ≡ at_start result.tally }
     {
         Machine {
             alloc,
@@ -187,7 +187,7 @@ impl Machine {
 
     /// Refuses the line for good.
     fn refuse(&mut self, kind: Option<Kind>, fault: LineFault) -> Outcome
-        ensures { Tells self.old kind fault result self.new }
+        ensures { ReportsFault self.old kind fault result self.new }
     {
         let refusal = Refusal {
             rec: self.tally.records() + 1,
@@ -200,18 +200,18 @@ impl Machine {
     }
 
     /// Begins a new line.
-    fn read_on(&mut self)
+    fn begin_line(&mut self)
         ensures { self.new ≡ reading self.old self.old.held }
     {
         self.line.clear();
         self.state = State::Reading;
     }
 
-    /// Begins a new line behind an accepted record, or stops for good where that was the last one or found no memory.
-    fn go_on(&mut self, entered: Result<Option<Item>, AllocError>) -> Option<Outcome>
-        ensures { GoesOn entered self.old result self.new }
+    /// Begins a new line after an accepted record, or stops for good where that was the last one or found no memory.
+    fn finish_record(&mut self, added: Result<Option<Item>, AllocError>) -> Option<Outcome>
+        ensures { FinishesRecord added self.old result self.new }
     {
-        match entered {
+        match added {
             Err(_) => {
                 self.stop(State::Memory);
                 Some(Outcome::Memory)
@@ -221,11 +221,11 @@ impl Machine {
                 Some(Outcome::Item(Item::Ended))
             }
             Ok(Some(item)) => {
-                self.read_on();
+                self.begin_line();
                 Some(Outcome::Item(item))
             }
             Ok(None) => {
-                self.read_on();
+                self.begin_line();
                 None
             }
         }
@@ -240,11 +240,11 @@ impl Machine {
         let Some(accepted) = self.line.cut().record() else {
             unreachable!();
         };
-        let outcome = entered(self.alloc, &mut self.held, accepted);
-        self.go_on(outcome)
+        let outcome = add_accepted(self.alloc, &mut self.held, accepted);
+        self.finish_record(outcome)
     }
 
-    /// Adds the record of the line that ended to the open transaction, where that goes on with it and memory is found,
+    /// Adds the record of the line that ended to the open transaction, where that continues it and memory is found,
     /// and begins a new line. Else nothing changes. Most lines are such, and no answer is built for them.
     fn add_line(&mut self) -> bool
         requires { self.old.line.ended ≢ LineEnd.Open }
@@ -252,14 +252,14 @@ impl Machine {
         ensures kept { IsFalse result → self.new ≡ self.old }
     {
         let cut = self.line.cut();
-        if !stands_behind_header(cut.kind()) {
+        if !stands_after_header(cut.kind()) {
             return false;
         }
         let Ok((symbol, accepted)) = judge(&self.tally, &cut) else {
             return false;
         };
         let mut tally = self.tally;
-        if !goes_on(&mut tally, symbol) {
+        if !step_continues_open(&mut tally, symbol) {
             return false;
         }
         let Some(whole) = &mut self.held else {
@@ -269,7 +269,7 @@ impl Machine {
             Ok(()) => self.tally = tally,
             Err(_) => return false,
         }
-        self.read_on();
+        self.begin_line();
         true
     }
 
@@ -288,13 +288,13 @@ impl Machine {
                 return Some(self.refuse(kind, fault));
             }
         };
-        let goes_on = goes_on(&mut self.tally, symbol);
-        if let Some(whole) = hand_out(goes_on, &mut self.held) {
+        let continues = step_continues_open(&mut self.tally, symbol);
+        if let Some(whole) = hand_out(continues, &mut self.held) {
             self.state = State::Pending;
             return Some(Outcome::Item(Item::Transaction(whole)));
         }
-        let outcome = entered(self.alloc, &mut self.held, accepted);
-        self.go_on(outcome)
+        let outcome = add_accepted(self.alloc, &mut self.held, accepted);
+        self.finish_record(outcome)
     }
 
     /// What is answered without a further byte. `None` where one is needed.
@@ -324,7 +324,7 @@ impl Machine {
         self.line.take(piece)
     }
 
-    /// Takes the end of the input, and tells whether a last line is there that had no line feed.
+    /// Takes the end of the input, and answers whether a last line is there that had no line feed.
     fn close(&mut self) -> bool
         requires { IsReady self.old.state self.old.finished self.old.line }
         ensures { ClosesLine result self.old self.new }

@@ -10,9 +10,9 @@ pub enum Outcome {
     More,
     /// The next item.
     Item(Item),
-    /// No transmission within the limits goes on so.
+    /// No transmission within the limits continues so.
     Refused(Refusal),
-    /// The input is over, and no transmission is whole.
+    /// The input has ended, and no transmission is whole.
     Truncated {
         /// How many lines the input has.
         records: u32,

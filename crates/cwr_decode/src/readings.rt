@@ -1,7 +1,7 @@
 //! Reading a transmission from a reader, item by item.
 
 ghost use Rattle.std.specs.Prelude.{◌≡◌, ◌<◌, ◌⊎◌, ℕ, List, [], Option, Err, IfNone, IfSome, IsSome, None, Some, true, false};
-ghost use Rattle.cwr_decode.specs.Decoding.{HasWaiting, accepted_records, final_answer, is_over, limits_of};
+ghost use Rattle.cwr_decode.specs.Decoding.{HasWaiting, accepted_records, final_answer, has_ended, limits_of};
 ghost use Rattle.cwr_decode.specs.Represents.{RepresentsSome, Represents};
 ghost use Rattle.cwr_decode.specs.Machines.{WaitsOutside, again};
 ghost use Rattle.cwr_decode.specs.Readings.{answer_of, CountsReader, FeedsOn, Reads};
@@ -22,9 +22,9 @@ use std::fmt::{self, Display, Formatter, Write};
 pub enum ReadFault {
     /// The reader failed. What it gave before stays read, and the next call reads on.
     Reader,
-    /// No transmission within the limits goes on so.
+    /// No transmission within the limits continues so.
     Refused(Refusal),
-    /// The input is over, and no transmission is whole.
+    /// The input has ended, and no transmission is whole.
     Truncated {
         /// How many lines the input has.
         records: u32,
@@ -37,11 +37,7 @@ impl Display for ReadFault {
     fn fmt<O: Write>(&self, f: &mut Formatter<O>) -> fmt::Result {
         match self {
             ReadFault::Reader => f.pad("reader failed"),
-            ReadFault::Refused(refusal) => write!(
-                f,
-                "record {}, field {}: refused",
-                refusal.rec, refusal.field
-            ),
+            ReadFault::Refused(refusal) => write!(f, "refused: {refusal}"),
             ReadFault::Truncated { records } => write!(f, "truncated after {records} records"),
             ReadFault::Memory => f.pad("out of memory"),
         }
@@ -67,7 +63,7 @@ impl<R: Source, D: Drop> Drop for Reading<'_, R, D> {
     }
 }
 
-/// What the decoder's answer is told as. `None` where it needs more of the input.
+/// What the decoder's answer is reported as. `None` where it needs more of the input.
 fn answer(outcome: Outcome) -> Option<Result<Option<Item>, ReadFault>>
     ensures { result ≡ answer_of outcome }
 {
@@ -86,7 +82,7 @@ fn pull<R: Source>(decoder: &mut Decoder, reader: &mut R) -> Option<Result<Optio
     requires reading { decoder.old.state ≡ State.Reading }
     requires fresh { decoder.old.finished ≡ false }
     ensures stood { IfNone result (RepresentsSome decoder.old) }
-    ensures goes_on { IfNone result (FeedsOn 1 decoder.old (R.remaining reader.old) decoder.new (R.remaining reader.new)) }
+    ensures continues { IfNone result (FeedsOn 1 decoder.old (R.remaining reader.old) decoder.new (R.remaining reader.new)) }
     ensures reads { IfSome result (λ answer. Reads decoder.old (R.remaining reader.old) answer decoder.new (R.remaining reader.new)) }
     ensures same { IfNone result (R.failures reader.new ≡ R.failures reader.old) }
     ensures failures { IfSome result (λ answer. CountsReader answer (R.failures reader.old) (R.failures reader.new)) }
@@ -112,8 +108,8 @@ fn read_on<R: Source>(decoder: &mut Decoder, reader: &mut R) -> Result<Option<It
 {
     let mut pieces: u64 = 0;
     loop {
-        if let Some(told) = pull(decoder, reader) {
-            return told;
+        if let Some(reported) = pull(decoder, reader) {
+            return reported;
         }
         pieces += 1;
     }
@@ -121,11 +117,11 @@ fn read_on<R: Source>(decoder: &mut Decoder, reader: &mut R) -> Result<Option<It
 
 /// What the decoder answers without a further byte. `None` where it needs one.
 fn settle(decoder: &mut Decoder) -> Option<Result<Option<Item>, ReadFault>>
-    ensures goes_on { IfNone result ((left : Option (List ℕ)) → FeedsOn 0 decoder.old left decoder.new left) }
+    ensures continues { IfNone result ((left : Option (List ℕ)) → FeedsOn 0 decoder.old left decoder.new left) }
     ensures reads { IfSome result (λ answer. (left : Option (List ℕ)) → Reads decoder.old left answer decoder.new left) }
     ensures failures { IfSome result (λ answer. (failures : ℕ) → CountsReader answer failures failures) }
     ensures again { IfSome (again decoder.old.state) (λ outcome. (result ≡ answer_of outcome) × (decoder.new ≡ decoder.old)) }
-    ensures over { decoder.old.finished ≡ true → IsSome result }
+    ensures input_ended { decoder.old.finished ≡ true → IsSome result }
     ensures alone { WaitsOutside decoder.old → IsSome result }
 {
     answer(decoder.feed(&[]).outcome)
@@ -139,7 +135,7 @@ impl<'a, R: Source> Reading<'a, R> {
         ensures represents { Represents result.decoder [] [] }
         ensures limits { limits_of result.decoder ≡ limits }
         ensures open { final_answer result.decoder ≡ None }
-        ensures fresh { is_over result.decoder ≡ false }
+        ensures fresh { has_ended result.decoder ≡ false }
     {
         Reading {
             reader,
@@ -147,8 +143,8 @@ impl<'a, R: Source> Reading<'a, R> {
         }
     }
 
-    /// Reads the next item. `Ok(None)` behind `Ended`, which is the last one. What the decoder can tell without a
-    /// further byte is told without asking the reader; else just the bytes that the decoder uses are consumed.
+    /// Reads the next item. `Ok(None)` after `Ended`, which is the last one. What the decoder can answer without a
+    /// further byte is answered without reading; else just the bytes that the decoder uses are consumed.
     ///
     /// It answers `ReadFault::Reader` where the reader failed, and the next call reads on; the other faults are
     /// answered again by each later call.
@@ -156,21 +152,21 @@ impl<'a, R: Source> Reading<'a, R> {
         ensures same_reference { self.new.reader.ghost_name ≡ self.old.reader.ghost_name }
         ensures reads { Reads self.old.decoder (R.remaining self.old.reader.now) result self.new.decoder (R.remaining self.new.reader.now) }
         ensures failures { CountsReader result (R.failures self.old.reader.now) (R.failures self.new.reader.now) }
-        // Want of memory comes only with a record that was being added: the one that waited, with the reader as it was, or
+        // Out of memory comes only with a record that was being added: the one that waited, with the reader as it was, or
         // one that was accepted in this call.
         ensures memory { result ≡ Err ReadFault.Memory → final_answer self.old.decoder ≡ None
             → (HasWaiting self.old.decoder × (self.new.reader.now ≡ self.old.reader.now))
             ⊎ (accepted_records self.old.decoder < accepted_records self.new.decoder) }
-        // Behind the end or a fault of the input, that is answered again, and nothing changes.
+        // After the end or a fault of the input, that is answered again, and nothing changes.
         ensures again { IfSome (final_answer self.old.decoder) (λ outcome. (Some result ≡ answer_of outcome)
             × (self.new.decoder ≡ self.old.decoder) × (self.new.reader.now ≡ self.old.reader.now)) }
-        // Once the reader was at its end, it is asked no more.
-        ensures over { is_over self.old.decoder ≡ true → self.new.reader.now ≡ self.old.reader.now }
+        // Once the reader was at its end, it is read no more.
+        ensures input_ended { has_ended self.old.decoder ≡ true → self.new.reader.now ≡ self.old.reader.now }
         // Nor is it where a record waits that is an item of its own.
         ensures alone { WaitsOutside self.old.decoder → self.new.reader.now ≡ self.old.reader.now }
     {
-        if let Some(told) = settle(&mut self.decoder) {
-            return told;
+        if let Some(reported) = settle(&mut self.decoder) {
+            return reported;
         }
         read_on(&mut self.decoder, self.reader)
     }

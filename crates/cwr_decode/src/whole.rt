@@ -5,7 +5,7 @@ ghost use Rattle.std.specs.Vec.Iter.{into_iter_items};
 ghost use Rattle.cwr_values.specs.Values.{type_of, IsTransaction};
 ghost use Rattle.cwr_judge.specs.Items.{group_rest, value_items};
 ghost use Rattle.cwr_decode.specs.Readings.{CountsFault};
-ghost use Rattle.cwr_decode.specs.Runs.{AreGroupItems, AreItems, HasReadAll, StopsRun, TakesFront, TellsAccepted, TellsCanonical};
+ghost use Rattle.cwr_decode.specs.Runs.{AreGroupItems, AreItems, HasReadAll, StopsRun, TakesFront, ReportsAccepted, ReportsCanonical};
 
 use crate::readings::{ReadFault, Reading};
 use cwr_fields::Source;
@@ -134,8 +134,8 @@ pub fn read_all<R: Source>(
 ) -> Result<Transmission, ReadFault>
     ensures takes { IfOk result (λ transmission. TakesFront limits (R.remaining reader.old) transmission (R.remaining reader.new)) }
     ensures stops { IfErr result (λ fault. StopsRun limits fault (R.remaining reader.old) (R.remaining reader.new)) }
-    ensures accepted { TellsAccepted limits (R.remaining reader.old) result (R.remaining reader.new) }
-    ensures canonical { TellsCanonical limits (R.remaining reader.old) result (R.remaining reader.new) }
+    ensures accepted { ReportsAccepted limits (R.remaining reader.old) result (R.remaining reader.new) }
+    ensures canonical { ReportsCanonical limits (R.remaining reader.old) result (R.remaining reader.new) }
     ensures failures { MatchResult result (λ _. R.failures reader.new ≡ R.failures reader.old) (λ fault. CountsFault fault (R.failures reader.old) (R.failures reader.new)) }
 {
     let items = read_items(alloc, limits, reader)?;

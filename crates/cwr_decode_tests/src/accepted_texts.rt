@@ -1,7 +1,7 @@
 //! Tests of decoders over worked transmissions that are fed whole: the items, the kinds of each transaction's records, and
 //! the used bytes.
 
-use crate::decoders::{LARGEST, Numbers, decoder_within, named};
+use crate::decoders::{LARGEST, Numbers, decoder_within, name_of};
 use cwr_decode::{Decoder, Outcome};
 use cwr_layouts::Kind::{
     self, Ack, Agr, Alt, Com, Ipa, Msg, Nwr, Opu, Orn, Owr, Per, Pwr, Rec, Rev, Spt, Spu, Swr, Swt,
@@ -122,10 +122,10 @@ fn transmissions_are_handed_out_by_items(rt: HostRuntime) -> Result<(), Fail> {
         let text = canonical(rt.alloc(), lines)?;
         assert_eq!(rt; text.len(), *bytes);
         let mut decoder = decoder_within(&rt, *limits);
-        let told = feed_whole(&rt, &mut decoder, text.as_slice(), transactions);
-        assert_eq!(rt; told, (*bytes, transactions.len()));
+        let answer = feed_whole(&rt, &mut decoder, text.as_slice(), transactions);
+        assert_eq!(rt; answer, (*bytes, transactions.len()));
         assert_eq!(rt; decoder.records() as usize, lines.len());
-        assert_eq!(rt; named(&decoder.feed(b"").outcome), "done");
+        assert_eq!(rt; name_of(&decoder.feed(b"").outcome), "done");
     }
     Ok(())
 }

@@ -10,7 +10,7 @@ use std::process::Abort;
 use std::test::Fail;
 
 /// The transaction of the transmission of one acknowledgement, as a decoder hands it out.
-fn handed_out(rt: &(impl Abort + AllocGlobal)) -> Result<Transaction, Fail> {
+fn read_transaction(rt: &(impl Abort + AllocGlobal)) -> Result<Transaction, Fail> {
     let text = canonical(rt.alloc(), ONE_ACKNOWLEDGEMENT)?;
     let mut decoder = decoder(rt);
     let mut left = text.as_slice();
@@ -47,7 +47,7 @@ fn check_cells(
 
 #[test]
 fn the_cells_of_an_acknowledgement(rt: HostRuntime) -> Result<(), Fail> {
-    let transaction = handed_out(&rt)?;
+    let transaction = read_transaction(&rt)?;
     assert_eq!(rt; transaction.len(), 1);
     let cells: [(u8, &[u8]); 10] = [
         (4, b"20240102"),
@@ -72,7 +72,7 @@ fn the_cells_of_an_acknowledgement(rt: HostRuntime) -> Result<(), Fail> {
 
 #[test]
 fn the_typed_cells_of_an_acknowledgement(rt: HostRuntime) -> Result<(), Fail> {
-    let transaction = handed_out(&rt)?;
+    let transaction = read_transaction(&rt)?;
     let record = transaction.record(0).ok_or("no record")?;
     let day = CivilDate::new(2024, 1, 2).ok_or("no day")?;
     assert_eq!(rt; record.read::<CivilDate>(4), Some(day));

@@ -1,6 +1,6 @@
 //! Tests of decoders over the transmission of one acknowledgement, call by call, however it is cut, and cut off.
 
-use crate::decoders::{decoder, named};
+use crate::decoders::{decoder, name_of};
 use cwr_decode::{Decoder, Outcome, Refusal};
 use cwr_fields::CellFault;
 use cwr_shape::{Level, Reason};
@@ -26,7 +26,7 @@ fn one_acknowledgement_by_items(rt: HostRuntime) -> Result<(), Fail> {
     let mut left = text.as_slice();
     for (used, name, records, holds) in steps {
         let step = decoder.feed(left);
-        assert_eq!(rt; (step.used, named(&step.outcome)), (used, name));
+        assert_eq!(rt; (step.used, name_of(&step.outcome)), (used, name));
         assert_eq!(rt; (decoder.records(), decoder.holds()), (records, holds));
         left = left.get(step.used..).unwrap_or(b"");
     }
@@ -48,16 +48,16 @@ fn lines_without_trailing_spaces(rt: HostRuntime) -> Result<(), Fail> {
     let mut left = text.as_slice();
     for (used, name) in steps {
         let step = decoder.feed(left);
-        assert_eq!(rt; (step.used, named(&step.outcome)), (used, name));
+        assert_eq!(rt; (step.used, name_of(&step.outcome)), (used, name));
         left = left.get(step.used..).unwrap_or(b"");
     }
-    assert_eq!(rt; named(&decoder.finish().outcome), "ended");
-    assert_eq!(rt; named(&decoder.finish().outcome), "done");
-    assert_eq!(rt; named(&decoder.feed(b"x").outcome), "done");
+    assert_eq!(rt; name_of(&decoder.finish().outcome), "ended");
+    assert_eq!(rt; name_of(&decoder.finish().outcome), "done");
+    assert_eq!(rt; name_of(&decoder.feed(b"x").outcome), "done");
     Ok(())
 }
 
-/// The names of the items of the transmission of one acknowledgement, and of what is answered behind them.
+/// The names of the items of the transmission of one acknowledgement, and of what is answered after them.
 const ITEMS: [&str; 6] = [
     "opened",
     "group opened",
@@ -67,9 +67,14 @@ const ITEMS: [&str; 6] = [
     "done",
 ];
 
-/// Feeds a piece until more is needed, or the end was answered, and answers how many bytes were used. The outcomes go on
-/// from place `told` of these.
-fn feed_piece(rt: &impl Abort, decoder: &mut Decoder, piece: &[u8], told: &mut usize) -> usize {
+/// Feeds a piece until more is needed, or the end was answered, and answers how many bytes were used. The outcomes continue
+/// from place `item_count` of these.
+fn feed_piece(
+    rt: &impl Abort,
+    decoder: &mut Decoder,
+    piece: &[u8],
+    item_count: &mut usize,
+) -> usize {
     let mut used: usize = 0;
     for _ in 0..7 {
         let step = decoder.feed(piece.get(used..).unwrap_or(b""));
@@ -77,8 +82,8 @@ fn feed_piece(rt: &impl Abort, decoder: &mut Decoder, piece: &[u8], told: &mut u
         match step.outcome {
             Outcome::More | Outcome::Done => return used,
             outcome => {
-                assert_eq!(rt; Some(&named(&outcome)), ITEMS.get(*told));
-                *told = told.saturating_add(1);
+                assert_eq!(rt; Some(&name_of(&outcome)), ITEMS.get(*item_count));
+                *item_count = item_count.saturating_add(1);
             }
         }
     }
@@ -90,45 +95,48 @@ fn one_acknowledgement_however_cut(rt: HostRuntime) -> Result<(), Fail> {
     let text = canonical(rt.alloc(), ONE_ACKNOWLEDGEMENT)?;
     for at in 0..text.len() + 1 {
         let mut decoder = decoder(&rt);
-        let mut told = 0;
+        let mut item_count = 0;
         let (front, rest) = text.as_slice().split_at(at);
-        let used = feed_piece(&rt, &mut decoder, front, &mut told);
-        let more = feed_piece(&rt, &mut decoder, rest, &mut told);
-        assert_eq!(rt; (used, more, told), (at, rest.len(), 5));
-        assert_eq!(rt; named(&decoder.finish().outcome), "done");
+        let used = feed_piece(&rt, &mut decoder, front, &mut item_count);
+        let more = feed_piece(&rt, &mut decoder, rest, &mut item_count);
+        assert_eq!(rt; (used, more, item_count), (at, rest.len(), 5));
+        assert_eq!(rt; name_of(&decoder.finish().outcome), "done");
     }
     let mut decoder = decoder(&rt);
-    let mut told = 0;
+    let mut item_count = 0;
     for byte in &text {
-        assert_eq!(rt; feed_piece(&rt, &mut decoder, &[*byte], &mut told), 1);
+        assert_eq!(rt; feed_piece(&rt, &mut decoder, &[*byte], &mut item_count), 1);
     }
-    assert_eq!(rt; told, 5);
+    assert_eq!(rt; item_count, 5);
     let step = decoder.feed(b"");
-    assert_eq!(rt; (step.used, named(&step.outcome)), (0, "done"));
+    assert_eq!(rt; (step.used, name_of(&step.outcome)), (0, "done"));
     Ok(())
 }
 
 #[test]
 fn an_empty_piece_is_more(rt: HostRuntime) -> Result<(), Fail> {
     let step = decoder(&rt).feed(b"");
-    assert_eq!(rt; (step.used, named(&step.outcome)), (0, "more"));
+    assert_eq!(rt; (step.used, name_of(&step.outcome)), (0, "more"));
     Ok(())
 }
 
 /// The first outcome of the transmission's front that is no item, where so many items come before it.
 fn end_of_front(rt: &impl Abort, decoder: &mut Decoder, front: &[u8], items: usize) -> Outcome {
-    let mut told = 0;
-    let used = feed_piece(rt, decoder, front, &mut told);
+    let mut item_count = 0;
+    let used = feed_piece(rt, decoder, front, &mut item_count);
     assert_eq!(rt; used, front.len());
-    for _ in told..items {
-        assert_eq!(rt; Some(&named(&decoder.finish().outcome)), ITEMS.get(told));
-        told = told.saturating_add(1);
+    for _ in item_count..items {
+        assert_eq!(rt;
+            Some(&name_of(&decoder.finish().outcome)),
+            ITEMS.get(item_count)
+        );
+        item_count = item_count.saturating_add(1);
     }
     decoder.finish().outcome
 }
 
 /// A refusal of the transmission for one of its cells.
-const fn refused(rec: u32, field: u8, fault: CellFault) -> Refusal {
+const fn refusal_of(rec: u32, field: u8, fault: CellFault) -> Refusal {
     Refusal {
         rec,
         field,
@@ -142,12 +150,12 @@ fn one_acknowledgement_cut_off(rt: HostRuntime) -> Result<(), Fail> {
     let text = canonical(rt.alloc(), ONE_ACKNOWLEDGEMENT)?;
     let table = [
         (0, 0, Ok(0)),
-        (80, 0, Err(refused(1, 8, CellFault::NotADate))),
+        (80, 0, Err(refusal_of(1, 8, CellFault::NotADate))),
         (100, 1, Ok(1)),
         (133, 2, Ok(2)),
         (294, 2, Ok(3)),
         (331, 4, Ok(4)),
-        (356, 4, Err(refused(5, 4, CellFault::NotDigits))),
+        (356, 4, Err(refusal_of(5, 4, CellFault::NotDigits))),
     ];
     for (at, items, wanted) in table {
         let mut decoder = decoder(&rt);
@@ -155,14 +163,17 @@ fn one_acknowledgement_cut_off(rt: HostRuntime) -> Result<(), Fail> {
         match end_of_front(&rt, &mut decoder, front, items) {
             Outcome::Truncated { records } => assert_eq!(rt; Ok(records), wanted, "at {at}"),
             Outcome::Refused(refusal) => assert_eq!(rt; Err(refusal), wanted, "at {at}"),
-            outcome => assert!(rt; false, "at {at}: {}", named(&outcome)),
+            outcome => assert!(rt; false, "at {at}: {}", name_of(&outcome)),
         }
         assert_eq!(rt; decoder.holds(), (0, 0));
     }
     for at in [357, 358] {
         let mut decoder = decoder(&rt);
         let front = text.get(..at).unwrap_or(b"");
-        assert_eq!(rt; named(&end_of_front(&rt, &mut decoder, front, 4)), "ended");
+        assert_eq!(rt;
+            name_of(&end_of_front(&rt, &mut decoder, front, 4)),
+            "ended"
+        );
     }
     Ok(())
 }

@@ -23,7 +23,7 @@ pub(crate) fn decoder(rt: &(impl Abort + AllocGlobal)) -> Decoder {
 }
 
 /// The name of an outcome.
-pub(crate) fn named(outcome: &Outcome) -> &'static str {
+pub(crate) fn name_of(outcome: &Outcome) -> &'static str {
     match outcome {
         Outcome::More => "more",
         Outcome::Item(Item::Opened(_)) => "opened",

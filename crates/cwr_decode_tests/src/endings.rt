@@ -15,7 +15,7 @@ fn check_end(rt: &impl Abort, text: &[u8], count: usize, wanted: End) -> Result<
 }
 
 /// What is refused for a cell of HDR or TRL that has no digits or no date.
-fn refused(rec: u32, field: u8, reason: Reason) -> End {
+fn refusal_of(rec: u32, field: u8, reason: Reason) -> End {
     End::Refused(Refusal {
         rec,
         field,
@@ -30,12 +30,12 @@ fn fronts_of_one_acknowledgement(rt: HostRuntime) -> Result<(), Fail> {
     let text = canonical(rt.alloc(), ONE_ACKNOWLEDGEMENT)?;
     let ends = [
         (0, End::Truncated { records: 0 }),
-        (80, refused(1, 8, Reason::Cell(CellFault::NotADate))),
+        (80, refusal_of(1, 8, Reason::Cell(CellFault::NotADate))),
         (100, End::Truncated { records: 1 }),
         (133, End::Truncated { records: 2 }),
         (294, End::Truncated { records: 3 }),
         (331, End::Truncated { records: 4 }),
-        (356, refused(5, 4, Reason::Cell(CellFault::NotDigits))),
+        (356, refusal_of(5, 4, Reason::Cell(CellFault::NotDigits))),
         (357, End::Accepted { used: 357 }),
         (358, End::Accepted { used: 358 }),
         (359, End::Accepted { used: 359 }),
@@ -47,7 +47,7 @@ fn fronts_of_one_acknowledgement(rt: HostRuntime) -> Result<(), Fail> {
 }
 
 #[test]
-fn one_acknowledgement_behind_another(rt: HostRuntime) -> Result<(), Fail> {
+fn one_acknowledgement_after_another(rt: HostRuntime) -> Result<(), Fail> {
     let mut text = Vec::new(rt.alloc());
     text.extend_from_slice(canonical(rt.alloc(), ONE_ACKNOWLEDGEMENT)?.as_slice())?;
     text.extend_from_slice(canonical(rt.alloc(), ONE_ACKNOWLEDGEMENT)?.as_slice())?;

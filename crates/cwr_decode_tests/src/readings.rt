@@ -16,7 +16,7 @@ fn largest() -> Limits {
 }
 
 /// What was read, in a word.
-fn told(answer: Result<Option<Item>, ReadFault>) -> &'static str {
+fn word_for(answer: Result<Option<Item>, ReadFault>) -> &'static str {
     match answer {
         Ok(Some(Item::Opened(_))) => "opened",
         Ok(Some(Item::GroupOpened(_))) => "group opened",
@@ -31,11 +31,11 @@ fn told(answer: Result<Option<Item>, ReadFault>) -> &'static str {
     }
 }
 
-/// Checks what the first seven calls of a reading tell.
+/// Checks what the first seven calls of a reading answer.
 fn check_seven<R: Source>(rt: &(impl Abort + AllocGlobal), reader: &mut R, names: [&str; 7]) {
     let mut reading = Reading::new(rt.alloc(), largest(), reader);
     for name in names {
-        assert_eq!(rt; told(reading.next_item()), name);
+        assert_eq!(rt; word_for(reading.next_item()), name);
     }
 }
 

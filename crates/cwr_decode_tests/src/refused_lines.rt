@@ -1,6 +1,6 @@
-//! Tests of the first field of a line that is wrong, and why, on written lines behind the records of worked transmissions.
+//! Tests of the first field of a line that is wrong, and why, on written lines after the records of worked transmissions.
 
-use crate::decoders::{decoder, named};
+use crate::decoders::{decoder, name_of};
 use crate::refused_texts::check_refused;
 use cwr_decode::{Outcome, Refusal};
 use cwr_fields::CellFault;
@@ -21,7 +21,7 @@ const ACKNOWLEDGEMENT: Before = (&[HDR, GRH_ACK, ACK_0], 2, 4);
 
 const WORK: Before = (&[HDR, GRH_NWR, NWR_0, SWR_0_1], 2, 5);
 
-/// An acknowledgement in full width, and a space behind its last field.
+/// An acknowledgement in full width, and a space after its last field.
 const ACK: &[u8] =
     b"ACK0000000000000000202401021015000000100000000NWRBLUE RIVER                                                  W0001                                   20240110AS ";
 
@@ -89,7 +89,7 @@ fn lines_are_refused_at_their_first_wrong_field(rt: HostRuntime) -> Result<(), F
 }
 
 /// A line that is filled up with spaces to so many bytes.
-fn filled(alloc: Global, line: &[u8], len: usize) -> Result<Vec<u8>, AllocError> {
+fn fill_up(alloc: Global, line: &[u8], len: usize) -> Result<Vec<u8>, AllocError> {
     let mut text = line.to_vec(alloc)?;
     for _ in line.len()..len {
         text.push(b' ')?;
@@ -107,24 +107,24 @@ fn long_lines(rt: HostRuntime) -> Result<(), Fail> {
             Reason::Cell(CellFault::NotConstant),
         ),
     ] {
-        let text = filled(rt.alloc(), line, 1025)?;
+        let text = fill_up(rt.alloc(), line, 1025)?;
         let mut decoder = decoder(&rt);
         let step = decoder.feed(text.as_slice());
         assert_eq!(rt; step.used, 1024);
         match step.outcome {
-            Outcome::Refused(told) => {
+            Outcome::Refused(refusal) => {
                 assert_eq!(rt;
-                    (told.rec, told.field, told.level, told.reason),
+                    (refusal.rec, refusal.field, refusal.level, refusal.reason),
                     (1, field, Level::E, reason)
                 );
             }
-            outcome => assert_eq!(rt; named(&outcome), "refused"),
+            outcome => assert_eq!(rt; name_of(&outcome), "refused"),
         }
     }
-    let mut text = filled(rt.alloc(), HDR, 1024)?;
+    let mut text = fill_up(rt.alloc(), HDR, 1024)?;
     text.push(b'\n')?;
     let mut decoder = decoder(&rt);
     let step = decoder.feed(text.as_slice());
-    assert_eq!(rt; (step.used, named(&step.outcome)), (1025, "opened"));
+    assert_eq!(rt; (step.used, name_of(&step.outcome)), (1025, "opened"));
     Ok(())
 }

@@ -1,7 +1,7 @@
 //! Tests of decoders over texts that are refused: how many items come before that, and the record, the field, the level
 //! and the reason of the refusal.
 
-use crate::decoders::{LARGEST, Numbers, decoder, decoder_within, named};
+use crate::decoders::{LARGEST, Numbers, decoder, decoder_within, name_of};
 use cwr_decode::{Decoder, Outcome, Refusal};
 use cwr_fields::CellFault;
 use cwr_shape::Reason::{Limit, Misplaced, UnknownKind};
@@ -77,12 +77,12 @@ pub(crate) fn check_refused(
     for _ in 0..2 {
         match decoder.feed(left).outcome {
             Outcome::Refused(refusal) => assert_eq!(rt; refusal, expected),
-            outcome => assert_eq!(rt; named(&outcome), "refused"),
+            outcome => assert_eq!(rt; name_of(&outcome), "refused"),
         }
         assert_eq!(rt; decoder.feed(left).used, 0);
     }
     assert_eq!(rt; decoder.holds(), (0, 0));
-    assert_eq!(rt; named(&decoder.finish().outcome), "refused");
+    assert_eq!(rt; name_of(&decoder.finish().outcome), "refused");
 }
 
 #[test]

@@ -38,7 +38,7 @@ fn check_acknowledgement(rt: &impl Abort, transmission: &Transmission) {
 }
 
 #[test]
-fn one_transmission_behind_another(rt: HostRuntime) -> Result<(), Fail> {
+fn one_transmission_after_another(rt: HostRuntime) -> Result<(), Fail> {
     let text = canonical(rt.alloc(), ONE_ACKNOWLEDGEMENT)?;
     let mut twice = Vec::new(rt.alloc());
     twice.extend_from_slice(text.as_slice())?;

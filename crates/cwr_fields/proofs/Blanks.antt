@@ -40,8 +40,8 @@ pub plain_unless_control : (cell : List ℕ) → ((k : ℕ) → get_or cell k 0 
 plain_unless_control [] h = refl
 plain_unless_control (b ∷ cell) h =
     let low : ltb b 256 ≡ true = lt-ltb b 256 (h 0) in
-    rw low (plain_behind (is_control b) (is_plain cell) (has_control cell) (plain_unless_control cell (λ k. h (suc k))))
+    rw low (plain_after (is_control b) (is_plain cell) (has_control cell) (plain_unless_control cell (λ k. h (suc k))))
   where
-    plain_behind : (c p q : Bool) → p ≡ not q → (not c && p) ≡ not (c || q)
-    plain_behind true p q e = refl
-    plain_behind false p q e = e
+    plain_after : (c p q : Bool) → p ≡ not q → (not c && p) ≡ not (c || q)
+    plain_after true p q e = refl
+    plain_after false p q e = e

@@ -9,16 +9,16 @@ use Rattle.cwr_fields.specs.Bytes.{digits, number_of, is_digit, are_digits}
 use Rattle.jiff.specs.Words.{IsDate}
 use Rattle.cwr_fields.specs.Cells.{SpellsNumber, SpellsDay, SpellsTime, SpellsShare}
 use Rattle.cwr_fields.proofs.Digits.{number_of-digits}
-use Rattle.cwr_fields.proofs.Parts.{year_part, month_part, day_part, day_of_parts, time_of_parts}
+use Rattle.cwr_fields.proofs.NumbersInParts.{year_part, month_part, day_part, day_of_parts, time_of_parts}
 
 -- a digit is 48 to 57
 pub digit_bounds : (b : ℕ) → is_digit b ≡ true → (48 ≤ b) × (b ≤ 57)
 digit_bounds b h = let p = and_parts (leb 48 b) (leb b 57) h in (leb-true 48 b p.0, leb-true b 57 p.1)
 
--- a number with one more digit behind it
-pub digits-behind : (width n b : ℕ) → 48 ≤ b → b ≤ 57 → digits (suc width) (10 * n + (b - 48)) ≡ digits width n ++ b ∷ []
+-- a number with one more digit after it
+pub digits-after : (width n b : ℕ) → 48 ≤ b → b ≤ 57 → digits (suc width) (10 * n + (b - 48)) ≡ digits width n ++ b ∷ []
 unfolding digits
-digits-behind width n b low high =
+digits-after width n b low high =
     let front : (10 * n + (b - 48)) / 10 ≡ n = omega arith in
     let last : 48 + (10 * n + (b - 48)) % 10 ≡ b = omega arith in
     ap (λ m. digits width m ++ (48 + (10 * n + (b - 48)) % 10) ∷ []) front ∙ ap (λ x. digits width n ++ x ∷ []) last
@@ -45,7 +45,7 @@ digits-read_on width n (b ∷ cell) h =
     let same : width + suc (length cell) ≡ suc width + length cell = omega arith in
     ap (λ w. digits w (read_on (10 * n + (b - 48)) cell)) same
     ∙ digits-read_on (suc width) (10 * n + (b - 48)) cell p.1
-    ∙ ap (λ l. l ++ cell) (digits-behind width n b d.0 d.1)
+    ∙ ap (λ l. l ++ cell) (digits-after width n b d.0 d.1)
     ∙ append_assoc (digits width n) (b ∷ []) cell
 
 -- digits are those of the number that they write
@@ -78,33 +78,33 @@ number_spelled cell = (
 )
 
 -- the bytes of a cell from one place to another
-abbrev pub part : ℕ → ℕ → List ℕ → List ℕ
-part start width cell = take width (drop start cell)
+abbrev pub bytes_at : ℕ → ℕ → List ℕ → List ℕ
+bytes_at start width cell = take width (drop start cell)
 
 pub are_digits-split : (n : ℕ) (cell : List ℕ) → are_digits cell ≡ true → (are_digits (take n cell) ≡ true) × (are_digits (drop n cell) ≡ true)
 are_digits-split n cell h =
     and_parts (are_digits (take n cell)) (are_digits (drop n cell)) (sym (list_all-append is_digit (take n cell) (drop n cell)) ∙ ap are_digits (take-append-drop n cell) ∙ h)
 
-pub are_digits-part : (start width : ℕ) (cell : List ℕ) → are_digits cell ≡ true → are_digits (part start width cell) ≡ true
+pub are_digits-part : (start width : ℕ) (cell : List ℕ) → are_digits cell ≡ true → are_digits (bytes_at start width cell) ≡ true
 are_digits-part start width cell h = (are_digits-split width (drop start cell) (are_digits-split start cell h).1).0
 
 -- a part of digits is the digits of the number that it writes
 pub part_spelled : (start width : ℕ) (cell : List ℕ) → start + width ≤ length cell → are_digits cell ≡ true
-    → (digits width (number_of (part start width cell)) ≡ part start width cell) × (number_of (part start width cell) < 10 ^ width)
+    → (digits width (number_of (bytes_at start width cell)) ≡ bytes_at start width cell) × (number_of (bytes_at start width cell) < 10 ^ width)
 part_spelled start width cell room h =
-    let wide : length (part start width cell) ≡ width = length-take-le width (drop start cell) (omega (arith, length-drop start cell)) in
-    let there : are_digits (part start width cell) ≡ true = are_digits-part start width cell h in (
-      subst (λ (w : ℕ). digits w (number_of (part start width cell)) ≡ part start width cell) wide (digits-number_of (part start width cell) there),
-      subst (λ (w : ℕ). number_of (part start width cell) < 10 ^ w) wide (number_of-fits (part start width cell) there),
+    let wide : length (bytes_at start width cell) ≡ width = length-take-le width (drop start cell) (omega (arith, length-drop start cell)) in
+    let there : are_digits (bytes_at start width cell) ≡ true = are_digits-part start width cell h in (
+      subst (λ (w : ℕ). digits w (number_of (bytes_at start width cell)) ≡ bytes_at start width cell) wide (digits-number_of (bytes_at start width cell) there),
+      subst (λ (w : ℕ). number_of (bytes_at start width cell) < 10 ^ w) wide (number_of-fits (bytes_at start width cell) there),
     )
 
 -- three parts that make up a cell
-pub parts_joined : (a b c : ℕ) (cell : List ℕ) → length cell ≡ a + b + c → take a cell ++ part a b cell ++ part (a + b) c cell ≡ cell
+pub parts_joined : (a b c : ℕ) (cell : List ℕ) → length cell ≡ a + b + c → take a cell ++ bytes_at a b cell ++ bytes_at (a + b) c cell ≡ cell
 parts_joined a b c cell wide =
-    let last : part (a + b) c cell ≡ drop (a + b) cell = take_all c (drop (a + b) cell) (omega (arith, length-drop (a + b) cell)) in
+    let last : bytes_at (a + b) c cell ≡ drop (a + b) cell = take_all c (drop (a + b) cell) (omega (arith, length-drop (a + b) cell)) in
     let back : drop b (drop a cell) ≡ drop (a + b) cell = drop-drop b a cell in
-    append_assoc (take a cell) (part a b cell) (part (a + b) c cell)
-    ∙ ap (λ l. take a cell ++ (part a b cell ++ l)) (last ∙ sym back)
+    append_assoc (take a cell) (bytes_at a b cell) (bytes_at (a + b) c cell)
+    ∙ ap (λ l. take a cell ++ (bytes_at a b cell ++ l)) (last ∙ sym back)
     ∙ ap (λ l. take a cell ++ l) (take-append-drop b (drop a cell))
     ∙ take-append-drop a cell
 
@@ -133,7 +133,7 @@ day_spelled cell wide = (
 
 -- a time is spelled by six digits, whose parts are below their bounds
 pub time_spelled : (bound : ℕ) (cell : List ℕ) → bound ≤ 100 → length cell ≡ 6
-    → SpellsTime bound cell ↔ ((are_digits cell ≡ true) × (number_of (part 0 2 cell) < bound) × (number_of (part 2 2 cell) < 60) × (number_of (part 4 2 cell) < 60))
+    → SpellsTime bound cell ↔ ((are_digits cell ≡ true) × (number_of (bytes_at 0 2 cell) < bound) × (number_of (bytes_at 2 2 cell) < 60) × (number_of (bytes_at 4 2 cell) < 60))
 time_spelled bound cell small wide = (
   λ s. let parts = time_of_parts bound cell small s in (
     subst (λ (c : List ℕ). are_digits c ≡ true) (sym s.6)
@@ -143,9 +143,9 @@ time_spelled bound cell small wide = (
     parts.2,
   ),
   λ d. (
-    number_of (part 0 2 cell),
-    number_of (part 2 2 cell),
-    number_of (part 4 2 cell),
+    number_of (bytes_at 0 2 cell),
+    number_of (bytes_at 2 2 cell),
+    number_of (bytes_at 4 2 cell),
     d.1,
     d.2,
     d.3,

@@ -59,7 +59,7 @@ Holds (Code table) cell = SpellsCode table cell
 Holds (OptCode table) cell = (cell ≡ replicate (code_width table) 32) ⊎ SpellsCode table cell
 Holds (Constant word) cell = cell ≡ word_text word
 
--- what is told of a text that the type doesn't hold
+-- the fault of a text that the type doesn't hold
 abbrev pub fault_of : CellType → List ℕ → CellFault
 fault_of Text cell = Control
 fault_of Required cell = if has_control cell then Control else Blank
@@ -76,7 +76,7 @@ fault_of (Code table) cell = if is_spaces cell then Blank else NotACode
 fault_of (OptCode table) cell = NotACode
 fault_of (Constant word) cell = NotConstant
 
--- the cell has the fault: the type doesn't hold it, and that is what is told
+-- the cell has the fault: the type doesn't hold it, and this is the fault that is reported
 abbrev pub HasFault : CellType → List ℕ → CellFault → Type 0
 HasFault ty cell fault = ¬ Holds ty cell × (fault ≡ fault_of ty cell)
 

@@ -10,8 +10,8 @@ use Rattle.cwr_fields.specs.declared.dates.DateCell.{DateCell}
 use Rattle.cwr_fields.specs.declared.dates.DateCell.TheVariants.{Blank, Zeros, Day}
 use Rattle.cwr_fields.specs.Bytes.{digits}
 use Rattle.cwr_fields.specs.Cells.{Holds}
-use Rattle.cwr_fields.specs.NumberLaws.{number_width, number_equal, not_spaces_behind, parts_equal}
-use Rattle.cwr_fields.specs.DateLaws.{day_text, day_width, day_fits, day_equal, day_bounds, front_width}
+use Rattle.cwr_fields.specs.NumberLaws.{number_width, number_equal, not_spaces_after, parts_equal}
+use Rattle.cwr_fields.specs.DateLaws.{day_text, day_width, day_fits, day_equal, day_bounds, date_front_width}
 
 -- days with the same numbers are the same
 pub same_day : (x y : CivilDate) → (x.year ≡ y.year) × (x.month ≡ y.month) × (x.day ≡ y.day) → x ≡ y
@@ -41,14 +41,14 @@ date_fits (Day d) = inr (inr (day_fits d.year d.month d.day d.after_zero d.civil
 
 -- a day's text is none of the others
 day_written : (d : CivilDate) → ¬ (day_text d.year d.month d.day ≡ replicate 8 32)
-day_written d e = not_spaces_behind 1 6 d.day (digits 4 d.year ++ digits 2 d.month) (front_width d.year d.month) e
+day_written d e = not_spaces_after 1 6 d.day (digits 4 d.year ++ digits 2 d.month) (date_front_width d.year d.month) e
 
 day_not_zeros : (d : CivilDate) → ¬ (day_text d.year d.month d.day ≡ replicate 8 48)
 unfolding digits
 day_not_zeros d e =
     let b = day_bounds d.year d.month d.day d.civil in
     let some : 0 < d.year = d.after_zero in
-    let front = parts_equal (digits 4 d.year ++ digits 2 d.month) (digits 2 d.day) (digits 4 0 ++ digits 2 0) (digits 2 0) (front_width d.year d.month) e in
+    let front = parts_equal (digits 4 d.year ++ digits 2 d.month) (digits 2 d.day) (digits 4 0 ++ digits 2 0) (digits 2 0) (date_front_width d.year d.month) e in
     let years = parts_equal (digits 4 d.year) (digits 2 d.month) (digits 4 0) (digits 2 0) (number_width 4 d.year) front.0 in
     let none : d.year ≡ 0 = number_equal 4 d.year 0 b.0 (lit< tt) years.0 in
     omega (arith, none)

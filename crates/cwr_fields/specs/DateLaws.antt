@@ -4,7 +4,7 @@ use Rattle.std.proofs.lemmas.Int.{ints}
 use Rattle.jiff.specs.Words.{IsDate, days_in_month}
 use Rattle.cwr_fields.specs.Bytes.{digits}
 use Rattle.cwr_fields.specs.Cells.{SpellsDay}
-use Rattle.cwr_fields.specs.NumberLaws.{number_width, number_equal, digits_behind}
+use Rattle.cwr_fields.specs.NumberLaws.{number_width, number_equal, digits_after}
 
 -- the text of a year, a month and a day
 abbrev pub day_text : ℕ → ℕ → ℕ → List ℕ
@@ -14,8 +14,8 @@ pub day_width : (y m d : ℕ) → length (day_text y m d) ≡ 8
 day_width y m d =
     omega (arith, length-append (digits 4 y ++ digits 2 m) (digits 2 d), length-append (digits 4 y) (digits 2 m), number_width 4 y, number_width 2 m, number_width 2 d)
 
-pub front_width : (y m : ℕ) → length (digits 4 y ++ digits 2 m) ≡ 6
-front_width y m = omega (arith, length-append (digits 4 y) (digits 2 m), number_width 4 y, number_width 2 m)
+pub date_front_width : (y m : ℕ) → length (digits 4 y ++ digits 2 m) ≡ 6
+date_front_width y m = omega (arith, length-append (digits 4 y) (digits 2 m), number_width 4 y, number_width 2 m)
 
 pub day_fits : (y m d : ℕ) → 0 < y → IsDate (pos y) (pos m) (pos d) → SpellsDay (day_text y m d)
 day_fits y m d some civil = (y, m, d, some, civil, refl)
@@ -37,7 +37,7 @@ pub day_equal : (y m d y' m' d' : ℕ) → IsDate (pos y) (pos m) (pos d) → Is
 day_equal y m d y' m' d' civil civil' e =
     let b = day_bounds y m d civil in
     let b' = day_bounds y' m' d' civil' in
-    let fronts : length (digits 4 y ++ digits 2 m) ≡ length (digits 4 y' ++ digits 2 m') = front_width y m ∙ sym (front_width y' m') in
-    let last = digits_behind 2 d d' (digits 4 y ++ digits 2 m) (digits 4 y' ++ digits 2 m') fronts b.2 b'.2 e in
-    let rest = digits_behind 2 m m' (digits 4 y) (digits 4 y') (number_width 4 y ∙ sym (number_width 4 y')) b.1 b'.1 last.0 in
+    let fronts : length (digits 4 y ++ digits 2 m) ≡ length (digits 4 y' ++ digits 2 m') = date_front_width y m ∙ sym (date_front_width y' m') in
+    let last = digits_after 2 d d' (digits 4 y ++ digits 2 m) (digits 4 y' ++ digits 2 m') fronts b.2 b'.2 e in
+    let rest = digits_after 2 m m' (digits 4 y) (digits 4 y') (number_width 4 y ∙ sym (number_width 4 y')) b.1 b'.1 last.0 in
     (number_equal 4 y y' b.0 b'.0 rest.0, rest.1, last.1)

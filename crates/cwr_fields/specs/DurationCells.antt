@@ -8,8 +8,8 @@ use Rattle.cwr_fields.specs.declared.durations.DurationCell.{DurationCell}
 use Rattle.cwr_fields.specs.declared.durations.DurationCell.TheVariants.{Blank, Lasting}
 use Rattle.cwr_fields.specs.Bytes.{digits}
 use Rattle.cwr_fields.specs.Cells.{Holds}
-use Rattle.cwr_fields.specs.NumberLaws.{not_spaces_behind}
-use Rattle.cwr_fields.specs.TimeLaws.{time_text, time_width, time_fits, time_equal, front_width}
+use Rattle.cwr_fields.specs.NumberLaws.{not_spaces_after}
+use Rattle.cwr_fields.specs.TimeLaws.{time_text, time_width, time_fits, time_equal, time_front_width}
 
 -- durations with the same numbers are the same
 pub same_time : (x y : PlayingTime) → (x.hours ≡ y.hours) × (x.minutes ≡ y.minutes) × (x.seconds ≡ y.seconds) → x ≡ y
@@ -36,7 +36,7 @@ duration_fits Blank = inl refl
 duration_fits (Lasting t) = inr (time_fits 100 t.hours t.minutes t.seconds t.most_hours t.most_minutes t.most_seconds)
 
 time_written : (t : PlayingTime) → ¬ (time_text t.hours t.minutes t.seconds ≡ replicate 6 32)
-time_written t e = not_spaces_behind 1 4 t.seconds (digits 2 t.hours ++ digits 2 t.minutes) (front_width t.hours t.minutes) e
+time_written t e = not_spaces_after 1 4 t.seconds (digits 2 t.hours ++ digits 2 t.minutes) (time_front_width t.hours t.minutes) e
 
 pub duration_equal : (x y : DurationCell) → duration_text x ≡ duration_text y → x ≡ y
 duration_equal Blank Blank e = refl

@@ -1,4 +1,4 @@
--- What the calls of a source and of a target do to what they tell.
+-- What the calls of a source and of a target do to the bytes and the failures that they show.
 use Rattle.std.specs.Prelude.{◌≡◌, ℕ, ◌+◌, ◌-◌, ◌<◌, ◌^◌, min, List, length, Result, Ok, Err}
 use denote.Ref.{Bor}
 

@@ -1,4 +1,4 @@
--- What the digits of a number tell of it, and that they are a cell of numbers.
+-- What the digits of a number say of it, and that they are a cell of numbers.
 use Rattle.std.proofs.Common.{◌≡◌, refl, sym, ap, ap₂, ◌∙◌, length, ℕ, zero, suc, ◌+◌, ◌%◌, ◌/◌, ◌^◌, ◌<◌, List, [], ◌∷◌, ◌++◌, replicate, arith, length-append, pow-suc}
 use Rattle.std.proofs.lemmas.List.{length-replicate}
 use Rattle.cwr_fields.specs.declared.cell_types.CellType.TheVariants as types
@@ -65,13 +65,13 @@ parts_equal (x ∷ xs) ys (a ∷ as') bs h e =
     let first : x ≡ a = cc e in
     (ap₂ (λ (c : ℕ) (cs : List ℕ). c ∷ cs) first r.0, r.1)
 
--- digits of the same width behind texts of the same length
-pub digits_behind : (width n m : ℕ) (xs ys : List ℕ) → length xs ≡ length ys → n < 10 ^ width → m < 10 ^ width → xs ++ digits width n ≡ ys ++ digits width m → (xs ≡ ys) × (n ≡ m)
-digits_behind width n m xs ys h hn hm e =
+-- digits of the same width after texts of the same length
+pub digits_after : (width n m : ℕ) (xs ys : List ℕ) → length xs ≡ length ys → n < 10 ^ width → m < 10 ^ width → xs ++ digits width n ≡ ys ++ digits width m → (xs ≡ ys) × (n ≡ m)
+digits_after width n m xs ys h hn hm e =
     let both = parts_equal xs (digits width n) ys (digits width m) h e in
     (both.0, number_equal width n m hn hm both.1)
 
 -- a text that ends in digits isn't spaces
-pub not_spaces_behind : (width rest n : ℕ) (xs : List ℕ) → length xs ≡ rest → ¬ (xs ++ digits (suc width) n ≡ spaces rest ++ spaces (suc width))
-not_spaces_behind width rest n xs h e =
+pub not_spaces_after : (width rest n : ℕ) (xs : List ℕ) → length xs ≡ rest → ¬ (xs ++ digits (suc width) n ≡ spaces rest ++ spaces (suc width))
+not_spaces_after width rest n xs h e =
     not_spaces width n (parts_equal xs (digits (suc width) n) (spaces rest) (spaces (suc width)) (h ∙ sym (length-replicate rest 32)) e).1

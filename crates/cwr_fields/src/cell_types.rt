@@ -59,7 +59,7 @@ impl Word {
     }
 }
 
-/// Why a cell isn't one of its type. Where two hold, the first in the list of its type is told.
+/// Why a cell isn't one of its type. Where two hold, the first in the list of its type is reported.
 #[derive(Clone, Copy, Debug, PartialEq, Eq)]
 pub enum CellFault {
     /// All spaces, where something must stand.

@@ -56,7 +56,7 @@ fn is_opt_code(table: Table, cell: &[u8]) -> bool
 
 /// `Ok` where the cell was found to be one of its type, and else the fault.
 #[inline(always)]
-fn told(is_one: bool, fault: CellFault) -> Result<(), CellFault>
+fn fault_unless(is_one: bool, fault: CellFault) -> Result<(), CellFault>
     ensures ok { OnOk result (IsTrue is_one) }
     ensures err { IfErr result (λ f. IsFalse is_one × (f ≡ fault)) }
 {
@@ -65,7 +65,7 @@ fn told(is_one: bool, fault: CellFault) -> Result<(), CellFault>
 
 /// `Ok` where the cell was found to be one of its type, and else that it is blank, or another fault.
 #[inline(always)]
-fn told_or_blank(is_one: bool, other: CellFault, cell: &[u8]) -> Result<(), CellFault>
+fn blank_or_fault_unless(is_one: bool, other: CellFault, cell: &[u8]) -> Result<(), CellFault>
     ensures ok { OnOk result (IsTrue is_one) }
     ensures err { IfErr result (λ f. IsFalse is_one × (f ≡ (if is_spaces cell.now then CellFault.Blank else other))) }
 {
@@ -80,7 +80,7 @@ fn told_or_blank(is_one: bool, other: CellFault, cell: &[u8]) -> Result<(), Cell
 
 /// Judges a required cell that has no control byte.
 #[inline(always)]
-fn required_plain(cell: &[u8]) -> Result<(), CellFault>
+fn fits_required_plain(cell: &[u8]) -> Result<(), CellFault>
     requires { IsTrue (is_plain cell.now) }
     ensures ok { OnOk result (Holds CellType.Required cell.now) }
     ensures err { IfErr result (λ fault. HasFault CellType.Required cell.now fault) }
@@ -92,19 +92,19 @@ fn required_plain(cell: &[u8]) -> Result<(), CellFault>
     }
 }
 
-fn required(cell: &[u8]) -> Result<(), CellFault>
+fn fits_required(cell: &[u8]) -> Result<(), CellFault>
     ensures ok { OnOk result (Holds CellType.Required cell.now) }
     ensures err { IfErr result (λ fault. HasFault CellType.Required cell.now fault) }
 {
     if is_plain(cell) {
-        required_plain(cell)
+        fits_required_plain(cell)
     } else {
         Err(CellFault::Control)
     }
 }
 
 #[inline(always)]
-fn share(cell: &[u8]) -> Result<(), CellFault>
+fn fits_share(cell: &[u8]) -> Result<(), CellFault>
     requires { length cell.now ≡ 5 }
     ensures ok { OnOk result (Holds CellType.Share cell.now) }
     ensures err { IfErr result (λ fault. HasFault CellType.Share cell.now fault) }
@@ -114,7 +114,7 @@ fn share(cell: &[u8]) -> Result<(), CellFault>
     }
     match number_in(cell) {
         None => Err(CellFault::NotDigits),
-        Some(hundredths) => told(hundredths <= 10000, CellFault::OverShare),
+        Some(hundredths) => fault_unless(hundredths <= 10000, CellFault::OverShare),
     }
 }
 
@@ -127,20 +127,32 @@ pub fn fits(ty: CellType, cell: &[u8]) -> Result<(), CellFault>
     ensures err { IfErr result (λ fault. HasFault ty cell.now fault) }
 {
     match ty {
-        CellType::Text => told(is_plain(cell), CellFault::Control),
-        CellType::Required => required(cell),
-        CellType::Number => told_or_blank(is_number(cell), CellFault::NotDigits, cell),
-        CellType::OptNumber => told(is_opt_number(cell), CellFault::NotDigits),
-        CellType::Date => told_or_blank(is_cell::<CivilDate>(cell), CellFault::NotADate, cell),
-        CellType::OptDate => told(is_cell::<DateCell>(cell), CellFault::NotADate),
-        CellType::Time => told_or_blank(is_cell::<TimeOfDay>(cell), CellFault::NotATime, cell),
-        CellType::OptTime => told(is_opt_time(cell), CellFault::NotATime),
-        CellType::OptDuration => told(is_cell::<DurationCell>(cell), CellFault::NotATime),
-        CellType::Share => share(cell),
-        CellType::Flag => told(is_cell::<Flag>(cell), CellFault::NotACode),
-        CellType::Code(table) => told_or_blank(is_code(table, cell), CellFault::NotACode, cell),
-        CellType::OptCode(table) => told(is_opt_code(table, cell), CellFault::NotACode),
-        CellType::Constant(word) => told(cell == word.text(), CellFault::NotConstant),
+        CellType::Text => fault_unless(is_plain(cell), CellFault::Control),
+        CellType::Required => fits_required(cell),
+        CellType::Number => blank_or_fault_unless(is_number(cell), CellFault::NotDigits, cell),
+        CellType::OptNumber => fault_unless(is_opt_number(cell), CellFault::NotDigits),
+        CellType::Date => blank_or_fault_unless(
+            is_cell::<CivilDate>(cell),
+            CellFault::NotADate,
+            cell,
+        ),
+        CellType::OptDate => fault_unless(is_cell::<DateCell>(cell), CellFault::NotADate),
+        CellType::Time => blank_or_fault_unless(
+            is_cell::<TimeOfDay>(cell),
+            CellFault::NotATime,
+            cell,
+        ),
+        CellType::OptTime => fault_unless(is_opt_time(cell), CellFault::NotATime),
+        CellType::OptDuration => fault_unless(is_cell::<DurationCell>(cell), CellFault::NotATime),
+        CellType::Share => fits_share(cell),
+        CellType::Flag => fault_unless(is_cell::<Flag>(cell), CellFault::NotACode),
+        CellType::Code(table) => blank_or_fault_unless(
+            is_code(table, cell),
+            CellFault::NotACode,
+            cell,
+        ),
+        CellType::OptCode(table) => fault_unless(is_opt_code(table, cell), CellFault::NotACode),
+        CellType::Constant(word) => fault_unless(cell == word.text(), CellFault::NotConstant),
     }
 }
 
@@ -155,7 +167,7 @@ pub fn fits_plain(ty: CellType, cell: &[u8]) -> Result<(), CellFault>
 {
     match ty {
         CellType::Text => Ok(()),
-        CellType::Required => required_plain(cell),
+        CellType::Required => fits_required_plain(cell),
         _ => fits(ty, cell),
     }
 }

@@ -47,15 +47,22 @@ impl<T> Counted<T> {
         }
     }
 
-    /// The reader or the writer itself. What was read ahead is lost.
+    /// The bytes that were read ahead: the reader gave them, and they weren't consumed.
+    pub fn ahead(&self) -> &[u8]
+        ensures { result.now ≡ ahead_of self.now }
+    {
+        &self.ahead[self.start..self.end]
+    }
+
+    /// The reader or the writer itself. What was read ahead is lost, unless it was copied from `ahead` before.
     pub fn into_inner(self) -> T
         ensures { result ≡ inner_of self }
     {
         self.inner
     }
 
-    /// Counts a failure, and gives what tells it.
-    fn failed(&mut self) -> DeviceFault
+    /// Counts a failure, and answers the fault that reports it.
+    fn count_failure(&mut self) -> DeviceFault
         requires { failures_of self.old < most_failures }
         ensures { self.new ≡ record self.old { failures = self.old.failures + 1 } }
     {
@@ -88,7 +95,7 @@ impl<B: BufRead> Counted<B> {
                     self.start = 0;
                     self.end = count;
                 }
-                Err(_) => return Err(self.failed()),
+                Err(_) => return Err(self.count_failure()),
             }
         }
         self.shown = self.end - self.start;
@@ -131,7 +138,7 @@ impl<W: Write> Target for Counted<W> {
         }
         match self.inner.write(text) {
             Ok(count) if count > 0 || text.is_empty() => Ok(count),
-            _ => Err(self.failed()),
+            _ => Err(self.count_failure()),
         }
     }
 
@@ -141,7 +148,7 @@ impl<W: Write> Target for Counted<W> {
         }
         match self.inner.flush() {
             Ok(()) => Ok(()),
-            Err(_) => Err(self.failed()),
+            Err(_) => Err(self.count_failure()),
         }
     }
 }

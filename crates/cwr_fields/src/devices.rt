@@ -1,4 +1,4 @@
-//! Readers and writers that tell their bytes and how often they failed.
+//! Readers and writers that show their bytes and how often they failed.
 
 ghost use Rattle.std.specs.Prelude.{◌≡◌, ℕ, ◌-◌, ◌≤◌, List, [], length, drop, Option, Some, IfSome, IfOk};
 ghost use Rattle.std.specs.Io.{StartsWith};

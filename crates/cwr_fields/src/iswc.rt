@@ -11,7 +11,7 @@ use crate::byte_runs::are_digits;
 static FACTORS: [u32; 10] = [1, 2, 3, 4, 5, 6, 7, 8, 9, 1];
 
 /// The sum of the digits by their factors.
-fn weighed(digits: &[u8]) -> u32
+fn weighted_sum(digits: &[u8]) -> u32
     requires length { length digits.now ≡ 10 }
     requires digits { IsTrue (are_digits digits.now) }
     ensures sum { result ≡ sum_by (λ p. p.0 * p.1) (zip factors (map (λ b. b - 48) digits.now)) }
@@ -32,5 +32,5 @@ pub fn iswc_ok(text: &[u8]) -> bool
     text.len() == 11
         && text[0] == b'T'
         && are_digits(&text[1..])
-        && (1 + weighed(&text[1..])).is_multiple_of(10)
+        && (1 + weighted_sum(&text[1..])).is_multiple_of(10)
 }

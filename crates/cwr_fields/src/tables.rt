@@ -1,7 +1,7 @@
 //! The names of the code tables.
 
 /// A table of codes of this profile. Its codes are listed in `docs/FORMAT.md`. Each table has an enum of its own, of
-/// its name where no other is told, whose members stand for the codes.
+/// its name where no other is given, whose members represent the codes.
 #[derive(Clone, Copy, Debug, PartialEq, Eq)]
 pub enum Table {
     /// HDR's sender type, which may also be two digits: `SenderType`.

@@ -1,2 +1,2 @@
-mod Worked
+mod WorkedCells
 mod WorkedCodes

@@ -12,7 +12,7 @@ use Rattle.cwr_fields.specs.declared.tables.Table.TheVariants as tables
 use Rattle.cwr_fields.specs.Bytes.{digits, filled}
 use Rattle.cwr_fields.specs.Codes.{codes_of, code_width}
 use Rattle.cwr_fields.specs.Cells.{Holds, HasFault, IsCodeOf, SpellsCode}
-use Rattle.cwr_fields.proofs.Tests.{holds_test}
+use Rattle.cwr_fields.proofs.CellTests.{holds_test}
 
 -- the cells of each table
 abbrev cells_of : Table → List (List ℕ)

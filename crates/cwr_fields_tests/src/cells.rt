@@ -4,8 +4,8 @@ use cwr_fields::{
     CellFault, CellType, DeviceFault, Word, first_control, fits, iswc_ok, trimmed, width_of,
 };
 
-/// What is told of the cell, or nothing where it isn't as wide as its type.
-fn judged(ty: CellType, cell: &[u8]) -> Option<Result<(), CellFault>> {
+/// What is reported of the cell, or nothing where it isn't as wide as its type.
+fn fault_in(ty: CellType, cell: &[u8]) -> Option<Result<(), CellFault>> {
     match width_of(ty) {
         Some(width) if width != cell.len() => None,
         _ => Some(fits(ty, cell)),
@@ -39,19 +39,19 @@ static CELLS: [(CellType, &[u8], Result<(), CellFault>); 17] = [
 #[test]
 fn worked_cells(rt: HostRuntime) {
     for (ty, cell, answer) in &CELLS {
-        assert_eq!(rt; judged(*ty, cell), Some(*answer), "{ty:?}");
+        assert_eq!(rt; fault_in(*ty, cell), Some(*answer), "{ty:?}");
     }
 }
 
 static FAULTS: [(CellFault, &str); 8] = [
-    (CellFault::Blank, "blank cell"),
-    (CellFault::Control, "control byte"),
-    (CellFault::NotDigits, "not digits"),
-    (CellFault::NotADate, "not a date"),
-    (CellFault::NotATime, "not a time"),
-    (CellFault::OverShare, "a share over 100%"),
-    (CellFault::NotACode, "not a code"),
-    (CellFault::NotConstant, "not the constant"),
+    (CellFault::Blank, "cell blank"),
+    (CellFault::Control, "cell control"),
+    (CellFault::NotDigits, "cell not digits"),
+    (CellFault::NotADate, "cell not a date"),
+    (CellFault::NotATime, "cell not a time"),
+    (CellFault::OverShare, "cell over share"),
+    (CellFault::NotACode, "cell not a code"),
+    (CellFault::NotConstant, "cell not constant"),
 ];
 
 #[test]

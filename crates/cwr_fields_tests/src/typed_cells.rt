@@ -10,7 +10,7 @@ use jiff::civil::{Date, date, time};
 use std::time::Duration;
 
 /// Whether the cell is read, and written back as it was.
-fn is_kept<C: Cell>(cell: &[u8]) -> bool
+fn reads_back<C: Cell>(cell: &[u8]) -> bool
     requires least { 0 < C.WIDTH }
     requires most { C.WIDTH ≤ 10 }
 {
@@ -37,8 +37,8 @@ fn numbers(rt: HostRuntime) {
     assert_eq!(rt; Number::<5>::try_from(99999).map(Number::value), Ok(99999));
     assert_eq!(rt; Number::<5>::try_from(100000), Err(OutOfRange));
     assert_eq!(rt; Number::<11>::try_from(0), Err(OutOfRange));
-    assert!(rt; is_kept::<Number<10>>(b"9999999999"));
-    assert!(rt; is_kept::<Number<1>>(b"0"));
+    assert!(rt; reads_back::<Number<10>>(b"9999999999"));
+    assert!(rt; reads_back::<Number<1>>(b"0"));
     assert!(rt; Number::<5>::read(b"1234").is_none());
     assert!(rt; Number::<5>::read(b"1234x").is_none());
     assert!(rt; Number::<5>::read(b"     ").is_none());
@@ -49,9 +49,9 @@ fn shares(rt: HostRuntime) {
     let mut cell = [0; 5];
     Share::blank().write(&mut cell);
     assert_eq!(rt; &cell, b"     ");
-    assert!(rt; is_kept::<Share>(b"     "));
-    assert!(rt; is_kept::<Share>(b"00000"));
-    assert!(rt; is_kept::<Share>(b"10000"));
+    assert!(rt; reads_back::<Share>(b"     "));
+    assert!(rt; reads_back::<Share>(b"00000"));
+    assert!(rt; reads_back::<Share>(b"10000"));
     assert!(rt; Share::read(b"10001").is_none());
     assert!(rt; Share::read(b"1000 ").is_none());
     assert_ne!(rt; Share::read(b"00000"), Some(Share::blank()));
@@ -67,11 +67,11 @@ fn days(rt: HostRuntime) {
     assert_eq!(rt; DateCell::read(b"00000000"), Some(DateCell::Zeros));
     assert_eq!(rt; DateCell::read(b"        "), Some(DateCell::Blank));
     assert_ne!(rt; DateCell::read(b"00000000"), DateCell::read(b"        "));
-    assert!(rt; is_kept::<DateCell>(b"        "));
-    assert!(rt; is_kept::<DateCell>(b"00000000"));
-    assert!(rt; is_kept::<DateCell>(b"20240229"));
-    assert!(rt; is_kept::<CivilDate>(b"00010101"));
-    assert!(rt; is_kept::<CivilDate>(b"99991231"));
+    assert!(rt; reads_back::<DateCell>(b"        "));
+    assert!(rt; reads_back::<DateCell>(b"00000000"));
+    assert!(rt; reads_back::<DateCell>(b"20240229"));
+    assert!(rt; reads_back::<CivilDate>(b"00010101"));
+    assert!(rt; reads_back::<CivilDate>(b"99991231"));
     assert!(rt; DateCell::read(b"20230229").is_none());
     assert!(rt; CivilDate::read(b"00000101").is_none());
     assert!(rt; CivilDate::read(b"00000000").is_none());
@@ -86,13 +86,13 @@ fn days(rt: HostRuntime) {
 
 #[test]
 fn times(rt: HostRuntime) {
-    assert!(rt; is_kept::<TimeOfDay>(b"235959"));
+    assert!(rt; reads_back::<TimeOfDay>(b"235959"));
     assert!(rt; TimeOfDay::read(b"240000").is_none());
     assert!(rt; TimeOfDay::read(b"236000").is_none());
     assert!(rt; TimeOfDay::read(b"235960").is_none());
-    assert!(rt; is_kept::<DurationCell>(b"995959"));
-    assert!(rt; is_kept::<DurationCell>(b"000000"));
-    assert!(rt; is_kept::<DurationCell>(b"      "));
+    assert!(rt; reads_back::<DurationCell>(b"995959"));
+    assert!(rt; reads_back::<DurationCell>(b"000000"));
+    assert!(rt; reads_back::<DurationCell>(b"      "));
     assert_eq!(rt; DurationCell::read(b"      "), Some(DurationCell::Blank));
     assert!(rt; DurationCell::read(b"006000").is_none());
     let song = PlayingTime::new(0, 3, 25);
@@ -109,7 +109,7 @@ fn times(rt: HostRuntime) {
 #[test]
 fn flags(rt: HostRuntime) {
     for letter in [b"Y", b"N", b"U", b" "] {
-        assert!(rt; is_kept::<Flag>(letter));
+        assert!(rt; reads_back::<Flag>(letter));
     }
     assert!(rt; Flag::read(b"X").is_none());
     assert!(rt; Flag::read(b"").is_none());

@@ -7,7 +7,7 @@ use Rattle.cwr_shape.specs.declared.limits.Limits.{Limits}
 use Rattle.cwr_values.specs.Values.{TransmissionValue, IsTransmission, FitsIn}
 use Rattle.cwr_values.specs.Rows.{canonical_text}
 use Rattle.cwr_values.proofs.Spelling.{canonical_spells}
-use Rattle.cwr_values.proofs.Unique.{spelled_once}
+use Rattle.cwr_values.proofs.OneSpelling.{spelled_once}
 use Rattle.cwr_judge.specs.Places.{IsFirstBad}
 use Rattle.cwr_judge.specs.Ends.{IsAccepted}
 

@@ -1,13 +1,13 @@
--- Some transmission within the limits goes on from each place in the lines that were accepted.
+-- Some transmission within the limits continues from each place in the lines that were accepted.
 use Rattle.std.proofs.Common.{◌≡◌, ℕ, List, [], ◌∷◌, ◌++◌, map, take, refl, sym, ap, subst, ◌∙◌, append_assoc}
 use Rattle.std.specs.List.{AllZip, AllByRecursion}
 use Rattle.cwr_layouts.specs.Records.{RecordValue, Row, IsRecord, IsRow}
 use Rattle.cwr_layouts.specs.Lines.{IsLineOf}
 use Rattle.cwr_layouts.proofs.CutLaws.{line_is_cut}
 use Rattle.cwr_shape.specs.Ranges.{LimitValues}
-use Rattle.cwr_shape.specs.Outlines.{IsWithin, GoesOn}
+use Rattle.cwr_shape.specs.Outlines.{IsWithin, Continues}
 use Rattle.cwr_values.specs.Values.{symbol_of}
-use Rattle.cwr_values.specs.Begins.{rows_behind, rows_so_far}
+use Rattle.cwr_values.specs.Begins.{rows_after, rows_so_far}
 use Rattle.cwr_values.proofs.Witnesses.{completed}
 use Rattle.cwr_values.proofs.RowAt.{rows_split}
 use Rattle.cwr_judge.specs.Places.{Viable}
@@ -34,9 +34,9 @@ row_there : (xs : List Row) (y : Row) (ys : List Row) → AllByRecursion IsRow (
 row_there [] y ys h = h.0
 row_there (x ∷ xs) y ys h = row_there xs y ys h.1
 
--- where something goes on from the records of the lines, it goes on from each place in these
+-- where something continues from the records of the lines, it continues from each place in these
 pub accepted_viable : (limits : LimitValues) (records : List RecordValue) (before : List (List ℕ)) (line : List ℕ) (after : List (List ℕ)) (k : ℕ) → AllByRecursion IsRecord records
-    → AllZip IsLineOf (rows_so_far records) (before ++ line ∷ after) → GoesOn (IsWithin limits) (map symbol_of records) → Viable limits before line k
+    → AllZip IsLineOf (rows_so_far records) (before ++ line ∷ after) → Continues (IsWithin limits) (map symbol_of records) → Viable limits before line k
 accepted_viable limits records before line after k h z g =
     let v = completed g.0 records g.3.0 g.1 h g.3.1 in
     let c = cut_rows (rows_so_far records) before line after z in
@@ -47,8 +47,8 @@ accepted_viable limits records before line after k h z g =
       within = subst (IsWithin limits) (sym v.outline) g.2;
       front = c.front;
       next = c.at;
-      rest = c.rest ++ rows_behind records v.more;
-      split = rows_split v.value records v.more v.whole v.begins ∙ ap (λ (l : List Row). l ++ rows_behind records v.more) c.split ∙ append_assoc c.front (c.at ∷ c.rest) (rows_behind records v.more);
+      rest = c.rest ++ rows_after records v.more;
+      split = rows_split v.value records v.more v.whole v.begins ∙ ap (λ (l : List Row). l ++ rows_after records v.more) c.split ∙ append_assoc c.front (c.at ∷ c.rest) (rows_after records v.more);
       lines = c.front_lines;
       cells = (ap (take k) (sym cut.cells), λ far. cut.excess);
     }

@@ -3,16 +3,17 @@ use Rattle.std.proofs.Common.{◌<◌, ◌^◌, List, [], map, sym, ap, subst, �
 use Rattle.std.specs.List.{AllByRecursion}
 use Rattle.cwr_layouts.specs.Records.{RecordValue, IsRecord}
 use Rattle.cwr_shape.specs.Ranges.{LimitValues}
-use Rattle.cwr_shape.specs.Outlines.{GoesOn, IsWithin}
+use Rattle.cwr_shape.specs.Outlines.{Continues, IsWithin}
 use Rattle.cwr_values.specs.Values.{symbol_of}
-use Rattle.cwr_values.specs.Begins.{rows_behind, rows_so_far}
+use Rattle.cwr_values.specs.Begins.{rows_after, rows_so_far}
 use Rattle.cwr_values.proofs.RowAt.{rows_split}
 use Rattle.cwr_values.proofs.Witnesses.{completed}
-use Rattle.cwr_judge.specs.Items.{AreFirstItems, items, items_behind}
+use Rattle.cwr_judge.specs.Items.{AreFirstItems, items, items_after}
 use Rattle.cwr_judge.specs.Open.{items_so_far}
-use Rattle.cwr_judge.proofs.ItemLaws.{items-append, items_of_parts}
+use Rattle.cwr_judge.proofs.ItemsOfTransactions.{items-append}
+use Rattle.cwr_judge.proofs.ItemLaws.{items_of_parts}
 
-pub begun_items : (limits : LimitValues) (records : List RecordValue) → limits.records < 10 ^ 8 → AllByRecursion IsRecord records → GoesOn (IsWithin limits) (map symbol_of records)
+pub begun_items : (limits : LimitValues) (records : List RecordValue) → limits.records < 10 ^ 8 → AllByRecursion IsRecord records → Continues (IsWithin limits) (map symbol_of records)
     → AreFirstItems limits (items_so_far records)
 begun_items limits records few in_order g =
     let v = completed g.0 records g.3.0 g.1 in_order g.3.1 in
@@ -21,7 +22,7 @@ begun_items limits records few in_order g =
       value = v.value;
       whole = v.whole;
       within = within;
-      rest = items_behind (rows_so_far records) (rows_behind records v.more);
+      rest = items_after (rows_so_far records) (rows_after records v.more);
       split = sym (items_of_parts limits v.value v.whole within few) ∙ ap items (rows_split v.value records v.more v.whole v.begins)
-          ∙ items-append [] (rows_so_far records) (rows_behind records v.more);
+          ∙ items-append [] (rows_so_far records) (rows_after records v.more);
     }

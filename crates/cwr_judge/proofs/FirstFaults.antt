@@ -15,14 +15,14 @@ use Rattle.cwr_fields.specs.declared.codes.TransactionType.{TransactionType}
 use Rattle.cwr_fields.specs.declared.codes.TransactionType.TheVariants.{Agreement, NewWork, RevisedWork, Acknowledgement}
 use Rattle.cwr_fields.specs.Codes.{role_code, type_code}
 use Rattle.cwr_fields.specs.Cells.{Holds}
-use Rattle.cwr_fields.proofs.Tests.{holds_test, holds_sound}
+use Rattle.cwr_fields.proofs.CellTests.{holds_test, holds_sound}
 use Rattle.cwr_layouts.specs.declared.kinds.Kind.{Kind}
 use Rattle.cwr_layouts.specs.declared.kinds.Kind.TheVariants as kinds
 use Rattle.cwr_layouts.specs.declared.layouts.Field.{Field}
 use Rattle.cwr_layouts.specs.Layouts.{FieldLayout, layout, field_at, field_placed}
 use Rattle.cwr_layouts.specs.Views.{field_view}
 use Rattle.cwr_layouts.specs.Held.{HeldLine, held_kind, held_cell}
-use Rattle.cwr_layouts.proofs.Placed.{field_at-placed}
+use Rattle.cwr_layouts.proofs.FieldStarts.{field_at-placed}
 use Rattle.cwr_layouts.proofs.HeldLaws.{held_cell_there}
 use Rattle.cwr_shape.specs.declared.symbols.Symbol.{Symbol}
 use Rattle.cwr_shape.specs.declared.symbols.Symbol.TheVariants.{Ipa, Grh}
@@ -33,8 +33,8 @@ use Rattle.cwr_shape.specs.Ranges.{LimitValues}
 use Rattle.cwr_shape.specs.Numbers.{symbol_kind, number_in, IsNumberAt}
 use Rattle.cwr_shape.specs.Candidates.{candidates, role_in, type_in}
 use Rattle.cwr_shape.specs.Tallies.{IsBarred, IsBarredAmong}
-use Rattle.cwr_shape.proofs.Barred.{comes_any}
-use Rattle.cwr_judge.specs.Judged.{told_symbol, bar_reason, IsTextFault, IsGoodBy, IsFaultBy, IsGoodAt, HasFaultAt, MayComeOf, IsWrongAt, barred, IsFirstWrong, IsFirstBy, IsFirstFault}
+use Rattle.cwr_shape.proofs.FirstBarsOfKinds.{comes_any}
+use Rattle.cwr_judge.specs.Judged.{named_symbol, bar_reason, IsTextFault, IsGoodNextCell, IsFaultBy, IsGoodAt, HasReasonAt, MayComeOf, IsWrongAt, barred, IsFirstWrong, IsFirstBy, IsFirstFault}
 use Rattle.cwr_judge.proofs.NumberCells.{one_number, at_place}
 use Rattle.cwr_judge.proofs.NextLines.{numbers_next, number_next, some_number}
 
@@ -45,8 +45,8 @@ find_true p [] x e = absurd (cc e)
 find_true p (y ∷ xs) x e = by (find_true p xs x) (p y) refl e
   where
     by : (find p xs ≡ Some x → p x ≡ true) → (b : Bool) → p y ≡ b → cond b (Some y) (find p xs) ≡ Some x → p x ≡ true
-    by behind_it true h f = let same : y ≡ x = cc f in ap p (sym same) ∙ h
-    by behind_it false h f = behind_it f
+    by after_it true h f = let same : y ≡ x = cc f in ap p (sym same) ∙ h
+    by after_it false h f = after_it f
 
 held_type : (ty : TransactionType) → (length (type_code ty) ≡ 3) × Holds (types.Code tables.TransactionType) (type_code ty)
 unfolding holds_test
@@ -60,8 +60,8 @@ unfolding holds_test
 held_role Assignor = (refl, holds_sound (types.Code tables.Role) (role_code Assignor) refl)
 held_role Acquirer = (refl, holds_sound (types.Code tables.Role) (role_code Acquirer) refl)
 
-pub no_type : (kind : Kind) (j : ℕ) (cell : List ℕ) → kind ≡ kinds.Grh → j ≡ 2 → ¬ ((length cell ≡ 3) × Holds (types.Code tables.TransactionType) cell) → None ≡ told_symbol kind j cell
-no_type kind j cell k t other = sym (ap₂ (λ (i : Kind) (n : ℕ). told_symbol i n cell) k t ∙ ap (option_map Grh) (by (type_in cell) refl))
+pub no_type : (kind : Kind) (j : ℕ) (cell : List ℕ) → kind ≡ kinds.Grh → j ≡ 2 → ¬ ((length cell ≡ 3) × Holds (types.Code tables.TransactionType) cell) → None ≡ named_symbol kind j cell
+no_type kind j cell k t other = sym (ap₂ (λ (i : Kind) (n : ℕ). named_symbol i n cell) k t ∙ ap (option_map Grh) (by (type_in cell) refl))
   where
     by : (o : Option TransactionType) → type_in cell ≡ o → type_in cell ≡ None
     by None e = e
@@ -69,8 +69,8 @@ no_type kind j cell k t other = sym (ap₂ (λ (i : Kind) (n : ℕ). told_symbol
         let text : type_code ty ≡ cell = (bytes_eq-Decides (type_code ty) cell).0 (find_true (λ (u : TransactionType). bytes_eq (type_code u) cell) (Agreement ∷ NewWork ∷ RevisedWork ∷ Acknowledgement ∷ []) ty e) in
         absurd (other (subst (λ (x : List ℕ). (length x ≡ 3) × Holds (types.Code tables.TransactionType) x) text (held_type ty)))
 
-pub no_role : (kind : Kind) (j : ℕ) (cell : List ℕ) → kind ≡ kinds.Ipa → j ≡ 4 → ¬ ((length cell ≡ 2) × Holds (types.Code tables.Role) cell) → None ≡ told_symbol kind j cell
-no_role kind j cell k t other = sym (ap₂ (λ (i : Kind) (n : ℕ). told_symbol i n cell) k t ∙ ap (option_map Ipa) (by (role_in cell) refl))
+pub no_role : (kind : Kind) (j : ℕ) (cell : List ℕ) → kind ≡ kinds.Ipa → j ≡ 4 → ¬ ((length cell ≡ 2) × Holds (types.Code tables.Role) cell) → None ≡ named_symbol kind j cell
+no_role kind j cell k t other = sym (ap₂ (λ (i : Kind) (n : ℕ). named_symbol i n cell) k t ∙ ap (option_map Ipa) (by (role_in cell) refl))
   where
     by : (o : Option Role) → role_in cell ≡ o → role_in cell ≡ None
     by None e = e
@@ -92,12 +92,12 @@ candidate_kind kind s (suc i, (h, e)) = absurd (omega arith)
 
 -- a carried cell whose symbol is barred
 pub text_barred : (limits : LimitValues) (xs : List Symbol) (kind : Kind) (j : ℕ) (ty : CellType) (cell : List ℕ) (s : Symbol) (bar : Bar) (reason : Reason) → Holds ty cell
-    → Some s ≡ told_symbol kind j cell → IsBarred limits xs s bar → reason ≡ bar_reason bar → IsTextFault limits xs kind j ty cell reason
-text_barred limits xs kind j ty cell s bar reason holds told b e = subst (IsTextFault limits xs kind j ty cell) (sym e) (by bar b)
+    → Some s ≡ named_symbol kind j cell → IsBarred limits xs s bar → reason ≡ bar_reason bar → IsTextFault limits xs kind j ty cell reason
+text_barred limits xs kind j ty cell s bar reason holds named b e = subst (IsTextFault limits xs kind j ty cell) (sym e) (by bar b)
   where
     by : (x : Bar) → IsBarred limits xs s x → IsTextFault limits xs kind j ty cell (bar_reason x)
-    by bars.Misplaced q = (holds, subst (λ (o : Option Symbol). IsSomeAnd o (λ t. IsBarred limits xs t bars.Misplaced)) told q)
-    by (bars.Limit limit) q = (holds, subst (λ (o : Option Symbol). IsSomeAnd o (λ t. IsBarred limits xs t (bars.Limit limit))) told q)
+    by bars.Misplaced q = (holds, subst (λ (o : Option Symbol). IsSomeAnd o (λ t. IsBarred limits xs t bars.Misplaced)) named q)
+    by (bars.Limit limit) q = (holds, subst (λ (o : Option Symbol). IsSomeAnd o (λ t. IsBarred limits xs t (bars.Limit limit))) named q)
 
 -- ---- fields
 
@@ -123,12 +123,12 @@ at_field h kind j place cell P p there q =
     (subst (λ (o : Option (List ℕ)). IsSomeAnd o (P (field_view place).1)) there q)
 
 pub good_at : (limits : LimitValues) (xs : List Symbol) (h : HeldLine) (kind : Kind) (j : ℕ) (place : Field) (cell : List ℕ) (b : Bool) → Some (field_view place) ≡ field_placed kind j → Some cell ≡ held_cell h j
-    → place.derived ≡ b → IsGoodBy b limits xs kind j (field_view place).1 cell → IsGoodAt limits xs h kind j
+    → place.derived ≡ b → IsGoodNextCell b limits xs kind j (field_view place).1 cell → IsGoodAt limits xs h kind j
 good_at limits xs h kind j place cell b p there d g =
-    at_field h kind j place cell (λ f. IsGoodBy f.derived limits xs kind j f) p there (subst (λ (x : Bool). IsGoodBy x limits xs kind j (field_view place).1 cell) (sym d) g)
+    at_field h kind j place cell (λ f. IsGoodNextCell f.derived limits xs kind j f) p there (subst (λ (x : Bool). IsGoodNextCell x limits xs kind j (field_view place).1 cell) (sym d) g)
 
 pub fault_at : (limits : LimitValues) (xs : List Symbol) (h : HeldLine) (kind : Kind) (j : ℕ) (place : Field) (cell : List ℕ) (b : Bool) (reason : Reason) → Some (field_view place) ≡ field_placed kind j
-    → Some cell ≡ held_cell h j → place.derived ≡ b → IsFaultBy b limits xs kind j (field_view place).1 cell reason → HasFaultAt limits xs h kind j reason
+    → Some cell ≡ held_cell h j → place.derived ≡ b → IsFaultBy b limits xs kind j (field_view place).1 cell reason → HasReasonAt limits xs h kind j reason
 fault_at limits xs h kind j place cell b reason p there d g =
     at_field h kind j place cell (λ f c. IsFaultBy f.derived limits xs kind j f c reason) p there (subst (λ (x : Bool). IsFaultBy x limits xs kind j (field_view place).1 cell reason) (sym d) g)
 

@@ -1,4 +1,4 @@
--- The first cells of a record's row are good, and tell a symbol that the record has.
+-- The first cells of a record's row are good, and name a symbol that the record has.
 use Rattle.std.proofs.Common.{◌≡◌, ℕ, zero, suc, Bool, true, false, List, [], ◌∷◌, take, drop, refl, sym, ap, subst, ◌∙◌, arith, ltb-true, ltb-false}
 use Rattle.std.specs.Prelude.{Option, Some, None, slice_get, nat_lt, unwrap_or, option_and_then}
 use Rattle.std.specs.List.{IsAmong}
@@ -16,12 +16,13 @@ use Rattle.cwr_layouts.specs.GoodCells.{AreGood}
 use Rattle.cwr_layouts.specs.Lines.{line_kind, line_cells, line_body, cells_as}
 use Rattle.cwr_layouts.proofs.AllKinds.{kind_of-letters}
 use Rattle.cwr_layouts.proofs.RowLaws.{letters-injective}
-use Rattle.cwr_layouts.proofs.Judged.{good_cells}
+use Rattle.cwr_layouts.proofs.GoodLinesAreRows.{good_cells}
 use Rattle.cwr_shape.specs.declared.symbols.Symbol.{Symbol}
 use Rattle.cwr_shape.specs.declared.symbols.Symbol.TheVariants.{Plain, Ipa, Grh}
 use Rattle.cwr_shape.specs.Candidates.{candidates, role_in, type_in, parties_of, groups_of}
 use Rattle.cwr_values.specs.Values.{symbol_of}
-use Rattle.cwr_judge.proofs.Viables.{taken_at, taken_none, role_held, type_held, line_parts}
+use Rattle.cwr_judge.proofs.MixedCells.{taken_at, taken_none, line_parts}
+use Rattle.cwr_judge.proofs.GoodFrontsContinue.{role_held, type_held}
 
 -- good cells are good as far as they are taken
 pub good_front : (m : ℕ) (fields : List FieldLayout) (ns : List ℕ) (cells : List (List ℕ)) → AreGood fields ns cells → AreGood (take m fields) ns (take m cells)
@@ -30,10 +31,10 @@ good_front (suc m) [] ns cells g = tt
 good_front (suc m) (f ∷ fields) ns [] g = g
 good_front (suc m) (f ∷ fields) ns (c ∷ cells) g = (g.0, good_front m fields (rest_if f.derived ns) cells g.1)
 
-pub taken_behind : (m : ℕ) (cells : List (List ℕ)) → drop 1 (take (suc m) cells) ≡ take m (drop 1 cells)
-taken_behind zero [] = refl
-taken_behind (suc m) [] = refl
-taken_behind m (c ∷ cells) = refl
+pub taken_after : (m : ℕ) (cells : List (List ℕ)) → drop 1 (take (suc m) cells) ≡ take m (drop 1 cells)
+taken_after zero [] = refl
+taken_after (suc m) [] = refl
+taken_after m (c ∷ cells) = refl
 
 first_taken : (m : ℕ) (cells others : List (List ℕ)) → take (suc m) cells ≡ take (suc m) others → slice_get cells 0 ≡ slice_get others 0
 first_taken m cells others e = sym (taken_at (suc m) 0 cells (omega arith)) ∙ ap (λ (l : List (List ℕ)). slice_get l 0) e ∙ taken_at (suc m) 0 others (omega arith)
@@ -69,19 +70,19 @@ of_groups NewWork = (1, (omega arith, refl))
 of_groups RevisedWork = (2, (omega arith, refl))
 of_groups Acknowledgement = (3, (omega arith, refl))
 
--- a party's role is among those that its cell tells
-party_told : (cells : List (List ℕ)) → IsRecord (record { kind = kinds.Ipa; cells = cells }) → IsAmong (parties_of (role_in (unwrap_or (slice_get cells 0) []))) (Ipa (unwrap_or (role_in (unwrap_or (slice_get cells 0) [])) Assignor))
-party_told [] h = absurd h
-party_told (c ∷ cells) h = let r = role_held c h.0.1 in subst (λ (o : Option Role). IsAmong (parties_of o) (Ipa (unwrap_or o Assignor))) (sym r.1) (among_itself (Ipa r.0))
+-- a party's role is among those that its cell names
+party_named : (cells : List (List ℕ)) → IsRecord (record { kind = kinds.Ipa; cells = cells }) → IsAmong (parties_of (role_in (unwrap_or (slice_get cells 0) []))) (Ipa (unwrap_or (role_in (unwrap_or (slice_get cells 0) [])) Assignor))
+party_named [] h = absurd h
+party_named (c ∷ cells) h = let r = role_held c h.0.1 in subst (λ (o : Option Role). IsAmong (parties_of o) (Ipa (unwrap_or o Assignor))) (sym r.1) (among_itself (Ipa r.0))
 
-group_told : (cells : List (List ℕ)) → IsRecord (record { kind = kinds.Grh; cells = cells }) → IsAmong (groups_of (type_in (unwrap_or (slice_get cells 0) []))) (Grh (unwrap_or (type_in (unwrap_or (slice_get cells 0) [])) Acknowledgement))
-group_told [] h = absurd h
-group_told (c ∷ cells) h = let r = type_held c h.0.1 in subst (λ (o : Option TransactionType). IsAmong (groups_of o) (Grh (unwrap_or o Acknowledgement))) (sym r.1) (among_itself (Grh r.0))
+group_named : (cells : List (List ℕ)) → IsRecord (record { kind = kinds.Grh; cells = cells }) → IsAmong (groups_of (type_in (unwrap_or (slice_get cells 0) []))) (Grh (unwrap_or (type_in (unwrap_or (slice_get cells 0) [])) Acknowledgement))
+group_named [] h = absurd h
+group_named (c ∷ cells) h = let r = type_held c h.0.1 in subst (λ (o : Option TransactionType). IsAmong (groups_of o) (Grh (unwrap_or o Acknowledgement))) (sym r.1) (among_itself (Grh r.0))
 
--- the first cells of a record's row tell its symbol, among others
-pub symbol_told : (kind : Kind) (m : ℕ) (ns : List ℕ) (cells : List (List ℕ)) → IsRecord (record { kind = kind; cells = cells })
+-- the first cells of a record's row name its symbol, among others
+pub symbol_named : (kind : Kind) (m : ℕ) (ns : List ℕ) (cells : List (List ℕ)) → IsRecord (record { kind = kind; cells = cells })
     → IsAmong (candidates (Some kind) (take (suc m) (row_of ns (record { kind = kind; cells = cells })).cells)) (symbol_of (record { kind = kind; cells = cells }))
-symbol_told kinds.Ipa m ns cells h = by (nat_lt 2 m) refl
+symbol_named kinds.Ipa m ns cells h = by (nat_lt 2 m) refl
   where
     row : List (List ℕ)
     row = row_cells (fields_after_type kinds.Ipa) ns cells
@@ -89,13 +90,13 @@ symbol_told kinds.Ipa m ns cells h = by (nat_lt 2 m) refl
     role : Role
     role = unwrap_or (role_in (unwrap_or (slice_get cells 0) [])) Assignor
 
-    told : slice_get row 2 ≡ Some (unwrap_or (slice_get cells 0) [])
-    told = refl
+    named : slice_get row 2 ≡ Some (unwrap_or (slice_get cells 0) [])
+    named = refl
 
     by : (b : Bool) → nat_lt 2 m ≡ b → IsAmong (parties_of (option_and_then role_in (slice_get (take (suc m) (letters kinds.Ipa ∷ row)) 3))) (Ipa role)
-    by true e = subst (λ (o : Option (List ℕ)). IsAmong (parties_of (option_and_then role_in o)) (Ipa role)) (sym (taken_at m 2 row (ltb-true 2 m e) ∙ told)) (party_told cells h)
+    by true e = subst (λ (o : Option (List ℕ)). IsAmong (parties_of (option_and_then role_in o)) (Ipa role)) (sym (taken_at m 2 row (ltb-true 2 m e) ∙ named)) (party_named cells h)
     by false e = subst (λ (o : Option (List ℕ)). IsAmong (parties_of (option_and_then role_in o)) (Ipa role)) (sym (taken_none m 2 row (ltb-false 2 m e))) (of_parties role)
-symbol_told kinds.Grh m ns cells h = by (nat_lt 0 m) refl
+symbol_named kinds.Grh m ns cells h = by (nat_lt 0 m) refl
   where
     row : List (List ℕ)
     row = row_cells (fields_after_type kinds.Grh) ns cells
@@ -103,13 +104,13 @@ symbol_told kinds.Grh m ns cells h = by (nat_lt 0 m) refl
     ty : TransactionType
     ty = unwrap_or (type_in (unwrap_or (slice_get cells 0) [])) Acknowledgement
 
-    told : slice_get row 0 ≡ Some (unwrap_or (slice_get cells 0) [])
-    told = refl
+    named : slice_get row 0 ≡ Some (unwrap_or (slice_get cells 0) [])
+    named = refl
 
     by : (b : Bool) → nat_lt 0 m ≡ b → IsAmong (groups_of (option_and_then type_in (slice_get (take (suc m) (letters kinds.Grh ∷ row)) 1))) (Grh ty)
-    by true e = subst (λ (o : Option (List ℕ)). IsAmong (groups_of (option_and_then type_in o)) (Grh ty)) (sym (taken_at m 0 row (ltb-true 0 m e) ∙ told)) (group_told cells h)
+    by true e = subst (λ (o : Option (List ℕ)). IsAmong (groups_of (option_and_then type_in o)) (Grh ty)) (sym (taken_at m 0 row (ltb-true 0 m e) ∙ named)) (group_named cells h)
     by false e = subst (λ (o : Option (List ℕ)). IsAmong (groups_of (option_and_then type_in o)) (Grh ty)) (sym (taken_none m 0 row (ltb-false 0 m e))) (of_groups ty)
-symbol_told kind m ns cells h = among_itself (Plain kind)
+symbol_named kind m ns cells h = among_itself (Plain kind)
 
 -- ---- a line with the first cells of a record's row
 
@@ -122,9 +123,9 @@ pub front_of : (ns : List ℕ) (r : RecordValue) (line : List ℕ) (m : ℕ) →
 front_of ns r line m h e =
     let fields : List FieldLayout = fields_after_type r.kind in
     let row : List (List ℕ) = row_cells fields ns r.cells in
-    let behind : take m row ≡ take m (drop 1 (line_cells line)) = ap (drop 1) e ∙ taken_behind m (line_cells line) in
+    let after : take m row ≡ take m (drop 1 (line_cells line)) = ap (drop 1) e ∙ taken_after m (line_cells line) in
     record {
       known = kind_by_letters r.kind line (first_taken m (letters r.kind ∷ row) (line_cells line) e);
-      good = subst (AreGood (take m fields) ns) behind (good_front m fields ns row (good_cells fields ns r.cells h));
-      among = subst (λ (l : List (List ℕ)). IsAmong (candidates (Some r.kind) l) (symbol_of r)) e (symbol_told r.kind m ns r.cells h);
+      good = subst (AreGood (take m fields) ns) after (good_front m fields ns row (good_cells fields ns r.cells h));
+      among = subst (λ (l : List (List ℕ)). IsAmong (candidates (Some r.kind) l) (symbol_of r)) e (symbol_named r.kind m ns r.cells h);
     }

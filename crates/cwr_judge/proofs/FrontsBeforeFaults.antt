@@ -1,4 +1,4 @@
--- Before the first field that is wrong some transmission within the limits goes on from the line.
+-- Before the first field that is wrong some transmission within the limits continues from the line.
 use Rattle.std.proofs.Common.{◌≡◌, ℕ, zero, suc, ◌+◌, ◌<◌, ◌≤◌, Bool, true, false, List, [], ◌∷◌, length, take, drop, option_map, refl, sym, ap, subst, ◌∙◌, arith, ltb-true, ltb-false}
 use Rattle.std.specs.Prelude.{Option, Some, None, IfSome, IsSomeAnd, slice_get, slice_index, nat_lt, option_and_then}
 use Rattle.std.specs.List.{IsAmong}
@@ -11,7 +11,7 @@ use Rattle.cwr_fields.specs.Cells.{Holds}
 use Rattle.cwr_layouts.specs.declared.kinds.Kind.{Kind}
 use Rattle.cwr_layouts.specs.declared.kinds.Kind.TheVariants as kinds
 use Rattle.cwr_layouts.specs.Layouts.{FieldLayout, layout, fields_after_type}
-use Rattle.cwr_layouts.specs.Records.{IsGoodBy, rest_if}
+use Rattle.cwr_layouts.specs.Records.{IsGoodCell, rest_if}
 use Rattle.cwr_layouts.specs.GoodCells.{AreGood}
 use Rattle.cwr_layouts.specs.Held.{HeldLine, IsCutAs, held_kind, held_cell, held_cells}
 use Rattle.cwr_layouts.proofs.HeldLaws.{held_cell-at, length-held_cell, length-held_cells}
@@ -21,18 +21,19 @@ use Rattle.cwr_shape.specs.declared.reasons.Reason.{Reason}
 use Rattle.cwr_shape.specs.Ranges.{LimitValues}
 use Rattle.cwr_shape.specs.Candidates.{candidates, role_in, type_in, parties_of, groups_of}
 use Rattle.cwr_shape.specs.Tallies.{open_type, counts_of, MayCome}
-use Rattle.cwr_shape.proofs.Barred.{comes_any}
-use Rattle.cwr_values.specs.Begins.{numbers_behind}
+use Rattle.cwr_shape.proofs.FirstBarsOfKinds.{comes_any}
+use Rattle.cwr_values.specs.Begins.{numbers_after}
 use Rattle.cwr_judge.specs.GoodFronts.{HasGoodFront}
 use Rattle.cwr_judge.specs.Judged as judged
-use Rattle.cwr_judge.specs.Judged.{IsGoodAt, MayComeOf, IsWrongAt, IsFirstWrong, told_symbol, barred, cell, behind}
+use Rattle.cwr_judge.specs.Judged.{IsGoodAt, MayComeOf, IsWrongAt, IsFirstWrong, named_symbol, barred, cell, past_last}
 use Rattle.std.proofs.lemmas.List.{length-drop}
 use Rattle.cwr_judge.proofs.FirstFaults.{candidate_kind}
 use Rattle.cwr_judge.proofs.GoodLines.{good_here}
 use Rattle.cwr_judge.proofs.FrontCells.{among_itself}
-use Rattle.cwr_judge.proofs.NextLines.{agree_by, Agree, numbered, numbers_agree, number_next, cell_behind}
+use Rattle.cwr_judge.proofs.NextLines.{agree_by, Agree, number_by_field, numbers_agree, number_next, cell_after}
 use Rattle.cwr_judge.proofs.NumberCells.{one_number}
-use Rattle.cwr_judge.proofs.Viables.{taken_at, taken_none, role_held, type_held}
+use Rattle.cwr_judge.proofs.MixedCells.{taken_at, taken_none}
+use Rattle.cwr_judge.proofs.GoodFrontsContinue.{role_held, type_held}
 
 -- ---- the cells
 
@@ -41,7 +42,7 @@ abbrev pub GoodIn : Bool → FieldLayout → Option ℕ → List ℕ → Type 0
 GoodIn true f number c = (n : ℕ) × (number ≡ Some n) × (c ≡ digits f.width n)
 GoodIn false f number c = Holds f.ty c
 
-good_one : (b : Bool) (f : FieldLayout) (number : Option ℕ) (n : ℕ) (c : List ℕ) → agree_by b number n → GoodIn b f number c → IsGoodBy b f n c
+good_one : (b : Bool) (f : FieldLayout) (number : Option ℕ) (n : ℕ) (c : List ℕ) → agree_by b number n → GoodIn b f number c → IsGoodCell b f n c
 good_one true f number n c a g =
     let there : Some g.0 ≡ Some n = sym g.1 ∙ a in
     let same : g.0 ≡ n = cc there in
@@ -63,36 +64,36 @@ abbrev pub GoodBelow : LimitValues → List Symbol → HeldLine → Kind → ℕ
 GoodBelow limits xs h kind field = (i : ℕ) → 2 ≤ i → i < field → IsGoodAt limits xs h kind i
 
 cell_in : (b : Bool) (limits : LimitValues) (xs : List Symbol) (kind : Kind) (k : ℕ) (f : FieldLayout) (c : List ℕ) (m : MayComeOf limits xs kind) → length c ≡ f.width
-    → judged.IsGoodBy b limits xs kind (suc (suc k)) f c → GoodIn b f (numbered kind (numbers_behind xs kind) k) c
+    → judged.IsGoodNextCell b limits xs kind (suc (suc k)) f c → GoodIn b f (number_by_field kind (numbers_after xs kind) k) c
 cell_in true limits xs kind k f c (s, among, may) wide g = (
   g.0,
-  one_number xs kind (suc (suc k)) (numbered kind (numbers_behind xs kind) k) (Some g.0) s (candidate_kind kind s among) (comes_any limits xs s may) (number_next xs kind (suc (suc k))) g.1,
+  one_number xs kind (suc (suc k)) (number_by_field kind (numbers_after xs kind) k) (Some g.0) s (candidate_kind kind s among) (comes_any limits xs s may) (number_next xs kind (suc (suc k))) g.1,
   g.2 ∙ ap (λ (w : ℕ). digits w g.0) wide,
 )
 cell_in false limits xs kind k f c m wide g = g.0
 
 cells_below : (limits : LimitValues) (xs : List Symbol) (h : HeldLine) (kind : Kind) (m : ℕ) → held_kind h ≡ Some kind → MayComeOf limits xs kind → GoodBelow limits xs h kind (suc (suc m))
-    → AreGood (take m (fields_after_type kind)) (numbers_behind xs kind) (take m (drop 1 (held_cells h)))
+    → AreGood (take m (fields_after_type kind)) (numbers_after xs kind) (take m (drop 1 (held_cells h)))
 cells_below limits xs h kind m known may good =
-    all_in m (fields_after_type kind) (numbers_behind xs kind) (numbered kind (numbers_behind xs kind)) (drop 1 (held_cells h))
+    all_in m (fields_after_type kind) (numbers_after xs kind) (number_by_field kind (numbers_after xs kind)) (drop 1 (held_cells h))
     (omega (arith, length-held_cells h kind known, length-drop 1 (held_cells h))) (numbers_agree (open_type xs) (counts_of xs) kind) each
   where
-    each : (k : ℕ) (f : FieldLayout) (c : List ℕ) → k < m → slice_get (fields_after_type kind) k ≡ Some f → slice_get (drop 1 (held_cells h)) k ≡ Some c → GoodIn f.derived f (numbered kind (numbers_behind xs kind) k) c
+    each : (k : ℕ) (f : FieldLayout) (c : List ℕ) → k < m → slice_get (fields_after_type kind) k ≡ Some f → slice_get (drop 1 (held_cells h)) k ≡ Some c → GoodIn f.derived f (number_by_field kind (numbers_after xs kind) k) c
     each k f c inside e q =
-        let there : held_cell h (suc (suc k)) ≡ Some c = cell_behind h kind k known ∙ q in
+        let there : held_cell h (suc (suc k)) ≡ Some c = cell_after h kind k known ∙ q in
         cell_in f.derived limits xs kind k f c may (length-held_cell h kind (suc (suc k)) f c known e there)
         (good_here limits xs h kind (suc k) f c e there (good (suc (suc k)) (omega arith) (omega (arith, inside))))
 
 -- ---- the symbol
 
--- a symbol among those that the first cells tell may come
-pub record Comes (limits : LimitValues) (xs set : List Symbol) : Type 0 where
+-- a symbol among those that the first cells name may come
+pub record HasComing (limits : LimitValues) (xs set : List Symbol) : Type 0 where
   pub symbol : Symbol
   pub among : IsAmong set symbol
   pub may_come : MayCome limits xs symbol
 
-party_comes : (limits : LimitValues) (xs : List Symbol) (o : Option (List ℕ)) → IsSomeAnd o (λ c. Holds (types.Code tables.Role) c × IfSome (told_symbol kinds.Ipa 4 c) (MayCome limits xs))
-    → Comes limits xs (parties_of (option_and_then role_in o))
+party_comes : (limits : LimitValues) (xs : List Symbol) (o : Option (List ℕ)) → IsSomeAnd o (λ c. Holds (types.Code tables.Role) c × IfSome (named_symbol kinds.Ipa 4 c) (MayCome limits xs))
+    → HasComing limits xs (parties_of (option_and_then role_in o))
 party_comes limits xs None g = absurd g
 party_comes limits xs (Some c) g =
     let r = role_held c g.0 in
@@ -102,8 +103,8 @@ party_comes limits xs (Some c) g =
       may_come = subst (λ (q : Option Role). IfSome (option_map Ipa q) (MayCome limits xs)) r.1 g.1;
     }
 
-group_comes : (limits : LimitValues) (xs : List Symbol) (o : Option (List ℕ)) → IsSomeAnd o (λ c. Holds (types.Code tables.TransactionType) c × IfSome (told_symbol kinds.Grh 2 c) (MayCome limits xs))
-    → Comes limits xs (groups_of (option_and_then type_in o))
+group_comes : (limits : LimitValues) (xs : List Symbol) (o : Option (List ℕ)) → IsSomeAnd o (λ c. Holds (types.Code tables.TransactionType) c × IfSome (named_symbol kinds.Grh 2 c) (MayCome limits xs))
+    → HasComing limits xs (groups_of (option_and_then type_in o))
 group_comes limits xs None g = absurd g
 group_comes limits xs (Some c) g =
     let r = type_held c g.0 in
@@ -114,32 +115,32 @@ group_comes limits xs (Some c) g =
     }
 
 pub symbol_below : (limits : LimitValues) (xs : List Symbol) (h : HeldLine) (kind : Kind) (m : ℕ) → held_kind h ≡ Some kind → MayComeOf limits xs kind → GoodBelow limits xs h kind (suc (suc m))
-    → Comes limits xs (candidates (Some kind) (take (suc m) (held_cells h)))
+    → HasComing limits xs (candidates (Some kind) (take (suc m) (held_cells h)))
 symbol_below limits xs h kinds.Ipa m known may good = by (nat_lt 3 (suc m)) refl
   where
-    by : (b : Bool) → nat_lt 3 (suc m) ≡ b → Comes limits xs (parties_of (option_and_then role_in (slice_get (take (suc m) (held_cells h)) 3)))
+    by : (b : Bool) → nat_lt 3 (suc m) ≡ b → HasComing limits xs (parties_of (option_and_then role_in (slice_get (take (suc m) (held_cells h)) 3)))
     by true e =
         let inside : 3 < suc m = ltb-true 3 (suc m) e in
-        subst (λ (o : Option (List ℕ)). Comes limits xs (parties_of (option_and_then role_in o))) (held_cell-at h kinds.Ipa 3 known ∙ sym (taken_at (suc m) 3 (held_cells h) inside))
+        subst (λ (o : Option (List ℕ)). HasComing limits xs (parties_of (option_and_then role_in o))) (held_cell-at h kinds.Ipa 3 known ∙ sym (taken_at (suc m) 3 (held_cells h) inside))
         (party_comes limits xs (held_cell h 4) (good 4 (omega arith) (omega (arith, inside))))
     by false e =
-        subst (λ (o : Option (List ℕ)). Comes limits xs (parties_of (option_and_then role_in o))) (sym (taken_none (suc m) 3 (held_cells h) (ltb-false 3 (suc m) e)))
+        subst (λ (o : Option (List ℕ)). HasComing limits xs (parties_of (option_and_then role_in o))) (sym (taken_none (suc m) 3 (held_cells h) (ltb-false 3 (suc m) e)))
         (record { symbol = may.0; among = may.1; may_come = may.2 })
 symbol_below limits xs h kinds.Grh m known may good = by (nat_lt 1 (suc m)) refl
   where
-    by : (b : Bool) → nat_lt 1 (suc m) ≡ b → Comes limits xs (groups_of (option_and_then type_in (slice_get (take (suc m) (held_cells h)) 1)))
+    by : (b : Bool) → nat_lt 1 (suc m) ≡ b → HasComing limits xs (groups_of (option_and_then type_in (slice_get (take (suc m) (held_cells h)) 1)))
     by true e =
         let inside : 1 < suc m = ltb-true 1 (suc m) e in
-        subst (λ (o : Option (List ℕ)). Comes limits xs (groups_of (option_and_then type_in o))) (held_cell-at h kinds.Grh 1 known ∙ sym (taken_at (suc m) 1 (held_cells h) inside))
+        subst (λ (o : Option (List ℕ)). HasComing limits xs (groups_of (option_and_then type_in o))) (held_cell-at h kinds.Grh 1 known ∙ sym (taken_at (suc m) 1 (held_cells h) inside))
         (group_comes limits xs (held_cell h 2) (good 2 (omega arith) (omega (arith, inside))))
     by false e =
-        subst (λ (o : Option (List ℕ)). Comes limits xs (groups_of (option_and_then type_in o))) (sym (taken_none (suc m) 1 (held_cells h) (ltb-false 1 (suc m) e)))
+        subst (λ (o : Option (List ℕ)). HasComing limits xs (groups_of (option_and_then type_in o))) (sym (taken_none (suc m) 1 (held_cells h) (ltb-false 1 (suc m) e)))
         (record { symbol = may.0; among = may.1; may_come = may.2 })
 symbol_below limits xs h kind m known may good = record { symbol = may.0; among = may.1; may_come = may.2 }
 
 -- ---- the line
 
--- good cells of a line of a kind of which some record may come give a good front, up to behind the last field
+-- good cells of a line of a kind of which some record may come give a good front, up to after the last field
 front_below : (limits : LimitValues) (xs : List Symbol) (h : HeldLine) (line : List ℕ) (kind : Kind) (m : ℕ) → IsCutAs h line → held_kind h ≡ Some kind → MayComeOf limits xs kind → GoodBelow limits xs h kind (suc (suc m))
     → suc m ≤ length (layout kind) → HasGoodFront limits xs line m
 front_below limits xs h line kind m cut known may good short =
@@ -147,11 +148,11 @@ front_below limits xs h line kind m cut known may good short =
     record {
       kind = kind;
       known = sym cut.kind ∙ known;
-      good = subst (λ (cs : List (List ℕ)). AreGood (take m (fields_after_type kind)) (numbers_behind xs kind) (take m (drop 1 cs))) cut.cells (cells_below limits xs h kind m known may good);
+      good = subst (λ (cs : List (List ℕ)). AreGood (take m (fields_after_type kind)) (numbers_after xs kind) (take m (drop 1 cs))) cut.cells (cells_below limits xs h kind m known may good);
       excess = λ far. absurd (omega (arith, far, short));
       symbol = c.symbol;
       among = subst (λ (cs : List (List ℕ)). IsAmong (candidates (Some kind) (take (suc m) cs)) c.symbol) cut.cells c.among;
-      goes_on = c.may_come;
+      continues = c.may_come;
     }
 
 some_within : (fields : List FieldLayout) (P : FieldLayout → Type 0) (i : ℕ) → IsSomeAnd (slice_get fields i) P → i < length fields
@@ -159,7 +160,7 @@ some_within [] P i s = absurd s
 some_within (f ∷ fields) P zero s = omega arith
 some_within (f ∷ fields) P (suc i) s = let h : i < length fields = some_within fields P i s in omega (arith, h)
 
--- where a field is wrong that isn't the first, some record of the kind may come, and the field is at most the one behind the last
+-- where a field is wrong that isn't the first, some record of the kind may come, and the field is at most the one after the last
 pub record Wrong (limits : LimitValues) (xs : List Symbol) (kind : Kind) (field : ℕ) : Type 0 where
   pub comes : 1 < field → MayComeOf limits xs kind
   pub from : 0 < field
@@ -171,7 +172,7 @@ wrong_field limits xs h kind field reason (cell zero r from may fault) = absurd 
 wrong_field limits xs h kind field reason (cell (suc i) r from may fault) =
     let inside : i < length (layout kind) = some_within (layout kind) (λ f. IsSomeAnd (held_cell h (suc i)) (λ c. judged.IsFaultBy f.derived limits xs kind (suc i) f c r)) i fault in
     record { comes = λ late. may; from = omega arith; to = omega (arith, inside) }
-wrong_field limits xs h kind field reason (behind may excess) = record { comes = λ late. may; from = omega arith; to = omega arith }
+wrong_field limits xs h kind field reason (past_last may excess) = record { comes = λ late. may; from = omega arith; to = omega arith }
 
 -- before the first field that is wrong the front is good
 pub front_before : (limits : LimitValues) (xs : List Symbol) (h : HeldLine) (line : List ℕ) (kind : Kind) (field : ℕ) (reason : Reason) (m : ℕ) → IsCutAs h line → held_kind h ≡ Some kind

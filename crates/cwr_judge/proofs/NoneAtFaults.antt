@@ -1,4 +1,4 @@
--- At the first field that is wrong no transmission within the limits goes on from the line.
+-- At the first field that is wrong no transmission within the limits continues from the line.
 use Rattle.std.proofs.Common.{◌≡◌, ℕ, zero, suc, ◌<◌, ◌≤◌, Bool, true, false, not, ◌&&◌, ◌||◌, cond, List, [], ◌∷◌, length, take, drop, option_map, refl, sym, ap, subst, ◌∙◌, arith, true≢false, ltb, ltb-true}
 use Rattle.std.specs.Prelude.{Option, Some, None, IsSomeAnd, slice_get, slice_index, option_and_then, ◌==◌}
 use Rattle.std.specs.List.{IsAmong, list_all}
@@ -14,7 +14,7 @@ use Rattle.cwr_fields.proofs.Spellings.{are_digits-digits, number_spelled}
 use Rattle.cwr_layouts.specs.declared.kinds.Kind.{Kind}
 use Rattle.cwr_layouts.specs.declared.kinds.Kind.TheVariants as kinds
 use Rattle.cwr_layouts.specs.Layouts.{FieldLayout, layout, fields_after_type}
-use Rattle.cwr_layouts.specs.Records.{IsGoodBy, rest_if}
+use Rattle.cwr_layouts.specs.Records.{IsGoodCell, rest_if}
 use Rattle.cwr_layouts.specs.GoodCells.{AreGood}
 use Rattle.cwr_layouts.specs.Held.{HeldLine, IsCutAs, held_kind, held_cell, held_cells, held_excess}
 use Rattle.cwr_layouts.proofs.HeldLaws.{length-held_cell}
@@ -28,17 +28,18 @@ use Rattle.cwr_shape.specs.declared.tallies.Bar.TheVariants as bars
 use Rattle.cwr_shape.specs.Ranges.{LimitValues}
 use Rattle.cwr_shape.specs.Candidates.{candidates, role_in, type_in, parties_of, groups_of}
 use Rattle.cwr_shape.specs.Tallies.{open_type, counts_of, MayCome, IsBarred, IsBarredAmong}
-use Rattle.cwr_shape.proofs.Barred.{comes_any, comes_unbarred}
-use Rattle.cwr_values.specs.Begins.{numbers_behind}
+use Rattle.cwr_shape.proofs.FirstBarsOfKinds.{comes_any, comes_unbarred}
+use Rattle.cwr_values.specs.Begins.{numbers_after}
 use Rattle.cwr_judge.specs.GoodFronts.{HasGoodFront}
 use Rattle.cwr_judge.specs.Judged as judged
-use Rattle.cwr_judge.specs.Judged.{MayComeOf, HasFaultAt, IsWrongAt, told_symbol, barred, cell, behind}
+use Rattle.cwr_judge.specs.Judged.{MayComeOf, HasReasonAt, IsWrongAt, named_symbol, barred, cell, past_last}
 use Rattle.cwr_judge.proofs.FirstFaults.{candidate_kind}
 use Rattle.cwr_judge.proofs.FrontCells.{of_parties, of_groups}
 use Rattle.cwr_judge.proofs.FrontsBeforeFaults.{GoodIn}
-use Rattle.cwr_judge.proofs.NextLines.{agree_by, Agree, numbered, numbers_agree, number_next, cell_behind}
+use Rattle.cwr_judge.proofs.NextLines.{agree_by, Agree, number_by_field, numbers_agree, number_next, cell_after}
 use Rattle.cwr_judge.proofs.NumberCells.{one_number}
-use Rattle.cwr_judge.proofs.Viables.{taken_at, among_one}
+use Rattle.cwr_judge.proofs.MixedCells.{taken_at}
+use Rattle.cwr_judge.proofs.GoodFrontsContinue.{only_among}
 
 -- ---- the fields of numbers
 
@@ -96,7 +97,7 @@ derived_holds kind k f n e d = by f.derived d (passes_at number_field (fields_af
 
 -- ---- a good cell
 
-in_one : (b : Bool) (f : FieldLayout) (number : Option ℕ) (n : ℕ) (c : List ℕ) → agree_by b number n → IsGoodBy b f n c → GoodIn b f number c
+in_one : (b : Bool) (f : FieldLayout) (number : Option ℕ) (n : ℕ) (c : List ℕ) → agree_by b number n → IsGoodCell b f n c → GoodIn b f number c
 in_one true f number n c a g = (n, a, g)
 in_one false f number n c a g = g
 
@@ -113,14 +114,14 @@ in_front (suc m) (d ∷ fields) ns number (x ∷ cells) a g (suc k) f c h e q = 
 
 -- ---- symbols
 
--- what holds of the symbol that a cell tells holds of the one that the first cells up to it tell
-pub told_holds : (kind : Kind) (i : ℕ) (c : List ℕ) (cells : List (List ℕ)) (s : Symbol) (P : Symbol → Type 0) → slice_get cells i ≡ Some c → IsAmong (candidates (Some kind) cells) s
-    → IsSomeAnd (told_symbol kind (suc i) c) P → P s
-told_holds kinds.Ipa i c cells s P there among t = by (suc i == 4) refl t
+-- what holds of the symbol that a cell names holds of the one that the first cells up to it name
+pub named_holds : (kind : Kind) (i : ℕ) (c : List ℕ) (cells : List (List ℕ)) (s : Symbol) (P : Symbol → Type 0) → slice_get cells i ≡ Some c → IsAmong (candidates (Some kind) cells) s
+    → IsSomeAnd (named_symbol kind (suc i) c) P → P s
+named_holds kinds.Ipa i c cells s P there among t = by (suc i == 4) refl t
   where
     role : slice_get cells 3 ≡ Some c → (o : Option Role) → role_in c ≡ o → IsSomeAnd (option_map Ipa o) P → P s
     role at None e q = absurd q
-    role at (Some r) e q = subst P (sym (among_one (Ipa r) s (subst (λ (o : Option Role). IsAmong (parties_of o) s) (ap (option_and_then role_in) at ∙ e) among))) q
+    role at (Some r) e q = subst P (sym (only_among (Ipa r) s (subst (λ (o : Option Role). IsAmong (parties_of o) s) (ap (option_and_then role_in) at ∙ e) among))) q
 
     by : (b : Bool) → (suc i == 4) ≡ b → IsSomeAnd (cond b (option_map Ipa (role_in c)) None) P → P s
     by true e q =
@@ -128,11 +129,11 @@ told_holds kinds.Ipa i c cells s P there among t = by (suc i == 4) refl t
         let index : i ≡ 3 = omega (arith, at) in
         role (ap (λ (j : ℕ). slice_get cells j) (sym index) ∙ there) (role_in c) refl q
     by false e q = absurd q
-told_holds kinds.Grh i c cells s P there among t = by (suc i == 2) refl t
+named_holds kinds.Grh i c cells s P there among t = by (suc i == 2) refl t
   where
     type_by : slice_get cells 1 ≡ Some c → (o : Option TransactionType) → type_in c ≡ o → IsSomeAnd (option_map Grh o) P → P s
     type_by at None e q = absurd q
-    type_by at (Some r) e q = subst P (sym (among_one (Grh r) s (subst (λ (o : Option TransactionType). IsAmong (groups_of o) s) (ap (option_and_then type_in) at ∙ e) among))) q
+    type_by at (Some r) e q = subst P (sym (only_among (Grh r) s (subst (λ (o : Option TransactionType). IsAmong (groups_of o) s) (ap (option_and_then type_in) at ∙ e) among))) q
 
     by : (b : Bool) → (suc i == 2) ≡ b → IsSomeAnd (cond b (option_map Grh (type_in c)) None) P → P s
     by true e q =
@@ -140,19 +141,19 @@ told_holds kinds.Grh i c cells s P there among t = by (suc i == 2) refl t
         let index : i ≡ 1 = omega (arith, at) in
         type_by (ap (λ (j : ℕ). slice_get cells j) (sym index) ∙ there) (type_in c) refl q
     by false e q = absurd q
-told_holds kind i c cells s P there among t = absurd t
+named_holds kind i c cells s P there among t = absurd t
 
--- a symbol that some cells tell is among all of the kind
+-- a symbol that some cells name is among all of the kind
 pub among_all : (kind : Kind) (cells : List (List ℕ)) (s : Symbol) → IsAmong (candidates (Some kind) cells) s → IsAmong (candidates (Some kind) []) s
 among_all kinds.Ipa cells s a = by (option_and_then role_in (slice_get cells 3)) a
   where
     by : (o : Option Role) → IsAmong (parties_of o) s → IsAmong (candidates (Some kinds.Ipa) []) s
-    by (Some role) q = subst (IsAmong (candidates (Some kinds.Ipa) [])) (sym (among_one (Ipa role) s q)) (of_parties role)
+    by (Some role) q = subst (IsAmong (candidates (Some kinds.Ipa) [])) (sym (only_among (Ipa role) s q)) (of_parties role)
     by None q = q
 among_all kinds.Grh cells s a = by (option_and_then type_in (slice_get cells 1)) a
   where
     by : (o : Option TransactionType) → IsAmong (groups_of o) s → IsAmong (candidates (Some kinds.Grh) []) s
-    by (Some ty) q = subst (IsAmong (candidates (Some kinds.Grh) [])) (sym (among_one (Grh ty) s q)) (of_groups ty)
+    by (Some ty) q = subst (IsAmong (candidates (Some kinds.Grh) [])) (sym (only_among (Grh ty) s q)) (of_groups ty)
     by None q = q
 among_all kind cells s a = a
 
@@ -167,7 +168,7 @@ none_among limits xs ss (bars.Limit limit_kinds.Transaction) s b a m = b.2 (s, a
 
 -- the front of a held line of a kind
 record Front (limits : LimitValues) (xs : List Symbol) (h : HeldLine) (kind : Kind) (m : ℕ) : Type 0 where
-  good : AreGood (take m (fields_after_type kind)) (numbers_behind xs kind) (take m (drop 1 (held_cells h)))
+  good : AreGood (take m (fields_after_type kind)) (numbers_after xs kind) (take m (drop 1 (held_cells h)))
   excess : length (layout kind) < suc m → held_excess h ≡ false
   symbol : Symbol
   among : IsAmong (candidates (Some kind) (take (suc m) (held_cells h))) symbol
@@ -179,11 +180,11 @@ held_front limits xs h line kind m cut known g =
     let same : g.kind ≡ kind = cc there in
     subst (λ (k : Kind). Front limits xs h k m) same
     (record {
-      good = subst (λ (cs : List (List ℕ)). AreGood (take m (fields_after_type g.kind)) (numbers_behind xs g.kind) (take m (drop 1 cs))) (sym cut.cells) g.good;
+      good = subst (λ (cs : List (List ℕ)). AreGood (take m (fields_after_type g.kind)) (numbers_after xs g.kind) (take m (drop 1 cs))) (sym cut.cells) g.good;
       excess = λ far. cut.excess ∙ g.excess far;
       symbol = g.symbol;
       among = subst (λ (cs : List (List ℕ)). IsAmong (candidates (Some g.kind) (take (suc m) cs)) g.symbol) (sym cut.cells) g.among;
-      may_come = g.goes_on;
+      may_come = g.continues;
     })
 
 number_fault : (kind : Kind) (k : ℕ) (f : FieldLayout) (c : List ℕ) (n : ℕ) (reason : Reason) → slice_get (fields_after_type kind) k ≡ Some f → f.derived ≡ true → length c ≡ f.width → c ≡ digits f.width n
@@ -196,17 +197,17 @@ text_fault : (limits : LimitValues) (xs : List Symbol) (h : HeldLine) (kind : Ki
     → Holds ty c → judged.IsTextFault limits xs kind (suc i) ty c reason → ⊥
 text_fault limits xs h kind i ty c (reasons.Cell fault) g there holds w = w.0 holds
 text_fault limits xs h kind i ty c reasons.Misplaced g there holds w =
-    comes_unbarred limits xs g.symbol bars.Misplaced (told_holds kind i c (take (suc i) (held_cells h)) g.symbol (λ s. IsBarred limits xs s bars.Misplaced) there g.among w.1) g.may_come
+    comes_unbarred limits xs g.symbol bars.Misplaced (named_holds kind i c (take (suc i) (held_cells h)) g.symbol (λ s. IsBarred limits xs s bars.Misplaced) there g.among w.1) g.may_come
 text_fault limits xs h kind i ty c (reasons.Limit limit) g there holds w =
-    comes_unbarred limits xs g.symbol (bars.Limit limit) (told_holds kind i c (take (suc i) (held_cells h)) g.symbol (λ s. IsBarred limits xs s (bars.Limit limit)) there g.among w.1) g.may_come
+    comes_unbarred limits xs g.symbol (bars.Limit limit) (named_holds kind i c (take (suc i) (held_cells h)) g.symbol (λ s. IsBarred limits xs s (bars.Limit limit)) there g.among w.1) g.may_come
 text_fault limits xs h kind i ty c reason g there holds w = w
 
 fault_by : (b : Bool) (limits : LimitValues) (xs : List Symbol) (h : HeldLine) (kind : Kind) (k : ℕ) (f : FieldLayout) (c : List ℕ) (reason : Reason) (g : Front limits xs h kind (suc k)) → MayComeOf limits xs kind → b ≡ f.derived
-    → slice_get (fields_after_type kind) k ≡ Some f → slice_get (take (suc (suc k)) (held_cells h)) (suc k) ≡ Some c → length c ≡ f.width → GoodIn b f (numbered kind (numbers_behind xs kind) k) c
+    → slice_get (fields_after_type kind) k ≡ Some f → slice_get (take (suc (suc k)) (held_cells h)) (suc k) ≡ Some c → length c ≡ f.width → GoodIn b f (number_by_field kind (numbers_after xs kind) k) c
     → judged.IsFaultBy b limits xs kind (suc (suc k)) f c reason → ⊥
 fault_by true limits xs h kind k f c reason g (s, among, may) d e there wide good w =
     let numbers : Some w.0 ≡ Some good.0 =
-    one_number xs kind (suc (suc k)) (Some w.0) (numbered kind (numbers_behind xs kind) k) s (candidate_kind kind s among) (comes_any limits xs s may) w.1 (number_next xs kind (suc (suc k))) ∙ good.1 in
+    one_number xs kind (suc (suc k)) (Some w.0) (number_by_field kind (numbers_after xs kind) k) s (candidate_kind kind s among) (comes_any limits xs s may) w.1 (number_next xs kind (suc (suc k))) ∙ good.1 in
     let same : w.0 ≡ good.0 = cc numbers in
     number_fault kind k f c w.0 reason e (sym d) wide (good.2 ∙ ap (digits f.width) (sym same)) w.2
 fault_by false limits xs h kind k f c reason g may d e there wide good w = text_fault limits xs h kind (suc k) f.ty c reason g there good w
@@ -222,7 +223,7 @@ there_of None P s = absurd s
 there_of (Some a) P s = record { value = a; is = refl; holds = s }
 
 fault_in : (limits : LimitValues) (xs : List Symbol) (h : HeldLine) (kind : Kind) (j m : ℕ) (reason : Reason) → held_kind h ≡ Some kind → 2 ≤ j → j ≡ suc m → MayComeOf limits xs kind → Front limits xs h kind m
-    → HasFaultAt limits xs h kind j reason → ⊥
+    → HasReasonAt limits xs h kind j reason → ⊥
 fault_in limits xs h kind zero m reason known from e may g w = absurd (omega (arith, from))
 fault_in limits xs h kind (suc zero) m reason known from e may g w = absurd (omega (arith, from))
 fault_in limits xs h kind (suc (suc k)) m reason known from e may g w =
@@ -230,21 +231,21 @@ fault_in limits xs h kind (suc (suc k)) m reason known from e may g w =
     let front : Front limits xs h kind (suc k) = subst (λ (i : ℕ). Front limits xs h kind i) index g in
     let f = there_of (slice_get (fields_after_type kind) k) (λ f. IsSomeAnd (held_cell h (suc (suc k))) (λ c. judged.IsFaultBy f.derived limits xs kind (suc (suc k)) f c reason)) w in
     let c = there_of (held_cell h (suc (suc k))) (λ c. judged.IsFaultBy f.value.derived limits xs kind (suc (suc k)) f.value c reason) f.holds in
-    let at : slice_get (drop 1 (held_cells h)) k ≡ Some c.value = sym (cell_behind h kind k known) ∙ c.is in
-    let good = in_front (suc k) (fields_after_type kind) (numbers_behind xs kind) (numbered kind (numbers_behind xs kind)) (drop 1 (held_cells h)) (numbers_agree (open_type xs) (counts_of xs) kind) front.good k f.value c.value (omega arith) f.is at in
+    let at : slice_get (drop 1 (held_cells h)) k ≡ Some c.value = sym (cell_after h kind k known) ∙ c.is in
+    let good = in_front (suc k) (fields_after_type kind) (numbers_after xs kind) (number_by_field kind (numbers_after xs kind)) (drop 1 (held_cells h)) (numbers_agree (open_type xs) (counts_of xs) kind) front.good k f.value c.value (omega arith) f.is at in
     fault_by f.value.derived limits xs h kind k f.value c.value reason front may refl f.is
-    (taken_at (suc (suc k)) (suc k) (held_cells h) (omega arith) ∙ behind_one (held_cells h) k ∙ at)
+    (taken_at (suc (suc k)) (suc k) (held_cells h) (omega arith) ∙ after_one (held_cells h) k ∙ at)
     (length-held_cell h kind (suc (suc k)) f.value c.value known f.is c.is) good c.holds
   where
-    behind_one : (cells : List (List ℕ)) (i : ℕ) → slice_get cells (suc i) ≡ slice_get (drop 1 cells) i
-    behind_one [] i = refl
-    behind_one (x ∷ cells) i = refl
+    after_one : (cells : List (List ℕ)) (i : ℕ) → slice_get cells (suc i) ≡ slice_get (drop 1 cells) i
+    after_one [] i = refl
+    after_one (x ∷ cells) i = refl
 
 -- no good front ends with a field that is wrong
 none_wrong : (limits : LimitValues) (xs : List Symbol) (h : HeldLine) (kind : Kind) (field m : ℕ) (reason : Reason) → held_kind h ≡ Some kind → field ≡ suc m → Front limits xs h kind m → IsWrongAt limits xs h kind field reason → ⊥
 none_wrong limits xs h kind field m reason known e g (barred bar b) = none_among limits xs (candidates (Some kind) []) bar g.symbol b (among_all kind (take (suc m) (held_cells h)) g.symbol g.among) g.may_come
 none_wrong limits xs h kind field m reason known e g (cell j r from may fault) = fault_in limits xs h kind j m r known from e may g fault
-none_wrong limits xs h kind field m reason known e g (behind may excess) = true≢false (sym excess ∙ g.excess (omega (arith, e)))
+none_wrong limits xs h kind field m reason known e g (past_last may excess) = true≢false (sym excess ∙ g.excess (omega (arith, e)))
 
 pub none_at_fault : (limits : LimitValues) (xs : List Symbol) (h : HeldLine) (line : List ℕ) (kind : Kind) (m : ℕ) (reason : Reason) → IsCutAs h line → held_kind h ≡ Some kind → IsWrongAt limits xs h kind (suc m) reason
     → HasGoodFront limits xs line m → ⊥

@@ -12,22 +12,22 @@ use Rattle.cwr_layouts.specs.Layouts.{FieldLayout, layout, field_at, field_place
 use Rattle.cwr_layouts.specs.Views.{field_view}
 use Rattle.cwr_layouts.specs.Records.{RecordValue}
 use Rattle.cwr_layouts.specs.Held.{HeldLine, held_kind, held_cell, held_cells, held_record, carried_by}
-use Rattle.cwr_layouts.proofs.Placed.{field_at-placed}
+use Rattle.cwr_layouts.proofs.FieldStarts.{field_at-placed}
 use Rattle.cwr_layouts.proofs.HeldLaws.{length-held_cell}
 use Rattle.cwr_layouts.proofs.TypeWidths.{type_width-field}
 use Rattle.cwr_shape.specs.declared.symbols.Symbol.{Symbol}
 use Rattle.cwr_shape.specs.declared.tallies.Bar.{Bar}
 use Rattle.cwr_shape.specs.Ranges.{LimitValues}
-use Rattle.cwr_shape.specs.Outlines.{GoesOn}
+use Rattle.cwr_shape.specs.Outlines.{Continues}
 use Rattle.cwr_shape.specs.Left.{Any}
 use Rattle.cwr_shape.specs.Numbers.{symbol_kind, IsNumberAt}
 use Rattle.cwr_shape.specs.Tallies.{MayCome, IsBarred}
-use Rattle.cwr_shape.proofs.Barred.{comes_any, comes_unbarred}
+use Rattle.cwr_shape.proofs.FirstBarsOfKinds.{comes_any, comes_unbarred}
 use Rattle.cwr_values.specs.Values.{symbol_of, symbol_by}
 use Rattle.cwr_judge.specs.Judged.{HasNumberAt, HasNumbers, Lacks, IsNext}
 
 -- where some record of the kind may come, one number belongs in its field
-pub one_number : (xs : List Symbol) (kind : Kind) (j : ℕ) (m n : Option ℕ) (s : Symbol) → symbol_kind s ≡ kind → GoesOn Any (xs ++ s ∷ []) → IsNumberAt xs kind j m → IsNumberAt xs kind j n → m ≡ n
+pub one_number : (xs : List Symbol) (kind : Kind) (j : ℕ) (m n : Option ℕ) (s : Symbol) → symbol_kind s ≡ kind → Continues Any (xs ++ s ∷ []) → IsNumberAt xs kind j m → IsNumberAt xs kind j n → m ≡ n
 one_number xs kind j m n s k (groups, h, any, (rest, e)) a b =
     let split = e ∙ append_assoc xs (s ∷ []) rest in
     a groups s rest h split k ∙ sym (b groups s rest h split k)
@@ -43,8 +43,8 @@ pub at_place : (kind : Kind) (j : ℕ) (place : Field) → Some (field_view plac
 at_place kind j place p = sym (field_at-placed kind j) ∙ ap (option_map (λ (q : ℕ × FieldLayout). q.1)) (sym p)
 
 -- no field holds no number
-pub no_field : (xs : List Symbol) (h : HeldLine) (kind : Kind) (j : ℕ) → field_placed kind j ≡ None → HasNumberAt xs h kind j
-no_field xs h kind j p f e d =
+pub no_field_no_number : (xs : List Symbol) (h : HeldLine) (kind : Kind) (j : ℕ) → field_placed kind j ≡ None → HasNumberAt xs h kind j
+no_field_no_number xs h kind j p f e d =
     let no : None ≡ Some f = ap (option_map (λ (q : ℕ × FieldLayout). q.1)) (sym p) ∙ field_at-placed kind j ∙ e in
     absurd (cc no)
 
@@ -53,16 +53,16 @@ pub carried_field : (xs : List Symbol) (h : HeldLine) (kind : Kind) (j : ℕ) (p
 carried_field xs h kind j place p c f e d = absurd (true≢false (sym d ∙ sym (ap (λ (g : FieldLayout). g.derived) (field_of kind j place f p e)) ∙ c))
 
 -- a derived field in which no number belongs, or of which the line has no cell
-pub no_number : (xs : List Symbol) (h : HeldLine) (kind : Kind) (j : ℕ) (place : Field) → Some (field_view place) ≡ field_placed kind j → place.derived ≡ true → IsNumberAt xs kind j None
+pub none_belongs : (xs : List Symbol) (h : HeldLine) (kind : Kind) (j : ℕ) (place : Field) → Some (field_view place) ≡ field_placed kind j → place.derived ≡ true → IsNumberAt xs kind j None
     → Lacks xs kind (HasNumberAt xs h kind j)
-no_number xs h kind j place p d n s k g has =
+none_belongs xs h kind j place p d n s k g has =
     let c = has (field_view place).1 (at_place kind j place p) d in
     let no : None ≡ Some c.number = one_number xs kind j None (Some c.number) s k g n c.belongs in
     absurd (cc no)
 
-pub no_cell : (xs : List Symbol) (h : HeldLine) (kind : Kind) (j : ℕ) (place : Field) → Some (field_view place) ≡ field_placed kind j → place.derived ≡ true → None ≡ held_cell h j
+pub no_cell_no_number : (xs : List Symbol) (h : HeldLine) (kind : Kind) (j : ℕ) (place : Field) → Some (field_view place) ≡ field_placed kind j → place.derived ≡ true → None ≡ held_cell h j
     → Lacks xs kind (HasNumberAt xs h kind j)
-no_cell xs h kind j place p d none s k g has =
+no_cell_no_number xs h kind j place p d none s k g has =
     let c = has (field_view place).1 (at_place kind j place p) d in
     let no : None ≡ Some (digits place.width c.number) = none ∙ c.spelled in
     absurd (cc no)
@@ -101,14 +101,14 @@ none_in [] i f h e = absurd (cc e)
 none_in (g ∷ fields) zero f h e = let same : g ≡ f = cc e in ap (λ (x : FieldLayout). x.derived) (sym same) ∙ (or_parts g.derived (list_any (λ x. x.derived) fields) h).0
 none_in (g ∷ fields) (suc i) f h e = none_in fields i f (or_parts g.derived (list_any (λ x. x.derived) fields) h).1 e
 
-none_behind : (fields : List FieldLayout) (i : ℕ) (f : FieldLayout) → list_any (λ g. g.derived) (drop 4 fields) ≡ false → slice_get fields (suc (suc (suc (suc i)))) ≡ Some f → f.derived ≡ false
-none_behind [] i f h e = absurd (cc e)
-none_behind (a ∷ []) i f h e = absurd (cc e)
-none_behind (a ∷ b ∷ []) i f h e = absurd (cc e)
-none_behind (a ∷ b ∷ c ∷ []) i f h e = absurd (cc e)
-none_behind (a ∷ b ∷ c ∷ d ∷ fields) i f h e = none_in fields i f h e
+none_after : (fields : List FieldLayout) (i : ℕ) (f : FieldLayout) → list_any (λ g. g.derived) (drop 4 fields) ≡ false → slice_get fields (suc (suc (suc (suc i)))) ≡ Some f → f.derived ≡ false
+none_after [] i f h e = absurd (cc e)
+none_after (a ∷ []) i f h e = absurd (cc e)
+none_after (a ∷ b ∷ []) i f h e = absurd (cc e)
+none_after (a ∷ b ∷ c ∷ []) i f h e = absurd (cc e)
+none_after (a ∷ b ∷ c ∷ d ∷ fields) i f h e = none_in fields i f h e
 
--- no field behind the fourth is derived
+-- no field after the fourth is derived
 four_first : (kind : Kind) → list_any (λ g. g.derived) (drop 4 (layout kind)) ≡ false
 four_first kinds.Hdr = refl
 four_first kinds.Grh = refl
@@ -120,7 +120,7 @@ all_numbers xs h kind two three four (suc zero) from = absurd (omega arith)
 all_numbers xs h kind two three four (suc (suc zero)) from = two
 all_numbers xs h kind two three four (suc (suc (suc zero))) from = three
 all_numbers xs h kind two three four (suc (suc (suc (suc zero)))) from = four
-all_numbers xs h kind two three four (suc (suc (suc (suc (suc i))))) from = λ f e d. absurd (true≢false (sym d ∙ none_behind (layout kind) i f (four_first kind) e))
+all_numbers xs h kind two three four (suc (suc (suc (suc (suc i))))) from = λ f e d. absurd (true≢false (sym d ∙ none_after (layout kind) i f (four_first kind) e))
 
 -- ---- the record of a line
 

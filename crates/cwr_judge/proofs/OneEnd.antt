@@ -12,14 +12,14 @@ use Rattle.cwr_shape.specs.declared.limits.LimitKind.{LimitKind}
 use Rattle.cwr_shape.specs.declared.limits.LimitKind.TheVariants as limit_kinds
 use Rattle.cwr_shape.specs.declared.reasons.Reason.{Reason}
 use Rattle.cwr_shape.specs.declared.reasons.Reason.TheVariants.{UnknownKind, Misplaced, Cell, Number, Limit, Excess}
-use Rattle.cwr_shape.specs.Candidates.{GoesOnAmong}
-use Rattle.cwr_shape.specs.Levels.{level_of, place_behind}
+use Rattle.cwr_shape.specs.Candidates.{ContinuesAmong}
+use Rattle.cwr_shape.specs.Levels.{level_of, place_after_kind}
 use Rattle.cwr_judge.specs.declared.refusals.Refusal.{Refusal}
-use Rattle.cwr_judge.specs.Reasons.{Applies, IsReason, IsNumber, cell_of, seen, rank}
-use Rattle.cwr_judge.specs.Ends.{IsRefused, IsTruncated, kind_behind}
+use Rattle.cwr_judge.specs.Reasons.{Applies, IsReason, IsNumber, cell_of, line_candidates, rank}
+use Rattle.cwr_judge.specs.Ends.{IsRefused, IsTruncated, last_kind}
 use Rattle.cwr_judge.proofs.Accepted.{one_place}
 
--- the line behind as many others is the same
+-- the line after as many others is the same
 pub same_line : (xs ys : List (List ℕ)) (a b : List ℕ) (us vs : List (List ℕ)) → length xs ≡ length ys → xs ++ a ∷ us ≡ ys ++ b ∷ vs → (xs ≡ ys) × (a ≡ b)
 same_line [] [] a b us vs l e = (refl, cc)
 same_line [] (y ∷ ys) a b us vs l e = absurd (omega arith)
@@ -40,13 +40,13 @@ known_kind None k f e = absurd (no_value f e)
 known_kind (Some kind) k f e = (kind, refl)
 
 one_number : (before : List (List ℕ)) (line : List ℕ) (k m n : ℕ) (kind : Kind) → IsNumber before line k m → IsNumber before line k n → line_kind line ≡ Some kind
-    → ¬ (¬ GoesOnAmong (λ groups. Unit {0}) (seen before line k)) → m ≡ n
-one_number before line k m n kind h j at goes_on = by (nat_eq m n) refl
+    → ¬ (¬ ContinuesAmong (λ groups. Unit {0}) (line_candidates before line k)) → m ≡ n
+one_number before line k m n kind h j at continues = by (nat_eq m n) refl
   where
     by : (b : Bool) → nat_eq m n ≡ b → m ≡ n
     by true e = eqb-true m n e
     by false e =
-        absurd (goes_on (λ g. true≢false (sym (eq-eqb m n (one_some m n (sym (h g.0 kind g.1 g.3 at) ∙ j g.0 kind g.1 g.3 at))) ∙ e)))
+        absurd (continues (λ g. true≢false (sym (eq-eqb m n (one_some m n (sym (h g.0 kind g.1 g.3 at) ∙ j g.0 kind g.1 g.3 at))) ∙ e)))
 
 same_limit : (k l : LimitKind) → rank (Limit k) ≡ rank (Limit l) → k ≡ l
 same_limit limit_kinds.Records limit_kinds.Records e = refl
@@ -101,7 +101,7 @@ one_reason limits before line k a b h j =
         let one = subst (Applies limits before line k) p h.0 in
         let two = subst (Applies limits before line k) q j.0 in
         let kind = known_kind (line_kind line) k one.0 one.1 in
-        let placed : ¬ (¬ GoesOnAmong (λ groups. Unit {0}) (seen before line k)) = λ misplaced. absurd (late (rank a) (ap rank p) (h.1 Misplaced misplaced)) in
+        let placed : ¬ (¬ ContinuesAmong (λ groups. Unit {0}) (line_candidates before line k)) = λ misplaced. absurd (late (rank a) (ap rank p) (h.1 Misplaced misplaced)) in
         one_number before line k m n kind.0 one.3 two.3 kind.1 placed
 
 -- a text is refused in one way at most
@@ -115,8 +115,8 @@ refused_once limits text a b h j =
     (subst (λ (l : List ℕ). IsReason limits j.before l a.field b.reason) (sym line.1) (subst (λ (k : ℕ). IsReason limits j.before j.line k b.reason) (sym place.1) j.reason)) in
     let reason : a.reason ≡ b.reason = one_reason limits h.before h.line a.field a.reason b.reason h.reason other in
     let level : a.level ≡ b.level =
-    h.level ∙ ap₂ (λ (l : List ℕ) (k : ℕ). level_of (line_kind l) k a.reason (place_behind (kind_behind h.before))) line.1 place.1
-    ∙ ap₂ (λ (r : Reason) (xs : List (List ℕ)). level_of (line_kind j.line) b.field r (place_behind (kind_behind xs))) reason line.0 ∙ sym j.level in
+    h.level ∙ ap₂ (λ (l : List ℕ) (k : ℕ). level_of (line_kind l) k a.reason (place_after_kind (last_kind h.before))) line.1 place.1
+    ∙ ap₂ (λ (r : Reason) (xs : List (List ℕ)). level_of (line_kind j.line) b.field r (place_after_kind (last_kind xs))) reason line.0 ∙ sym j.level in
     λ i. record { rec = place.0 i; field = place.1 i; level = level i; reason = reason i }
 
 -- a text that is refused isn't truncated

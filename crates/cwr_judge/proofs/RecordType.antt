@@ -7,13 +7,13 @@ use Rattle.std.proofs.lemmas.List.{length-append, length-replicate, replicate-ap
 use Rattle.cwr_fields.specs.declared.cell_types.CellType.TheVariants as types
 use Rattle.cwr_fields.specs.Bytes.{filled}
 use Rattle.cwr_fields.specs.Cells.{Holds}
-use Rattle.cwr_fields.proofs.Tests.{holds_test, holds_sound}
+use Rattle.cwr_fields.proofs.CellTests.{holds_test, holds_sound}
 use Rattle.cwr_layouts.specs.declared.kinds.Kind.{Kind}
 use Rattle.cwr_layouts.specs.declared.kinds.Kind.TheVariants as kinds
 use Rattle.cwr_layouts.specs.Kinds.{letters}
 use Rattle.cwr_layouts.specs.Layouts.{FieldLayout, field_at, record_type, line_width}
 use Rattle.cwr_layouts.specs.Lines.{cells_as, line_body, line_kind}
-use Rattle.cwr_layouts.proofs.Judged.{letters-of}
+use Rattle.cwr_layouts.proofs.GoodLinesAreRows.{letters-of}
 use Rattle.cwr_shape.specs.Numbers.{number_fields, number_in}
 use Rattle.cwr_judge.specs.Reasons.{cell_of}
 
@@ -68,9 +68,9 @@ none_found (j ∷ js) (n ∷ ns) h =
     by true e o rest = absurd (true≢false (sym (sym (ap not e) ∙ o)))
     by false e o rest = ap (λ (b : Bool). option_map (λ (p : ℕ × ℕ). p.1) (cond b (Some (j, n)) (find (λ (p : ℕ × ℕ). p.0 == 1) (zip js ns)))) e ∙ rest
 
-behind_type : (kind : Kind) → others (number_fields kind) ≡ true
-behind_type kinds.Hdr = refl
-behind_type kind = refl
+after_type : (kind : Kind) → others (number_fields kind) ≡ true
+after_type kinds.Hdr = refl
+after_type kind = refl
 
-pub no_number : (kind : Kind) (ns : List ℕ) → number_in kind 1 ns ≡ None
-no_number kind ns = none_found (number_fields kind) ns (behind_type kind)
+pub type_has_no_number : (kind : Kind) (ns : List ℕ) → number_in kind 1 ns ≡ None
+type_has_no_number kind ns = none_found (number_fields kind) ns (after_type kind)

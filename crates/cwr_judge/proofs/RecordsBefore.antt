@@ -6,39 +6,39 @@ use Rattle.cwr_layouts.specs.Lines.{IsLineOf}
 use Rattle.cwr_layouts.proofs.RowLaws.{IsRow-row_of}
 use Rattle.cwr_values.specs.Values.{TransmissionValue, IsTransmission}
 use Rattle.cwr_values.specs.Rows.{records_of, rows}
-use Rattle.cwr_values.specs.Begins.{row_behind, rows_behind, rows_so_far}
+use Rattle.cwr_values.specs.Begins.{row_after, rows_after, rows_so_far}
 use Rattle.cwr_values.proofs.RowAt.{rows_whole}
 use Rattle.cwr_values.proofs.Spelling.{records_in_order}
-use Rattle.cwr_values.proofs.Unique.{rows_begin}
-use Rattle.cwr_judge.proofs.Given.{records_back}
+use Rattle.cwr_values.proofs.OneSpelling.{rows_of_front}
+use Rattle.cwr_judge.proofs.EndingRecord.{records_back}
 
--- the records behind others, cut at the record of a row
+-- the records after others, cut at the record of a row
 record Cut (before rs : List RecordValue) (front : List Row) (next : Row) : Type 0 where
   records : List RecordValue
   at : RecordValue
   more : List RecordValue
   split : rs ≡ records ++ at ∷ more
-  front_are : rows_behind before records ≡ front
-  next_is : row_behind (before ++ records) at ≡ next
+  front_are : rows_after before records ≡ front
+  next_is : row_after (before ++ records) at ≡ next
 
-cut : (before rs : List RecordValue) (front : List Row) (next : Row) (rest : List Row) → rows_behind before rs ≡ front ++ next ∷ rest → Cut before rs front next
-unfolding rows_behind
+cut : (before rs : List RecordValue) (front : List Row) (next : Row) (rest : List Row) → rows_after before rs ≡ front ++ next ∷ rest → Cut before rs front next
+unfolding rows_after
 cut before [] [] next rest e = absurd (cc e)
 cut before [] (x ∷ front) next rest e = absurd (cc e)
 cut before (r ∷ rs) [] next rest e =
-    let first : row_behind before r ≡ next = cc e in
-    record { records = []; at = r; more = rs; split = refl; front_are = refl; next_is = ap (λ (b : List RecordValue). row_behind b r) (append-nil before) ∙ first }
+    let first : row_after before r ≡ next = cc e in
+    record { records = []; at = r; more = rs; split = refl; front_are = refl; next_is = ap (λ (b : List RecordValue). row_after b r) (append-nil before) ∙ first }
 cut before (r ∷ rs) (x ∷ front) next rest e =
-    let first : row_behind before r ≡ x = cc e in
-    let behind : rows_behind (before ++ r ∷ []) rs ≡ front ++ next ∷ rest = cc e in
-    let c = cut (before ++ r ∷ []) rs front next rest behind in
+    let first : row_after before r ≡ x = cc e in
+    let after : rows_after (before ++ r ∷ []) rs ≡ front ++ next ∷ rest = cc e in
+    let c = cut (before ++ r ∷ []) rs front next rest after in
     record {
       records = r ∷ c.records;
       at = c.at;
       more = c.more;
       split = ap (λ (l : List RecordValue). r ∷ l) c.split;
       front_are = ap₂ (λ (y : Row) (l : List Row). y ∷ l) first c.front_are;
-      next_is = ap (λ (b : List RecordValue). row_behind b c.at) (sym (append_assoc before (r ∷ []) c.records)) ∙ c.next_is;
+      next_is = ap (λ (b : List RecordValue). row_after b c.at) (sym (append_assoc before (r ∷ []) c.records)) ∙ c.next_is;
     }
 
 -- the records of a transmission, cut at that of a row
@@ -50,7 +50,7 @@ pub record Before (v : TransmissionValue) (front : List Row) (next : Row) : Type
   pub in_order : AllByRecursion IsRecord records
   pub at_in_order : IsRecord at
   pub front_are : rows_so_far records ≡ front
-  pub next_is : row_behind records at ≡ next
+  pub next_is : row_after records at ≡ next
 
 all_front : (xs : List RecordValue) (y : RecordValue) (ys : List RecordValue) → AllByRecursion IsRecord (xs ++ y ∷ ys) → AllByRecursion IsRecord xs × IsRecord y
 all_front [] y ys h = (tt, h.0)
@@ -64,8 +64,8 @@ records_before v front next rest h e =
 
 -- ---- the records of lines
 
-pub rows_well : (before rs : List RecordValue) → AllByRecursion IsRecord rs → AllByRecursion IsRow (rows_behind before rs)
-unfolding rows_behind
+pub rows_well : (before rs : List RecordValue) → AllByRecursion IsRecord rs → AllByRecursion IsRow (rows_after before rs)
+unfolding rows_after
 rows_well before [] h = tt
 rows_well before (r ∷ rs) h = (IsRow-row_of _ r h.0, rows_well (before ++ r ∷ []) rs h.1)
 
@@ -76,6 +76,6 @@ no_more (r ∷ back) h = absurd h
 -- lines are those of the rows of at most one list of records
 pub one_list : (rs qs : List RecordValue) (lines : List (List ℕ)) → AllByRecursion IsRecord rs → AllByRecursion IsRecord qs → AllZip IsLineOf (rows_so_far rs) lines → AllZip IsLineOf (rows_so_far qs) lines → rs ≡ qs
 one_list rs qs lines h k p q =
-    let b = rows_begin (rows_so_far rs) (rows_so_far qs) lines [] (rows_well [] rs h) (rows_well [] qs k) p (subst (λ (ls : List (List ℕ)). AllZip IsLineOf (rows_so_far qs) ls) (sym (append-nil lines)) q) in
+    let b = rows_of_front (rows_so_far rs) (rows_so_far qs) lines [] (rows_well [] rs h) (rows_well [] qs k) p (subst (λ (ls : List (List ℕ)). AllZip IsLineOf (rows_so_far qs) ls) (sym (append-nil lines)) q) in
     let same : rows_so_far qs ≡ rows_so_far rs = b.1 ∙ ap (λ (l : List Row). rows_so_far rs ++ l) (no_more b.0 b.2) ∙ append-nil (rows_so_far rs) in
     sym (records_back [] rs h) ∙ ap (map record_of) (sym same) ∙ records_back [] qs k

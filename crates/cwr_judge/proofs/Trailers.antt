@@ -6,12 +6,12 @@ use Rattle.cwr_shape.specs.declared.symbols.Symbol.{Symbol}
 use Rattle.cwr_shape.specs.declared.symbols.Symbol.TheVariants.{Plain}
 use Rattle.cwr_shape.specs.declared.stages.Stage.TheVariants as stages
 use Rattle.cwr_shape.specs.Stages.{stage_by, stage_after}
-use Rattle.cwr_shape.specs.Outlines.{group_symbols, IsWhole, GoesOn}
+use Rattle.cwr_shape.specs.Outlines.{group_symbols, IsWhole, Continues}
 use Rattle.cwr_shape.specs.Left.{Any, StandsAt}
 use Rattle.cwr_shape.proofs.OneMore.{last_or-snoc}
 use Rattle.cwr_shape.proofs.StageStands.{stands_leaves}
 
-pub trailer_ends : (xs : List Symbol) → GoesOn Any (xs ++ Plain Trl ∷ []) → IsWhole (xs ++ Plain Trl ∷ [])
+pub trailer_ends : (xs : List Symbol) → Continues Any (xs ++ Plain Trl ∷ []) → IsWhole (xs ++ Plain Trl ∷ [])
 trailer_ends xs g =
     let ys : List Symbol = xs ++ Plain Trl ∷ [] in
     let ended : stage_after ys ≡ stages.Ended = ap (λ (o : Option Symbol). stage_by o ys) (last_or-snoc None xs (Plain Trl)) in

@@ -3,7 +3,7 @@ use Rattle.std.specs.Prelude.{◌≡◌, ℕ, ◌+◌, ◌-◌, min, List, ◌�
 use Rattle.cwr_layouts.specs.declared.kinds.Kind.{Kind}
 use Rattle.cwr_layouts.specs.Lines.{closed, raw_lines, line_kind}
 use Rattle.cwr_shape.specs.declared.limits.Limits.{Limits}
-use Rattle.cwr_shape.specs.Levels.{level_of, place_behind}
+use Rattle.cwr_shape.specs.Levels.{level_of, place_after_kind}
 use Rattle.cwr_values.specs.Values.{TransmissionValue, IsTransmission, FitsIn}
 use Rattle.cwr_values.specs.Rows.{Spells}
 use Rattle.cwr_judge.specs.declared.refusals.Refusal.{Refusal}
@@ -25,10 +25,10 @@ abbrev pub IsNotAccepted : Limits → List ℕ → Type 0
 IsNotAccepted limits text = (v : TransmissionValue) (n : ℕ) → ¬ IsAccepted limits text v n
 
 -- the kind of the last line, if there is one
-abbrev pub kind_behind : List (List ℕ) → Option Kind
-kind_behind before = option_and_then line_kind (slice_get before (length before - 1))
+abbrev pub last_kind : List (List ℕ) → Option Kind
+last_kind before = option_and_then line_kind (slice_get before (length before - 1))
 
--- the text isn't accepted, and the refusal names the first place at which nothing goes on, why, and how much that rejects
+-- the text isn't accepted, and the refusal names the first place at which nothing continues, why, and how much that rejects
 pub record IsRefused (limits : Limits) (text : List ℕ) (refusal : Refusal) : Type 0 where
   pub unaccepted : IsNotAccepted limits text
   pub first : IsFirstBad limits text refusal.rec refusal.field
@@ -38,9 +38,9 @@ pub record IsRefused (limits : Limits) (text : List ℕ) (refusal : Refusal) : T
   pub lines : raw_lines (closed text) ≡ before ++ line ∷ after
   pub at : refusal.rec ≡ length before + 1
   pub reason : IsReason limits before line refusal.field refusal.reason
-  pub level : refusal.level ≡ level_of (line_kind line) refusal.field refusal.reason (place_behind (kind_behind before))
+  pub level : refusal.level ≡ level_of (line_kind line) refusal.field refusal.reason (place_after_kind (last_kind before))
 
--- the text isn't accepted, something goes on from each of its lines, and there are so many
+-- the text isn't accepted, something continues from each of its lines, and there are so many
 pub record IsTruncated (limits : Limits) (text : List ℕ) (records : ℕ) : Type 0 where
   pub unaccepted : IsNotAccepted limits text
   pub nowhere : (i k : ℕ) → ¬ IsBadAt limits text i k

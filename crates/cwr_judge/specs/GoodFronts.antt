@@ -1,4 +1,4 @@
--- When some transmission within the limits goes on from a line's first cells, by these cells and the symbols so far.
+-- When some transmission within the limits continues from a line's first cells, by these cells and the symbols so far.
 use Rattle.std.specs.Prelude.{◌≡◌, ℕ, suc, ◌<◌, IsFalse, List, ◌∷◌, [], ◌++◌, length, map, take, drop, Some}
 use Rattle.std.specs.List.{AllZip, AllByRecursion, IsAmong}
 use Rattle.cwr_layouts.specs.declared.kinds.Kind.{Kind}
@@ -8,24 +8,24 @@ use Rattle.cwr_layouts.specs.GoodCells.{AreGood}
 use Rattle.cwr_layouts.specs.Lines.{IsLineOf, line_kind, line_cells, has_bad_excess}
 use Rattle.cwr_shape.specs.declared.symbols.Symbol.{Symbol}
 use Rattle.cwr_shape.specs.Ranges.{LimitValues}
-use Rattle.cwr_shape.specs.Outlines.{GoesOn, IsWithin}
+use Rattle.cwr_shape.specs.Outlines.{Continues, IsWithin}
 use Rattle.cwr_shape.specs.Candidates.{candidates}
 use Rattle.cwr_values.specs.Values.{symbol_of}
-use Rattle.cwr_values.specs.Begins.{numbers_behind, rows_so_far}
+use Rattle.cwr_values.specs.Begins.{numbers_after, rows_so_far}
 
--- The line has a kind, and its first m cells behind the record type are good; behind the last one the excess isn't bad. Some
--- transmission within the limits goes on from the symbols by one that a record with these cells may have.
+-- The line has a kind, and its first m cells after the record type are good; after the last one the excess isn't bad. Some
+-- transmission within the limits continues from the symbols by one that a record with these cells may have.
 pub record HasGoodFront (limits : LimitValues) (xs : List Symbol) (line : List ℕ) (m : ℕ) : Type 0 where
   pub kind : Kind
   pub known : line_kind line ≡ Some kind
-  pub good : AreGood (take m (fields_after_type kind)) (numbers_behind xs kind) (take m (drop 1 (line_cells line)))
+  pub good : AreGood (take m (fields_after_type kind)) (numbers_after xs kind) (take m (drop 1 (line_cells line)))
   pub excess : length (layout kind) < suc m → IsFalse (has_bad_excess line)
   pub symbol : Symbol
   pub among : IsAmong (candidates (Some kind) (take (suc m) (line_cells line))) symbol
-  pub goes_on : GoesOn (IsWithin limits) (xs ++ symbol ∷ [])
+  pub continues : Continues (IsWithin limits) (xs ++ symbol ∷ [])
 
--- the lines before are those of records in order, each of its row, and behind these the line's first cells are good
-pub record GoesOnFrom (limits : LimitValues) (before : List (List ℕ)) (line : List ℕ) (m : ℕ) : Type 0 where
+-- the lines before are those of records in order, each of its row, and after these the line's first cells are good
+pub record ContinuesFrom (limits : LimitValues) (before : List (List ℕ)) (line : List ℕ) (m : ℕ) : Type 0 where
   pub records : List RecordValue
   pub in_order : AllByRecursion IsRecord records
   pub lines : AllZip IsLineOf (rows_so_far records) before

@@ -12,25 +12,25 @@ use Rattle.cwr_values.specs.Values.{GroupValue, TransmissionValue, IsTransmissio
 use Rattle.cwr_values.specs.Rows.{trailer}
 
 -- records of the kind stand inside transactions
-abbrev pub is_in_transaction : Kind → Bool
-is_in_transaction Hdr = false
-is_in_transaction Grh = false
-is_in_transaction Grt = false
-is_in_transaction Trl = false
-is_in_transaction kind = true
+abbrev pub stands_in_transaction : Kind → Bool
+stands_in_transaction Hdr = false
+stands_in_transaction Grh = false
+stands_in_transaction Grt = false
+stands_in_transaction Trl = false
+stands_in_transaction kind = true
 
 -- the record sequence that a row inside a transaction carries in its third cell
 abbrev pub record_sequence : Row → ℕ
 record_sequence row = number_of (slice_index_or row.cells 2 [])
 
 -- the row belongs to the transaction of the row before it
-abbrev pub goes_on : Row → Bool
-goes_on row = is_in_transaction row.kind && not (record_sequence row == 0)
+abbrev pub continues_transaction : Row → Bool
+continues_transaction row = stands_in_transaction row.kind && not (record_sequence row == 0)
 
 -- a transaction ends with the last of the rows, where this row comes next
 abbrev pub ends_transaction : Option Row → Row → Bool
 ends_transaction None row = false
-ends_transaction (Some last) row = is_in_transaction last.kind && not (goes_on row)
+ends_transaction (Some last) row = stands_in_transaction last.kind && not (continues_transaction row)
 
 -- the transaction that ends with the last of the rows: as many rows before that one belong to it as its record sequence says
 abbrev pub transaction_at_end : Option Row → List Row → List RecordValue
@@ -45,20 +45,20 @@ own_item Grt row = GroupClosed (record_of row) ∷ []
 own_item Trl row = Ended ∷ []
 own_item kind row = []
 
--- the items that a row gives behind these rows: the transaction that ended with the row before it, and then its own
+-- the items that a row gives after these rows: the transaction that ended with the row before it, and then its own
 abbrev pub items_at : List Row → Row → List Item
 items_at before row =
     (if ends_transaction (last_or None before) row then Transaction (transaction_at_end (last_or None before) before) ∷ [] else [])
     ++ own_item row.kind row
 
--- the items that rows give behind others
-unfoldable pub items_behind : List Row → List Row → List Item
-items_behind before [] = []
-items_behind before (row ∷ rest) = items_at before row ++ items_behind (before ++ row ∷ []) rest
+-- the items that rows give after others
+unfoldable pub items_after : List Row → List Row → List Item
+items_after before [] = []
+items_after before (row ∷ rest) = items_at before row ++ items_after (before ++ row ∷ []) rest
 
 -- the items that rows give
 abbrev pub items : List Row → List Item
-items rows = items_behind [] rows
+items rows = items_after [] rows
 
 -- ---- the same of a transmission, by its parts
 

@@ -1,4 +1,4 @@
--- Whether a line that was cut may come next, behind records of which these symbols were seen.
+-- Whether a line that was cut may come next, after records of which these symbols were seen.
 use Rattle.std.specs.Prelude.{◌≡◌, ◌≢◌, ℕ, ◌+◌, ◌<◌, ◌≤◌, ◌==◌, Bool, true, false, List, [], ◌∷◌, ◌++◌, length, Option, Some, None, option_map, IfSome, IsSomeAnd, if◌then◌else◌}
 use Rattle.std.specs.List.{IsAmong}
 use Rattle.cwr_fields.specs.declared.cell_types.CellType.{CellType}
@@ -17,7 +17,7 @@ use Rattle.cwr_shape.specs.declared.tallies.Bar.{Bar}
 use Rattle.cwr_shape.specs.declared.tallies.Bar.TheVariants as bars
 use Rattle.cwr_shape.specs.Ranges.{LimitValues}
 use Rattle.cwr_shape.specs.Numbers.{symbol_kind, IsNumberAt}
-use Rattle.cwr_shape.specs.Outlines.{GoesOn}
+use Rattle.cwr_shape.specs.Outlines.{Continues}
 use Rattle.cwr_shape.specs.Left.{Any}
 use Rattle.cwr_shape.specs.Candidates.{candidates, role_in, type_in}
 use Rattle.cwr_shape.specs.Tallies.{MayCome, IsBarred, IsBarredAmong}
@@ -35,9 +35,9 @@ HasNumberAt xs h kind j = (f : FieldLayout) → field_at kind j ≡ Some f → f
 
 -- where some record of the kind may come, this is not so
 abbrev pub Lacks : List Symbol → Kind → Type 0 → Type 0
-Lacks xs kind P = (s : Symbol) → symbol_kind s ≡ kind → GoesOn Any (xs ++ s ∷ []) → ¬ P
+Lacks xs kind P = (s : Symbol) → symbol_kind s ≡ kind → Continues Any (xs ++ s ∷ []) → ¬ P
 
--- each derived cell behind the record type is the number that belongs there
+-- each derived cell after the record type is the number that belongs there
 abbrev pub HasNumbers : List Symbol → HeldLine → Kind → Type 0
 HasNumbers xs h kind = (j : ℕ) → 2 ≤ j → HasNumberAt xs h kind j
 
@@ -56,26 +56,26 @@ IsOfNone limits xs h = (s : Symbol) (r : RecordValue) → ¬ IsNext limits xs h 
 
 -- ---- the first field that is wrong
 
--- the symbol that the cell in field j of a record of the kind tells: GRH's type is in its second field, IPA's role in its fourth
-abbrev pub told_symbol : Kind → ℕ → List ℕ → Option Symbol
-told_symbol kinds.Grh j cell = if j == 2 then option_map Grh (type_in cell) else None
-told_symbol kinds.Ipa j cell = if j == 4 then option_map Ipa (role_in cell) else None
-told_symbol kind j cell = None
+-- the symbol that the cell in field j of a record of the kind names: GRH's type is in its second field, IPA's role in its fourth
+abbrev pub named_symbol : Kind → ℕ → List ℕ → Option Symbol
+named_symbol kinds.Grh j cell = if j == 2 then option_map Grh (type_in cell) else None
+named_symbol kinds.Ipa j cell = if j == 4 then option_map Ipa (role_in cell) else None
+named_symbol kind j cell = None
 
 -- the reason of a bar
 abbrev pub bar_reason : Bar → Reason
 bar_reason bars.Misplaced = Misplaced
 bar_reason (bars.Limit limit) = Limit limit
 
--- a carried cell is one of its type, and a record of the symbol that it tells may come
+-- a carried cell is one of its type, and a record of the symbol that it names may come
 abbrev pub IsGoodText : LimitValues → List Symbol → Kind → ℕ → CellType → List ℕ → Type 0
-IsGoodText limits xs kind j ty cell = Holds ty cell × IfSome (told_symbol kind j cell) (MayCome limits xs)
+IsGoodText limits xs kind j ty cell = Holds ty cell × IfSome (named_symbol kind j cell) (MayCome limits xs)
 
 -- why it isn't: the first of these that holds
 abbrev pub IsTextFault : LimitValues → List Symbol → Kind → ℕ → CellType → List ℕ → Reason → Type 0
 IsTextFault limits xs kind j ty cell (Cell fault) = HasFault ty cell fault
-IsTextFault limits xs kind j ty cell Misplaced = Holds ty cell × IsSomeAnd (told_symbol kind j cell) (λ s. IsBarred limits xs s bars.Misplaced)
-IsTextFault limits xs kind j ty cell (Limit limit) = Holds ty cell × IsSomeAnd (told_symbol kind j cell) (λ s. IsBarred limits xs s (bars.Limit limit))
+IsTextFault limits xs kind j ty cell Misplaced = Holds ty cell × IsSomeAnd (named_symbol kind j cell) (λ s. IsBarred limits xs s bars.Misplaced)
+IsTextFault limits xs kind j ty cell (Limit limit) = Holds ty cell × IsSomeAnd (named_symbol kind j cell) (λ s. IsBarred limits xs s (bars.Limit limit))
 IsTextFault limits xs kind j ty cell reason = ⊥
 
 -- why a derived cell isn't the number: the first of these that holds
@@ -85,33 +85,33 @@ IsNumberFault ty cell n (Number expected) = (expected ≡ n) × Holds ty cell ×
 IsNumberFault ty cell n reason = ⊥
 
 -- a cell of a field is good: a derived one is the number that belongs there
-abbrev pub IsGoodBy : Bool → LimitValues → List Symbol → Kind → ℕ → FieldLayout → List ℕ → Type 0
-IsGoodBy true limits xs kind j f cell = (n : ℕ) × IsNumberAt xs kind j (Some n) × (cell ≡ digits (length cell) n)
-IsGoodBy false limits xs kind j f cell = IsGoodText limits xs kind j f.ty cell
+abbrev pub IsGoodNextCell : Bool → LimitValues → List Symbol → Kind → ℕ → FieldLayout → List ℕ → Type 0
+IsGoodNextCell true limits xs kind j f cell = (n : ℕ) × IsNumberAt xs kind j (Some n) × (cell ≡ digits (length cell) n)
+IsGoodNextCell false limits xs kind j f cell = IsGoodText limits xs kind j f.ty cell
 
 -- why it isn't
 abbrev pub IsFaultBy : Bool → LimitValues → List Symbol → Kind → ℕ → FieldLayout → List ℕ → Reason → Type 0
 IsFaultBy true limits xs kind j f cell reason = (n : ℕ) × IsNumberAt xs kind j (Some n) × IsNumberFault f.ty cell n reason
 IsFaultBy false limits xs kind j f cell reason = IsTextFault limits xs kind j f.ty cell reason
 
--- the line's cell in field j, which is behind the record type, is good
+-- the line's cell in field j, which is after the record type, is good
 abbrev pub IsGoodAt : LimitValues → List Symbol → HeldLine → Kind → ℕ → Type 0
-IsGoodAt limits xs h kind j = IsSomeAnd (field_at kind j) (λ f. IsSomeAnd (held_cell h j) (IsGoodBy f.derived limits xs kind j f))
+IsGoodAt limits xs h kind j = IsSomeAnd (field_at kind j) (λ f. IsSomeAnd (held_cell h j) (IsGoodNextCell f.derived limits xs kind j f))
 
 -- why it isn't
-abbrev pub HasFaultAt : LimitValues → List Symbol → HeldLine → Kind → ℕ → Reason → Type 0
-HasFaultAt limits xs h kind j reason = IsSomeAnd (field_at kind j) (λ f. IsSomeAnd (held_cell h j) (λ cell. IsFaultBy f.derived limits xs kind j f cell reason))
+abbrev pub HasReasonAt : LimitValues → List Symbol → HeldLine → Kind → ℕ → Reason → Type 0
+HasReasonAt limits xs h kind j reason = IsSomeAnd (field_at kind j) (λ f. IsSomeAnd (held_cell h j) (λ cell. IsFaultBy f.derived limits xs kind j f cell reason))
 
 -- some record of the kind may come
 abbrev pub MayComeOf : LimitValues → List Symbol → Kind → Type 0
 MayComeOf limits xs kind = (s : Symbol) × IsAmong (candidates (Some kind) []) s × MayCome limits xs s
 
 -- what is wrong at a field of a line of the kind: none of its records may come; or one of them may, and the reason holds
--- of a cell, or the field is the one behind the last and the line's excess is bad
+-- of a cell, or the field is the one after the last and the line's excess is bad
 pub data IsWrongAt (limits : LimitValues) (xs : List Symbol) (h : HeldLine) (kind : Kind) : ℕ → Reason → Type 0 where
   barred : (bar : Bar) → IsBarredAmong limits xs (candidates (Some kind) []) bar → IsWrongAt limits xs h kind 1 (bar_reason bar)
-  cell : (j : ℕ) (reason : Reason) → 2 ≤ j → MayComeOf limits xs kind → HasFaultAt limits xs h kind j reason → IsWrongAt limits xs h kind j reason
-  behind : MayComeOf limits xs kind → held_excess h ≡ true → IsWrongAt limits xs h kind (length (layout kind) + 1) Excess
+  cell : (j : ℕ) (reason : Reason) → 2 ≤ j → MayComeOf limits xs kind → HasReasonAt limits xs h kind j reason → IsWrongAt limits xs h kind j reason
+  past_last : MayComeOf limits xs kind → held_excess h ≡ true → IsWrongAt limits xs h kind (length (layout kind) + 1) Excess
 
 -- the field is wrong for the reason, and each one before it is good
 pub record IsFirstWrong (limits : LimitValues) (xs : List Symbol) (h : HeldLine) (kind : Kind) (field : ℕ) (reason : Reason) : Type 0 where

@@ -5,3 +5,4 @@ pub mod GoodFronts
 pub mod Reasons
 pub mod Ends
 pub mod Judged
+pub mod RefusalTexts

@@ -1,4 +1,4 @@
--- The records of the transaction that is open behind some records, and what one more record does to it and to the items.
+-- The records of the transaction that is open after some records, and what one more record does to it and to the items.
 use Rattle.std.specs.Prelude.{◌≡◌, ◌-◌, ◌<◌, Bool, true, ◌&&◌, ◌==◌, List, [], ◌∷◌, ◌++◌, length, map, drop, if◌then◌else◌}
 use Rattle.cwr_fields.specs.declared.codes.TransactionType.TheVariants.{Acknowledgement}
 use Rattle.cwr_layouts.specs.declared.kinds.Kind.{Kind}
@@ -6,12 +6,12 @@ use Rattle.cwr_layouts.specs.declared.kinds.Kind.TheVariants.{Hdr, Grh, Grt, Trl
 use Rattle.cwr_layouts.specs.Records.{RecordValue}
 use Rattle.cwr_shape.specs.declared.symbols.Symbol.{Symbol}
 use Rattle.cwr_shape.specs.Tallies as tallies
-use Rattle.cwr_shape.specs.Tallies.{begun, place_after, open_records}
+use Rattle.cwr_shape.specs.Tallies.{transactions_begun, place_after, open_records}
 use Rattle.cwr_values.specs.declared.items.Item.{Item}
 use Rattle.cwr_values.specs.declared.items.Item.TheVariants.{Opened, GroupOpened, Transaction, GroupClosed, Ended}
 use Rattle.cwr_values.specs.Values.{symbol_of}
 use Rattle.cwr_values.specs.Begins.{rows_so_far}
-use Rattle.cwr_judge.specs.Items.{is_in_transaction, items}
+use Rattle.cwr_judge.specs.Items.{stands_in_transaction, items}
 
 -- the items that the rows of these records give
 abbrev pub items_so_far : List RecordValue → List Item
@@ -21,14 +21,14 @@ items_so_far records = items (rows_so_far records)
 abbrev pub open_of : List RecordValue → List RecordValue
 open_of records = drop (length records - open_records (map symbol_of records)) records
 
--- one more symbol goes on with the open transaction: it stands in one, and begins none
-abbrev pub goes_on_with : List Symbol → Symbol → Bool
-goes_on_with xs s = (begun Acknowledgement (xs ++ s ∷ []) == begun Acknowledgement xs) && tallies.is_in_transaction (place_after (xs ++ s ∷ []))
+-- one more symbol continues the open transaction: it stands in one, and begins none
+abbrev pub continues_open : List Symbol → Symbol → Bool
+continues_open xs s = (transactions_begun Acknowledgement (xs ++ s ∷ []) == transactions_begun Acknowledgement xs) && tallies.has_open_transaction (place_after (xs ++ s ∷ []))
 
 -- the item of an open transaction that ends
-abbrev pub handed : List RecordValue → List Item
-handed [] = []
-handed (r ∷ records) = Transaction (r ∷ records) ∷ []
+abbrev pub ended_transaction : List RecordValue → List Item
+ended_transaction [] = []
+ended_transaction (r ∷ records) = Transaction (r ∷ records) ∷ []
 
 -- the own item of a record of the kind
 abbrev pub item_of : Kind → RecordValue → List Item
@@ -38,14 +38,14 @@ item_of Grt r = GroupClosed r ∷ []
 item_of Trl r = Ended ∷ []
 item_of kind r = []
 
--- one more record goes on with the open transaction
+-- one more record continues the open transaction
 pub record Stays (records : List RecordValue) (r : RecordValue) : Type 0 where
-  pub inside : is_in_transaction r.kind ≡ true
+  pub inside : stands_in_transaction r.kind ≡ true
   pub some : 0 < length (open_of records)
   pub longer : open_of (records ++ r ∷ []) ≡ open_of records ++ r ∷ []
   pub nothing : items_so_far (records ++ r ∷ []) ≡ items_so_far records
 
 -- one more record ends the open transaction, if there is one
 pub record Closes (records : List RecordValue) (r : RecordValue) : Type 0 where
-  pub open_now : open_of (records ++ r ∷ []) ≡ (if is_in_transaction r.kind then r ∷ [] else [])
-  pub given : items_so_far (records ++ r ∷ []) ≡ items_so_far records ++ handed (open_of records) ++ item_of r.kind r
+  pub open_now : open_of (records ++ r ∷ []) ≡ (if stands_in_transaction r.kind then r ∷ [] else [])
+  pub given : items_so_far (records ++ r ∷ []) ≡ items_so_far records ++ ended_transaction (open_of records) ++ item_of r.kind r

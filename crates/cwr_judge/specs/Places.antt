@@ -1,4 +1,4 @@
--- Which fronts of a text a transmission within the limits goes on from, and where a text first leaves them.
+-- Which fronts of a text a transmission within the limits continues from, and where a text first leaves them.
 use Rattle.std.specs.Prelude.{◌≡◌, ℕ, ◌+◌, ◌<◌, ◌≤◌, ◌⊎◌, IsFalse, List, ◌∷◌, ◌++◌, length, take, Option, Some, None}
 use Rattle.std.specs.List.{AllZip}
 use Rattle.cwr_layouts.specs.declared.kinds.Kind.{Kind}
@@ -25,12 +25,12 @@ pub record Viable (limits : Limits) (before : List (List ℕ)) (line : List ℕ)
   pub lines : AllZip IsLineOf front before
   pub cells : HasCells k next line
 
--- the number of the field behind the last one, or of the first where the kind is unknown
+-- the number of the field after the last one, or of the first where the kind is unknown
 abbrev pub last_place : Option Kind → ℕ
 last_place None = 1
 last_place (Some kind) = length (layout kind) + 1
 
--- line i of the text, from 1, is there, and nothing goes on from its first k cells
+-- line i of the text, from 1, is there, and nothing continues from its first k cells
 pub record IsBadAt (limits : Limits) (text : List ℕ) (i k : ℕ) : Type 0 where
   pub before : List (List ℕ)
   pub line : List ℕ
@@ -41,6 +41,6 @@ pub record IsBadAt (limits : Limits) (text : List ℕ) (i k : ℕ) : Type 0 wher
   pub to : k ≤ last_place (line_kind line)
   pub bad : ¬ Viable limits before line k
 
--- the first place, by line and then by field, at which nothing goes on
+-- the first place, by line and then by field, at which nothing continues
 abbrev pub IsFirstBad : Limits → List ℕ → ℕ → ℕ → Type 0
 IsFirstBad limits text i k = IsBadAt limits text i k × ((j l : ℕ) → IsBadAt limits text j l → (i < j) ⊎ ((i ≡ j) × (k ≤ l)))

@@ -8,8 +8,8 @@ ghost use Rattle.cwr_layouts.specs.Layouts.{layout as layout_of};
 ghost use Rattle.cwr_layouts.specs.Held.{held_excess, held_kind, held_record};
 ghost use Rattle.cwr_layouts.specs.Records.{IsRecord};
 ghost use Rattle.cwr_shape.specs.declared.symbols.Symbol.{Symbol};
-ghost use Rattle.cwr_shape.specs.Tallies.{IsAdmitted, StandsFor};
-ghost use Rattle.cwr_judge.specs.Judged.{HasNumberAt, HasNumbers, IsNext, IsOfNone, Lacks, told_symbol, bar_reason, IsGoodText, IsTextFault, IsNumberFault, IsGoodAt, HasFaultAt, MayComeOf, IsFirstFault};
+ghost use Rattle.cwr_shape.specs.Tallies.{IsAdmitted, IsTallyOf};
+ghost use Rattle.cwr_judge.specs.Judged.{HasNumberAt, HasNumbers, IsNext, IsOfNone, Lacks, named_symbol, bar_reason, IsGoodText, IsTextFault, IsNumberFault, IsGoodAt, HasReasonAt, MayComeOf, IsFirstFault};
 
 use cwr_fields::{Cell, CellType, Role, TransactionType, fits, spells};
 use cwr_layouts::{CutLine, Kind, RecordRef, field, fields};
@@ -19,7 +19,7 @@ use cwr_values::symbol_of;
 /// The first field of a line that is wrong, and why.
 #[derive(Clone, Copy, Debug, PartialEq, Eq)]
 pub struct LineFault {
-    /// The number of the field, from 1. One past the kind's last field is what stands behind it.
+    /// The number of the field, from 1. One past the kind's last field is what stands after it.
     pub field: u8,
     /// Why.
     pub reason: Reason,
@@ -29,8 +29,8 @@ pub struct LineFault {
 #[inline(always)]
 fn has_number(tally: &Tally, line: &CutLine<'_>, kind: Kind, j: u8) -> bool
     requires { held_kind line.now ≡ Some kind }
-    ensures yes { (xs : List Symbol) → StandsFor tally.now xs → IsTrue result → HasNumberAt xs line.now kind j }
-    ensures no { (xs : List Symbol) → StandsFor tally.now xs → IsFalse result → Lacks xs kind (HasNumberAt xs line.now kind j) }
+    ensures yes { (xs : List Symbol) → IsTallyOf tally.now xs → IsTrue result → HasNumberAt xs line.now kind j }
+    ensures no { (xs : List Symbol) → IsTallyOf tally.now xs → IsFalse result → Lacks xs kind (HasNumberAt xs line.now kind j) }
 {
     let Some(place) = field(kind, j) else {
         return true;
@@ -47,11 +47,11 @@ fn has_number(tally: &Tally, line: &CutLine<'_>, kind: Kind, j: u8) -> bool
     }
 }
 
-/// Whether each derived cell of the line is the number that belongs there. No kind has one behind its fourth field.
+/// Whether each derived cell of the line is the number that belongs there. No kind has one after its fourth field.
 fn has_numbers(tally: &Tally, line: &CutLine<'_>, kind: Kind) -> bool
     requires { held_kind line.now ≡ Some kind }
-    ensures yes { (xs : List Symbol) → StandsFor tally.now xs → IsTrue result → HasNumbers xs line.now kind }
-    ensures no { (xs : List Symbol) → StandsFor tally.now xs → IsFalse result → Lacks xs kind (HasNumbers xs line.now kind) }
+    ensures yes { (xs : List Symbol) → IsTallyOf tally.now xs → IsTrue result → HasNumbers xs line.now kind }
+    ensures no { (xs : List Symbol) → IsTallyOf tally.now xs → IsFalse result → Lacks xs kind (HasNumbers xs line.now kind) }
 {
     if !has_number(tally, line, kind, 2) {
         return false;
@@ -64,8 +64,8 @@ fn has_numbers(tally: &Tally, line: &CutLine<'_>, kind: Kind) -> bool
 
 /// The record of the line and its symbol, where it may come next.
 fn next_record<'a>(tally: &Tally, line: &CutLine<'a>) -> Option<(Symbol, RecordRef<'a>)>
-    ensures some { (xs : List Symbol) → StandsFor tally.now xs → IfSome result (λ found. IsNext tally.now.limits xs line.now found.0 found.1) }
-    ensures none { (xs : List Symbol) → StandsFor tally.now xs → IsNone result → IsOfNone tally.now.limits xs line.now }
+    ensures some { (xs : List Symbol) → IsTallyOf tally.now xs → IfSome result (λ found. IsNext tally.now.limits xs line.now found.0 found.1) }
+    ensures none { (xs : List Symbol) → IsTallyOf tally.now xs → IsNone result → IsOfNone tally.now.limits xs line.now }
     ensures admitted { IfSome result (λ found. IsAdmitted tally.now found.0) }
     ensures carried { IfSome result (λ found. (held_record line.now ≡ Some found.1) × IsRecord found.1 × IsFalse (held_excess line.now)) }
 {
@@ -110,9 +110,9 @@ fn judge_number(ty: CellType, cell: &[u8], expected: u64) -> Result<(), Reason>
     }
 }
 
-/// The symbol of a record of the kind, where the cell in its field `j` tells it.
-fn told_symbol(kind: Kind, j: u8, cell: &[u8]) -> Option<Symbol>
-    ensures { result ≡ told_symbol kind j cell.now }
+/// The symbol of a record of the kind, where the cell in its field `j` names it.
+fn named_symbol(kind: Kind, j: u8, cell: &[u8]) -> Option<Symbol>
+    ensures { result ≡ named_symbol kind j cell.now }
 {
     match (kind, j) {
         (Kind::Grh, 2) => match TransactionType::read(cell) {
@@ -127,16 +127,16 @@ fn told_symbol(kind: Kind, j: u8, cell: &[u8]) -> Option<Symbol>
     }
 }
 
-/// Whether a carried cell in field `j` is one of its type, and the record whose symbol it tells may come, or why not.
+/// Whether a carried cell in field `j` is one of its type, and the record whose symbol it names may come, or why not.
 fn judge_text(tally: &Tally, kind: Kind, j: u8, ty: CellType, cell: &[u8]) -> Result<(), Reason>
     requires { ForSome (type_width ty) (λ width. length cell.now ≡ width) }
-    ensures ok { (xs : List Symbol) → StandsFor tally.now xs → OnOk result (IsGoodText tally.now.limits xs kind j ty cell.now) }
-    ensures err { (xs : List Symbol) → StandsFor tally.now xs → IfErr result (IsTextFault tally.now.limits xs kind j ty cell.now) }
+    ensures ok { (xs : List Symbol) → IsTallyOf tally.now xs → OnOk result (IsGoodText tally.now.limits xs kind j ty cell.now) }
+    ensures err { (xs : List Symbol) → IsTallyOf tally.now xs → IfErr result (IsTextFault tally.now.limits xs kind j ty cell.now) }
 {
     if let Err(fault) = fits(ty, cell) {
         return Err(Reason::Cell(fault));
     }
-    let Some(symbol) = told_symbol(kind, j, cell) else {
+    let Some(symbol) = named_symbol(kind, j, cell) else {
         return Ok(());
     };
     match tally.admits(symbol) {
@@ -145,14 +145,14 @@ fn judge_text(tally: &Tally, kind: Kind, j: u8, ty: CellType, cell: &[u8]) -> Re
     }
 }
 
-/// Whether field `j` of the line, which is behind the record type, is good, or why not. Some record of the kind may
+/// Whether field `j` of the line, which is after the record type, is good, or why not. Some record of the kind may
 /// come next.
 fn judge_field(tally: &Tally, line: &CutLine<'_>, kind: Kind, j: u8) -> Result<(), Reason>
     requires known { held_kind line.now ≡ Some kind }
     requires from { 2 ≤ j }
     requires to { j ≤ length (layout_of kind) }
-    ensures ok { (xs : List Symbol) → StandsFor tally.now xs → MayComeOf tally.now.limits xs kind → OnOk result (IsGoodAt tally.now.limits xs line.now kind j) }
-    ensures err { (xs : List Symbol) → StandsFor tally.now xs → MayComeOf tally.now.limits xs kind → IfErr result (HasFaultAt tally.now.limits xs line.now kind j) }
+    ensures ok { (xs : List Symbol) → IsTallyOf tally.now xs → MayComeOf tally.now.limits xs kind → OnOk result (IsGoodAt tally.now.limits xs line.now kind j) }
+    ensures err { (xs : List Symbol) → IsTallyOf tally.now xs → MayComeOf tally.now.limits xs kind → IfErr result (HasReasonAt tally.now.limits xs line.now kind j) }
 {
     let Some(place) = field(kind, j) else {
         return Ok(());
@@ -171,7 +171,7 @@ fn judge_field(tally: &Tally, line: &CutLine<'_>, kind: Kind, j: u8) -> Result<(
 
 /// The first field that is wrong of a line that may not come next, and why.
 fn first_fault(tally: &Tally, line: &CutLine<'_>) -> LineFault
-    ensures { (xs : List Symbol) → StandsFor tally.now xs → IsOfNone tally.now.limits xs line.now
+    ensures { (xs : List Symbol) → IsTallyOf tally.now xs → IsOfNone tally.now.limits xs line.now
         → IsFirstFault tally.now.limits xs line.now result.field result.reason }
 {
     let Some(kind) = line.kind() else {
@@ -200,11 +200,11 @@ fn first_fault(tally: &Tally, line: &CutLine<'_>) -> LineFault
 
 /// Whether the line may come next: its record and that record's symbol, or the first field that is wrong.
 pub fn judge<'a>(tally: &Tally, line: &CutLine<'a>) -> Result<(Symbol, RecordRef<'a>), LineFault>
-    ensures ok { (xs : List Symbol) → StandsFor tally.now xs → IfOk result (λ found. IsNext tally.now.limits xs line.now found.0 found.1) }
-    ensures err { (xs : List Symbol) → StandsFor tally.now xs → IfErr result (λ _. IsOfNone tally.now.limits xs line.now) }
+    ensures ok { (xs : List Symbol) → IsTallyOf tally.now xs → IfOk result (λ found. IsNext tally.now.limits xs line.now found.0 found.1) }
+    ensures err { (xs : List Symbol) → IsTallyOf tally.now xs → IfErr result (λ _. IsOfNone tally.now.limits xs line.now) }
     ensures admitted { IfOk result (λ found. IsAdmitted tally.now found.0) }
     ensures carried { IfOk result (λ found. (held_record line.now ≡ Some found.1) × IsRecord found.1 × IsFalse (held_excess line.now)) }
-    ensures first { (xs : List Symbol) → StandsFor tally.now xs → IfErr result (λ f. IsFirstFault tally.now.limits xs line.now f.field f.reason) }
+    ensures first { (xs : List Symbol) → IsTallyOf tally.now xs → IfErr result (λ f. IsFirstFault tally.now.limits xs line.now f.field f.reason) }
 {
     match next_record(tally, line) {
         Some(found) => Ok(found),

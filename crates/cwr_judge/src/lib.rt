@@ -1,5 +1,5 @@
 //! How a text of CWR 2.1 ends, and whether a line may come next: the definitions of accepted, refused and truncated
-//! texts, and the judge of one line behind those before it.
+//! texts, and the judge of one line after those before it.
 #![tactic(auto)]
 
 mod judging;

@@ -10,7 +10,7 @@ use Rattle.cwr_layouts.specs.declared.kinds.Kind.{Kind}
 use Rattle.cwr_layouts.specs.declared.kinds.Kind.TheVariants.{Hdr, Grh, Grt, Trl, Agr, Ter, Ipa, Nwr, Rev, Spu, Opu, Spt, Swr, Owr, Swt, Pwr, Alt, Ewt, Ver, Per, Rec, Orn, Com, Ack, Msg}
 use Rattle.cwr_layouts.specs.Kinds.{all_kinds, letters, kind_of}
 use Rattle.cwr_layouts.specs.Layouts.{line_width}
-use Rattle.cwr_layouts.proofs.Trimmed.{trimmed_three}
+use Rattle.cwr_layouts.proofs.TrimmedTexts.{trimmed_three}
 
 -- three letters name one kind
 pub kind_of-letters : (kind : Kind) → kind_of (letters kind) ≡ Some kind

@@ -15,17 +15,17 @@ use Rattle.cwr_fields.specs.Cells.{type_width}
 use Rattle.cwr_fields.specs.Codes.{word_text}
 use Rattle.cwr_layouts.specs.declared.kinds.Kind.{Kind}
 use Rattle.cwr_layouts.specs.declared.layouts.Field.{Field}
-use Rattle.cwr_layouts.specs.Layouts.{FieldLayout, layout, placed, total_width}
+use Rattle.cwr_layouts.specs.Layouts.{FieldLayout, layout, placed_fields, total_width}
 use Rattle.cwr_layouts.specs.Lines.{pieces}
 use Rattle.cwr_layouts.specs.Records.{blank_cell, blank_record}
 use Rattle.cwr_layouts.specs.Carried.{carried_cells, record_in}
 use Rattle.cwr_layouts.specs.Views.{field_view}
 use Rattle.cwr_layouts.proofs.AllKinds.{line_width_widest}
 use Rattle.cwr_layouts.proofs.CarriedCells.{widths}
-use Rattle.cwr_layouts.proofs.CellParts.{within}
-use Rattle.cwr_layouts.proofs.Placed.{without_starts}
+use Rattle.cwr_layouts.proofs.CellParts.{field_part_within}
+use Rattle.cwr_layouts.proofs.FieldStarts.{without_starts}
 use Rattle.cwr_layouts.proofs.CutLaws.{pieces_of}
-use Rattle.cwr_layouts.proofs.Judged.{carried_in}
+use Rattle.cwr_layouts.proofs.GoodLinesAreRows.{carried_in}
 use Rattle.cwr_layouts.proofs.RowLaws.{length-concat}
 use Rattle.cwr_layouts.proofs.TypeWidths.{is_wide, all_wide, type_width-field}
 
@@ -97,19 +97,19 @@ item_at [] k d h = absurd (omega arith)
 item_at (x ∷ items) zero d h = refl
 item_at (x ∷ items) (suc k) d h = item_at items k d (omega arith)
 
-start_by : (at : ℕ) (fields : List FieldLayout) (k : ℕ) (p : ℕ × FieldLayout) → slice_get (placed at fields) k ≡ Some p → p.0 ≡ at + total_width (take k fields)
+start_by : (at : ℕ) (fields : List FieldLayout) (k : ℕ) (p : ℕ × FieldLayout) → slice_get (placed_fields at fields) k ≡ Some p → p.0 ≡ at + total_width (take k fields)
 start_by at [] k p e = absurd (cc e)
 start_by at (f ∷ fields) zero p e = let same : (at, f) ≡ p = cc e in rw (← same) (omega arith)
 start_by at (f ∷ fields) (suc k) p e = omega (arith, start_by (at + f.width) fields k p e, sum_by-cons (λ (g : FieldLayout). g.width) f (take k fields))
 
 -- a place of the table, and what stands before it in a blank line
 pub record IsPlaceAt (kind : Kind) (k : ℕ) (place : Field) : Type 0 where
-  pub found : slice_get (placed 0 (layout kind)) k ≡ Some (field_view place)
+  pub found : slice_get (placed_fields 0 (layout kind)) k ≡ Some (field_view place)
   pub field : slice_get (layout kind) k ≡ Some (field_view place).1
 
-pub is_place : (kind : Kind) (items : List Field) (k : ℕ) (d : Field) → map field_view items ≡ placed 0 (layout kind) → k < length items → IsPlaceAt kind k (get_or items k d)
+pub is_place : (kind : Kind) (items : List Field) (k : ℕ) (d : Field) → map field_view items ≡ placed_fields 0 (layout kind) → k < length items → IsPlaceAt kind k (get_or items k d)
 is_place kind items k d e h =
-    let found : slice_get (placed 0 (layout kind)) k ≡ Some (field_view (get_or items k d)) =
+    let found : slice_get (placed_fields 0 (layout kind)) k ≡ Some (field_view (get_or items k d)) =
     ap (λ (xs : List (ℕ × FieldLayout)). slice_get xs k) (sym e) ∙ slice_get-map field_view items k ∙ ap (option_map field_view) (item_at items k d h) in
     record { found = found; field = sym (without_starts 0 (layout kind) k) ∙ ap (option_map (λ (p : ℕ × FieldLayout). p.1)) found }
 
@@ -121,7 +121,7 @@ blank_begins kind k place text h e =
     omega (arith, count, start_by 0 (layout kind) k (field_view place) h.found)
 
 pub place_within : (kind : Kind) (k : ℕ) (place : Field) → IsPlaceAt kind k place → place.start + place.width ≤ 364
-place_within kind k place h = omega (arith, within 0 (layout kind) k (field_view place) h.found, line_width_widest kind)
+place_within kind k place h = omega (arith, field_part_within 0 (layout kind) k (field_view place) h.found, line_width_widest kind)
 
 pub place_wide : (kind : Kind) (k : ℕ) (place : Field) → IsPlaceAt kind k place → (w : ℕ) → type_width place.ty ≡ Some w → w ≡ place.width
 place_wide kind k place h w e = sym (type_width-field kind (suc k) (field_view place).1 w h.field e)
@@ -137,12 +137,12 @@ pub blank_more : (kind : Kind) (k : ℕ) (place : Field) (old new : List ℕ) �
 blank_more kind k place old new h e n =
     rw add-one (n ∙ ap (λ (x : List ℕ). x ++ blank_cell place.ty place.width) e ∙ sym (blank_next (layout kind) k (field_view place).1 h.field))
 
-length-placed : (at : ℕ) (fields : List FieldLayout) → length (placed at fields) ≡ length fields
+length-placed : (at : ℕ) (fields : List FieldLayout) → length (placed_fields at fields) ≡ length fields
 length-placed at [] = refl
 length-placed at (f ∷ fields) = ap suc (length-placed (at + f.width) fields)
 
 -- the blank cells of all fields are the blank line
-pub blank_whole : (kind : Kind) (items : List Field) (k : ℕ) (text : List ℕ) → map field_view items ≡ placed 0 (layout kind) → length items ≤ k → text ≡ blank_text (take k (layout kind)) → text ≡ blank_text (layout kind)
+pub blank_whole : (kind : Kind) (items : List Field) (k : ℕ) (text : List ℕ) → map field_view items ≡ placed_fields 0 (layout kind) → length items ≤ k → text ≡ blank_text (take k (layout kind)) → text ≡ blank_text (layout kind)
 blank_whole kind items k text e h t =
     let count : length items ≡ length (layout kind) = sym (length-map items field_view) ∙ ap length e ∙ length-placed 0 (layout kind) in
     t ∙ ap blank_text (take_all k (layout kind) (omega arith))

@@ -4,28 +4,28 @@ use Rattle.std.specs.Prelude.{Option, Some, None}
 use Rattle.std.specs.List.{AllZip, zip}
 use Rattle.std.specs.Option.{option_and_then}
 use Rattle.cwr_layouts.specs.declared.kinds.Kind.{Kind}
-use Rattle.cwr_layouts.specs.Layouts.{FieldLayout, layout, placed, field_placed, field_at, line_width}
+use Rattle.cwr_layouts.specs.Layouts.{FieldLayout, layout, placed_fields, field_placed, field_at, line_width}
 use Rattle.cwr_layouts.specs.Lines.{pieces}
 use Rattle.cwr_layouts.specs.Records.{RecordValue, IsCellOf, IsRecord, carried_fields}
 use Rattle.cwr_layouts.specs.Carried.{carried_at, carried_placed, carried_before, carried_cells, record_cell, record_in}
 use Rattle.std.proofs.lemmas.List.{length-map}
 use Rattle.cwr_layouts.proofs.HeldLaws.{length-pieces}
-use Rattle.cwr_layouts.proofs.Judged.{carried_in}
+use Rattle.cwr_layouts.proofs.GoodLinesAreRows.{carried_in}
 use Rattle.cwr_layouts.proofs.CellParts.{part, piece_is_part, field_within}
-use Rattle.cwr_layouts.proofs.Placed.{field_at-placed}
+use Rattle.cwr_layouts.proofs.FieldStarts.{field_at-placed}
 
 -- how many of the fields are carried
 abbrev pub carried_count : List FieldLayout → ℕ
 carried_count fields = length (filter (λ f. not f.derived) fields)
 
 -- what the first field leaves of a place among the carried cells, whether it is carried or not
-behind_first : (b : Bool) (f : FieldLayout) (fields : List FieldLayout) (c : List ℕ) (rest : List (FieldLayout × List ℕ)) (o : Option (List ℕ))
+after_first : (b : Bool) (f : FieldLayout) (fields : List FieldLayout) (c : List ℕ) (rest : List (FieldLayout × List ℕ)) (o : Option (List ℕ))
     → slice_get (map (λ p. p.1) rest) (carried_count fields) ≡ o
     → slice_get (map (λ p. p.1) (cond (not b) ((f, c) ∷ rest) rest)) (length (cond (not b) (f ∷ filter (λ g. not g.derived) fields) (filter (λ g. not g.derived) fields))) ≡ o
-behind_first true f fields c rest o h = h
-behind_first false f fields c rest o h = h
+after_first true f fields c rest o h = h
+after_first false f fields c rest o h = h
 
--- a carried cell stands behind those of the carried fields before it
+-- a carried cell stands after those of the carried fields before it
 pub carried_in-at : (fields : List FieldLayout) (cells : List (List ℕ)) (i : ℕ) (f : FieldLayout) → slice_get fields i ≡ Some f → f.derived ≡ false
     → slice_get (carried_in fields cells) (carried_count (take i fields)) ≡ slice_get cells i
 carried_in-at [] cells i f e d = absurd (cc e)
@@ -35,14 +35,14 @@ carried_in-at (g ∷ fields) (c ∷ cells) zero f e d =
     let carried : g.derived ≡ false = ap (λ (x : FieldLayout). x.derived) same ∙ d in
     rw carried refl
 carried_in-at (g ∷ fields) (c ∷ cells) (suc i) f e d =
-    behind_first g.derived g (take i fields) c (filter (λ p. not p.0.derived) (zip fields cells)) (slice_get cells i) (carried_in-at fields cells i f e d)
+    after_first g.derived g (take i fields) c (filter (λ p. not p.0.derived) (zip fields cells)) (slice_get cells i) (carried_in-at fields cells i f e d)
 
-set_behind_first : (b : Bool) (f : FieldLayout) (fields : List FieldLayout) (c t : List ℕ) (rest next : List (FieldLayout × List ℕ))
+set_after_first : (b : Bool) (f : FieldLayout) (fields : List FieldLayout) (c t : List ℕ) (rest next : List (FieldLayout × List ℕ))
     → map (λ p. p.1) next ≡ slice_set (map (λ p. p.1) rest) (carried_count fields) t
     → map (λ p. p.1) (cond (not b) ((f, c) ∷ next) next)
     ≡ slice_set (map (λ p. p.1) (cond (not b) ((f, c) ∷ rest) rest)) (length (cond (not b) (f ∷ filter (λ g. not g.derived) fields) (filter (λ g. not g.derived) fields))) t
-set_behind_first true f fields c t rest next h = h
-set_behind_first false f fields c t rest next h = ap (λ (xs : List (List ℕ)). c ∷ xs) h
+set_after_first true f fields c t rest next h = h
+set_after_first false f fields c t rest next h = ap (λ (xs : List (List ℕ)). c ∷ xs) h
 
 -- setting a carried cell sets it among the carried cells
 pub carried_in-set : (fields : List FieldLayout) (cells : List (List ℕ)) (i : ℕ) (f : FieldLayout) (t : List ℕ) → slice_get fields i ≡ Some f → f.derived ≡ false
@@ -54,7 +54,7 @@ carried_in-set (g ∷ fields) (c ∷ cells) zero f t e d =
     let carried : g.derived ≡ false = ap (λ (x : FieldLayout). x.derived) same ∙ d in
     rw carried refl
 carried_in-set (g ∷ fields) (c ∷ cells) (suc i) f t e d =
-    set_behind_first g.derived g (take i fields) c t (filter (λ p. not p.0.derived) (zip fields cells)) (filter (λ p. not p.0.derived) (zip fields (slice_set cells i t)))
+    set_after_first g.derived g (take i fields) c t (filter (λ p. not p.0.derived) (zip fields cells)) (filter (λ p. not p.0.derived) (zip fields (slice_set cells i t)))
     (carried_in-set fields cells i f t e d)
 
 count_by : (b : Bool) (f : FieldLayout) (fields : List FieldLayout) (c : List ℕ) (rest : List (FieldLayout × List ℕ)) → length (map (λ p. p.1) rest) ≡ length fields
@@ -85,7 +85,7 @@ whole_of kind line r e = subst (λ (v : RecordValue). length v.cells ≡ length 
 pub record IsCarried (kind : Kind) (j : ℕ) (p : ℕ × FieldLayout) : Type 0 where
   pub place : ℕ
   pub number : j ≡ suc place
-  pub found : slice_get (placed 0 (layout kind)) place ≡ Some p
+  pub found : slice_get (placed_fields 0 (layout kind)) place ≡ Some p
   pub field : slice_get (layout kind) place ≡ Some p.1
   pub carried : p.1.derived ≡ false
 
@@ -103,7 +103,7 @@ is_carried kind (suc i) p e =
     let s = carried_some (field_placed kind (suc i)) p e in
     let some : nat_eq (suc i) 0 ≡ false = ne_eqb (suc i) 0 (λ h. omega arith) in
     let before : suc i - 1 ≡ i = omega arith in
-    let there : field_placed kind (suc i) ≡ slice_get (placed 0 (layout kind)) i = rw (some, before) refl in
+    let there : field_placed kind (suc i) ≡ slice_get (placed_fields 0 (layout kind)) i = rw (some, before) refl in
     record {
       place = i;
       number = refl;
@@ -184,16 +184,16 @@ record_cell-piece kind line i f e d =
 -- ---- the cells of a record
 
 -- what the first field leaves of a place among the carried fields
-field_behind_first : (b : Bool) (g : FieldLayout) (fields front : List FieldLayout) (o : Option FieldLayout) → slice_get fields (carried_count front) ≡ o
+field_after_first : (b : Bool) (g : FieldLayout) (fields front : List FieldLayout) (o : Option FieldLayout) → slice_get fields (carried_count front) ≡ o
     → slice_get (cond (not b) (g ∷ fields) fields) (length (cond (not b) (g ∷ filter (λ f. not f.derived) front) (filter (λ f. not f.derived) front))) ≡ o
-field_behind_first true g fields front o h = h
-field_behind_first false g fields front o h = h
+field_after_first true g fields front o h = h
+field_after_first false g fields front o h = h
 
 first_carried : (b : Bool) (g : FieldLayout) (fields : List FieldLayout) → b ≡ false → slice_get (cond (not b) (g ∷ fields) fields) 0 ≡ Some g
 first_carried true g fields d = absurd (cc d)
 first_carried false g fields d = refl
 
--- a carried field stands behind the carried fields before it
+-- a carried field stands after the carried fields before it
 pub carried_field-at : (fields : List FieldLayout) (i : ℕ) (f : FieldLayout) → slice_get fields i ≡ Some f → f.derived ≡ false
     → slice_get (filter (λ g. not g.derived) fields) (carried_count (take i fields)) ≡ Some f
 carried_field-at [] i f e d = absurd (cc e)
@@ -201,7 +201,7 @@ carried_field-at (g ∷ fields) zero f e d =
     let same : g ≡ f = cc e in
     first_carried g.derived g (filter (λ x. not x.derived) fields) (ap (λ (x : FieldLayout). x.derived) same ∙ d) ∙ ap (λ (x : FieldLayout). Some x) same
 carried_field-at (g ∷ fields) (suc i) f e d =
-    field_behind_first g.derived g (filter (λ x. not x.derived) fields) (take i fields) (Some f) (carried_field-at fields i f e d)
+    field_after_first g.derived g (filter (λ x. not x.derived) fields) (take i fields) (Some f) (carried_field-at fields i f e d)
 
 -- a cell at the place of each field
 pub record CellAt (f : FieldLayout) (o : Option (List ℕ)) : Type 0 where

@@ -10,11 +10,11 @@ use Rattle.cwr_layouts.specs.Records.{RecordValue, IsCellOf, IsRecord, carried_f
 use Rattle.cwr_layouts.specs.Carried.{carried_at, carried_before, record_cell, ShowsSet}
 use Rattle.cwr_layouts.proofs.CarriedCells.{carried_count, open_some, carried_field-at}
 
-rest_behind : (b : Bool) (g : FieldLayout) (fields front : List FieldLayout) (cells : List (List ℕ)) → AllZip IsCellOf (cond (not b) (g ∷ fields) fields) cells
+rest_after : (b : Bool) (g : FieldLayout) (fields front : List FieldLayout) (cells : List (List ℕ)) → AllZip IsCellOf (cond (not b) (g ∷ fields) fields) cells
     → slice_get (rest_if (not b) cells) (carried_count front) ≡ slice_get cells (length (cond (not b) (g ∷ filter (λ f. not f.derived) front) (filter (λ f. not f.derived) front)))
-rest_behind true g fields front cells h = refl
-rest_behind false g fields front [] h = absurd h
-rest_behind false g fields front (c ∷ cells) h = refl
+rest_after true g fields front cells h = refl
+rest_after false g fields front [] h = absurd h
+rest_after false g fields front (c ∷ cells) h = refl
 
 rest_fits : (b : Bool) (g : FieldLayout) (fields : List FieldLayout) (cells : List (List ℕ)) → AllZip IsCellOf (cond (not b) (g ∷ fields) fields) cells → AllZip IsCellOf fields (rest_if (not b) cells)
 rest_fits true g fields cells h = h
@@ -36,7 +36,7 @@ row_cell (g ∷ fields) numbers cells zero f h e d =
     first_cell g.derived g (filter (λ x. not x.derived) fields) (digits g.width (slice_index numbers 0)) cells (ap (λ (x : FieldLayout). x.derived) same ∙ d) h
 row_cell (g ∷ fields) numbers cells (suc i) f h e d =
     row_cell fields (rest_if g.derived numbers) (rest_if (not g.derived) cells) i f (rest_fits g.derived g (filter (λ x. not x.derived) fields) cells h) e d
-    ∙ rest_behind g.derived g (filter (λ x. not x.derived) fields) (take i fields) cells h
+    ∙ rest_after g.derived g (filter (λ x. not x.derived) fields) (take i fields) cells h
 
 row_by : (r : RecordValue) (numbers : List ℕ) (i : ℕ) (f : FieldLayout) → IsRecord r → slice_get (layout r.kind) i ≡ Some f → f.derived ≡ false
     → slice_get (row_of numbers r).cells i ≡ slice_get r.cells (carried_count (take i (layout r.kind)))

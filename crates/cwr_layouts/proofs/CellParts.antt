@@ -8,10 +8,10 @@ use Rattle.cwr_fields.specs.Bytes.{filled, is_control, is_plain}
 use Rattle.cwr_layouts.specs.declared.kinds.Kind.{Kind}
 use Rattle.cwr_layouts.specs.declared.lines.LineEnd.{LineEnd}
 use Rattle.cwr_layouts.specs.declared.lines.LineEnd.TheVariants.{Open, Line, Over}
-use Rattle.cwr_layouts.specs.Layouts.{FieldLayout, layout, placed, field_placed, total_width, line_width}
+use Rattle.cwr_layouts.specs.Layouts.{FieldLayout, layout, placed_fields, field_placed, total_width, line_width}
 use Rattle.cwr_layouts.specs.Lines.{pieces, cells_as}
 use Rattle.cwr_layouts.specs.Held.{HeldLine, held_body, held_kind, held_cell, cell_as, IsFilled, IsKept, line_kept}
-use Rattle.cwr_layouts.proofs.Filling.{length-filled}
+use Rattle.cwr_layouts.proofs.FilledTexts.{length-filled}
 
 -- the part of a text that a field takes
 abbrev pub part : List ℕ → ℕ × FieldLayout → List ℕ
@@ -33,7 +33,7 @@ plain_part text p h = plain_take p.1.width (drop p.0 text) (plain_drop p.0 text 
 
 -- a piece is the part that its field takes
 pub piece_is_part : (at : ℕ) (fields : List FieldLayout) (text : List ℕ) (i : ℕ)
-    → slice_get (pieces (map (λ f. f.width) fields) (drop at text)) i ≡ option_map (part text) (slice_get (placed at fields) i)
+    → slice_get (pieces (map (λ f. f.width) fields) (drop at text)) i ≡ option_map (part text) (slice_get (placed_fields at fields) i)
 piece_is_part at [] text i = refl
 piece_is_part at (f ∷ fields) text zero = refl
 piece_is_part at (f ∷ fields) text (suc i) =
@@ -47,18 +47,18 @@ unless false text x y e = e
 pub cell_is_part : (kind : Kind) (text : List ℕ) (j : ℕ)
     → cell_as (Some kind) (pieces (map (λ f. f.width) (layout kind)) text) j ≡ option_map (part text) (field_placed kind j)
 cell_is_part kind text j =
-    unless (j == 0) text (slice_get (pieces (map (λ f. f.width) (layout kind)) text) (j - 1)) (slice_get (placed 0 (layout kind)) (j - 1)) (piece_is_part 0 (layout kind) text (j - 1))
+    unless (j == 0) text (slice_get (pieces (map (λ f. f.width) (layout kind)) text) (j - 1)) (slice_get (placed_fields 0 (layout kind)) (j - 1)) (piece_is_part 0 (layout kind) text (j - 1))
 
-pub within : (at : ℕ) (fields : List FieldLayout) (i : ℕ) (p : ℕ × FieldLayout) → slice_get (placed at fields) i ≡ Some p → p.0 + p.1.width ≤ at + total_width fields
-within at [] i p e = absurd cc
-within at (f ∷ fields) zero p e =
+pub field_part_within : (at : ℕ) (fields : List FieldLayout) (i : ℕ) (p : ℕ × FieldLayout) → slice_get (placed_fields at fields) i ≡ Some p → p.0 + p.1.width ≤ at + total_width fields
+field_part_within at [] i p e = absurd cc
+field_part_within at (f ∷ fields) zero p e =
     let same : (at, f) ≡ p = cc e in
     rw (← same) (omega (arith, sum_by-cons (λ (g : FieldLayout). g.width) f fields))
-within at (f ∷ fields) (suc i) p e = omega (arith, within (at + f.width) fields i p e, sum_by-cons (λ (g : FieldLayout). g.width) f fields)
+field_part_within at (f ∷ fields) (suc i) p e = omega (arith, field_part_within (at + f.width) fields i p e, sum_by-cons (λ (g : FieldLayout). g.width) f fields)
 
-within_unless : (b : Bool) (kind : Kind) (i : ℕ) (p : ℕ × FieldLayout) → cond b None (slice_get (placed 0 (layout kind)) i) ≡ Some p → p.0 + p.1.width ≤ line_width kind
+within_unless : (b : Bool) (kind : Kind) (i : ℕ) (p : ℕ × FieldLayout) → cond b None (slice_get (placed_fields 0 (layout kind)) i) ≡ Some p → p.0 + p.1.width ≤ line_width kind
 within_unless true kind i p e = absurd cc
-within_unless false kind i p e = omega (arith, within 0 (layout kind) i p e)
+within_unless false kind i p e = omega (arith, field_part_within 0 (layout kind) i p e)
 
 -- each field ends within its line
 pub field_within : (kind : Kind) (j : ℕ) (p : ℕ × FieldLayout) → field_placed kind j ≡ Some p → p.0 + p.1.width ≤ line_width kind
@@ -82,8 +82,8 @@ held_cell-part text h kind j k =
     rw parts (held_cell-by_kind h kind j (sym k.known))
 
 -- the part of a filled text that a field takes lies within the text
-pub part_within : (text : List ℕ) (h : HeldLine) (kind : Kind) (j : ℕ) (p : ℕ × FieldLayout) → IsFilled text (Some kind) h → field_placed kind j ≡ Some p → p.0 + p.1.width ≤ length text
-part_within text h kind j p k e =
+pub held_part_within : (text : List ℕ) (h : HeldLine) (kind : Kind) (j : ℕ) (p : ℕ × FieldLayout) → IsFilled text (Some kind) h → field_placed kind j ≡ Some p → p.0 + p.1.width ≤ length text
+held_part_within text h kind j p k e =
     let count : length text ≡ length (held_body h) + (line_width kind - length (held_body h)) = ap length k.parts ∙ length-filled (line_width kind) (held_body h) in
     omega (arith, field_within kind j p e)
 
@@ -97,10 +97,10 @@ filled_now text count has_return known ended kind h now k e n f same =
     subst (λ (o : Option Kind). IsFilled text o now) same moved
 
 -- what is cut out where the field is known
-pub cell_found : (text : List ℕ) (h : HeldLine) (kind : Kind) (j : ℕ) (p : ℕ × FieldLayout) → IsFilled text (Some kind) h → Some p ≡ field_placed kind j
+pub held_cell_found : (text : List ℕ) (h : HeldLine) (kind : Kind) (j : ℕ) (p : ℕ × FieldLayout) → IsFilled text (Some kind) h → Some p ≡ field_placed kind j
     → Some (part text p) ≡ held_cell h j
-cell_found text h kind j p k e = sym (held_cell-part text h kind j k ∙ ap (option_map (part text)) (sym e))
+held_cell_found text h kind j p k e = sym (held_cell-part text h kind j k ∙ ap (option_map (part text)) (sym e))
 
 -- a line of the kind has no cell where the kind has no field
-pub no_cell_found : (text : List ℕ) (h : HeldLine) (kind : Kind) (j : ℕ) → IsFilled text (Some kind) h → field_placed kind j ≡ None → held_cell h j ≡ None
-no_cell_found text h kind j k e = held_cell-part text h kind j k ∙ ap (option_map (part text)) e
+pub no_held_cell_found : (text : List ℕ) (h : HeldLine) (kind : Kind) (j : ℕ) → IsFilled text (Some kind) h → field_placed kind j ≡ None → held_cell h j ≡ None
+no_held_cell_found text h kind j k e = held_cell-part text h kind j k ∙ ap (option_map (part text)) e

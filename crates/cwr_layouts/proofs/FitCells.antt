@@ -10,12 +10,12 @@ use Rattle.cwr_layouts.specs.declared.kinds.Kind.{Kind}
 use Rattle.cwr_layouts.specs.Layouts.{FieldLayout, layout, line_width}
 use Rattle.cwr_layouts.specs.Lines.{pieces}
 use Rattle.cwr_layouts.specs.Records.{RecordValue, IsCellOf, IsRecord}
-use Rattle.cwr_layouts.specs.Carried.{carried_at, carried_placed, carried_cells, record_cell, record_in, FitsAt, HasFaultAt}
+use Rattle.cwr_layouts.specs.Carried.{carried_at, carried_placed, carried_cells, record_cell, record_in, FitsAt, HasCellFault}
 use Rattle.cwr_layouts.proofs.CellParts.{part}
 use Rattle.cwr_layouts.proofs.HeldLaws.{length-part}
 use Rattle.cwr_layouts.proofs.TypeWidths.{type_width-field}
 use Rattle.cwr_layouts.proofs.CarriedCells.{record_cell-at, record_cell-part, record_cell-piece, carried_at-placed, carried_at-field, carried_within, field_at-carried, widths}
-use Rattle.cwr_layouts.proofs.Judged.{carried_in, pieces_wide}
+use Rattle.cwr_layouts.proofs.GoodLinesAreRows.{carried_in, pieces_wide}
 
 -- a cell that is cut out has the width of its field's type, where that has one
 pub wide_cell : (kind : Kind) (line : List ℕ) (j : ℕ) (p : ℕ × FieldLayout) → length line ≡ line_width kind → carried_placed kind j ≡ Some p
@@ -37,9 +37,9 @@ fits_found r kind line j p e h = on_ok_weaker r (known kind line j p (λ f cell.
 
 -- a cell that has a fault is the record's
 pub fault_found : {T : Type 0} (r : Result T CellFault) (kind : Kind) (line : List ℕ) (j : ℕ) (p : ℕ × FieldLayout) → carried_placed kind j ≡ Some p
-    → IfErr r (HasFault p.1.ty (part line p)) → IfErr r (HasFaultAt (record_in kind line) j)
+    → IfErr r (HasFault p.1.ty (part line p)) → IfErr r (HasCellFault (record_in kind line) j)
 fault_found r kind line j p e h =
-    IfErr-weaker r (HasFault p.1.ty (part line p)) (HasFaultAt (record_in kind line) j)
+    IfErr-weaker r (HasFault p.1.ty (part line p)) (HasCellFault (record_in kind line) j)
     (λ fault. known kind line j p (λ f cell. IsSomeAnd f (λ g. IsSomeAnd cell (λ c. HasFault g.ty c fault))) e) h
 
 -- where no field is carried, nothing is judged
@@ -90,8 +90,8 @@ fits_before r zero h = tt
 fits_before r (suc i) h = absurd (omega arith)
 
 -- no cell of a record has a fault
-pub no_fault : (r : RecordValue) (j : ℕ) (fault : CellFault) → IsRecord r → HasFaultAt r j fault → ⊥
-no_fault r j fault h bad = by (carried_at r.kind j) refl bad
+pub record_has_no_fault : (r : RecordValue) (j : ℕ) (fault : CellFault) → IsRecord r → HasCellFault r j fault → ⊥
+record_has_no_fault r j fault h bad = by (carried_at r.kind j) refl bad
   where
     by : (o : Option FieldLayout) → carried_at r.kind j ≡ o → IsSomeAnd o (λ f. IsSomeAnd (record_cell r j) (λ cell. HasFault f.ty cell fault)) → ⊥
     by None e b = b

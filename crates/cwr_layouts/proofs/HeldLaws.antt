@@ -8,15 +8,15 @@ use Rattle.cwr_layouts.specs.declared.kinds.Kind.{Kind}
 use Rattle.cwr_layouts.specs.declared.lines.LineEnd.{LineEnd}
 use Rattle.cwr_layouts.specs.declared.lines.LineEnd.TheVariants.{Open, Line, Over}
 use Rattle.cwr_layouts.specs.Layouts.{FieldLayout, layout, field_placed, field_at, line_width}
-use Rattle.cwr_layouts.specs.Lines.{longest_line, is_over, line_body, body_kind, pieces, cells_as, excess_as}
-use Rattle.cwr_layouts.specs.Held.{HeldLine, IsHeld, HoldsBy, HoldsLine, IsCutAs, held_body, held_kind, held_cells, held_cell, cell_as, ended_over}
-use Rattle.cwr_layouts.proofs.CutLaws.{not_over, body_of}
-use Rattle.cwr_layouts.proofs.Filling.{length-filled}
-use Rattle.cwr_layouts.proofs.Placed.{field_at-placed}
+use Rattle.cwr_layouts.specs.Lines.{longest_line, is_too_long, line_body, body_kind, pieces, cells_as, excess_as}
+use Rattle.cwr_layouts.specs.Held.{HeldLine, IsHeld, HoldsBy, HoldsLine, IsCutAs, held_body, held_kind, held_cells, held_cell, cell_as, ended_too_long}
+use Rattle.cwr_layouts.proofs.CutLaws.{not_too_long, body_of}
+use Rattle.cwr_layouts.proofs.FilledTexts.{length-filled}
+use Rattle.cwr_layouts.proofs.FieldStarts.{field_at-placed}
 use Rattle.cwr_layouts.proofs.CellParts.{part, field_within, held_cell-by_kind}
 
 -- one body, too long or not, is cut in one way
-cut_as : (h : HeldLine) (line : List ℕ) → held_body h ≡ line_body line → ended_over h.ended ≡ is_over line → IsCutAs h line
+cut_as : (h : HeldLine) (line : List ℕ) → held_body h ≡ line_body line → ended_too_long h.ended ≡ is_too_long line → IsCutAs h line
 cut_as h line b o = record {
   kind = ap body_kind b;
   cells = ap (λ (x : List ℕ). cells_as (body_kind x) x) b;
@@ -25,13 +25,13 @@ cut_as h line b o = record {
 
 -- a line that isn't too long, and was taken whole
 pub whole_line_is_cut : (line : List ℕ) → length line ≤ longest_line → IsCutAs (record { bytes = line; ended = Line }) line
-whole_line_is_cut line h = cut_as (record { bytes = line; ended = Line }) line (sym (body_of line h)) (sym (not_over line h))
+whole_line_is_cut line h = cut_as (record { bytes = line; ended = Line }) line (sym (body_of line h)) (sym (not_too_long line h))
 
 -- a line that is too long, as far as it is judged
 pub long_line_is_cut : (line : List ℕ) → longest_line < length line → IsCutAs (record { bytes = take longest_line line; ended = Over }) line
 long_line_is_cut line h =
-    let over : is_over line ≡ true = lt-ltb longest_line (length line) h in
-    cut_as (record { bytes = take longest_line line; ended = Over }) line (rw over refl) (sym over)
+    let too_long : is_too_long line ≡ true = lt-ltb longest_line (length line) h in
+    cut_as (record { bytes = take longest_line line; ended = Over }) line (rw too_long refl) (sym too_long)
 
 -- what was taken of a line is cut as the line is
 pub held_line_is_cut : (h : HeldLine) (line : List ℕ) → IsHeld h → HoldsLine h line → IsCutAs h line

@@ -9,7 +9,7 @@ use Rattle.cwr_layouts.specs.Lines.{pieces, cells_as}
 use Rattle.cwr_layouts.specs.Records.{RecordValue, IsRecord, record_of}
 use Rattle.cwr_layouts.specs.Carried.{carried_cells, record_in}
 use Rattle.cwr_layouts.specs.Held.{HeldLine, held_body, carried_by, held_record, IsFilled}
-use Rattle.cwr_layouts.proofs.Filling.{length-filled}
+use Rattle.cwr_layouts.proofs.FilledTexts.{length-filled}
 
 -- pieces of a text lie within its first bytes
 pieces_within : (fields : List FieldLayout) (n : ℕ) (text : List ℕ) → total_width fields ≤ n → pieces (map (λ f. f.width) fields) (take n text) ≡ pieces (map (λ f. f.width) fields) text

@@ -14,7 +14,7 @@ use Rattle.cwr_layouts.specs.Kinds.{letters, kind_of}
 use Rattle.cwr_layouts.specs.Layouts.{FieldLayout, layout, fields_after_type, total_width, line_width}
 use Rattle.cwr_layouts.specs.Records.{RecordValue, IsCellOf, IsRecord, Row, IsRow, rest_if, row_cells, row_of, full_line, record_of}
 use Rattle.cwr_layouts.specs.Lines.{without_cr, IsLineOf}
-use Rattle.cwr_layouts.proofs.Trimmed.{same_from_trimmed}
+use Rattle.cwr_layouts.proofs.TrimmedTexts.{same_from_trimmed}
 use Rattle.cwr_layouts.proofs.AllKinds.{kind_of-letters, length-letters, NoLf-letters, line_width_most, trimmed-letters}
 
 -- a text in a field, in its width and without line feed

@@ -8,17 +8,17 @@ use Rattle.std.proofs.Math.Seq.{take-append_seam, drop-append_seam}
 use Rattle.cwr_fields.specs.Bytes.{filled}
 use Rattle.cwr_fields.specs.Cells.{Holds, type_width}
 use Rattle.cwr_layouts.specs.declared.kinds.Kind.{Kind}
-use Rattle.cwr_layouts.specs.Layouts.{FieldLayout, layout, placed, field_placed, field_at, line_width}
+use Rattle.cwr_layouts.specs.Layouts.{FieldLayout, layout, placed_fields, field_placed, field_at, line_width}
 use Rattle.cwr_layouts.specs.Lines.{pieces}
 use Rattle.cwr_layouts.specs.Records.{RecordValue}
 use Rattle.cwr_layouts.specs.Carried.{carried_at, carried_placed, carried_before, carried_cells, record_in, set_cell, Sets}
 use Rattle.cwr_layouts.proofs.CarriedCells.{carried_count, widths, is_carried, carried_at-placed, carried_in-set, carried_within}
 use Rattle.cwr_layouts.proofs.AllKinds.{line_width_widest}
 use Rattle.cwr_layouts.proofs.CellParts.{field_within}
-use Rattle.cwr_layouts.proofs.Filling.{length-filled}
-use Rattle.cwr_layouts.proofs.Placed.{field_at-placed}
+use Rattle.cwr_layouts.proofs.FilledTexts.{length-filled}
+use Rattle.cwr_layouts.proofs.FieldStarts.{field_at-placed}
 use Rattle.cwr_layouts.proofs.TypeWidths.{type_width-field}
-use Rattle.cwr_layouts.proofs.Judged.{carried_in}
+use Rattle.cwr_layouts.proofs.GoodLinesAreRows.{carried_in}
 
 -- what stands before the part that is written
 take-splice : (n k e : ℕ) (xs t : List ℕ) → n ≤ k → k ≤ length xs → take n (splice xs k e t) ≡ take n xs
@@ -26,7 +26,7 @@ take-splice n k e xs t h w =
     let front : length (take k xs) ≡ k = length-take-le k xs w in
     take-append-le n (take k xs) (t ++ drop e xs) (omega arith) ∙ take-take n k xs h
 
--- behind the first bytes the same part is written
+-- after the first bytes the same part is written
 drop-splice : (n k e : ℕ) (xs t : List ℕ) → n ≤ k → k ≤ length xs → n ≤ e → drop n (splice xs k e t) ≡ splice (drop n xs) (k - n) (e - n) t
 drop-splice n k e xs t h w g =
     let front : length (take k xs) ≡ k = length-take-le k xs w in
@@ -41,14 +41,14 @@ first_piece w e ws line t h g =
     let others : drop w (t ++ drop e line) ≡ drop w line = ap (λ (n : ℕ). drop n (t ++ drop e line)) (sym h) ∙ drop-append_seam t (drop e line) ∙ ap (λ (n : ℕ). drop n line) g in
     ap₂ (λ (x : List ℕ) (xs : List (List ℕ)). x ∷ xs) first (ap (pieces ws) others)
 
-starts_after : (at : ℕ) (fields : List FieldLayout) (i : ℕ) (p : ℕ × FieldLayout) → slice_get (placed at fields) i ≡ Some p → at ≤ p.0
+starts_after : (at : ℕ) (fields : List FieldLayout) (i : ℕ) (p : ℕ × FieldLayout) → slice_get (placed_fields at fields) i ≡ Some p → at ≤ p.0
 starts_after at [] i p e = absurd (cc e)
 starts_after at (f ∷ fields) zero p e = let same : (at, f) ≡ p = cc e in rw (← same) (omega arith)
 starts_after at (f ∷ fields) (suc i) p e = omega (arith, starts_after (at + f.width) fields i p e)
 
 -- writing the part that a field takes sets its piece
 pieces-splice : (at k : ℕ) (fields : List FieldLayout) (line : List ℕ) (i : ℕ) (p : ℕ × FieldLayout) (t : List ℕ)
-    → slice_get (placed at fields) i ≡ Some p → p.0 ≡ at + k → length t ≡ p.1.width → k + p.1.width ≤ length line
+    → slice_get (placed_fields at fields) i ≡ Some p → p.0 ≡ at + k → length t ≡ p.1.width → k + p.1.width ≤ length line
     → pieces (map (λ f. f.width) fields) (splice line k (k + length t) t) ≡ slice_set (pieces (map (λ f. f.width) fields) line) i t
 pieces-splice at k [] line i p t e s w h = absurd (cc e)
 pieces-splice at k (f ∷ fields) line zero p t e s w h =
@@ -91,8 +91,8 @@ length-splice line t k h =
 same_kind : (kind : Kind) (line : List ℕ) (now : RecordValue) → record_in kind line ≡ now → kind ≡ now.kind
 same_kind kind line now same = ap (λ (r : RecordValue). r.kind) same
 
-pub no_field : (kind : Kind) (line : List ℕ) (j : ℕ) (now : RecordValue) → record_in kind line ≡ now → None ≡ field_placed kind j → field_at now.kind j ≡ None
-no_field kind line j now same e =
+pub no_field_to_set : (kind : Kind) (line : List ℕ) (j : ℕ) (now : RecordValue) → record_in kind line ≡ now → None ≡ field_placed kind j → field_at now.kind j ≡ None
+no_field_to_set kind line j now same e =
     subst (λ (k : Kind). field_at k j ≡ None) (same_kind kind line now same) (sym (field_at-placed kind j) ∙ ap (option_map (λ (p : ℕ × FieldLayout). p.1)) (sym e))
 
 -- a fact of the field that was found
@@ -122,9 +122,9 @@ length-whole : (w : ℕ) (text cell : List ℕ) → length text ≤ w → cell �
 length-whole w text cell h e = omega (arith, ap length e, length-filled w text)
 
 -- a cell filled up to its field's width has the width of its type
-pub filled_wide : (kind : Kind) (j : ℕ) (p : ℕ × FieldLayout) (text cell : List ℕ) → Some p ≡ field_placed kind j → length text ≤ p.1.width → cell ≡ filled p.1.width text
+pub filled_cell_wide : (kind : Kind) (j : ℕ) (p : ℕ × FieldLayout) (text cell : List ℕ) → Some p ≡ field_placed kind j → length text ≤ p.1.width → cell ≡ filled p.1.width text
     → (w : ℕ) → type_width p.1.ty ≡ Some w → length cell ≡ w
-filled_wide kind j p text cell e h f w t =
+filled_cell_wide kind j p text cell e h f w t =
     length-whole p.1.width text cell h f ∙ type_width-field kind j p.1 w (sym (field_at-placed kind j) ∙ ap (option_map (λ (q : ℕ × FieldLayout). q.1)) (sym e)) t
 
 -- the part where the cell is written lies within the line

@@ -58,13 +58,13 @@ abbrev pub FitsAt : RecordValue → ℕ → Type 0
 FitsAt r j = IfSome (carried_at r.kind j) (λ f. IfSome (record_cell r j) (Holds f.ty))
 
 -- the record's cell of field j has the fault
-abbrev pub HasFaultAt : RecordValue → ℕ → CellFault → Type 0
-HasFaultAt r j fault = IsSomeAnd (carried_at r.kind j) (λ f. IsSomeAnd (record_cell r j) (λ cell. HasFault f.ty cell fault))
+abbrev pub HasCellFault : RecordValue → ℕ → CellFault → Type 0
+HasCellFault r j fault = IsSomeAnd (carried_at r.kind j) (λ f. IsSomeAnd (record_cell r j) (λ cell. HasFault f.ty cell fault))
 
 -- the first of the record's cells that isn't one of its field's type, and its fault
 pub record IsFirstUnfit (r : RecordValue) (d : DraftFault) : Type 0 where
   pub before : (i : ℕ) → i < d.field → FitsAt r i
-  pub here : HasFaultAt r d.field d.fault
+  pub here : HasCellFault r d.field d.fault
 
 -- ---- how a record is kept
 

@@ -28,10 +28,10 @@ abbrev pub held_text : HeldLine → List ℕ
 held_text h = text_by h.ended h.bytes
 
 -- the line stopped before a byte too many
-abbrev pub ended_over : LineEnd → Bool
-ended_over Open = false
-ended_over Line = false
-ended_over Over = true
+abbrev pub ended_too_long : LineEnd → Bool
+ended_too_long Open = false
+ended_too_long Line = false
+ended_too_long Over = true
 
 -- the bytes that are judged: a line that is too long keeps its last byte, and any other loses one carriage return at its end
 abbrev pub body_by : LineEnd → List ℕ → List ℕ
@@ -52,7 +52,7 @@ held_cells h = cells_as (held_kind h) (held_body h)
 
 -- the excess of the line is bad
 abbrev pub held_excess : HeldLine → Bool
-held_excess h = excess_as (held_kind h) (ended_over h.ended) (held_body h)
+held_excess h = excess_as (held_kind h) (ended_too_long h.ended) (held_body h)
 
 -- cell j, from 1, of a line of the kind; a line of unknown kind has none
 abbrev pub cell_as : Option Kind → List (List ℕ) → ℕ → Option (List ℕ)
@@ -72,18 +72,18 @@ abbrev pub held_record : HeldLine → Option RecordValue
 held_record h = carried_by (held_kind h) (held_cells h)
 
 -- a line that is too long was taken up to the longest
-abbrev pub IsFull : LineEnd → ℕ → Type 0
-IsFull Open count = Unit {0}
-IsFull Line count = Unit {0}
-IsFull Over count = count ≡ longest_line
+abbrev pub FillsLongest : LineEnd → ℕ → Type 0
+FillsLongest Open count = Unit {0}
+FillsLongest Line count = Unit {0}
+FillsLongest Over count = count ≡ longest_line
 
 -- a line has no line feed before its end, and no more bytes than the longest
 pub record IsHeld (h : HeldLine) : Type 0 where
   pub no_lf : IsFalse (list_any is_lf h.bytes)
   pub short : length h.bytes ≤ longest_line
-  pub full : IsFull h.ended (length h.bytes)
+  pub full : FillsLongest h.ended (length h.bytes)
 
--- where taking stops: at the end of the piece, behind a line feed, or before a byte too many that is no line feed
+-- where taking stops: at the end of the piece, after a line feed, or before a byte too many that is no line feed
 abbrev pub Stops : LineEnd → List ℕ → ℕ → Type 0
 Stops Open piece used = used ≡ length piece
 Stops Line piece used = 0 < used

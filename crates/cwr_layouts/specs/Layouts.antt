@@ -28,7 +28,7 @@ number name width = record { name = codes name; width = width; ty = Number; deri
 abbrev pub record_type : FieldLayout
 record_type = record { name = codes "record type"; width = 3; ty = Required; derived = true }
 
--- behind the record type, a record inside a transaction carries its transaction's place in the group and its own place in the transaction
+-- after the record type, a record inside a transaction carries its transaction's place in the group and its own place in the transaction
 abbrev pub in_transaction : List FieldLayout → List FieldLayout
 in_transaction fields = number "transaction sequence" 8 ∷ number "record sequence" 8 ∷ fields
 
@@ -132,7 +132,7 @@ original_fields =
     cell "submitter work number" 14 Text ∷
     []
 
--- the fields behind the record type
+-- the fields after the record type
 abbrev pub fields_after_type : Kind → List FieldLayout
 fields_after_type Hdr =
     cell "sender type" 2 (Code tables.Sender) ∷
@@ -323,13 +323,13 @@ abbrev pub line_width : Kind → ℕ
 line_width kind = total_width (layout kind)
 
 -- each field with the place where it starts: where the one before it ends
-abbrev pub placed : ℕ → List FieldLayout → List (ℕ × FieldLayout)
-placed at [] = []
-placed at (f ∷ fields) = (at, f) ∷ placed (at + f.width) fields
+abbrev pub placed_fields : ℕ → List FieldLayout → List (ℕ × FieldLayout)
+placed_fields at [] = []
+placed_fields at (f ∷ fields) = (at, f) ∷ placed_fields (at + f.width) fields
 
 -- field j of a kind, from 1, with the place where it starts
 abbrev pub field_placed : Kind → ℕ → Option (ℕ × FieldLayout)
-field_placed kind j = if j == 0 then None else slice_get (placed 0 (layout kind)) (j - 1)
+field_placed kind j = if j == 0 then None else slice_get (placed_fields 0 (layout kind)) (j - 1)
 
 -- field j, from 1
 abbrev pub field_at : Kind → ℕ → Option FieldLayout

@@ -1,4 +1,4 @@
--- The lines of a text, the row that a line stands for, and the cells that a line is cut into.
+-- The lines of a text, the row that a line represents, and the cells that a line is cut into.
 use Rattle.std.specs.Prelude.{◌≡◌, ℕ, ◌-◌, ◌≤◌, Bool, false, not, ◌||◌, ◌==◌, nat_lt, IsFalse, List, [], ◌∷◌, ◌++◌, length, map, take, drop, Option, Some, None, if◌then◌else◌}
 use Rattle.std.specs.List.{list_any, slice_split}
 use Rattle.std.specs.Str.{bytes_eq}
@@ -20,7 +20,7 @@ longest_line = 1024
 abbrev pub without_cr : List ℕ → List ℕ
 without_cr line = if bytes_eq (drop (length line - 1) line) (13 ∷ []) then take (length line - 1) line else line
 
--- The line stands for the row: it has no line feed and isn't too long, and but for trailing spaces and one carriage
+-- The line represents the row: it has no line feed and isn't too long, and but for trailing spaces and one carriage
 -- return at its end it is the row's full line.
 abbrev pub IsLineOf : Row → List ℕ → Type 0
 IsLineOf row line = IsFalse (list_any is_lf line) × (length line ≤ longest_line) × (trimmed (without_cr line) ≡ trimmed (full_line row))
@@ -34,12 +34,12 @@ abbrev pub raw_lines : List ℕ → List (List ℕ)
 raw_lines text = let parts = slice_split is_lf text in take (length parts - 1) parts
 
 -- the line is too long
-abbrev pub is_over : List ℕ → Bool
-is_over line = nat_lt longest_line (length line)
+abbrev pub is_too_long : List ℕ → Bool
+is_too_long line = nat_lt longest_line (length line)
 
 -- the bytes of a line that are judged
 abbrev pub line_body : List ℕ → List ℕ
-line_body line = if is_over line then take longest_line line else without_cr line
+line_body line = if is_too_long line then take longest_line line else without_cr line
 
 -- the text in pieces of these widths
 abbrev pub pieces : List ℕ → List ℕ → List (List ℕ)
@@ -55,10 +55,10 @@ abbrev pub cells_as : Option Kind → List ℕ → List (List ℕ)
 cells_as None body = take 3 (filled 3 body) ∷ []
 cells_as (Some kind) body = pieces (map (λ f. f.width) (layout kind)) (filled (line_width kind) body)
 
--- what stands behind the last field is bad: it isn't all spaces, or the line is too long; a line of unknown kind has none
+-- what stands after the last field is bad: it isn't all spaces, or the line is too long; a line of unknown kind has none
 abbrev pub excess_as : Option Kind → Bool → List ℕ → Bool
-excess_as None over body = false
-excess_as (Some kind) over body = over || not (is_spaces (drop (line_width kind) body))
+excess_as None too_long body = false
+excess_as (Some kind) too_long body = too_long || not (is_spaces (drop (line_width kind) body))
 
 -- the kind of a line
 abbrev pub line_kind : List ℕ → Option Kind
@@ -70,4 +70,4 @@ line_cells line = cells_as (line_kind line) (line_body line)
 
 -- the excess of the line is bad
 abbrev pub has_bad_excess : List ℕ → Bool
-has_bad_excess line = excess_as (line_kind line) (is_over line) (line_body line)
+has_bad_excess line = excess_as (line_kind line) (is_too_long line) (line_body line)

@@ -27,9 +27,9 @@ abbrev pub IsCellOf : FieldLayout → List ℕ → Type 0
 IsCellOf f text = (length text ≡ f.width) × Holds f.ty text
 
 -- a derived cell is the number, written in full width, and any other is one of the field's type
-abbrev pub IsGoodBy : Bool → FieldLayout → ℕ → List ℕ → Type 0
-IsGoodBy true f n cell = cell ≡ digits f.width n
-IsGoodBy false f n cell = Holds f.ty cell
+abbrev pub IsGoodCell : Bool → FieldLayout → ℕ → List ℕ → Type 0
+IsGoodCell true f n cell = cell ≡ digits f.width n
+IsGoodCell false f n cell = Holds f.ty cell
 
 -- each carried cell is one of its field
 abbrev pub IsRecord : RecordValue → Type 0
@@ -82,8 +82,8 @@ abbrev pub blank_record : Kind → RecordValue
 blank_record kind = record { kind = kind; cells = map (λ f. blank_cell f.ty f.width) (carried_fields kind) }
 
 -- the record's cell of that name, and the empty text where its kind carries none of that name
-abbrev pub named : String → RecordValue → List ℕ
-named name r = unwrap_or (option_map (λ p. p.1) (find (λ p. bytes_eq p.0.name (codes name)) (zip (carried_fields r.kind) r.cells))) []
+abbrev pub cell_named : String → RecordValue → List ℕ
+cell_named name r = unwrap_or (option_map (λ p. p.1) (find (λ p. bytes_eq p.0.name (codes name)) (zip (carried_fields r.kind) r.cells))) []
 
 -- the number of the field of that name, and 1 where the kind has none
 abbrev pub field_number : String → Kind → ℕ

@@ -7,13 +7,13 @@ ghost use Rattle.cwr_fields.specs.Bytes.{filled, is_plain};
 ghost use Rattle.cwr_fields.specs.Cells.{Holds, HasFault, type_width};
 ghost use Rattle.cwr_layouts.specs.Layouts.{line_width};
 ghost use Rattle.cwr_layouts.specs.Records.{IsRecord, blank_cell, blank_record, carried_fields};
-ghost use Rattle.cwr_layouts.specs.Carried.{Sets, IsSetFault, FitsAt, HasFaultAt, IsFirstUnfit, record_in};
+ghost use Rattle.cwr_layouts.specs.Carried.{Sets, IsSetFault, FitsAt, HasCellFault, IsFirstUnfit, record_in};
 
 use crate::kinds::Kind;
 use crate::layouts::{Field, layout};
 use crate::lines::{fill_up, part};
-use crate::lookups::{carried, field, fields};
-use crate::records::{LineText, Record, WIDEST_LINE, kept, show_cells};
+use crate::lookups::{carried_field, field, fields};
+use crate::records::{LineText, Record, WIDEST_LINE, copy_bytes, show_cells};
 use arrayvec::ArrayVec;
 use cwr_fields::{CellFault, CellType, fits, fits_plain, is_plain};
 use std::error::Error;
@@ -38,7 +38,7 @@ pub enum SetFault {
 pub struct DraftFault {
     /// The field's number, from 1.
     pub field: u8,
-    /// What is told of its cell, as by `fits`.
+    /// The fault of its cell, as `fits` answers it.
     pub fault: CellFault,
 }
 
@@ -71,12 +71,12 @@ fn filled_cell(text: &[u8], width: usize) -> LineText
     requires fits { width ≤ WIDEST_LINE }
     ensures { result.items ≡ filled width text.now }
 {
-    let mut cell = kept(text);
+    let mut cell = copy_bytes(text);
     fill_up(&mut cell, width);
     cell
 }
 
-/// Judges a cell, of which is told whether it is known to have no control byte.
+/// Judges a cell; `plain` says whether it is known to have no control byte.
 #[inline(always)]
 fn fits_known(ty: CellType, cell: &[u8], plain: bool) -> Result<(), CellFault>
     requires width { ForSome (type_width ty) (λ width. length cell.now ≡ width) }
@@ -91,16 +91,16 @@ fn fits_known(ty: CellType, cell: &[u8], plain: bool) -> Result<(), CellFault>
     }
 }
 
-/// Judges the cell of field `j` of a whole line, of which is told whether it is known to have no control byte. A field
+/// Judges the cell of field `j` of a whole line; `plain` says whether that is known to have no control byte. A field
 /// that isn't there, or is derived, has none.
 #[inline(always)]
 fn judge_cell(kind: Kind, line: &[u8], plain: bool, j: u8) -> Result<(), CellFault>
     requires whole { length line.now ≡ line_width kind }
     requires plain { IsTrue plain → IsTrue (is_plain line.now) }
     ensures ok { OnOk result (FitsAt (record_in kind line.now) j) }
-    ensures err { IfErr result (HasFaultAt (record_in kind line.now) j) }
+    ensures err { IfErr result (HasCellFault (record_in kind line.now) j) }
 {
-    match carried(kind, j) {
+    match carried_field(kind, j) {
         Some(place) => fits_known(place.ty, part(line, place), plain),
         None => Ok(()),
     }
@@ -181,14 +181,14 @@ impl Draft {
         Ok(())
     }
 
-    /// The record of the draft's cells. Where one of them doesn't fit its field's type, the first such is told.
+    /// The record of the draft's cells. Where one of them doesn't fit its field's type, the first such is reported.
     pub fn done(&self) -> Result<Record, DraftFault>
         ensures variant { IsOk result ↔ IsRecord self.now }
         ensures ok { IfOk result (λ made. made ≡ self.now) }
         ensures err { IfErr result (IsFirstUnfit self.now) }
     {
         judge(self.kind, self.text.as_slice())?;
-        Ok(Record::of_line(self.kind, kept(self.text.as_slice())))
+        Ok(Record::of_line(self.kind, copy_bytes(self.text.as_slice())))
     }
 }
 

@@ -2,7 +2,7 @@
 //! and the type of its cells. Derived fields hold numbers that are computed from the order of the records.
 
 ghost use Rattle.std.specs.Prelude.{◌≡◌, map};
-ghost use Rattle.cwr_layouts.specs.Layouts.{layout as layout_of, placed};
+ghost use Rattle.cwr_layouts.specs.Layouts.{layout as layout_of, placed_fields};
 ghost use Rattle.cwr_layouts.specs.Views.{field_view};
 
 use crate::kinds::Kind;
@@ -515,7 +515,7 @@ static MSG: [Field; 9] = [
 
 /// The fields of a kind, in order.
 pub(crate) fn layout(kind: Kind) -> &'static [Field]
-    ensures { map field_view result.now ≡ placed 0 (layout_of kind) }
+    ensures { map field_view result.now ≡ placed_fields 0 (layout_of kind) }
 {
     match kind {
         Kind::Hdr => &HDR,

@@ -1,6 +1,7 @@
 //! The kinds of CWR 2.1 records and their layouts, lines cut into cells, and records as values.
 #![tactic(auto)]
 
+mod canonical_lines;
 mod drafts;
 mod kinds;
 pub mod laws;
@@ -9,6 +10,7 @@ mod lines;
 mod lookups;
 mod records;
 
+pub use canonical_lines::CanonicalLine;
 pub use drafts::{Draft, DraftFault, SetFault};
 pub use kinds::Kind;
 pub use layouts::Field;

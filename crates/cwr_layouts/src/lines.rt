@@ -105,7 +105,7 @@ pub struct LineBuf {
     text: ArrayVec<u8, LONGEST_LINE>,
     /// How many bytes of the text were taken.
     count: usize,
-    /// Whether a carriage return was dropped behind them.
+    /// Whether a carriage return was dropped after them.
     has_return: bool,
     /// The kind of a line that ended.
     kind: Option<Kind>,
@@ -178,7 +178,7 @@ impl LineBuf {
     }
 
     /// Ends an open line that is too long.
-    fn close_over(&mut self)
+    fn close_too_long(&mut self)
         requires open { self.old.ended ≡ LineEnd.Open }
         requires full { length self.old.bytes ≡ LONGEST_LINE }
         ensures { self.new ≡ record { bytes = self.old.bytes; ended = LineEnd.Over } }
@@ -214,7 +214,7 @@ impl LineBuf {
             }
             None => {
                 self.hold(&piece[..room]);
-                self.close_over();
+                self.close_too_long();
                 Taken {
                     used: room,
                     ended: LineEnd::Over,
@@ -233,7 +233,7 @@ impl LineBuf {
 }
 
 /// A line that ended, cut into the cells of its kind by the layouts of CWR 2.1. A line that is too short for its kind
-/// stands for the line filled up with spaces, and one that is too long is judged by its first 1,024 bytes.
+/// represents the line filled up with spaces, and one that is too long is judged by its first 1,024 bytes.
 #[derive(Drop)]
 pub struct CutLine<'a> {
     line: &'a LineBuf,
@@ -279,11 +279,11 @@ impl<'a> CutLine<'a> {
     {
         let line = self.line;
         let kind = line.kind?;
-        RecordRef::judged(kind, &line.text.as_slice()[..width(kind)])
+        RecordRef::from_line(kind, &line.text.as_slice()[..width(kind)])
     }
 
-    /// Whether what stands behind the last field is bad: it isn't all spaces, or the line is too long. A line of
-    /// unknown kind has nothing behind its last field.
+    /// Whether what stands after the last field is bad: it isn't all spaces, or the line is too long. A line of
+    /// unknown kind has nothing after its last field.
     pub fn excess(&self) -> bool
         ensures { result ≡ held_excess self.now }
     {

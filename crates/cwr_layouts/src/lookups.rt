@@ -1,4 +1,4 @@
-//! What the tables of layouts tell of a kind.
+//! What the tables of layouts say of a kind.
 
 ghost use Rattle.std.specs.Prelude.{◌≡◌, option_map, length};
 ghost use Rattle.cwr_layouts.specs.Layouts.{field_placed, layout as layout_of, line_width};
@@ -22,7 +22,7 @@ pub fn field(kind: Kind, j: u8) -> Option<Field>
 /// Field `j` of a kind's layout, from 1, where its cells are in values. `None` where the kind has no such field, and
 /// where that is derived.
 #[inline(always)]
-pub(crate) fn carried(kind: Kind, j: u8) -> Option<Field>
+pub(crate) fn carried_field(kind: Kind, j: u8) -> Option<Field>
     ensures { option_map field_view result ≡ carried_placed kind j }
 {
     let place = field(kind, j)?;

@@ -8,7 +8,7 @@ ghost use Rattle.cwr_layouts.specs.Carried.{HasCellOf, record_cell, record_in};
 use crate::drafts::judge;
 use crate::kinds::Kind;
 use crate::lines::part;
-use crate::lookups::{carried, fields};
+use crate::lookups::{carried_field, fields};
 use arrayvec::ArrayVec;
 use cwr_fields::Cell;
 use std::fmt::{self, Debug};
@@ -21,7 +21,7 @@ pub(crate) const WIDEST_LINE: usize = 364;
 pub(crate) type LineText = ArrayVec<u8, WIDEST_LINE>;
 
 /// The bytes of a line, kept in the value.
-pub(crate) fn kept(line: &[u8]) -> LineText
+pub(crate) fn copy_bytes(line: &[u8]) -> LineText
     requires { length line.now ≤ WIDEST_LINE }
     ensures { result.items ≡ line.now }
 {
@@ -51,7 +51,7 @@ pub(crate) fn show_cells<W: fmt::Write>(
     write!(f, "{kind:?} ")?;
     let mut cells = f.debug_map();
     for before in 0..fields(kind) {
-        if let Some(place) = carried(kind, before + 1) {
+        if let Some(place) = carried_field(kind, before + 1) {
             cells.entry(&place.name, &ShownCell(part(line, place)));
         }
     }
@@ -121,7 +121,7 @@ impl<'a> Model for RecordRef<'a> {
 
 impl<'a> RecordRef<'a> {
     /// The record that a whole line of the kind carries. `None` where one of its cells isn't one of its field's type.
-    pub(crate) fn judged(kind: Kind, line: &'a [u8]) -> Option<Self>
+    pub(crate) fn from_line(kind: Kind, line: &'a [u8]) -> Option<Self>
         requires { length line.now ≡ line_width kind }
         ensures some { IsSome result ↔ IsRecord (record_in kind line.now) }
         ensures value { IfSome result (λ found. found ≡ record_in kind line.now) }
@@ -146,7 +146,7 @@ impl<'a> RecordRef<'a> {
         ensures value { option_map (λ cell. cell.now) result ≡ record_cell self.now j }
         ensures fits { IsRecord self.now }
     {
-        let place = carried(self.kind, j)?;
+        let place = carried_field(self.kind, j)?;
         Some(part(self.line, place))
     }
 
@@ -161,12 +161,20 @@ impl<'a> RecordRef<'a> {
         C::read(self.cell(j)?)
     }
 
+    /// The whole line that it is kept in. The bytes of its derived cells say nothing.
+    pub(crate) fn whole_line(&self) -> &'a [u8]
+        ensures whole { length result.now ≡ line_width self.now.kind }
+        ensures carries { self.now ≡ record_in self.now.kind result.now }
+    {
+        self.line
+    }
+
     /// The record, copied out of where it is kept. It takes no memory.
     pub fn to_record(&self) -> Record
         ensures value { result ≡ self.now }
         ensures fits { IsRecord self.now }
     {
-        Record::of_line(self.kind, kept(self.line))
+        Record::of_line(self.kind, copy_bytes(self.line))
     }
 }
 

@@ -186,7 +186,7 @@ fn faults_are_printed(rt: HostRuntime) {
         );
         assert_eq!(rt;
             text.as_str(),
-            "no such field, control byte, field 6: blank cell"
+            "no such field, cell control, field 6: cell blank"
         );
     } else {
         assert!(rt; false);
@@ -195,7 +195,7 @@ fn faults_are_printed(rt: HostRuntime) {
         (SetFault::NoSuchField, "no such field"),
         (SetFault::Derived, "the field is derived"),
         (SetFault::TooWide, "wider than the field"),
-        (SetFault::Cell(CellFault::OverShare), "a share over 100%"),
+        (SetFault::Cell(CellFault::OverShare), "cell over share"),
     ];
     for (fault, text) in &faults {
         assert_eq!(rt;
@@ -218,7 +218,7 @@ fn trailers_are_records(rt: HostRuntime) {
 }
 
 /// A copy is the same record.
-fn copied(source: &Record) -> Result<Record, AllocError>
+fn copy_of(source: &Record) -> Result<Record, AllocError>
     ensures { IfOk result (λ copy. copy ≡ source.now) }
 {
     source.clone()
@@ -232,7 +232,7 @@ fn shown_to_programmers(rt: HostRuntime) {
     let shown = r#"Grt {"currency": "E\"R", "total monetary value": "          "}"#;
     assert_eq!(rt; text.as_str(), shown);
     let record = draft.done().expect(&rt, "unfit");
-    let copy = copied(&record).expect(&rt, "no memory");
+    let copy = copy_of(&record).expect(&rt, "no memory");
     let view = copy.view();
     assert_eq!(rt;
         format!(in rt.alloc(); "{record:?}")

@@ -11,7 +11,7 @@ use Rattle.cwr_fields.specs.Iswc.{is_iswc}
 use Rattle.cwr_layouts.specs.declared.kinds.Kind.{Kind}
 use Rattle.cwr_layouts.specs.declared.kinds.Kind.TheVariants as kinds
 use Rattle.cwr_layouts.specs.Kinds.{letters}
-use Rattle.cwr_layouts.specs.Records.{RecordValue, named, field_number}
+use Rattle.cwr_layouts.specs.Records.{RecordValue, cell_named, field_number}
 use Rattle.cwr_shape.specs.declared.reasons.Level.{Level}
 use Rattle.cwr_shape.specs.declared.reasons.Level.TheVariants.{T, R, F}
 use Rattle.cwr_levels.specs.declared.rules.Rule.{Rule}
@@ -24,11 +24,11 @@ is_a kind r = bytes_eq (letters r.kind) (letters kind)
 
 -- the record's cell of that name is spaces
 abbrev pub is_blank : String → RecordValue → Bool
-is_blank name r = is_spaces (named name r)
+is_blank name r = is_spaces (cell_named name r)
 
 -- a blank share counts as 0
-abbrev pub share : String → RecordValue → ℕ
-share name r = if is_blank name r then 0 else number_of (named name r)
+abbrev pub share_of : String → RecordValue → ℕ
+share_of name r = if is_blank name r then 0 else number_of (cell_named name r)
 
 -- the last record of the kind, if there is one
 abbrev pub nearest : Kind → List RecordValue → Option RecordValue
@@ -48,20 +48,20 @@ is_owner r = is_a kinds.Spu r || is_a kinds.Opu r || is_a kinds.Swr r || is_a ki
 
 -- the shares of the owners in a right, added up
 abbrev pub ownership : String → List RecordValue → ℕ
-ownership right t = sum_by (share right) (filter is_owner t)
+ownership right t = sum_by (share_of right) (filter is_owner t)
 
 -- neither nothing nor about the whole
 abbrev pub is_off : ℕ → Bool
 is_off total = not (total == 0) && (nat_lt total 9994 || nat_lt 10006 total)
 
 -- the same number stands in two cells, where there is a second record
-abbrev pub has_number : List ℕ → Option RecordValue → Bool
-has_number number None = false
-has_number number (Some r) = bytes_eq number (named "interested party number" r)
+abbrev pub has_party_number : List ℕ → Option RecordValue → Bool
+has_party_number number None = false
+has_party_number number (Some r) = bytes_eq number (cell_named "interested party number" r)
 
 -- a writer who has written words or music
 abbrev pub is_author : RecordValue → Bool
-is_author r = (is_a kinds.Swr r || is_a kinds.Owr r) && list_any (λ code. bytes_eq (filled 2 code) (named "designation" r)) (codes "A" ∷ codes "C" ∷ codes "CA" ∷ [])
+is_author r = (is_a kinds.Swr r || is_a kinds.Owr r) && list_any (λ code. bytes_eq (filled 2 code) (cell_named "designation" r)) (codes "A" ∷ codes "C" ∷ codes "CA" ∷ [])
 
 -- the date is there: an optional date that fits is spaces, zeros or a day
 abbrev pub is_day : List ℕ → Bool
@@ -85,37 +85,37 @@ abbrev pub begins_block : List RecordValue → Bool
 begins_block before = not (is_territory (last_or None (in_blocks before)))
 
 -- the parties of the block whose first TER these records follow
-abbrev pub parties_behind : List RecordValue → List RecordValue
-parties_behind after = take_while is_party (drop (prefix_len (is_a kinds.Ter) (in_blocks after)) (in_blocks after))
+abbrev pub parties_after : List RecordValue → List RecordValue
+parties_after after = take_while is_party (drop (prefix_len (is_a kinds.Ter) (in_blocks after)) (in_blocks after))
 
 -- the shares of the parties of a role add up to more than the whole in a right
 abbrev pub is_over_whole : Role → List RecordValue → String → Bool
-is_over_whole role parties right = nat_lt 10006 (sum_by (share right) (filter (λ r. bytes_eq (named "agreement role" r) (role_code role)) parties))
+is_over_whole role parties right = nat_lt 10006 (sum_by (share_of right) (filter (λ r. bytes_eq (cell_named "agreement role" r) (role_code role)) parties))
 
 -- the same in one or more of the three rights
 abbrev pub has_role_over_whole : Role → List RecordValue → Bool
 has_role_over_whole role parties = is_over_whole role parties "pr share" || is_over_whole role parties "mr share" || is_over_whole role parties "sr share"
 
--- Record r of the transaction t, behind k others, breaks the rule.
+-- Record r of the transaction t, after k others, breaks the rule.
 abbrev pub breaks : Rule → List RecordValue → ℕ → RecordValue → Bool
 breaks V1 t k r = (is_a kinds.Nwr r || is_a kinds.Rev r || is_a kinds.Ewt r || is_a kinds.Ver r || is_a kinds.Com r)
-    && not (is_blank "iswc" r) && not (is_iswc (named "iswc" r))
+    && not (is_blank "iswc" r) && not (is_iswc (cell_named "iswc" r))
 breaks V2 t k r = is_work t
-    && ((is_a kinds.Spt r && not (has_number (named "interested party number" r) (nearest kinds.Spu (take k t))))
-    || (is_a kinds.Swt r && not (has_number (named "interested party number" r) (nearest kinds.Swr (take k t)))))
+    && ((is_a kinds.Spt r && not (has_party_number (cell_named "interested party number" r) (nearest kinds.Spu (take k t))))
+    || (is_a kinds.Swt r && not (has_party_number (cell_named "interested party number" r) (nearest kinds.Swr (take k t)))))
 breaks V3 t k r = is_work t && (k == 0) && is_off (ownership "pr share" t)
 breaks V4 t k r = is_work t && (k == 0) && is_off (ownership "mr share" t)
 breaks V5 t k r = is_work t && (k == 0) && is_off (ownership "sr share" t)
 breaks V6 t k r = is_work t && (k == 0) && not (list_any is_author t)
 breaks V7 t k r = is_work t && is_a kinds.Pwr r
-    && not (list_any (λ p. is_a kinds.Spu p && has_number (named "publisher interested party number" r) (Some p)) t)
+    && not (list_any (λ p. is_a kinds.Spu p && has_party_number (cell_named "publisher interested party number" r) (Some p)) t)
 breaks V8 t k r = is_work t && is_a kinds.Ewt r && list_any (is_blank "excerpt type") (take 1 t)
 breaks V9 t k r = is_work t && (k == 0) && not (is_blank "composite component count" r)
-    && not (number_of (named "composite component count" r) == count_by (is_a kinds.Com) t)
-breaks V10 t k r = is_agreement t && (k == 0) && is_day (named "start date" r) && is_day (named "end date" r)
-    && nat_lt (number_of (named "end date" r)) (number_of (named "start date" r))
+    && not (number_of (cell_named "composite component count" r) == count_by (is_a kinds.Com) t)
+breaks V10 t k r = is_agreement t && (k == 0) && is_day (cell_named "start date" r) && is_day (cell_named "end date" r)
+    && nat_lt (number_of (cell_named "end date" r)) (number_of (cell_named "start date" r))
 breaks V11 t k r = is_agreement t && is_a kinds.Ter r && begins_block (take k t)
-    && (has_role_over_whole Assignor (parties_behind (drop (k + 1) t)) || has_role_over_whole Acquirer (parties_behind (drop (k + 1) t)))
+    && (has_role_over_whole Assignor (parties_after (drop (k + 1) t)) || has_role_over_whole Acquirer (parties_after (drop (k + 1) t)))
 
 -- the field that the rule names in a record of the kind
 abbrev pub field_of_rule : Rule → Kind → ℕ

@@ -1,5 +1,8 @@
 //! The rules for accepted transactions.
 
+ghost use Rattle.std.specs.Prelude.{◌≡◌, ◌≤◌, length};
+ghost use Rattle.cwr_levels.specs.Lines.{rule_text};
+
 use cwr_shape::Level;
 
 /// A rule of this profile for accepted transactions. `docs/FORMAT.md` has their texts.
@@ -29,11 +32,33 @@ pub enum Rule {
     V11,
 }
 
+impl Rule {
+    /// Its name, as it stands in a report line.
+    pub fn name(self) -> &'static str
+        ensures name { result.now ≡ rule_text self }
+        ensures short { length result.now ≤ 3 }
+    {
+        match self {
+            Rule::V1 => "V1",
+            Rule::V2 => "V2",
+            Rule::V3 => "V3",
+            Rule::V4 => "V4",
+            Rule::V5 => "V5",
+            Rule::V6 => "V6",
+            Rule::V7 => "V7",
+            Rule::V8 => "V8",
+            Rule::V9 => "V9",
+            Rule::V10 => "V10",
+            Rule::V11 => "V11",
+        }
+    }
+}
+
 /// A rule that a record of a transaction breaks.
 #[derive(Clone, Copy, Debug, PartialEq, Eq)]
 pub struct Finding {
     /// The record's sequence in its transaction, from 0.
-    pub rec: u32,
+    pub rec: usize,
     /// The number of the field, from 1.
     pub field: u8,
     /// The rule.

@@ -11,24 +11,24 @@ use Rattle.cwr_shape.specs.Shapes.{Pattern, one_of, ◌then◌, many, Matches, I
 use Rattle.cwr_shape.proofs.PrefixFree.{only, matched_pass}
 
 -- 0 for what stands around transactions, 1 for the header of the type, 2 for any other record
-abbrev pub part : TransactionType → Symbol → ℕ
-part ty (Grh t) = 0
-part ty (Plain kinds.Hdr) = 0
-part ty (Plain kinds.Grt) = 0
-part ty (Plain kinds.Trl) = 0
-part Agreement (Plain kinds.Agr) = 1
-part NewWork (Plain kinds.Nwr) = 1
-part RevisedWork (Plain kinds.Rev) = 1
-part Acknowledgement (Plain kinds.Ack) = 1
-part ty s = 2
+abbrev pub part_class : TransactionType → Symbol → ℕ
+part_class ty (Grh t) = 0
+part_class ty (Plain kinds.Hdr) = 0
+part_class ty (Plain kinds.Grt) = 0
+part_class ty (Plain kinds.Trl) = 0
+part_class Agreement (Plain kinds.Agr) = 1
+part_class NewWork (Plain kinds.Nwr) = 1
+part_class RevisedWork (Plain kinds.Rev) = 1
+part_class Acknowledgement (Plain kinds.Ack) = 1
+part_class ty s = 2
 
 pub among_one : (s t : Symbol) (i : ℕ) → i < 1 → t ≡ slice_index_or (s ∷ []) i t → t ≡ s
 among_one s t zero h e = e
 among_one s t (suc i) h e = absurd (omega arith)
 
 -- what a pattern of one symbol and then another matches
-pub behind : (s : Symbol) (p : Pattern) (xs : List Symbol) → Matches (one_of (s ∷ []) then p) xs → (rest : List Symbol) × (xs ≡ s ∷ rest) × Matches p rest
-behind s p xs m =
+pub rest_after_head : (s : Symbol) (p : Pattern) (xs : List Symbol) → Matches (one_of (s ∷ []) then p) xs → (rest : List Symbol) × (xs ≡ s ∷ rest) × Matches p rest
+rest_after_head s p xs m =
     let same : m.3.0 ≡ s = among_one s m.3.0 m.3.1.0 m.3.1.1.0 m.3.1.1.1 in
     (m.1, m.2 ∙ ap (λ (front : List Symbol). front ++ m.1) (m.3.2 ∙ ap (λ (u : Symbol). u ∷ []) same), m.4)
 
@@ -37,13 +37,13 @@ pub record HeadFirst (ty : TransactionType) (xs : List Symbol) : Type 0 where
   pub head : Symbol
   pub rest : List Symbol
   pub whole : xs ≡ head ∷ rest
-  pub is_head : part ty head ≡ 1
-  pub are_later : list_all (λ s. part ty s == 2) rest ≡ true
+  pub is_head : part_class ty head ≡ 1
+  pub are_later : list_all (λ s. part_class ty s == 2) rest ≡ true
 
-headed : (ty : TransactionType) (s : Symbol) (p : Pattern) (xs : List Symbol) → part ty s ≡ 1 → only (λ t. part ty t == 2) p ≡ true → Matches (one_of (s ∷ []) then p) xs → HeadFirst ty xs
+headed : (ty : TransactionType) (s : Symbol) (p : Pattern) (xs : List Symbol) → part_class ty s ≡ 1 → only (λ t. part_class ty t == 2) p ≡ true → Matches (one_of (s ∷ []) then p) xs → HeadFirst ty xs
 headed ty s p xs h k m =
-    let b = behind s p xs m in
-    record { head = s; rest = b.0; whole = b.1; is_head = h; are_later = matched_pass (λ t. part ty t == 2) p k b.0 b.2 }
+    let b = rest_after_head s p xs m in
+    record { head = s; rest = b.0; whole = b.1; is_head = h; are_later = matched_pass (λ t. part_class ty t == 2) p k b.0 b.2 }
 
 pub head_first : (ty : TransactionType) (xs : List Symbol) → IsShape ty xs → HeadFirst ty xs
 unfolding only

@@ -1,4 +1,4 @@
--- A test that computes whether symbols match a pattern, and one that tells that nothing does.
+-- A test that computes whether symbols match a pattern, and one that shows that nothing does.
 use Rattle.std.proofs.Common.{◌≡◌, ℕ, zero, suc, ◌<◌, Bool, true, false, cond, ◌&&◌, ◌||◌, List, [], ◌∷◌, ◌++◌, length, refl, sym, ap, subst, ◌∙◌, inl, inr, arith, true≢false, append-nil}
 use Rattle.std.specs.Prelude.{◌⊎◌, Some, None, slice_index_or}
 use Rattle.std.specs.List.{list_any, AllByRecursion, IsAmong, flat_map}
@@ -17,10 +17,10 @@ use Rattle.cwr_shape.specs.declared.symbols.Symbol.TheVariants.{Plain, Ipa, Grh}
 use Rattle.cwr_shape.specs.Shapes.{Pattern, one_of, ◌then◌, ◌or◌, ◌and◌, many, Matches}
 
 -- a text for each symbol
-abbrev pub text_of : Symbol → List ℕ
-text_of (Plain kind) = letters kind
-text_of (Ipa role) = 1 ∷ role_code role
-text_of (Grh ty) = 2 ∷ type_code ty
+abbrev pub symbol_text : Symbol → List ℕ
+symbol_text (Plain kind) = letters kind
+symbol_text (Ipa role) = 1 ∷ role_code role
+symbol_text (Grh ty) = 2 ∷ type_code ty
 
 known_kind : (k : Kind) (x : List ℕ) → kind_of x ≡ None → letters k ≡ x → ⊥
 known_kind k x h e = clash (sym (kind_of-letters k) ∙ ap kind_of e ∙ h)
@@ -31,7 +31,7 @@ known_kind k x h e = clash (sym (kind_of-letters k) ∙ ap kind_of e ∙ h)
 heads_differ : (m n : ℕ) (xs ys : List ℕ) → m ∷ xs ≡ n ∷ ys → (m ≡ n → ⊥) → ⊥
 heads_differ m n xs ys e h = h (cc e)
 
-pub same_text : (s t : Symbol) → text_of s ≡ text_of t → s ≡ t
+pub same_text : (s t : Symbol) → symbol_text s ≡ symbol_text t → s ≡ t
 same_text (Plain j) (Plain k) e = ap Plain (letters-injective j k e)
 same_text (Plain j) (Ipa Assignor) e = absurd (known_kind j _ refl e)
 same_text (Plain j) (Ipa Acquirer) e = absurd (known_kind j _ refl e)
@@ -55,23 +55,23 @@ same_text (Grh Agreement) (Grh Agreement) e = refl
 same_text (Grh NewWork) (Grh NewWork) e = refl
 same_text (Grh RevisedWork) (Grh RevisedWork) e = refl
 same_text (Grh Acknowledgement) (Grh Acknowledgement) e = refl
-same_text (Grh a) (Grh b) e = absurd (true≢false (sym ((bytes_eq-Decides (text_of (Grh a)) (text_of (Grh b))).1 e)))
+same_text (Grh a) (Grh b) e = absurd (true≢false (sym ((bytes_eq-Decides (symbol_text (Grh a)) (symbol_text (Grh b))).1 e)))
 
 abbrev pub has : Symbol → List Symbol → Bool
-has s ss = list_any (λ t. bytes_eq (text_of s) (text_of t)) ss
+has s ss = list_any (λ t. bytes_eq (symbol_text s) (symbol_text t)) ss
 
 has_among : (s : Symbol) (ss : List Symbol) → has s ss ≡ true → IsAmong ss s
 has_among s [] h = absurd (true≢false (sym h))
-has_among s (t ∷ ss) h = pick s t ss (has_among s ss) (or_cases (bytes_eq (text_of s) (text_of t)) (has s ss) h)
+has_among s (t ∷ ss) h = pick s t ss (has_among s ss) (or_cases (bytes_eq (symbol_text s) (symbol_text t)) (has s ss) h)
   where
-    pick : (u v : Symbol) (us : List Symbol) → (has u us ≡ true → IsAmong us u) → (bytes_eq (text_of u) (text_of v) ≡ true) ⊎ (has u us ≡ true) → IsAmong (v ∷ us) u
-    pick u v us ih (inl e) = (0, (omega arith, same_text u v ((bytes_eq-Decides (text_of u) (text_of v)).0 e)))
+    pick : (u v : Symbol) (us : List Symbol) → (has u us ≡ true → IsAmong us u) → (bytes_eq (symbol_text u) (symbol_text v) ≡ true) ⊎ (has u us ≡ true) → IsAmong (v ∷ us) u
+    pick u v us ih (inl e) = (0, (omega arith, same_text u v ((bytes_eq-Decides (symbol_text u) (symbol_text v)).0 e)))
     pick u v us ih (inr e) = let m = ih e in (suc m.0, (omega (arith, m.1.0), m.1.1))
 
 among_has : (s : Symbol) (ss : List Symbol) (i : ℕ) → i < length ss → s ≡ slice_index_or ss i s → has s ss ≡ true
 among_has s [] i h e = absurd (omega arith)
-among_has s (t ∷ ss) zero h e = or_left (bytes_eq (text_of s) (text_of t)) (has s ss) ((bytes_eq-Decides (text_of s) (text_of t)).1 (ap text_of e))
-among_has s (t ∷ ss) (suc i) h e = or_right (bytes_eq (text_of s) (text_of t)) (has s ss) (among_has s ss i (omega arith) e)
+among_has s (t ∷ ss) zero h e = or_left (bytes_eq (symbol_text s) (symbol_text t)) (has s ss) ((bytes_eq-Decides (symbol_text s) (symbol_text t)).1 (ap symbol_text e))
+among_has s (t ∷ ss) (suc i) h e = or_right (bytes_eq (symbol_text s) (symbol_text t)) (has s ss) (among_has s ss i (omega arith) e)
 
 -- the empty list matches
 unfoldable pub nullable : Pattern → Bool

@@ -6,14 +6,14 @@ use Rattle.std.proofs.lemmas.Bool.{and_parts, or_cases}
 use Rattle.std.proofs.lemmas.Slice.Eq.{bytes_eq-Decides}
 use Rattle.cwr_shape.specs.declared.symbols.Symbol.{Symbol}
 use Rattle.cwr_shape.specs.Shapes.{Pattern, one_of, ◌then◌, ◌or◌, ◌and◌, many, Matches}
-use Rattle.cwr_shape.proofs.Matcher.{text_of, same_text, is_dead, dead_sound, nothing_matches, empty_only, after, after_sound, after_complete}
+use Rattle.cwr_shape.proofs.Matcher.{symbol_text, same_text, is_dead, dead_sound, nothing_matches, empty_only, after, after_sound, after_complete}
 
 -- the same symbols
 unfoldable pub same_list : List Symbol → List Symbol → Bool
 same_list [] [] = true
 same_list [] (t ∷ ts) = false
 same_list (s ∷ ss) [] = false
-same_list (s ∷ ss) (t ∷ ts) = bytes_eq (text_of s) (text_of t) && same_list ss ts
+same_list (s ∷ ss) (t ∷ ts) = bytes_eq (symbol_text s) (symbol_text t) && same_list ss ts
 
 same_list_sound : (ss ts : List Symbol) → same_list ss ts ≡ true → ss ≡ ts
 unfolding same_list
@@ -21,8 +21,8 @@ same_list_sound [] [] h = refl
 same_list_sound [] (t ∷ ts) h = absurd (true≢false (sym h))
 same_list_sound (s ∷ ss) [] h = absurd (true≢false (sym h))
 same_list_sound (s ∷ ss) (t ∷ ts) h =
-    let p = and_parts (bytes_eq (text_of s) (text_of t)) (same_list ss ts) h in
-    ap₂ (λ (u : Symbol) (us : List Symbol). u ∷ us) (same_text s t ((bytes_eq-Decides (text_of s) (text_of t)).0 p.0)) (same_list_sound ss ts p.1)
+    let p = and_parts (bytes_eq (symbol_text s) (symbol_text t)) (same_list ss ts) h in
+    ap₂ (λ (u : Symbol) (us : List Symbol). u ∷ us) (same_text s t ((bytes_eq-Decides (symbol_text s) (symbol_text t)).0 p.0)) (same_list_sound ss ts p.1)
 
 -- the same pattern
 unfoldable pub same : Pattern → Pattern → Bool

@@ -10,14 +10,14 @@ use Rattle.cwr_shape.specs.declared.symbols.Symbol.{Symbol}
 use Rattle.cwr_shape.specs.declared.symbols.Symbol.TheVariants.{Grh}
 use Rattle.cwr_shape.specs.declared.tallies.Counts.{Counts}
 use Rattle.cwr_shape.specs.Stages.{is_grh, latest, group_of}
-use Rattle.cwr_shape.specs.Tallies.{is_header_of, type_behind, begun, open_type, open_group, behind_header, counts_of}
+use Rattle.cwr_shape.specs.Tallies.{is_header_of, type_after, transactions_begun, open_type, open_group, after_header, counts_of}
 use Rattle.cwr_shape.specs.Counting.{counts_with, counts_with_group, counts_with_header, counts_with_other}
 
 pub last_or-snoc : (o : Option Symbol) (xs : List Symbol) (s : Symbol) → last_or o (xs ++ s ∷ []) ≡ Some s
 last_or-snoc o [] s = refl
 last_or-snoc o (x ∷ xs) s = last_or-snoc (Some x) xs s
 
--- ---- what stands behind the last symbol that passes a test
+-- ---- what stands after the last symbol that passes a test
 
 -- how many symbols at the end fail it
 abbrev at_end : (Symbol → Bool) → List Symbol → ℕ
@@ -72,46 +72,46 @@ count_by-snoc test xs s = sum_by-append (λ x. cond (test x) 1 0) xs (s ∷ []) 
 
 -- ---- the open group's type
 
-type_more : (s : Symbol) (g : Option Symbol) → group_of (cond (is_grh s) (Some s) g) ≡ type_behind (group_of g) s
+type_more : (s : Symbol) (g : Option Symbol) → group_of (cond (is_grh s) (Some s) g) ≡ type_after (group_of g) s
 type_more (Grh t) g = refl
 type_more s g = refl
 
-pub open_type-snoc : (xs : List Symbol) (s : Symbol) → open_type (xs ++ s ∷ []) ≡ type_behind (open_type xs) s
+pub open_type-snoc : (xs : List Symbol) (s : Symbol) → open_type (xs ++ s ∷ []) ≡ type_after (open_type xs) s
 open_type-snoc xs s = ap group_of (latest-snoc is_grh xs s) ∙ type_more s (latest is_grh xs)
 
--- the type behind some symbols
-abbrev pub types_behind : TransactionType → List Symbol → TransactionType
-types_behind ty [] = ty
-types_behind ty (s ∷ xs) = types_behind (type_behind ty s) xs
+-- the type after some symbols
+abbrev pub types_after : TransactionType → List Symbol → TransactionType
+types_after ty [] = ty
+types_after ty (s ∷ xs) = types_after (type_after ty s) xs
 
-latest_type : (o : Option Symbol) (xs : List Symbol) → group_of (last_or o (filter is_grh xs)) ≡ types_behind (group_of o) xs
+latest_type : (o : Option Symbol) (xs : List Symbol) → group_of (last_or o (filter is_grh xs)) ≡ types_after (group_of o) xs
 latest_type o [] = refl
 latest_type o (Grh t ∷ xs) = latest_type (Some (Grh t)) xs
 latest_type o (s ∷ xs) = latest_type o xs
 
-pub open_type_behind : (xs : List Symbol) → open_type xs ≡ types_behind Acknowledgement xs
-open_type_behind xs = latest_type None xs
+pub open_type_after : (xs : List Symbol) → open_type xs ≡ types_after Acknowledgement xs
+open_type_after xs = latest_type None xs
 
-begun_one : (ty : TransactionType) (xs : List Symbol) (s : Symbol) → begun ty (xs ++ s ∷ []) ≡ begun ty xs + cond (is_header_of (types_behind ty xs) s) 1 0
+begun_one : (ty : TransactionType) (xs : List Symbol) (s : Symbol) → transactions_begun ty (xs ++ s ∷ []) ≡ transactions_begun ty xs + cond (is_header_of (types_after ty xs) s) 1 0
 begun_one ty [] s = omega arith
-begun_one ty (x ∷ xs) s = omega (arith, begun_one (type_behind ty x) xs s)
+begun_one ty (x ∷ xs) s = omega (arith, begun_one (type_after ty x) xs s)
 
-begun-snoc : (xs : List Symbol) (s : Symbol) → begun Acknowledgement (xs ++ s ∷ []) ≡ begun Acknowledgement xs + cond (is_header_of (open_type xs) s) 1 0
-begun-snoc xs s = begun_one Acknowledgement xs s ∙ ap (λ (ty : TransactionType). begun Acknowledgement xs + cond (is_header_of ty s) 1 0) (sym (open_type_behind xs))
+begun-snoc : (xs : List Symbol) (s : Symbol) → transactions_begun Acknowledgement (xs ++ s ∷ []) ≡ transactions_begun Acknowledgement xs + cond (is_header_of (open_type xs) s) 1 0
+begun-snoc xs s = begun_one Acknowledgement xs s ∙ ap (λ (ty : TransactionType). transactions_begun Acknowledgement xs + cond (is_header_of ty s) 1 0) (sym (open_type_after xs))
 
 -- ---- all that is counted
 
 abbrev made : ℕ → ℕ → ℕ → ℕ → ℕ → ℕ → Counts
-made a b c d e f = record { records = a; groups = b; transactions = c; in_group = d; behind_grh = e; behind_header = f }
+made a b c d e f = record { records = a; groups = b; transactions = c; in_group = d; after_grh = e; after_header = f }
 
-same_counts : (a b : Counts) → a.records ≡ b.records → a.groups ≡ b.groups → a.transactions ≡ b.transactions → a.in_group ≡ b.in_group → a.behind_grh ≡ b.behind_grh → a.behind_header ≡ b.behind_header → a ≡ b
+same_counts : (a b : Counts) → a.records ≡ b.records → a.groups ≡ b.groups → a.transactions ≡ b.transactions → a.in_group ≡ b.in_group → a.after_grh ≡ b.after_grh → a.after_header ≡ b.after_header → a ≡ b
 same_counts a b e f g h k l =
-    ap (λ (n : ℕ). made n a.groups a.transactions a.in_group a.behind_grh a.behind_header) e
-    ∙ ap (λ (n : ℕ). made b.records n a.transactions a.in_group a.behind_grh a.behind_header) f
-    ∙ ap (λ (n : ℕ). made b.records b.groups n a.in_group a.behind_grh a.behind_header) g
-    ∙ ap (λ (n : ℕ). made b.records b.groups b.transactions n a.behind_grh a.behind_header) h
-    ∙ ap (λ (n : ℕ). made b.records b.groups b.transactions b.in_group n a.behind_header) k
-    ∙ ap (made b.records b.groups b.transactions b.in_group b.behind_grh) l
+    ap (λ (n : ℕ). made n a.groups a.transactions a.in_group a.after_grh a.after_header) e
+    ∙ ap (λ (n : ℕ). made b.records n a.transactions a.in_group a.after_grh a.after_header) f
+    ∙ ap (λ (n : ℕ). made b.records b.groups n a.in_group a.after_grh a.after_header) g
+    ∙ ap (λ (n : ℕ). made b.records b.groups b.transactions n a.after_grh a.after_header) h
+    ∙ ap (λ (n : ℕ). made b.records b.groups b.transactions b.in_group n a.after_header) k
+    ∙ ap (made b.records b.groups b.transactions b.in_group b.after_grh) l
 
 -- the group's counts, by whether the symbol is a GRH
 open_group-snoc : (xs : List Symbol) (s : Symbol) (b : Bool) → is_grh s ≡ b → open_group (xs ++ s ∷ []) ≡ cond b [] (open_group xs ++ s ∷ [])
@@ -139,35 +139,35 @@ with_group xs t =
     no_header Acknowledgement t = refl
 
 -- any other symbol leaves the type of the group
-with_inside : (xs : List Symbol) (s : Symbol) (b : Bool) → is_grh s ≡ false → type_behind (open_type xs) s ≡ open_type xs → is_header_of (open_type xs) s ≡ b
+with_inside : (xs : List Symbol) (s : Symbol) (b : Bool) → is_grh s ≡ false → type_after (open_type xs) s ≡ open_type xs → is_header_of (open_type xs) s ≡ b
     → cond b (counts_with_header (counts_of xs)) (counts_with_other (counts_of xs)) ≡ counts_of (xs ++ s ∷ [])
 with_inside xs s b g same h =
     let ty : open_type (xs ++ s ∷ []) ≡ open_type xs = open_type-snoc xs s ∙ same in
     let more : open_group (xs ++ s ∷ []) ≡ open_group xs ++ s ∷ [] = open_group-snoc xs s false g in
     let groups : count_by is_grh (xs ++ s ∷ []) ≡ count_by is_grh xs = count_by-snoc is_grh xs s ∙ ap (λ (c : Bool). count_by is_grh xs + cond c 1 0) g ∙ plus_none (count_by is_grh xs) in
-    let begins : begun Acknowledgement (xs ++ s ∷ []) ≡ begun Acknowledgement xs + cond b 1 0 = begun-snoc xs s ∙ ap (λ (c : Bool). begun Acknowledgement xs + cond c 1 0) h in
+    let begins : transactions_begun Acknowledgement (xs ++ s ∷ []) ≡ transactions_begun Acknowledgement xs + cond b 1 0 = begun-snoc xs s ∙ ap (λ (c : Bool). transactions_begun Acknowledgement xs + cond c 1 0) h in
     let in_group : count_by (is_header_of (open_type (xs ++ s ∷ []))) (open_group (xs ++ s ∷ [])) ≡ count_by (is_header_of (open_type xs)) (open_group xs) + cond b 1 0
     = ap₂ (λ (t : TransactionType) (ys : List Symbol). count_by (is_header_of t) ys) ty more
     ∙ count_by-snoc (is_header_of (open_type xs)) (open_group xs) s ∙ ap (λ (c : Bool). count_by (is_header_of (open_type xs)) (open_group xs) + cond c 1 0) h in
-    let behind : length (open_group (xs ++ s ∷ [])) ≡ length (open_group xs) + 1 = ap length more ∙ length-snoc (open_group xs) s in
-    let header : behind_header (xs ++ s ∷ []) ≡ cond b [] (behind_header xs ++ s ∷ [])
+    let after : length (open_group (xs ++ s ∷ [])) ≡ length (open_group xs) + 1 = ap length more ∙ length-snoc (open_group xs) s in
+    let header : after_header (xs ++ s ∷ []) ≡ cond b [] (after_header xs ++ s ∷ [])
     = ap₂ (λ (t : TransactionType) (ys : List Symbol). after_last (is_header_of t) ys) ty more
-    ∙ after_last-snoc (is_header_of (open_type xs)) (open_group xs) s ∙ ap (λ (c : Bool). cond c [] (behind_header xs ++ s ∷ [])) h in
-    by_header b (length-snoc xs s) groups begins in_group behind (ap length header)
+    ∙ after_last-snoc (is_header_of (open_type xs)) (open_group xs) s ∙ ap (λ (c : Bool). cond c [] (after_header xs ++ s ∷ [])) h in
+    by_header b (length-snoc xs s) groups begins in_group after (ap length header)
   where
     plus_none : (n : ℕ) → n + 0 ≡ n
     plus_none n = omega arith
 
     by_header : (c : Bool) → length (xs ++ s ∷ []) ≡ length xs + 1 → count_by is_grh (xs ++ s ∷ []) ≡ count_by is_grh xs
-        → begun Acknowledgement (xs ++ s ∷ []) ≡ begun Acknowledgement xs + cond c 1 0
+        → transactions_begun Acknowledgement (xs ++ s ∷ []) ≡ transactions_begun Acknowledgement xs + cond c 1 0
         → count_by (is_header_of (open_type (xs ++ s ∷ []))) (open_group (xs ++ s ∷ [])) ≡ count_by (is_header_of (open_type xs)) (open_group xs) + cond c 1 0
         → length (open_group (xs ++ s ∷ [])) ≡ length (open_group xs) + 1
-        → length (behind_header (xs ++ s ∷ [])) ≡ length (cond c [] (behind_header xs ++ s ∷ []))
+        → length (after_header (xs ++ s ∷ [])) ≡ length (cond c [] (after_header xs ++ s ∷ []))
         → cond c (counts_with_header (counts_of xs)) (counts_with_other (counts_of xs)) ≡ counts_of (xs ++ s ∷ [])
     by_header true a d e f k l =
         same_counts (counts_with_header (counts_of xs)) (counts_of (xs ++ s ∷ [])) (sym a) (sym d) (sym e) (sym f) (sym k) (sym l)
     by_header false a d e f k l =
-        same_counts (counts_with_other (counts_of xs)) (counts_of (xs ++ s ∷ [])) (sym a) (sym d) (omega (arith, e)) (omega (arith, f)) (sym k) (sym (l ∙ length-snoc (behind_header xs) s))
+        same_counts (counts_with_other (counts_of xs)) (counts_of (xs ++ s ∷ [])) (sym a) (sym d) (omega (arith, e)) (omega (arith, f)) (sym k) (sym (l ∙ length-snoc (after_header xs) s))
 
 -- what is counted with one more symbol
 pub counts-snoc : (xs : List Symbol) (s : Symbol) → counts_with (open_type xs) (counts_of xs) s ≡ counts_of (xs ++ s ∷ [])

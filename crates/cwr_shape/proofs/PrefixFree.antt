@@ -80,7 +80,7 @@ ends_once test s fails (x ∷ xs) [] rest h k e =
 ends_once test s fails (x ∷ xs) (y ∷ ys) rest h k e =
     ends_once test s fails xs ys rest (and_parts (test x) (list_all test xs) h).1 (and_parts (test y) (list_all test ys) k).1 (cc e)
 
--- no whole transmission goes on to another
+-- no whole transmission continues to another
 pub prefix_free : (groups others : List GroupOutline) (rest : List Symbol) → IsOutline groups → IsOutline others → symbols_of groups ++ rest ≡ symbols_of others → rest ≡ []
 prefix_free groups others rest h k e =
     ends_once is_no_trl (Plain kinds.Trl) refl (Plain kinds.Hdr ∷ flat_map group_symbols groups) (Plain kinds.Hdr ∷ flat_map group_symbols others) rest

@@ -9,7 +9,7 @@ use Rattle.cwr_shape.specs.declared.symbols.Symbol.{Symbol}
 use Rattle.cwr_shape.specs.declared.symbols.Symbol.TheVariants.{Plain, Ipa, Grh}
 use Rattle.cwr_shape.specs.declared.stages.Stage.{Stage}
 use Rattle.cwr_shape.specs.declared.stages.Stage.TheVariants as stages
-use Rattle.cwr_shape.specs.declared.stages.Step.TheVariants as steps
+use Rattle.cwr_shape.specs.declared.stages.TransactionStep.TheVariants as steps
 use Rattle.cwr_shape.specs.Shapes.{Pattern, Matches}
 use Rattle.cwr_shape.specs.Steps.{next_stage}
 use Rattle.cwr_shape.specs.Left.{is_stage, left}
@@ -223,9 +223,9 @@ followed : (stage : Stage) (s : Symbol) → is_stage stage ≡ true → leads (n
 unfolding follows_table
 followed stage s real = of_each (follows_table stage) s (all_follow stage real)
 
--- where a transmission goes on by a symbol, the table does, and the rest is left there
-pub goes_on : (stage : Stage) (s : Symbol) (xs : List Symbol) → is_stage stage ≡ true → Matches (left stage) (s ∷ xs) → Goes stage s xs
-goes_on stage s xs real m = goes_by stage s xs (next_stage stage s) refl (followed stage s real) ((follows s (left stage) xs).1 m)
+-- where a transmission continues with a symbol, the table does, and the rest is left there
+pub table_continues : (stage : Stage) (s : Symbol) (xs : List Symbol) → is_stage stage ≡ true → Matches (left stage) (s ∷ xs) → Goes stage s xs
+table_continues stage s xs real m = goes_by stage s xs (next_stage stage s) refl (followed stage s real) ((follows s (left stage) xs).1 m)
 
 goes_back_by : (stage : Stage) (s : Symbol) (to : Stage) (xs : List Symbol) (o : Option Stage) → o ≡ Some to → leads o (norm (after s (left stage))) ≡ true → Matches (left to) xs → Matches (norm (after s (left stage))) xs
 unfolding leads
@@ -239,7 +239,7 @@ goes_back_by stage s to xs (Some other) e h m =
     let there : other ≡ to = cc e in
     subst (λ (p : Pattern). Matches p xs) (sym form) ((norm_alike (left other) xs).1 (subst (λ (t : Stage). Matches (left t) xs) (sym there) m))
 
--- and where the table goes on, what is left there is left behind the symbol
+-- and where the table continues, what is left there is left after the symbol
 pub goes_back : (stage : Stage) (s : Symbol) (to : Stage) (xs : List Symbol) → is_stage stage ≡ true → next_stage stage s ≡ Some to → Matches (left to) xs → Matches (left stage) (s ∷ xs)
 goes_back stage s to xs real e m = (follows s (left stage) xs).0 (goes_back_by stage s to xs (next_stage stage s) e (followed stage s real) m)
 

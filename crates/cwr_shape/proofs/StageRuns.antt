@@ -1,4 +1,4 @@
--- Symbols that begin a whole transmission are those by which the table goes on from the start.
+-- Symbols that begin a whole transmission are those by which the table continues from the start.
 use Rattle.std.proofs.Common.{◌≡◌, true, List, [], ◌∷◌, ◌++◌, Option, Some, None, refl, sym, ap, subst, ◌∙◌, true≢false, append_assoc}
 use Rattle.std.specs.Prelude.{◌↔◌, IsSome, is_some}
 use Rattle.std.specs.Option.{option_and_then}
@@ -10,13 +10,13 @@ use Rattle.cwr_shape.specs.declared.symbols.Symbol.{Symbol}
 use Rattle.cwr_shape.specs.declared.symbols.Symbol.TheVariants.{Plain, Ipa, Grh}
 use Rattle.cwr_shape.specs.declared.stages.Stage.{Stage}
 use Rattle.cwr_shape.specs.declared.stages.Stage.TheVariants as stages
-use Rattle.cwr_shape.specs.declared.stages.Step.TheVariants as steps
+use Rattle.cwr_shape.specs.declared.stages.TransactionStep.TheVariants as steps
 use Rattle.cwr_shape.specs.Shapes.{Matches}
-use Rattle.cwr_shape.specs.Outlines.{GoesOn, IsWhole}
+use Rattle.cwr_shape.specs.Outlines.{Continues, IsWhole}
 use Rattle.cwr_shape.specs.Steps.{next_stage}
 use Rattle.cwr_shape.proofs.Matcher.{nullable, after, after_all, accepts_sound}
 use Rattle.cwr_shape.specs.Left.{left, is_stage, Any, LeavesAt}
-use Rattle.cwr_shape.proofs.StagePatterns.{goes_on, goes_back, next_is_stage}
+use Rattle.cwr_shape.proofs.StagePatterns.{table_continues, goes_back, next_is_stage}
 use Rattle.cwr_shape.proofs.WholePatterns.{whole_matches, matches_whole}
 
 -- the stage after some symbols, by the table
@@ -35,7 +35,7 @@ pub comes_to : (stage : Stage) (xs rest : List Symbol) → is_stage stage ≡ tr
 unfolding run
 comes_to stage [] rest real m = record { to = stage; is = refl; real = real; left_there = m }
 comes_to stage (s ∷ xs) rest real m =
-    let first = goes_on stage s (xs ++ rest) real m in
+    let first = table_continues stage s (xs ++ rest) real m in
     let later = comes_to first.to xs rest first.real first.left_there in
     record { to = later.to; is = ap (option_and_then (λ to. run to xs)) first.is ∙ later.is; real = later.real; left_there = later.left_there }
 
@@ -228,30 +228,30 @@ left_at (stages.Within Acknowledgement steps.Acked) h = left_within_acknowledgem
 left_at stage h = absurd (true≢false (sym h))
 
 -- one more symbol comes where the table has a stage for it
-next_begins : (xs : List Symbol) (stage : Stage) (s : Symbol) → LeavesAt xs stage → (o : Option Stage) → next_stage stage s ≡ o → IsSome o → GoesOn Any (xs ++ s ∷ [])
+next_begins : (xs : List Symbol) (stage : Stage) (s : Symbol) → LeavesAt xs stage → (o : Option Stage) → next_stage stage s ≡ o → IsSome o → Continues Any (xs ++ s ∷ [])
 next_begins xs stage s st None e some = absurd (true≢false (sym some))
 next_begins xs stage s st (Some to) e some =
     let rest = left_at to (next_is_stage stage s to st.real e) in
     let w = (st.leaves (s ∷ rest.0)).1 (goes_back stage s to rest.0 st.real e rest.1) in
     (w.0, w.1, tt, (rest.0, sym w.2 ∙ sym (append_assoc xs (s ∷ []) rest.0)))
 
-begins_next : (xs : List Symbol) (stage : Stage) (s : Symbol) → LeavesAt xs stage → GoesOn Any (xs ++ s ∷ []) → IsSome (next_stage stage s)
+begins_next : (xs : List Symbol) (stage : Stage) (s : Symbol) → LeavesAt xs stage → Continues Any (xs ++ s ∷ []) → IsSome (next_stage stage s)
 begins_next xs stage s st g =
     let whole : IsWhole (xs ++ s ∷ g.3.0) = (g.0, g.1, sym (append_assoc xs (s ∷ []) g.3.0) ∙ sym g.3.1) in
-    let on = goes_on stage s g.3.0 st.real ((st.leaves (s ∷ g.3.0)).0 whole) in
+    let on = table_continues stage s g.3.0 st.real ((st.leaves (s ∷ g.3.0)).0 whole) in
     ap is_some on.is
 
-pub leaves_next : (xs : List Symbol) (stage : Stage) (s : Symbol) → LeavesAt xs stage → IsSome (next_stage stage s) ↔ GoesOn Any (xs ++ s ∷ [])
+pub leaves_next : (xs : List Symbol) (stage : Stage) (s : Symbol) → LeavesAt xs stage → IsSome (next_stage stage s) ↔ Continues Any (xs ++ s ∷ [])
 leaves_next xs stage s st = (next_begins xs stage s st (next_stage stage s) refl, begins_next xs stage s st)
 
 -- some transmission begins with the symbols where the table goes through them
-pub begins_run : (xs : List Symbol) → GoesOn Any xs → (to : Stage) × (run stages.Start xs ≡ Some to)
+pub begins_run : (xs : List Symbol) → Continues Any xs → (to : Stage) × (run stages.Start xs ≡ Some to)
 begins_run xs g =
     let whole : Matches (left stages.Start) (xs ++ g.3.0) = subst (Matches (left stages.Start)) g.3.1 (whole_matches g.0 g.1) in
     let come = comes_to stages.Start xs g.3.0 refl whole in
     (come.to, come.is)
 
-pub run_begins : (xs : List Symbol) (to : Stage) → run stages.Start xs ≡ Some to → GoesOn Any xs
+pub run_begins : (xs : List Symbol) (to : Stage) → run stages.Start xs ≡ Some to → Continues Any xs
 run_begins xs to e =
     let rest = left_at to (run_is_stage stages.Start xs to refl e) in
     let w = matches_whole (xs ++ rest.0) (comes_back stages.Start xs rest.0 to refl e rest.1) in

@@ -6,7 +6,7 @@ use Rattle.cwr_shape.specs.declared.symbols.Symbol.{Symbol}
 use Rattle.cwr_shape.specs.declared.stages.Stage.{Stage}
 use Rattle.cwr_shape.specs.declared.stages.Stage.TheVariants as stages
 use Rattle.cwr_shape.specs.Shapes.{Matches}
-use Rattle.cwr_shape.specs.Outlines.{GoesOn}
+use Rattle.cwr_shape.specs.Outlines.{Continues}
 use Rattle.cwr_shape.specs.Steps.{next_stage}
 use Rattle.cwr_shape.specs.Left.{left, Any, StandsAt, LeavesAt}
 use Rattle.cwr_shape.proofs.WholePatterns.{whole_matches, matches_whole}
@@ -48,9 +48,9 @@ run_one : (stage : Stage) (s : Symbol) (to : Stage) → next_stage stage s ≡ S
 unfolding run
 run_one stage s to e = ap (option_and_then (λ t. run t [])) e
 
--- one more symbol comes where the table goes on, and stands where it goes
-pub next_exact : (xs : List Symbol) (stage : Stage) (s : Symbol) (o : Option Stage) → o ≡ next_stage stage s → StandsAt xs stage → IsSome o ↔ GoesOn Any (xs ++ s ∷ [])
-next_exact xs stage s o e st = subst (λ (x : Option Stage). IsSome x ↔ GoesOn Any (xs ++ s ∷ [])) (sym e) (leaves_next xs stage s (stands_leaves xs stage st))
+-- one more symbol comes where the table continues, and stands where it goes
+pub next_exact : (xs : List Symbol) (stage : Stage) (s : Symbol) (o : Option Stage) → o ≡ next_stage stage s → StandsAt xs stage → IsSome o ↔ Continues Any (xs ++ s ∷ [])
+next_exact xs stage s o e st = subst (λ (x : Option Stage). IsSome x ↔ Continues Any (xs ++ s ∷ [])) (sym e) (leaves_next xs stage s (stands_leaves xs stage st))
 
 pub next_stands : (xs : List Symbol) (stage : Stage) (s : Symbol) (o : Option Stage) → o ≡ next_stage stage s → StandsAt xs stage → IfSome o (StandsAt (xs ++ s ∷ []))
 next_stands xs stage s None e st = tt

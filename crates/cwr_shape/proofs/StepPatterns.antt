@@ -9,25 +9,25 @@ use Rattle.cwr_fields.specs.declared.codes.TransactionType.TheVariants.{Agreemen
 use Rattle.cwr_layouts.specs.declared.kinds.Kind.TheVariants as kinds
 use Rattle.cwr_shape.specs.declared.symbols.Symbol.{Symbol}
 use Rattle.cwr_shape.specs.declared.symbols.Symbol.TheVariants.{Plain, Ipa}
-use Rattle.cwr_shape.specs.declared.stages.Step.{Step}
-use Rattle.cwr_shape.specs.declared.stages.Step.TheVariants as steps
+use Rattle.cwr_shape.specs.declared.stages.TransactionStep.{TransactionStep}
+use Rattle.cwr_shape.specs.declared.stages.TransactionStep.TheVariants as steps
 use Rattle.cwr_shape.specs.Shapes.{Pattern, Matches, pattern_of, IsShape}
 use Rattle.cwr_shape.specs.Steps.{header_step, step_on, may_end}
-use Rattle.cwr_shape.specs.Left.{left_of, is_inside, StandsIn, GoesOnIn}
+use Rattle.cwr_shape.specs.Left.{left_of, is_inside, StandsAtStep, ContinuesIn}
 use Rattle.cwr_shape.proofs.Matcher.{nullable, nullable_sound, nullable_complete, after, after_all, is_dead, dead_sound, accepts_sound}
 use Rattle.cwr_shape.proofs.NormalForms.{same_list, same, same_sound, seq, contains, insert, alt, both, norm, norm_alike, follows}
 use Rattle.cwr_shape.proofs.StagePatterns.{all_symbols, of_each}
 use Rattle.cwr_shape.proofs.StepNames.{first_named, on_named}
 
 -- what the pattern leaves is what is left at the step; no step, and nothing is
-unfoldable leads_in : Option Step → Pattern → Bool
+unfoldable leads_in : Option TransactionStep → Pattern → Bool
 leads_in None p = is_dead p
 leads_in (Some step) p = same p (norm (left_of step)) && is_inside step
 
 unfoldable first_follows : TransactionType → Symbol → Bool
 first_follows ty s = leads_in (header_step ty s) (norm (after s (pattern_of ty)))
 
-unfoldable step_follows : Step → Symbol → Bool
+unfoldable step_follows : TransactionStep → Symbol → Bool
 step_follows step s = leads_in (step_on step s) (norm (after s (left_of step)))
 
 agreement_first : list_all (first_follows Agreement) all_symbols ≡ true
@@ -100,7 +100,7 @@ acked_on : list_all (step_follows steps.Acked) all_symbols ≡ true
 unfolding step_follows leads_in nullable after is_dead same_list same seq contains insert alt both norm
 acked_on = refl
 
-step_follow : (step : Step) → is_inside step ≡ true → list_all (step_follows step) all_symbols ≡ true
+step_follow : (step : TransactionStep) → is_inside step ≡ true → list_all (step_follows step) all_symbols ≡ true
 step_follow steps.Agreed h = agreed_on
 step_follow steps.Territories h = territories_on
 step_follow (steps.OneSide Assignor) h = side_assignor_on
@@ -119,47 +119,47 @@ first_led : (ty : TransactionType) (s : Symbol) → leads_in (header_step ty s) 
 unfolding first_follows
 first_led ty s = of_each (first_follows ty) s (first_follow ty)
 
-step_led : (step : Step) (s : Symbol) → is_inside step ≡ true → leads_in (step_on step s) (norm (after s (left_of step))) ≡ true
+step_led : (step : TransactionStep) (s : Symbol) → is_inside step ≡ true → leads_in (step_on step s) (norm (after s (left_of step))) ≡ true
 unfolding step_follows
 step_led step s real = of_each (step_follows step) s (step_follow step real)
 
 -- what follows a symbol is what is left at a step
-record GoesIn (o : Option Step) (xs : List Symbol) : Type 0 where
-  pub to : Step
+record GoesIn (o : Option TransactionStep) (xs : List Symbol) : Type 0 where
+  pub to : TransactionStep
   pub is : o ≡ Some to
   pub real : is_inside to ≡ true
   pub left_there : Matches (left_of to) xs
 
-led_on : (p : Pattern) (xs : List Symbol) (o : Option Step) → leads_in o (norm p) ≡ true → Matches (norm p) xs → GoesIn o xs
+led_on : (p : Pattern) (xs : List Symbol) (o : Option TransactionStep) → leads_in o (norm p) ≡ true → Matches (norm p) xs → GoesIn o xs
 unfolding leads_in
 led_on p xs None h m = absurd (dead_sound (norm p) xs h m)
 led_on p xs (Some to) h m =
     let b = and_parts (same (norm p) (norm (left_of to))) (is_inside to) h in
     record { to = to; is = refl; real = b.1; left_there = (norm_alike (left_of to) xs).0 (subst (λ (q : Pattern). Matches q xs) (same_sound (norm p) (norm (left_of to)) b.0) m) }
 
-led_real : (p : Pattern) (to : Step) (o : Option Step) → o ≡ Some to → leads_in o (norm p) ≡ true → is_inside to ≡ true
+led_real : (p : Pattern) (to : TransactionStep) (o : Option TransactionStep) → o ≡ Some to → leads_in o (norm p) ≡ true → is_inside to ≡ true
 unfolding leads_in
 led_real p to None e h = absurd (none_is_some to e)
   where
-    none_is_some : (x : Step) → None ≡ Some x → ⊥
+    none_is_some : (x : TransactionStep) → None ≡ Some x → ⊥
     none_is_some x k = cc k
 led_real p to (Some other) e h =
-    let there : other ≡ to = cc e in subst (λ (t : Step). is_inside t ≡ true) there (and_parts (same (norm p) (norm (left_of other))) (is_inside other) h).1
+    let there : other ≡ to = cc e in subst (λ (t : TransactionStep). is_inside t ≡ true) there (and_parts (same (norm p) (norm (left_of other))) (is_inside other) h).1
 
-led_back : (p : Pattern) (xs : List Symbol) (to : Step) (o : Option Step) → o ≡ Some to → leads_in o (norm p) ≡ true → Matches (left_of to) xs → Matches (norm p) xs
+led_back : (p : Pattern) (xs : List Symbol) (to : TransactionStep) (o : Option TransactionStep) → o ≡ Some to → leads_in o (norm p) ≡ true → Matches (left_of to) xs → Matches (norm p) xs
 unfolding leads_in
 led_back p xs to None e h m = absurd (none_is_some to e)
   where
-    none_is_some : (x : Step) → None ≡ Some x → ⊥
+    none_is_some : (x : TransactionStep) → None ≡ Some x → ⊥
     none_is_some x k = cc k
 led_back p xs to (Some other) e h m =
     let b = and_parts (same (norm p) (norm (left_of other))) (is_inside other) h in
     let there : other ≡ to = cc e in
     subst (λ (q : Pattern). Matches q xs) (sym (same_sound (norm p) (norm (left_of other)) b.0))
-    ((norm_alike (left_of other) xs).1 (subst (λ (t : Step). Matches (left_of t) xs) (sym there) m))
+    ((norm_alike (left_of other) xs).1 (subst (λ (t : TransactionStep). Matches (left_of t) xs) (sym there) m))
 
 -- something is left at each step
-left_in : (step : Step) → is_inside step ≡ true → (rest : List Symbol) × Matches (left_of step) rest
+left_in : (step : TransactionStep) → is_inside step ≡ true → (rest : List Symbol) × Matches (left_of step) rest
 unfolding nullable after after_all
 left_in steps.Acked h = ([], accepts_sound [] (left_of steps.Acked) refl)
 left_in steps.Agreed h = (Plain kinds.Ter ∷ Ipa Assignor ∷ Ipa Acquirer ∷ [], accepts_sound _ (left_of steps.Agreed) refl)
@@ -176,7 +176,7 @@ left_in steps.Tail h = ([], accepts_sound [] (left_of steps.Tail) refl)
 left_in steps.InGroup h = absurd (true≢false (sym h))
 
 -- where a transaction may end, nothing may be left
-ends_led : (step : Step) → is_inside step ≡ true → nullable (left_of step) ≡ may_end step
+ends_led : (step : TransactionStep) → is_inside step ≡ true → nullable (left_of step) ≡ may_end step
 unfolding nullable
 ends_led steps.Acked h = refl
 ends_led steps.Agreed h = refl
@@ -192,77 +192,77 @@ ends_led steps.OtherWriter h = refl
 ends_led steps.Tail h = refl
 ends_led steps.InGroup h = absurd (true≢false (sym h))
 
-goes_by : (o : Option Step) (xs : List Symbol) → GoesIn o xs → IsSome o
+goes_by : (o : Option TransactionStep) (xs : List Symbol) → GoesIn o xs → IsSome o
 goes_by o xs g = ap is_some g.is
 
-one_step : (x y : Step) → Some x ≡ Some y → x ≡ y
+one_step : (x y : TransactionStep) → Some x ≡ Some y → x ≡ y
 one_step x y e = cc e
 
 -- symbols that stand in a transaction of the type begin one
-pub stands_goes : (ty : TransactionType) (xs : List Symbol) (step : Step) → StandsIn ty xs step → GoesOnIn ty xs
+pub stands_goes : (ty : TransactionType) (xs : List Symbol) (step : TransactionStep) → StandsAtStep ty xs step → ContinuesIn ty xs
 stands_goes ty xs step st = let rest = left_in step st.inside in (rest.0, (st.leaves rest.0).1 rest.1)
 
 -- a transaction begins by its header
-first_begins : (ty : TransactionType) (s : Symbol) (o : Option Step) → header_step ty s ≡ o → IsSome o → GoesOnIn ty (s ∷ [])
+first_begins : (ty : TransactionType) (s : Symbol) (o : Option TransactionStep) → header_step ty s ≡ o → IsSome o → ContinuesIn ty (s ∷ [])
 first_begins ty s None e some = absurd (true≢false (sym some))
 first_begins ty s (Some to) e some =
     let rest = left_in to (led_real (after s (pattern_of ty)) to (header_step ty s) e (first_led ty s)) in
     (rest.0, (follows s (pattern_of ty) rest.0).0 (led_back (after s (pattern_of ty)) rest.0 to (header_step ty s) e (first_led ty s) rest.1))
 
-pub first_exact : (ty : TransactionType) (s : Symbol) → IsSome (header_step ty s) ↔ GoesOnIn ty (s ∷ [])
+pub first_exact : (ty : TransactionType) (s : Symbol) → IsSome (header_step ty s) ↔ ContinuesIn ty (s ∷ [])
 first_exact ty s = (
   first_begins ty s (header_step ty s) refl,
   λ g. goes_by (header_step ty s) g.0 (led_on (after s (pattern_of ty)) g.0 (header_step ty s) (first_led ty s) ((follows s (pattern_of ty) g.0).1 g.1)),
 )
 
-pub first_goes : (ty : TransactionType) (s : Symbol) (o : Option Step) → o ≡ header_step ty s → IsSome o ↔ GoesOnIn ty (s ∷ [])
-first_goes ty s o e = subst (λ (x : Option Step). IsSome x ↔ GoesOnIn ty (s ∷ [])) (sym e) (first_exact ty s)
+pub first_goes : (ty : TransactionType) (s : Symbol) (o : Option TransactionStep) → o ≡ header_step ty s → IsSome o ↔ ContinuesIn ty (s ∷ [])
+first_goes ty s o e = subst (λ (x : Option TransactionStep). IsSome x ↔ ContinuesIn ty (s ∷ [])) (sym e) (first_exact ty s)
 
-pub first_stands : (ty : TransactionType) (s : Symbol) (o : Option Step) → o ≡ header_step ty s → IfSome o (StandsIn ty (s ∷ []))
+pub first_stands : (ty : TransactionType) (s : Symbol) (o : Option TransactionStep) → o ≡ header_step ty s → IfSome o (StandsAtStep ty (s ∷ []))
 first_stands ty s None e = tt
 first_stands ty s (Some to) e = record {
   inside = led_real (after s (pattern_of ty)) to (header_step ty s) (sym e) (first_led ty s);
   named = first_named ty s to (sym e);
   leaves = λ rest. (
     λ m. let on = led_on (after s (pattern_of ty)) rest (header_step ty s) (first_led ty s) ((follows s (pattern_of ty) rest).1 m) in
-        subst (λ (t : Step). Matches (left_of t) rest) (one_step on.to to (sym on.is ∙ sym e)) on.left_there,
+        subst (λ (t : TransactionStep). Matches (left_of t) rest) (one_step on.to to (sym on.is ∙ sym e)) on.left_there,
     λ m. (follows s (pattern_of ty) rest).0 (led_back (after s (pattern_of ty)) rest to (header_step ty s) (sym e) (first_led ty s) m),
   );
 }
 
--- and goes on by the table
-on_begins : (ty : TransactionType) (xs : List Symbol) (step : Step) (s : Symbol) → StandsIn ty xs step → (o : Option Step) → step_on step s ≡ o → IsSome o → GoesOnIn ty (xs ++ s ∷ [])
+-- and continues by the table
+on_begins : (ty : TransactionType) (xs : List Symbol) (step : TransactionStep) (s : Symbol) → StandsAtStep ty xs step → (o : Option TransactionStep) → step_on step s ≡ o → IsSome o → ContinuesIn ty (xs ++ s ∷ [])
 on_begins ty xs step s st None e some = absurd (true≢false (sym some))
 on_begins ty xs step s st (Some to) e some =
     let rest = left_in to (led_real (after s (left_of step)) to (step_on step s) e (step_led step s st.inside)) in
     let m = (follows s (left_of step) rest.0).0 (led_back (after s (left_of step)) rest.0 to (step_on step s) e (step_led step s st.inside) rest.1) in
     (rest.0, subst (IsShape ty) (sym (append_assoc xs (s ∷ []) rest.0)) ((st.leaves (s ∷ rest.0)).1 m))
 
-on_goes : (ty : TransactionType) (xs : List Symbol) (step : Step) (s : Symbol) (rest : List Symbol) → StandsIn ty xs step → IsShape ty ((xs ++ s ∷ []) ++ rest) → GoesIn (step_on step s) rest
+on_goes : (ty : TransactionType) (xs : List Symbol) (step : TransactionStep) (s : Symbol) (rest : List Symbol) → StandsAtStep ty xs step → IsShape ty ((xs ++ s ∷ []) ++ rest) → GoesIn (step_on step s) rest
 on_goes ty xs step s rest st shape =
     let m = (st.leaves (s ∷ rest)).0 (subst (IsShape ty) (append_assoc xs (s ∷ []) rest) shape) in
     led_on (after s (left_of step)) rest (step_on step s) (step_led step s st.inside) ((follows s (left_of step) rest).1 m)
 
-pub on_exact : (ty : TransactionType) (xs : List Symbol) (step : Step) (s : Symbol) (o : Option Step) → o ≡ step_on step s → StandsIn ty xs step → IsSome o ↔ GoesOnIn ty (xs ++ s ∷ [])
+pub on_exact : (ty : TransactionType) (xs : List Symbol) (step : TransactionStep) (s : Symbol) (o : Option TransactionStep) → o ≡ step_on step s → StandsAtStep ty xs step → IsSome o ↔ ContinuesIn ty (xs ++ s ∷ [])
 on_exact ty xs step s o e st =
-    subst (λ (x : Option Step). IsSome x ↔ GoesOnIn ty (xs ++ s ∷ [])) (sym e)
+    subst (λ (x : Option TransactionStep). IsSome x ↔ ContinuesIn ty (xs ++ s ∷ [])) (sym e)
     (on_begins ty xs step s st (step_on step s) refl, λ g. goes_by (step_on step s) g.0 (on_goes ty xs step s g.0 st g.1))
 
-pub on_stands : (ty : TransactionType) (xs : List Symbol) (step : Step) (s : Symbol) (o : Option Step) → o ≡ step_on step s → StandsIn ty xs step → IfSome o (StandsIn ty (xs ++ s ∷ []))
+pub on_stands : (ty : TransactionType) (xs : List Symbol) (step : TransactionStep) (s : Symbol) (o : Option TransactionStep) → o ≡ step_on step s → StandsAtStep ty xs step → IfSome o (StandsAtStep ty (xs ++ s ∷ []))
 on_stands ty xs step s None e st = tt
 on_stands ty xs step s (Some to) e st = record {
   inside = led_real (after s (left_of step)) to (step_on step s) (sym e) (step_led step s st.inside);
   named = on_named ty xs step s to (stands_goes ty xs step st) st.named st.inside (sym e);
   leaves = λ rest. (
     λ shape. let on = on_goes ty xs step s rest st shape in
-        subst (λ (t : Step). Matches (left_of t) rest) (one_step on.to to (sym on.is ∙ sym e)) on.left_there,
+        subst (λ (t : TransactionStep). Matches (left_of t) rest) (one_step on.to to (sym on.is ∙ sym e)) on.left_there,
     λ m. subst (IsShape ty) (sym (append_assoc xs (s ∷ []) rest))
         ((st.leaves (s ∷ rest)).1 ((follows s (left_of step) rest).0 (led_back (after s (left_of step)) rest to (step_on step s) (sym e) (step_led step s st.inside) m))),
   );
 }
 
 -- and is whole where it may end
-pub ends_exact : (ty : TransactionType) (xs : List Symbol) (step : Step) (b : Bool) → b ≡ may_end step → StandsIn ty xs step → IsTrue b ↔ IsShape ty xs
+pub ends_exact : (ty : TransactionType) (xs : List Symbol) (step : TransactionStep) (b : Bool) → b ≡ may_end step → StandsAtStep ty xs step → IsTrue b ↔ IsShape ty xs
 ends_exact ty xs step b e st = (
   λ h. subst (IsShape ty) (append-nil xs) ((st.leaves []).1 (nullable_sound (left_of step) (ends_led step st.inside ∙ sym e ∙ h))),
   λ shape. e ∙ sym (ends_led step st.inside) ∙ nullable_complete (left_of step) ((st.leaves []).0 (subst (IsShape ty) (sym (append-nil xs)) shape)),

@@ -9,7 +9,7 @@ use Rattle.cwr_shape.specs.declared.symbols.Symbol.TheVariants.{Plain, Grh}
 use Rattle.cwr_shape.specs.declared.stages.Stage.TheVariants as stages
 use Rattle.cwr_shape.specs.Shapes.{one_of, ◌then◌, many, Matches, a, some, pattern_of, IsShape}
 use Rattle.cwr_shape.specs.Outlines.{GroupOutline, group_symbols, symbols_of, IsGroupOutline, IsOutline, IsWhole}
-use Rattle.cwr_shape.proofs.HeadFirst.{behind, among_one}
+use Rattle.cwr_shape.proofs.HeadFirst.{rest_after_head, among_one}
 use Rattle.cwr_shape.specs.Left.{group_pattern, any_group, left}
 
 -- one symbol
@@ -69,7 +69,7 @@ IsGroup xs = (g : GroupOutline) × IsGroupOutline g × (xs ≡ group_symbols g)
 
 group_back : (ty : TransactionType) (xs : List Symbol) → Matches (group_pattern ty) xs → IsGroup xs
 group_back ty xs m =
-    let b = behind (Grh ty) (some (pattern_of ty) then a kinds.Grt) xs m in
+    let b = rest_after_head (Grh ty) (some (pattern_of ty) then a kinds.Grt) xs m in
     let foot : b.2.1 ≡ Plain kinds.Grt ∷ [] = is_alone (Plain kinds.Grt) b.2.1 b.2.4 in
     let shapes = b.2.3 in
     let inside : b.2.0 ≡ flat_map (λ t. t) (shapes.0 ∷ shapes.4.0) = shapes.2 ∙ ap (λ (ys : List Symbol). shapes.0 ++ ys) shapes.4.1 in (
@@ -94,7 +94,7 @@ groups_back (x ∷ parts) h =
 
 pub matches_whole : (xs : List Symbol) → Matches (left stages.Start) xs → IsWhole xs
 matches_whole xs m =
-    let b = behind (Plain kinds.Hdr) (some any_group then a kinds.Trl) xs m in
+    let b = rest_after_head (Plain kinds.Hdr) (some any_group then a kinds.Trl) xs m in
     let foot : b.2.1 ≡ Plain kinds.Trl ∷ [] = is_alone (Plain kinds.Trl) b.2.1 b.2.4 in
     let first = any_group_back b.2.3.0 b.2.3.3 in
     let rest = groups_back b.2.3.4.0 b.2.3.4.2 in

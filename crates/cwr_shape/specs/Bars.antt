@@ -5,9 +5,9 @@ use Rattle.cwr_shape.specs.declared.limits.Limits.{Limits}
 use Rattle.cwr_shape.specs.declared.tallies.Bar.{Bar}
 use Rattle.cwr_shape.specs.declared.tallies.Bar.TheVariants.{Misplaced, Limit}
 use Rattle.cwr_shape.specs.Outlines.{KeepsTo}
-use Rattle.cwr_shape.specs.Candidates.{GoesOnAmong}
+use Rattle.cwr_shape.specs.Candidates.{ContinuesAmong}
 
 -- no transmission begins so, or none that keeps to the limit
 abbrev pub Bars : Limits → List (List Symbol) → Bar → Type 0
-Bars limits sets Misplaced = ¬ GoesOnAmong (λ groups. Unit {0}) sets
-Bars limits sets (Limit limit) = ¬ GoesOnAmong (KeepsTo limit limits) sets
+Bars limits sets Misplaced = ¬ ContinuesAmong (λ groups. Unit {0}) sets
+Bars limits sets (Limit limit) = ¬ ContinuesAmong (KeepsTo limit limits) sets

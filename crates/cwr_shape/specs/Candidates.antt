@@ -1,4 +1,4 @@
--- The symbols that records and lines have, as far as their cells tell.
+-- The symbols that records and lines have, as far as their cells say.
 use Rattle.std.specs.Prelude.{◌≡◌, ℕ, List, [], ◌∷◌, ◌++◌, Option, Some, None, find, slice_get, option_and_then}
 use Rattle.std.specs.List.{AllZip, IsAmong}
 use Rattle.std.specs.Str.{bytes_eq}
@@ -43,5 +43,5 @@ abbrev pub BeginsAmong : List (List Symbol) → List GroupOutline → Type 0
 BeginsAmong sets groups = (xs : List Symbol) × (rest : List Symbol) × (symbols_of groups ≡ xs ++ rest) × AllZip IsAmong sets xs
 
 -- some transmission, of which P holds, begins so
-abbrev pub GoesOnAmong : (List GroupOutline → Type 0) → List (List Symbol) → Type 0
-GoesOnAmong P sets = (groups : List GroupOutline) × IsOutline groups × P groups × BeginsAmong sets groups
+abbrev pub ContinuesAmong : (List GroupOutline → Type 0) → List (List Symbol) → Type 0
+ContinuesAmong P sets = (groups : List GroupOutline) × IsOutline groups × P groups × BeginsAmong sets groups

@@ -1,4 +1,4 @@
--- How the counters go on with one more record, and the numbers that they give it.
+-- How the counters continue with one more record, and the numbers that they give it.
 use Rattle.std.specs.Prelude.{ℕ, ◌+◌, ◌-◌, ◌≤◌, Bool, true, false, ◌==◌, nat_lt, List, [], ◌∷◌, Option, Some, None, if◌then◌else◌}
 use Rattle.cwr_fields.specs.declared.codes.Role.{Role}
 use Rattle.cwr_fields.specs.declared.codes.Role.TheVariants.{Assignor, Acquirer}
@@ -10,7 +10,7 @@ use Rattle.cwr_shape.specs.declared.symbols.Symbol.{Symbol}
 use Rattle.cwr_shape.specs.declared.symbols.Symbol.TheVariants as symbols
 use Rattle.cwr_shape.specs.declared.stages.Stage.{Stage}
 use Rattle.cwr_shape.specs.declared.stages.Stage.TheVariants.{Within}
-use Rattle.cwr_shape.specs.declared.stages.Step.TheVariants.{InGroup, OneSide}
+use Rattle.cwr_shape.specs.declared.stages.TransactionStep.TheVariants.{InGroup, OneSide}
 use Rattle.cwr_shape.specs.declared.tallies.Place.{Place}
 use Rattle.cwr_shape.specs.declared.tallies.Place.TheVariants as places
 use Rattle.cwr_shape.specs.Needs.{needs_at}
@@ -18,7 +18,7 @@ use Rattle.cwr_shape.specs.declared.tallies.Counts.{Counts}
 use Rattle.cwr_shape.specs.Ranges.{LimitValues}
 use Rattle.cwr_shape.specs.declared.limits.LimitKind.{LimitKind}
 use Rattle.cwr_shape.specs.declared.limits.LimitKind.TheVariants.{Records, Groups, Transaction}
-use Rattle.cwr_shape.specs.Tallies.{is_header_of, is_in_transaction}
+use Rattle.cwr_shape.specs.Tallies.{is_header_of, has_open_transaction}
 
 -- what is open at a stage
 abbrev pub place_at : Stage → Place
@@ -43,8 +43,8 @@ counts_with_group c = record {
   groups = c.groups + 1;
   transactions = c.transactions;
   in_group = 0;
-  behind_grh = 0;
-  behind_header = 0;
+  after_grh = 0;
+  after_header = 0;
 }
 
 -- with a header
@@ -54,8 +54,8 @@ counts_with_header c = record {
   groups = c.groups;
   transactions = c.transactions + 1;
   in_group = c.in_group + 1;
-  behind_grh = c.behind_grh + 1;
-  behind_header = 0;
+  after_grh = c.after_grh + 1;
+  after_header = 0;
 }
 
 -- with any other record
@@ -65,8 +65,8 @@ counts_with_other c = record {
   groups = c.groups;
   transactions = c.transactions;
   in_group = c.in_group;
-  behind_grh = c.behind_grh + 1;
-  behind_header = c.behind_header + 1;
+  after_grh = c.after_grh + 1;
+  after_header = c.after_header + 1;
 }
 
 -- with one more record, in a group of the type
@@ -80,33 +80,33 @@ pub record HaveRoom (c : Counts) : Type 0 where
   pub groups : c.groups ≤ 999999999
   pub transactions : c.transactions ≤ 999999999
   pub in_group : c.in_group ≤ 999999999
-  pub behind_grh : c.behind_grh ≤ 999999999
-  pub behind_header : c.behind_header ≤ 999999999
+  pub after_grh : c.after_grh ≤ 999999999
+  pub after_header : c.after_header ≤ 999999999
 
 -- the numbers of a record inside a transaction, which is a header or not
 abbrev pub expected_inside : Bool → Counts → List ℕ
 expected_inside true c = c.in_group ∷ 0 ∷ []
-expected_inside false c = (c.in_group - 1) ∷ (c.behind_header + 1) ∷ []
+expected_inside false c = (c.in_group - 1) ∷ (c.after_header + 1) ∷ []
 
 -- the numbers of a record of the kind, in a group of the type
-abbrev pub expected : TransactionType → Counts → Kind → List ℕ
-expected ty c Hdr = []
-expected ty c Grh = (c.groups + 1) ∷ []
-expected ty c Grt = c.groups ∷ c.in_group ∷ (c.behind_grh + 2) ∷ []
-expected ty c Trl = c.groups ∷ c.transactions ∷ (c.records + 1) ∷ []
-expected ty c kind = expected_inside (is_header_of ty (symbols.Plain kind)) c
+abbrev pub expected_numbers : TransactionType → Counts → Kind → List ℕ
+expected_numbers ty c Hdr = []
+expected_numbers ty c Grh = (c.groups + 1) ∷ []
+expected_numbers ty c Grt = c.groups ∷ c.in_group ∷ (c.after_grh + 2) ∷ []
+expected_numbers ty c Trl = c.groups ∷ c.transactions ∷ (c.records + 1) ∷ []
+expected_numbers ty c kind = expected_inside (is_header_of ty (symbols.Plain kind)) c
 
 -- the number in a field of a record inside a transaction, which is a header or not
 abbrev pub number_inside : Bool → Counts → ℕ → Option ℕ
 number_inside begins c j = if 2 == j then Some (if begins then c.in_group else (c.in_group - 1))
-    else (if 3 == j then Some (if begins then 0 else (c.behind_header + 1)) else None)
+    else (if 3 == j then Some (if begins then 0 else (c.after_header + 1)) else None)
 
 -- how many records the open transaction has at a stage, if one is open
 abbrev pub open_at : Stage → Counts → ℕ
-open_at stage c = if is_in_transaction (place_at stage) then (1 + c.behind_header) else 0
+open_at stage c = if has_open_transaction (place_at stage) then (1 + c.after_header) else 0
 
 -- the first limit that what was counted and what must still come pass at a stage
-abbrev pub passed_by : LimitValues → Stage → Counts → Option LimitKind
-passed_by limits stage c = if nat_lt limits.records (c.records + (needs_at stage).records) then Some Records
+abbrev pub passed_limit_at : LimitValues → Stage → Counts → Option LimitKind
+passed_limit_at limits stage c = if nat_lt limits.records (c.records + (needs_at stage).records) then Some Records
     else (if nat_lt limits.groups (c.groups + (needs_at stage).groups) then Some Groups
     else (if nat_lt limits.transaction (open_at stage c + (needs_at stage).transaction) then Some Transaction else None))

@@ -8,10 +8,10 @@ use Rattle.cwr_shape.specs.declared.symbols.Symbol.{Symbol}
 use Rattle.cwr_shape.specs.declared.symbols.Symbol.TheVariants.{Plain, Grh}
 use Rattle.cwr_shape.specs.declared.stages.Stage.{Stage}
 use Rattle.cwr_shape.specs.declared.stages.Stage.TheVariants as stages
-use Rattle.cwr_shape.specs.declared.stages.Step.{Step}
-use Rattle.cwr_shape.specs.declared.stages.Step.TheVariants as steps
+use Rattle.cwr_shape.specs.declared.stages.TransactionStep.{TransactionStep}
+use Rattle.cwr_shape.specs.declared.stages.TransactionStep.TheVariants as steps
 use Rattle.cwr_shape.specs.Shapes.{Pattern, one_of, ◌then◌, ◌or◌, ◌and◌, many, Matches, a, some, party, among_parties, block, publisher, writer, tail_record, pattern_of, IsShape}
-use Rattle.cwr_shape.specs.Outlines.{GroupOutline, IsWhole, GoesOn}
+use Rattle.cwr_shape.specs.Outlines.{GroupOutline, IsWhole, Continues}
 use Rattle.cwr_shape.specs.Stages.{stage_after}
 
 -- a group of the type
@@ -31,7 +31,7 @@ abbrev pub rest_of : TransactionType → Pattern
 rest_of ty = many (pattern_of ty) then (a kinds.Grt then closing)
 
 -- what is left of a transaction
-abbrev pub left_of : Step → Pattern
+abbrev pub left_of : TransactionStep → Pattern
 left_of steps.InGroup = one_of []
 left_of steps.Acked = many (a kinds.Msg)
 left_of steps.Agreed = some block
@@ -56,7 +56,7 @@ left stages.Closed = closing
 left stages.Ended = many (one_of [])
 
 -- the step is one of a transaction of the type
-abbrev pub is_step_of : TransactionType → Step → Bool
+abbrev pub is_step_of : TransactionType → TransactionStep → Bool
 is_step_of ty steps.InGroup = true
 is_step_of Acknowledgement steps.Acked = true
 is_step_of Agreement steps.Agreed = true
@@ -88,7 +88,7 @@ Any groups = Unit {0}
 
 -- the symbols begin a transmission, and this is the stage after them
 pub record StandsAt (xs : List Symbol) (stage : Stage) : Type 0 where
-  pub begins : GoesOn Any xs
+  pub begins : Continues Any xs
   pub named : stage ≡ stage_after xs
 
 -- what makes the symbols a whole transmission is what is left at the stage
@@ -97,20 +97,20 @@ pub record LeavesAt (xs : List Symbol) (stage : Stage) : Type 0 where
   pub leaves : (rest : List Symbol) → IsWhole (xs ++ rest) ↔ Matches (left stage) rest
 
 -- a step inside a transaction
-abbrev pub is_inside : Step → Bool
+abbrev pub is_inside : TransactionStep → Bool
 is_inside steps.InGroup = false
 is_inside step = true
 
 -- some transaction of the type begins with the symbols
-abbrev pub GoesOnIn : TransactionType → List Symbol → Type 0
-GoesOnIn ty xs = (rest : List Symbol) × IsShape ty (xs ++ rest)
+abbrev pub ContinuesIn : TransactionType → List Symbol → Type 0
+ContinuesIn ty xs = (rest : List Symbol) × IsShape ty (xs ++ rest)
 
--- the symbols behind the headers of a transmission and of its first group
+-- the symbols after the headers of a transmission and of its first group
 abbrev pub in_group : TransactionType → List Symbol → List Symbol
 in_group ty xs = Plain kinds.Hdr ∷ Grh ty ∷ xs
 
 -- the symbols begin a transaction of the type, this is the step after them, and what makes them a whole transaction is what is left there
-pub record StandsIn (ty : TransactionType) (xs : List Symbol) (step : Step) : Type 0 where
+pub record StandsAtStep (ty : TransactionType) (xs : List Symbol) (step : TransactionStep) : Type 0 where
   pub inside : IsTrue (is_inside step)
   pub named : stages.Within ty step ≡ stage_after (in_group ty xs)
   pub leaves : (rest : List Symbol) → IsShape ty (xs ++ rest) ↔ Matches (left_of step) rest

@@ -31,7 +31,7 @@ abbrev pub level_of_type : Option FieldLayout → Level
 level_of_type None = F
 level_of_type (Some f) = if must_be_filled f.ty then R else F
 
--- the level of a cell, a number or an excess inside a transaction, behind its header; fields 2 and 3 are the sequences
+-- the level of a cell, a number or an excess inside a transaction, after its header; fields 2 and 3 are the sequences
 abbrev pub level_inside : Kind → ℕ → Reason → Level
 level_inside kind field (reasons.Cell fault) = if (field == 2) || (field == 3) then T else level_of_type (field_at kind field)
 level_inside kind field (reasons.Number n) = T
@@ -63,11 +63,11 @@ level_of kind field (reasons.Limit limit) place = E
 level_of (Some kind) field reason place = level_in kind field reason
 level_of None field reason place = level_of_place place
 
--- what is open behind a record of the kind, or at the start
-abbrev pub place_behind : Option Kind → Place
-place_behind None = places.File
-place_behind (Some Hdr) = places.File
-place_behind (Some Grt) = places.File
-place_behind (Some Trl) = places.File
-place_behind (Some Grh) = places.Group
-place_behind (Some kind) = places.Transaction
+-- what is open after a record of the kind, or at the start
+abbrev pub place_after_kind : Option Kind → Place
+place_after_kind None = places.File
+place_after_kind (Some Hdr) = places.File
+place_after_kind (Some Grt) = places.File
+place_after_kind (Some Trl) = places.File
+place_after_kind (Some Grh) = places.Group
+place_after_kind (Some kind) = places.Transaction

@@ -1,4 +1,4 @@
--- What must still come behind some records before a transmission can end: the least numbers of it.
+-- What must still come after some records before a transmission can end: the least numbers of it.
 use Rattle.std.specs.Prelude.{◌≡◌, ℕ, ◌+◌, ◌≤◌, Bool, not, ◌&&◌, List, [], ◌∷◌, ◌++◌, length, count_by, if◌then◌else◌}
 use Rattle.std.specs.List.{prefix_len}
 use Rattle.cwr_fields.specs.declared.codes.TransactionType.{TransactionType}
@@ -6,17 +6,17 @@ use Rattle.cwr_fields.specs.declared.codes.TransactionType.TheVariants.{Agreemen
 use Rattle.cwr_shape.specs.declared.symbols.Symbol.{Symbol}
 use Rattle.cwr_shape.specs.declared.stages.Stage.{Stage}
 use Rattle.cwr_shape.specs.declared.stages.Stage.TheVariants as stages
-use Rattle.cwr_shape.specs.declared.stages.Step.{Step}
-use Rattle.cwr_shape.specs.declared.stages.Step.TheVariants as steps
+use Rattle.cwr_shape.specs.declared.stages.TransactionStep.{TransactionStep}
+use Rattle.cwr_shape.specs.declared.stages.TransactionStep.TheVariants as steps
 use Rattle.cwr_shape.specs.declared.stages.Needs.{Needs}
 use Rattle.cwr_shape.specs.Outlines.{IsWhole}
 use Rattle.cwr_shape.specs.Stages.{is_grh, stage_after}
-use Rattle.cwr_shape.specs.Tallies.{is_header_of, type_behind, is_in_transaction, place_by}
+use Rattle.cwr_shape.specs.Tallies.{is_header_of, type_after, has_open_transaction, place_by}
 use Rattle.std.specs.Prelude.{Some}
 
 -- a record of a transaction of the type, but not its header
 abbrev pub is_later_of : TransactionType → Symbol → Bool
-is_later_of ty s = is_in_transaction (place_by (Some s)) && not (is_header_of ty s)
+is_later_of ty s = has_open_transaction (place_by (Some s)) && not (is_header_of ty s)
 
 -- the further records of a transaction of the type that is open before these symbols: those up to the next header or the group's foot
 abbrev pub later_records : TransactionType → List Symbol → ℕ
@@ -25,7 +25,7 @@ later_records ty rest = prefix_len (is_later_of ty) rest
 -- the records of the first transaction that begins among the symbols, of which the first stands in a group of the type
 abbrev pub first_transaction : TransactionType → List Symbol → ℕ
 first_transaction ty [] = 0
-first_transaction ty (s ∷ rest) = if is_header_of ty s then (1 + later_records ty rest) else first_transaction (type_behind ty s) rest
+first_transaction ty (s ∷ rest) = if is_header_of ty s then (1 + later_records ty rest) else first_transaction (type_after ty s) rest
 
 -- the further records of the open transaction, or where none is open the records of the next one
 abbrev pub transaction_to_come : Stage → List Symbol → ℕ
@@ -33,7 +33,7 @@ transaction_to_come (stages.Within ty steps.InGroup) rest = first_transaction ty
 transaction_to_come (stages.Within ty step) rest = later_records ty rest
 transaction_to_come stage rest = first_transaction Acknowledgement rest
 
--- with these symbols behind them the records are a whole transmission, and these are their numbers
+-- with these symbols after them the records are a whole transmission, and these are their numbers
 pub record EndsBy (xs rest : List Symbol) (needs : Needs) : Type 0 where
   pub whole : IsWhole (xs ++ rest)
   pub records_more : needs.records ≡ length rest
@@ -64,7 +64,7 @@ needs_in_group RevisedWork = needs_of 4 0 2
 needs_in_group Acknowledgement = needs_of 3 0 1
 
 -- inside a group
-abbrev pub needs_within : TransactionType → Step → Needs
+abbrev pub needs_within : TransactionType → TransactionStep → Needs
 needs_within ty steps.InGroup = needs_in_group ty
 needs_within ty steps.Acked = needs_of 2 0 0
 needs_within ty steps.Agreed = needs_of 5 0 3

@@ -48,7 +48,7 @@ symbol_kind (Plain kind) = kind
 symbol_kind (Ipa role) = kinds.Ipa
 symbol_kind (Grh ty) = kinds.Grh
 
--- in each transmission that goes on from these symbols by a record of the kind, this is the number in its field j
+-- in each transmission that continues from these symbols by a record of the kind, this is the number in its field j
 abbrev pub IsNumberAt : List Symbol → Kind → ℕ → Option ℕ → Type 0
 IsNumberAt xs kind j n = (groups : List GroupOutline) (s : Symbol) (rest : List Symbol) → IsOutline groups → symbols_of groups ≡ xs ++ s ∷ rest
     → symbol_kind s ≡ kind → n ≡ number_in kind j (slice_index_or (numbers_of (lengths_of groups)) (length xs) [])

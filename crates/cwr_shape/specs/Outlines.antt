@@ -50,5 +50,5 @@ abbrev pub BeginsWith : List Symbol → List GroupOutline → Type 0
 BeginsWith xs groups = (rest : List Symbol) × (symbols_of groups ≡ xs ++ rest)
 
 -- some transmission, of which P holds, begins with these symbols
-abbrev pub GoesOn : (List GroupOutline → Type 0) → List Symbol → Type 0
-GoesOn P xs = (groups : List GroupOutline) × IsOutline groups × P groups × BeginsWith xs groups
+abbrev pub Continues : (List GroupOutline → Type 0) → List Symbol → Type 0
+Continues P xs = (groups : List GroupOutline) × IsOutline groups × P groups × BeginsWith xs groups

@@ -60,7 +60,7 @@ publisher = a kinds.Spu then many (a kinds.Spt) or a kinds.Opu
 abbrev pub writer : Pattern
 writer = a kinds.Swr then many (a kinds.Swt or a kinds.Pwr) or a kinds.Owr then many (a kinds.Pwr)
 
--- a record that may stand behind the writers
+-- a record that may stand after the writers
 abbrev pub tail_record : Pattern
 tail_record = one_of (Plain kinds.Alt ∷ Plain kinds.Ewt ∷ Plain kinds.Ver ∷ Plain kinds.Per ∷ Plain kinds.Rec ∷ Plain kinds.Orn ∷ Plain kinds.Com ∷ [])
 

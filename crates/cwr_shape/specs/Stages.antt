@@ -10,8 +10,8 @@ use Rattle.cwr_shape.specs.declared.symbols.Symbol.{Symbol}
 use Rattle.cwr_shape.specs.declared.symbols.Symbol.TheVariants.{Plain, Ipa, Grh}
 use Rattle.cwr_shape.specs.declared.stages.Stage.{Stage}
 use Rattle.cwr_shape.specs.declared.stages.Stage.TheVariants as stages
-use Rattle.cwr_shape.specs.declared.stages.Step.{Step}
-use Rattle.cwr_shape.specs.declared.stages.Step.TheVariants as steps
+use Rattle.cwr_shape.specs.declared.stages.TransactionStep.{TransactionStep}
+use Rattle.cwr_shape.specs.declared.stages.TransactionStep.TheVariants as steps
 
 -- the symbol is a GRH
 abbrev pub is_grh : Symbol → Bool
@@ -45,12 +45,12 @@ other_role Assignor = Acquirer
 other_role Acquirer = Assignor
 
 -- a PWR belongs to the writer before it
-abbrev pub pwr_step : Option Symbol → Step
+abbrev pub pwr_step : Option Symbol → TransactionStep
 pwr_step (Some (Plain kinds.Owr)) = steps.OtherWriter
 pwr_step s = steps.Writer
 
 -- how far the transaction has come, by its last record
-abbrev pub step_after : Symbol → List Symbol → Step
+abbrev pub step_after : Symbol → List Symbol → TransactionStep
 step_after (Ipa role) xs = if list_any (is_ipa_of (other_role role)) (after_last (λ s. not (is_ipa s)) xs) then steps.Both else steps.OneSide role
 step_after (Plain kinds.Ack) xs = steps.Acked
 step_after (Plain kinds.Msg) xs = steps.Acked

@@ -1,4 +1,4 @@
--- Which stage follows which: the code's way through the orders of records. The laws say that it goes on exactly where
+-- Which stage follows which: the code's way through the orders of records. The laws say that it continues exactly where
 -- a whole transmission does.
 use Rattle.std.specs.Prelude.{Bool, true, false, Option, Some, None, if◌then◌else◌}
 use Rattle.cwr_fields.specs.declared.codes.Role.{Role}
@@ -10,11 +10,11 @@ use Rattle.cwr_shape.specs.declared.symbols.Symbol.{Symbol}
 use Rattle.cwr_shape.specs.declared.symbols.Symbol.TheVariants.{Plain, Ipa, Grh}
 use Rattle.cwr_shape.specs.declared.stages.Stage.{Stage}
 use Rattle.cwr_shape.specs.declared.stages.Stage.TheVariants as stages
-use Rattle.cwr_shape.specs.declared.stages.Step.{Step}
-use Rattle.cwr_shape.specs.declared.stages.Step.TheVariants as steps
+use Rattle.cwr_shape.specs.declared.stages.TransactionStep.{TransactionStep}
+use Rattle.cwr_shape.specs.declared.stages.TransactionStep.TheVariants as steps
 
 -- after the header of the type
-abbrev pub header_step : TransactionType → Symbol → Option Step
+abbrev pub header_step : TransactionType → Symbol → Option TransactionStep
 header_step Agreement (Plain kinds.Agr) = Some steps.Agreed
 header_step NewWork (Plain kinds.Nwr) = Some steps.Work
 header_step RevisedWork (Plain kinds.Rev) = Some steps.Work
@@ -22,13 +22,13 @@ header_step Acknowledgement (Plain kinds.Ack) = Some steps.Acked
 header_step ty s = None
 
 -- after one more party of a block with parties of one role
-abbrev pub party_step : Role → Role → Step
+abbrev pub party_step : Role → Role → TransactionStep
 party_step Assignor Assignor = steps.OneSide Assignor
 party_step Acquirer Acquirer = steps.OneSide Acquirer
 party_step side role = steps.Both
 
--- after a record that may stand behind the writers
-abbrev pub tail_step : Symbol → Option Step
+-- after a record that may stand after the writers
+abbrev pub tail_step : Symbol → Option TransactionStep
 tail_step (Plain kinds.Alt) = Some steps.Tail
 tail_step (Plain kinds.Ewt) = Some steps.Tail
 tail_step (Plain kinds.Ver) = Some steps.Tail
@@ -39,21 +39,21 @@ tail_step (Plain kinds.Com) = Some steps.Tail
 tail_step s = None
 
 -- after a publisher or a writer
-abbrev pub party_of_work : Symbol → Option Step
+abbrev pub party_of_work : Symbol → Option TransactionStep
 party_of_work (Plain kinds.Spu) = Some steps.Controlled
 party_of_work (Plain kinds.Opu) = Some steps.Other
 party_of_work (Plain kinds.Swr) = Some steps.Writer
 party_of_work (Plain kinds.Owr) = Some steps.OtherWriter
 party_of_work s = None
 
--- after a further writer, or a record behind the writers
-abbrev pub behind_writer : Symbol → Option Step
-behind_writer (Plain kinds.Swr) = Some steps.Writer
-behind_writer (Plain kinds.Owr) = Some steps.OtherWriter
-behind_writer s = tail_step s
+-- after a further writer, or a record after the writers
+abbrev pub after_writer : Symbol → Option TransactionStep
+after_writer (Plain kinds.Swr) = Some steps.Writer
+after_writer (Plain kinds.Owr) = Some steps.OtherWriter
+after_writer s = tail_step s
 
 -- after one more record of the transaction
-abbrev pub step_on : Step → Symbol → Option Step
+abbrev pub step_on : TransactionStep → Symbol → Option TransactionStep
 step_on steps.InGroup s = None
 step_on steps.Acked (Plain kinds.Msg) = Some steps.Acked
 step_on steps.Acked s = None
@@ -73,13 +73,13 @@ step_on steps.Controlled s = party_of_work s
 step_on steps.Other s = party_of_work s
 step_on steps.Writer (Plain kinds.Swt) = Some steps.Writer
 step_on steps.Writer (Plain kinds.Pwr) = Some steps.Writer
-step_on steps.Writer s = behind_writer s
+step_on steps.Writer s = after_writer s
 step_on steps.OtherWriter (Plain kinds.Pwr) = Some steps.OtherWriter
-step_on steps.OtherWriter s = behind_writer s
+step_on steps.OtherWriter s = after_writer s
 step_on steps.Tail s = tail_step s
 
 -- the transaction may end here
-abbrev pub may_end : Step → Bool
+abbrev pub may_end : TransactionStep → Bool
 may_end steps.Acked = true
 may_end steps.Both = true
 may_end steps.Writer = true
@@ -88,7 +88,7 @@ may_end steps.Tail = true
 may_end step = false
 
 -- in the group, after a step
-abbrev pub within : TransactionType → Option Step → Option Stage
+abbrev pub within : TransactionType → Option TransactionStep → Option Stage
 within ty None = None
 within ty (Some step) = Some (stages.Within ty step)
 
@@ -97,8 +97,8 @@ abbrev pub next_or_foot : TransactionType → Symbol → Option Stage
 next_or_foot ty (Plain kinds.Grt) = Some stages.Closed
 next_or_foot ty s = within ty (header_step ty s)
 
--- a transaction that may end goes on, or another begins, or the group ends
-abbrev pub on_or_next : TransactionType → Option Step → Symbol → Option Stage
+-- a transaction that may end continues, or another begins, or the group ends
+abbrev pub on_or_next : TransactionType → Option TransactionStep → Symbol → Option Stage
 on_or_next ty (Some step) s = Some (stages.Within ty step)
 on_or_next ty None s = next_or_foot ty s
 

@@ -1,17 +1,72 @@
-//! Bars and faults as errors, which print.
+//! The words for limits, reasons, levels, bars and faults.
+
+ghost use Rattle.std.specs.Prelude.{◌≡◌, ◌≤◌, Some, length};
+ghost use Rattle.cwr_shape.specs.ReasonTexts.{level_text, limit_text, reason_text};
 
 use crate::limits::{LimitKind, LimitsFault};
+use crate::reasons::{Level, Reason};
 use crate::tallies::Bar;
 use std::error::Error;
 use std::fmt::{self, Display, Formatter, Write};
 
-impl Display for LimitKind {
-    fn fmt<O: Write>(&self, f: &mut Formatter<O>) -> fmt::Result {
-        f.pad(match self {
+impl LimitKind {
+    /// The word for it, as it stands in a report line.
+    pub fn word(self) -> &'static str
+        ensures word { result.now ≡ limit_text self }
+        ensures short { length result.now ≤ 11 }
+    {
+        match self {
             LimitKind::Records => "records",
             LimitKind::Groups => "groups",
             LimitKind::Transaction => "transaction",
-        })
+        }
+    }
+}
+
+impl Display for LimitKind {
+    ghost output = { λ limit. Some (limit_text limit) };
+
+    fn fmt<O: Write>(&self, f: &mut Formatter<O>) -> fmt::Result {
+        f.pad(self.word())
+    }
+}
+
+impl Display for Reason {
+    ghost output = { λ reason. Some (reason_text reason) };
+
+    fn fmt<O: Write>(&self, f: &mut Formatter<O>) -> fmt::Result {
+        match self {
+            Reason::UnknownKind => f.pad("unknown kind"),
+            Reason::Misplaced => f.pad("misplaced"),
+            Reason::Cell(fault) => write!(f, "{fault}"),
+            Reason::Number { expected } => write!(f, "number expected {expected}"),
+            Reason::Limit(limit) => write!(f, "limit {limit}"),
+            Reason::Excess => f.pad("excess"),
+        }
+    }
+}
+
+impl Level {
+    /// Its letter, as it stands in a report line.
+    pub fn letter(self) -> &'static str
+        ensures letter { result.now ≡ level_text self }
+        ensures short { length result.now ≡ 1 }
+    {
+        match self {
+            Level::E => "E",
+            Level::G => "G",
+            Level::T => "T",
+            Level::R => "R",
+            Level::F => "F",
+        }
+    }
+}
+
+impl Display for Level {
+    ghost output = { λ level. Some (level_text level) };
+
+    fn fmt<O: Write>(&self, f: &mut Formatter<O>) -> fmt::Result {
+        f.pad(self.letter())
     }
 }
 
@@ -29,12 +84,10 @@ impl Error for LimitsFault {}
 
 impl Display for Bar {
     fn fmt<O: Write>(&self, f: &mut Formatter<O>) -> fmt::Result {
-        f.pad(match self {
-            Bar::Misplaced => "misplaced",
-            Bar::Limit(LimitKind::Records) => "limit records",
-            Bar::Limit(LimitKind::Groups) => "limit groups",
-            Bar::Limit(LimitKind::Transaction) => "limit transaction",
-        })
+        match self {
+            Bar::Misplaced => write!(f, "{}", Reason::Misplaced),
+            Bar::Limit(limit) => write!(f, "{}", Reason::Limit(*limit)),
+        }
     }
 }
 

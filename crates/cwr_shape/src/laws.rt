@@ -7,18 +7,18 @@ ghost use Rattle.cwr_shape.specs.declared.symbols.Symbol.{Symbol};
 ghost use Rattle.cwr_shape.specs.declared.stages.Stage.{Stage};
 ghost use Rattle.cwr_shape.specs.Left.{StandsAt, LeavesAt};
 
-/// No whole transmission goes on to another: after TRL nothing more belongs to it.
-pub fn no_transmission_goes_on()
+/// No whole transmission continues to another: after TRL nothing more belongs to it.
+pub fn no_transmission_continues()
     ensures { (xs rest : List Symbol) → IsWhole xs → IsWhole (xs ++ rest) → rest ≡ [] }
 {}
 
 /// What makes records that stand at a stage a whole transmission is what is left at the stage.
-pub fn stages_tell_what_is_left()
+pub fn stages_say_what_is_left()
     ensures { (xs : List Symbol) (stage : Stage) → StandsAt xs stage → LeavesAt xs stage }
 {}
 
 /// The numbers of a record depend on its kind and on the records before it alone: where two transmissions begin with
-/// the same records and go on with one of the same kind, that one has the same numbers in both.
+/// the same records and continue with one of the same kind, that one has the same numbers in both.
 pub fn numbers_depend_on_records_before()
     ensures { (groups others : List GroupOutline) (xs : List Symbol) (s t : Symbol) (rest more : List Symbol)
         → IsOutline groups → IsOutline others → symbols_of groups ≡ xs ++ s ∷ rest → symbols_of others ≡ xs ++ t ∷ more

@@ -48,7 +48,7 @@ fn level_of_cell(kind: Kind, j: u8, reason: &Reason) -> Level
     }
 }
 
-/// The same behind the header of a transaction.
+/// The same after the header of a transaction.
 fn level_of_inner(kind: Kind, j: u8, reason: &Reason) -> Level
     ensures { result ≡ level_inside kind j reason.now }
 {

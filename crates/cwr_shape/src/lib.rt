@@ -13,6 +13,6 @@ mod tallies;
 pub use levels::level;
 pub use limits::{LimitKind, Limits, LimitsFault};
 pub use reasons::{Level, Reason};
-pub use stages::{Needs, Stage, Step};
+pub use stages::{Needs, Stage, TransactionStep};
 pub use symbols::Symbol;
 pub use tallies::{Bar, Place, Tally};

@@ -3,7 +3,7 @@
 use crate::limits::LimitKind;
 use cwr_fields::CellFault;
 
-/// Why a text is refused at a field. Where several hold, the first of this list is told.
+/// Why a text is refused at a field. Where several hold, the first of this list is reported.
 #[derive(Clone, Copy, Debug, PartialEq, Eq)]
 pub enum Reason {
     /// The line's first three bytes name no kind.
@@ -17,9 +17,9 @@ pub enum Reason {
         /// The number that belongs there.
         expected: u64,
     },
-    /// Transmissions go on so, but none within the limit.
+    /// Transmissions continue so, but none within the limit.
     Limit(LimitKind),
-    /// Something stands behind the last field, or the line is too long.
+    /// Something stands after the last field, or the line is too long.
     Excess,
 }
 

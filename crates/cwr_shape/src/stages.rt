@@ -2,12 +2,12 @@
 
 ghost use Rattle.std.specs.Prelude.{◌≡◌, ◌↔◌, List, [], ◌∷◌, ◌++◌, IsTrue, IsFalse, IsSome, IfSome, None};
 ghost use Rattle.cwr_shape.specs.declared.symbols.Symbol.{Symbol};
-ghost use Rattle.cwr_shape.specs.Outlines.{GoesOn};
-ghost use Rattle.cwr_shape.specs.Left.{Any, StandsAt, GoesOnIn, StandsIn};
+ghost use Rattle.cwr_shape.specs.Outlines.{Continues};
+ghost use Rattle.cwr_shape.specs.Left.{Any, StandsAt, ContinuesIn, StandsAtStep};
 ghost use Rattle.cwr_shape.specs.Shapes.{IsShape};
 ghost use Rattle.cwr_fields.specs.declared.codes.TransactionType.{TransactionType};
 ghost use Rattle.cwr_shape.specs.Needs.{needs_at, AreNeeds};
-ghost use Rattle.cwr_shape.specs.Steps.{header_step, party_step, tail_step, party_of_work, behind_writer, step_on, may_end, next_stage};
+ghost use Rattle.cwr_shape.specs.Steps.{header_step, party_step, tail_step, party_of_work, after_writer, step_on, may_end, next_stage};
 
 use crate::symbols::Symbol;
 use cwr_fields::{Role, TransactionType};
@@ -21,7 +21,7 @@ pub enum Stage {
     /// After HDR.
     Opened,
     /// In a group of the type.
-    Within(TransactionType, Step),
+    Within(TransactionType, TransactionStep),
     /// After GRT.
     Closed,
     /// After TRL.
@@ -30,7 +30,7 @@ pub enum Stage {
 
 /// How far a group's last transaction has come.
 #[derive(Clone, Copy, Debug, PartialEq, Eq)]
-pub enum Step {
+pub enum TransactionStep {
     /// After GRH: no transaction has begun.
     InGroup,
     /// After ACK or MSG.
@@ -69,84 +69,98 @@ pub struct Needs {
 }
 
 /// The step after the header of a type's transactions.
-fn header(ty: TransactionType, symbol: Symbol) -> Option<Step>
+fn header_step(ty: TransactionType, symbol: Symbol) -> Option<TransactionStep>
     ensures { result ≡ header_step ty symbol }
 {
     match (ty, symbol) {
-        (TransactionType::Agreement, Symbol::Plain(Kind::Agr)) => Some(Step::Agreed),
-        (TransactionType::NewWork, Symbol::Plain(Kind::Nwr)) => Some(Step::Work),
-        (TransactionType::RevisedWork, Symbol::Plain(Kind::Rev)) => Some(Step::Work),
-        (TransactionType::Acknowledgement, Symbol::Plain(Kind::Ack)) => Some(Step::Acked),
+        (TransactionType::Agreement, Symbol::Plain(Kind::Agr)) => Some(TransactionStep::Agreed),
+        (TransactionType::NewWork, Symbol::Plain(Kind::Nwr)) => Some(TransactionStep::Work),
+        (TransactionType::RevisedWork, Symbol::Plain(Kind::Rev)) => Some(TransactionStep::Work),
+        (TransactionType::Acknowledgement, Symbol::Plain(Kind::Ack)) => Some(
+            TransactionStep::Acked,
+        ),
         _ => None,
     }
 }
 
-/// The step after a record that may stand behind the writers.
-fn tail(symbol: Symbol) -> Option<Step>
+/// The step after a record that may stand after the writers.
+fn tail_step(symbol: Symbol) -> Option<TransactionStep>
     ensures { result ≡ tail_step symbol }
 {
     match symbol {
         Symbol::Plain(
             Kind::Alt | Kind::Ewt | Kind::Ver | Kind::Per | Kind::Rec | Kind::Orn | Kind::Com,
-        ) => Some(Step::Tail),
+        ) => Some(TransactionStep::Tail),
         _ => None,
     }
 }
 
 /// The step after a publisher or a writer of a work.
-fn party(symbol: Symbol) -> Option<Step>
+fn party_of_work(symbol: Symbol) -> Option<TransactionStep>
     ensures { result ≡ party_of_work symbol }
 {
     match symbol {
-        Symbol::Plain(Kind::Spu) => Some(Step::Controlled),
-        Symbol::Plain(Kind::Opu) => Some(Step::Other),
-        Symbol::Plain(Kind::Swr) => Some(Step::Writer),
-        Symbol::Plain(Kind::Owr) => Some(Step::OtherWriter),
+        Symbol::Plain(Kind::Spu) => Some(TransactionStep::Controlled),
+        Symbol::Plain(Kind::Opu) => Some(TransactionStep::Other),
+        Symbol::Plain(Kind::Swr) => Some(TransactionStep::Writer),
+        Symbol::Plain(Kind::Owr) => Some(TransactionStep::OtherWriter),
         _ => None,
     }
 }
 
-/// The step after a further writer, or after a record behind the writers.
-fn behind(symbol: Symbol) -> Option<Step>
-    ensures { result ≡ behind_writer symbol }
+/// The step after a further writer, or after a record that may stand after the writers.
+fn after_writer(symbol: Symbol) -> Option<TransactionStep>
+    ensures { result ≡ after_writer symbol }
 {
     match symbol {
-        Symbol::Plain(Kind::Swr) => Some(Step::Writer),
-        Symbol::Plain(Kind::Owr) => Some(Step::OtherWriter),
-        _ => tail(symbol),
+        Symbol::Plain(Kind::Swr) => Some(TransactionStep::Writer),
+        Symbol::Plain(Kind::Owr) => Some(TransactionStep::OtherWriter),
+        _ => tail_step(symbol),
     }
 }
 
-impl Step {
+impl TransactionStep {
     /// The step after one more party, in a block with parties of one role.
-    fn after_party(side: Role, role: Role) -> Step
+    fn after_party(side: Role, role: Role) -> TransactionStep
         ensures { result ≡ party_step side role }
     {
         match (side, role) {
-            (Role::Assignor, Role::Assignor) => Step::OneSide(Role::Assignor),
-            (Role::Acquirer, Role::Acquirer) => Step::OneSide(Role::Acquirer),
-            _ => Step::Both,
+            (Role::Assignor, Role::Assignor) => TransactionStep::OneSide(Role::Assignor),
+            (Role::Acquirer, Role::Acquirer) => TransactionStep::OneSide(Role::Acquirer),
+            _ => TransactionStep::Both,
         }
     }
 
     /// The step after one more record of the transaction.
-    fn on(self, symbol: Symbol) -> Option<Step>
+    fn on(self, symbol: Symbol) -> Option<TransactionStep>
         ensures { result ≡ step_on self symbol }
     {
         match (self, symbol) {
-            (Step::Acked, Symbol::Plain(Kind::Msg)) => Some(Step::Acked),
-            (Step::Agreed | Step::Territories | Step::Both, Symbol::Plain(Kind::Ter)) => {
-                Some(Step::Territories)
-            }
-            (Step::Territories, Symbol::Ipa(role)) => Some(Step::OneSide(role)),
-            (Step::OneSide(side), Symbol::Ipa(role)) => Some(Step::after_party(side, role)),
-            (Step::Both, Symbol::Ipa(_)) => Some(Step::Both),
-            (Step::Controlled, Symbol::Plain(Kind::Spt)) => Some(Step::Controlled),
-            (Step::Work | Step::Controlled | Step::Other, _) => party(symbol),
-            (Step::Writer, Symbol::Plain(Kind::Swt | Kind::Pwr)) => Some(Step::Writer),
-            (Step::OtherWriter, Symbol::Plain(Kind::Pwr)) => Some(Step::OtherWriter),
-            (Step::Writer | Step::OtherWriter, _) => behind(symbol),
-            (Step::Tail, _) => tail(symbol),
+            (TransactionStep::Acked, Symbol::Plain(Kind::Msg)) => Some(TransactionStep::Acked),
+            (
+                TransactionStep::Agreed | TransactionStep::Territories | TransactionStep::Both,
+                Symbol::Plain(Kind::Ter),
+            ) => { Some(TransactionStep::Territories) }
+            (TransactionStep::Territories, Symbol::Ipa(role)) => Some(TransactionStep::OneSide(
+                role,
+            )),
+            (TransactionStep::OneSide(side), Symbol::Ipa(role)) => Some(
+                TransactionStep::after_party(side, role),
+            ),
+            (TransactionStep::Both, Symbol::Ipa(_)) => Some(TransactionStep::Both),
+            (TransactionStep::Controlled, Symbol::Plain(Kind::Spt)) => Some(
+                TransactionStep::Controlled,
+            ),
+            (TransactionStep::Work | TransactionStep::Controlled | TransactionStep::Other, _) =>
+                party_of_work(symbol),
+            (TransactionStep::Writer, Symbol::Plain(Kind::Swt | Kind::Pwr)) => Some(
+                TransactionStep::Writer,
+            ),
+            (TransactionStep::OtherWriter, Symbol::Plain(Kind::Pwr)) => Some(
+                TransactionStep::OtherWriter,
+            ),
+            (TransactionStep::Writer | TransactionStep::OtherWriter, _) => after_writer(symbol),
+            (TransactionStep::Tail, _) => tail_step(symbol),
             _ => None,
         }
     }
@@ -157,13 +171,17 @@ impl Step {
     {
         matches!(
             self,
-            Step::Acked | Step::Both | Step::Writer | Step::OtherWriter | Step::Tail
+            TransactionStep::Acked
+                | TransactionStep::Both
+                | TransactionStep::Writer
+                | TransactionStep::OtherWriter
+                | TransactionStep::Tail
         )
     }
 }
 
 /// The stage after one more record inside a group of the type.
-fn next_within(ty: TransactionType, step: Step, symbol: Symbol) -> Option<Stage>
+fn next_within(ty: TransactionType, step: TransactionStep, symbol: Symbol) -> Option<Stage>
     ensures { result ≡ next_stage (Stage.Within ty step) symbol }
 {
     if let Some(on) = step.on(symbol) {
@@ -171,8 +189,10 @@ fn next_within(ty: TransactionType, step: Step, symbol: Symbol) -> Option<Stage>
     }
     match (step, symbol) {
         (_, Symbol::Plain(Kind::Grt)) if step.may_end() => Some(Stage::Closed),
-        (Step::InGroup, _) => header(ty, symbol).map(|first| Stage::Within(ty, first)),
-        _ if step.may_end() => header(ty, symbol).map(|first| Stage::Within(ty, first)),
+        (TransactionStep::InGroup, _) => header_step(ty, symbol).map(|first| Stage::Within(
+            ty, first,
+        )),
+        _ if step.may_end() => header_step(ty, symbol).map(|first| Stage::Within(ty, first)),
         _ => None,
     }
 }
@@ -183,7 +203,10 @@ fn next(stage: Stage, symbol: Symbol) -> Option<Stage>
 {
     match (stage, symbol) {
         (Stage::Start, Symbol::Plain(Kind::Hdr)) => Some(Stage::Opened),
-        (Stage::Opened | Stage::Closed, Symbol::Grh(ty)) => Some(Stage::Within(ty, Step::InGroup)),
+        (Stage::Opened | Stage::Closed, Symbol::Grh(ty)) => Some(Stage::Within(
+            ty,
+            TransactionStep::InGroup,
+        )),
         (Stage::Closed, Symbol::Plain(Kind::Trl)) => Some(Stage::Ended),
         (Stage::Within(ty, step), _) => next_within(ty, step, symbol),
         _ => None,
@@ -191,25 +214,34 @@ fn next(stage: Stage, symbol: Symbol) -> Option<Stage>
 }
 
 /// The table of what must still come at a stage.
-fn to_come(stage: Stage) -> Needs
+fn needs_at(stage: Stage) -> Needs
     ensures { result ≡ needs_at stage }
 {
     let (records, groups, transaction) = match stage {
         Stage::Start => (5, 1, 1),
         Stage::Opened => (4, 1, 1),
-        Stage::Within(TransactionType::Agreement, Step::InGroup) => (6, 0, 4),
-        Stage::Within(TransactionType::NewWork | TransactionType::RevisedWork, Step::InGroup) => (
-            4, 0, 2,
-        ),
-        Stage::Within(TransactionType::Acknowledgement, Step::InGroup) => (3, 0, 1),
-        Stage::Within(_, Step::Agreed) => (5, 0, 3),
-        Stage::Within(_, Step::Territories) => (4, 0, 2),
-        Stage::Within(_, Step::OneSide(_) | Step::Work | Step::Controlled | Step::Other) => {
-            (3, 0, 1)
-        }
+        Stage::Within(TransactionType::Agreement, TransactionStep::InGroup) => (6, 0, 4),
+        Stage::Within(
+            TransactionType::NewWork | TransactionType::RevisedWork,
+            TransactionStep::InGroup,
+        ) => (4, 0, 2),
+        Stage::Within(TransactionType::Acknowledgement, TransactionStep::InGroup) => (3, 0, 1),
+        Stage::Within(_, TransactionStep::Agreed) => (5, 0, 3),
+        Stage::Within(_, TransactionStep::Territories) => (4, 0, 2),
         Stage::Within(
             _,
-            Step::Both | Step::Acked | Step::Writer | Step::OtherWriter | Step::Tail,
+            TransactionStep::OneSide(_)
+            | TransactionStep::Work
+            | TransactionStep::Controlled
+            | TransactionStep::Other,
+        ) => { (3, 0, 1) }
+        Stage::Within(
+            _,
+            TransactionStep::Both
+            | TransactionStep::Acked
+            | TransactionStep::Writer
+            | TransactionStep::OtherWriter
+            | TransactionStep::Tail,
         ) => (2, 0, 0),
         Stage::Closed => (1, 0, 0),
         Stage::Ended => (0, 0, 0),
@@ -221,21 +253,21 @@ fn to_come(stage: Stage) -> Needs
     }
 }
 
-impl Step {
+impl TransactionStep {
     /// The step after the first record of a transaction of the type. `None` where no transaction of the type begins so.
-    pub fn first(ty: TransactionType, symbol: Symbol) -> Option<Step>
-        ensures some { IsSome result ↔ GoesOnIn ty (symbol ∷ []) }
-        ensures value { IfSome result (StandsIn ty (symbol ∷ [])) }
+    pub fn first(ty: TransactionType, symbol: Symbol) -> Option<TransactionStep>
+        ensures some { IsSome result ↔ ContinuesIn ty (symbol ∷ []) }
+        ensures value { IfSome result (StandsAtStep ty (symbol ∷ [])) }
     {
-        header(ty, symbol)
+        header_step(ty, symbol)
     }
 
     /// The step after one more record of the transaction, the one that its records name. `None` where no transaction
-    /// goes on so, for all records that stand at this step in a transaction of some type, and where none has begun.
-    pub fn next(self, symbol: Symbol) -> Option<Step>
-        ensures some { (ty : TransactionType) (xs : List Symbol) → StandsIn ty xs self → IsSome result ↔ GoesOnIn ty (xs ++ symbol ∷ []) }
-        ensures value { (ty : TransactionType) (xs : List Symbol) → StandsIn ty xs self → IfSome result (StandsIn ty (xs ++ symbol ∷ [])) }
-        ensures unbegun { self ≡ Step.InGroup → result ≡ None }
+    /// continues so, for all records that stand at this step in a transaction of some type, and where none has begun.
+    pub fn next(self, symbol: Symbol) -> Option<TransactionStep>
+        ensures some { (ty : TransactionType) (xs : List Symbol) → StandsAtStep ty xs self → IsSome result ↔ ContinuesIn ty (xs ++ symbol ∷ []) }
+        ensures value { (ty : TransactionType) (xs : List Symbol) → StandsAtStep ty xs self → IfSome result (StandsAtStep ty (xs ++ symbol ∷ [])) }
+        ensures unbegun { self ≡ TransactionStep.InGroup → result ≡ None }
     {
         self.on(symbol)
     }
@@ -243,8 +275,8 @@ impl Step {
     /// Whether the records that stand at this step in a transaction of some type are a whole one. `false` where none has
     /// begun.
     pub fn is_whole(self) -> bool
-        ensures whole { (ty : TransactionType) (xs : List Symbol) → StandsIn ty xs self → IsTrue result ↔ IsShape ty xs }
-        ensures unbegun { self ≡ Step.InGroup → IsFalse result }
+        ensures whole { (ty : TransactionType) (xs : List Symbol) → StandsAtStep ty xs self → IsTrue result ↔ IsShape ty xs }
+        ensures unbegun { self ≡ TransactionStep.InGroup → IsFalse result }
     {
         self.may_end()
     }
@@ -258,10 +290,10 @@ impl Stage {
         Self::Start
     }
 
-    /// The stage after one more record. `None` where no transmission goes on so: for all records that stand at this
+    /// The stage after one more record. `None` where no transmission continues so: for all records that stand at this
     /// stage, and whatever came before them.
     pub fn next(self, symbol: Symbol) -> Option<Stage>
-        ensures some { (xs : List Symbol) → StandsAt xs self → IsSome result ↔ GoesOn Any (xs ++ symbol ∷ []) }
+        ensures some { (xs : List Symbol) → StandsAt xs self → IsSome result ↔ Continues Any (xs ++ symbol ∷ []) }
         ensures value { (xs : List Symbol) → StandsAt xs self → IfSome result (StandsAt (xs ++ symbol ∷ [])) }
     {
         next(self, symbol)
@@ -273,6 +305,6 @@ impl Stage {
         ensures value { result ≡ needs_at self }
         ensures least { (xs : List Symbol) → StandsAt xs self → AreNeeds xs result }
     {
-        to_come(self)
+        needs_at(self)
     }
 }

@@ -6,11 +6,11 @@ ghost use Rattle.cwr_fields.specs.declared.codes.TransactionType.TheVariants.{Ac
 ghost use Rattle.cwr_shape.specs.declared.symbols.Symbol.{Symbol};
 ghost use Rattle.cwr_shape.specs.Stages.{is_grh, stage_after};
 ghost use Rattle.cwr_shape.specs.Numbers.{number_in, IsNumberAt};
-ghost use Rattle.cwr_shape.specs.Counting.{counts_with, wanted_role, place_at, stage_type, passed_by, expected, number_inside, HaveRoom};
-ghost use Rattle.cwr_shape.specs.Tallies.{is_header_of, StandsFor, IsAdmitted, Answers, AnswersKind, begun, place_after, KeepsTally};
+ghost use Rattle.cwr_shape.specs.Counting.{counts_with, wanted_role, place_at, stage_type, passed_limit_at, expected_numbers, number_inside, HaveRoom};
+ghost use Rattle.cwr_shape.specs.Tallies.{is_header_of, IsTallyOf, IsAdmitted, Answers, AnswersKind, transactions_begun, place_after, KeepsTally};
 
 use crate::limits::{LimitKind, Limits};
-use crate::stages::{Stage, Step};
+use crate::stages::{Stage, TransactionStep};
 use crate::symbols::Symbol;
 use cwr_fields::{Role, TransactionType};
 use cwr_layouts::Kind;
@@ -30,9 +30,9 @@ pub enum Place {
 /// Why a record may not come.
 #[derive(Clone, Copy, Debug, PartialEq, Eq)]
 pub enum Bar {
-    /// No transmission goes on so.
+    /// No transmission continues so.
     Misplaced,
-    /// Transmissions go on so, but none within the limit.
+    /// Transmissions continue so, but none within the limit.
     Limit(LimitKind),
 }
 
@@ -47,10 +47,10 @@ struct Counts {
     transactions: u32,
     /// Transactions that have begun in the open group.
     in_group: u32,
-    /// Records behind the last GRH.
-    behind_grh: u32,
-    /// Records behind the last header in the open group.
-    behind_header: u32,
+    /// Records after the last GRH.
+    after_grh: u32,
+    /// Records after the last header in the open group.
+    after_header: u32,
 }
 
 impl Counts {
@@ -60,8 +60,8 @@ impl Counts {
         groups: 0,
         transactions: 0,
         in_group: 0,
-        behind_grh: 0,
-        behind_header: 0,
+        after_grh: 0,
+        after_header: 0,
     };
 
     /// With one more record, which is `symbol` in a group of the type.
@@ -72,16 +72,16 @@ impl Counts {
     {
         let one_more = Counts {
             records: self.records + 1,
-            behind_grh: self.behind_grh + 1,
-            behind_header: self.behind_header + 1,
+            after_grh: self.after_grh + 1,
+            after_header: self.after_header + 1,
             ..self
         };
         if let Symbol::Grh(_) = symbol {
             return Counts {
                 groups: self.groups + 1,
                 in_group: 0,
-                behind_grh: 0,
-                behind_header: 0,
+                after_grh: 0,
+                after_header: 0,
                 ..one_more
             };
         }
@@ -89,7 +89,7 @@ impl Counts {
             return Counts {
                 transactions: self.transactions + 1,
                 in_group: self.in_group + 1,
-                behind_header: 0,
+                after_header: 0,
                 ..one_more
             };
         }
@@ -101,13 +101,13 @@ impl Counts {
     #[inline(always)]
     fn number(&self, ty: TransactionType, kind: Kind, j: u8) -> Option<u32>
         requires { HaveRoom self.now }
-        ensures { result ≡ number_in kind j (expected ty self.now kind) }
+        ensures { result ≡ number_in kind j (expected_numbers ty self.now kind) }
     {
         match (kind, j) {
             (Kind::Grh, 3) => Some(self.groups + 1),
             (Kind::Grt | Kind::Trl, 2) => Some(self.groups),
             (Kind::Grt, 3) => Some(self.in_group),
-            (Kind::Grt, 4) => Some(self.behind_grh + 2),
+            (Kind::Grt, 4) => Some(self.after_grh + 2),
             (Kind::Trl, 3) => Some(self.transactions),
             (Kind::Trl, 4) => Some(self.records + 1),
             (Kind::Hdr | Kind::Grh | Kind::Grt | Kind::Trl, _) => None,
@@ -115,7 +115,7 @@ impl Counts {
         }
     }
 
-    /// The number in field `j` of the next record, which is the header of a transaction or goes on with one.
+    /// The number in field `j` of the next record, which is the header of a transaction or continues one.
     #[inline(always)]
     fn inside(&self, begins: bool, j: u8) -> Option<u32>
         requires { HaveRoom self.now }
@@ -125,7 +125,7 @@ impl Counts {
             (2, true) => Some(self.in_group),
             (2, false) => Some(self.in_group.saturating_sub(1)),
             (3, true) => Some(0),
-            (3, false) => Some(self.behind_header + 1),
+            (3, false) => Some(self.after_header + 1),
             _ => None,
         }
     }
@@ -152,7 +152,7 @@ fn place_at(stage: Stage) -> Place
 {
     match stage {
         Stage::Start | Stage::Opened | Stage::Closed | Stage::Ended => Place::File,
-        Stage::Within(_, Step::InGroup) => Place::Group,
+        Stage::Within(_, TransactionStep::InGroup) => Place::Group,
         Stage::Within(..) => Place::Transaction,
     }
 }
@@ -162,16 +162,16 @@ fn wanted_role(stage: Stage) -> Role
     ensures { result ≡ wanted_role stage }
 {
     match stage {
-        Stage::Within(_, Step::OneSide(Role::Assignor)) => Role::Acquirer,
+        Stage::Within(_, TransactionStep::OneSide(Role::Assignor)) => Role::Acquirer,
         _ => Role::Assignor,
     }
 }
 
 /// The first limit that what was counted and what must still come pass at a stage.
 #[inline(always)]
-fn passed(limits: Limits, stage: Stage, counts: &Counts) -> Option<LimitKind>
+fn passed_limit_at(limits: Limits, stage: Stage, counts: &Counts) -> Option<LimitKind>
     requires { HaveRoom counts.now }
-    ensures { result ≡ passed_by limits stage counts.now }
+    ensures { result ≡ passed_limit_at limits stage counts.now }
 {
     let needs = stage.needs();
     if counts.records + needs.records > limits.records() {
@@ -181,7 +181,7 @@ fn passed(limits: Limits, stage: Stage, counts: &Counts) -> Option<LimitKind>
         return Some(LimitKind::Groups);
     }
     let open = match place_at(stage) {
-        Place::Transaction => 1 + counts.behind_header,
+        Place::Transaction => 1 + counts.after_header,
         _ => 0,
     };
     if open + needs.transaction > limits.transaction() {
@@ -227,7 +227,7 @@ impl Tally {
     pub fn new(limits: Limits) -> Tally
         ensures limits { result.limits ≡ limits }
         ensures in_range { AreInRange result.limits }
-        ensures stands { StandsFor result [] }
+        ensures stands { IsTallyOf result [] }
     {
         prove!(limits.records() > 0);
         Tally {
@@ -237,17 +237,24 @@ impl Tally {
         }
     }
 
+    /// The limits that the transmission is to keep to.
+    pub fn limits(&self) -> Limits
+        ensures { result ≡ self.now.limits }
+    {
+        self.limits
+    }
+
     /// How far the records have come.
     pub fn stage(&self) -> Stage
         ensures value { result ≡ self.now.stage }
-        ensures named { (xs : List Symbol) → StandsFor self.now xs → result ≡ stage_after xs }
+        ensures named { (xs : List Symbol) → IsTallyOf self.now xs → result ≡ stage_after xs }
     {
         self.stage
     }
 
-    /// What is open behind the last record.
+    /// What is open after the last record.
     pub fn place(&self) -> Place
-        ensures { (xs : List Symbol) → StandsFor self.now xs → result ≡ place_after xs }
+        ensures { (xs : List Symbol) → IsTallyOf self.now xs → result ≡ place_after xs }
     {
         place_at(self.stage)
     }
@@ -255,7 +262,7 @@ impl Tally {
     /// How many records have come.
     pub fn records(&self) -> u32
         ensures value { result ≡ self.now.counts.records }
-        ensures counted { (xs : List Symbol) → StandsFor self.now xs → result ≡ length xs }
+        ensures counted { (xs : List Symbol) → IsTallyOf self.now xs → result ≡ length xs }
         ensures kept { KeepsTally self.now }
     {
         self.counts.records
@@ -264,7 +271,7 @@ impl Tally {
     /// How many groups have begun.
     pub fn groups(&self) -> u32
         ensures value { result ≡ self.now.counts.groups }
-        ensures counted { (xs : List Symbol) → StandsFor self.now xs → result ≡ count_by is_grh xs }
+        ensures counted { (xs : List Symbol) → IsTallyOf self.now xs → result ≡ count_by is_grh xs }
         ensures kept { KeepsTally self.now }
     {
         self.counts.groups
@@ -273,7 +280,7 @@ impl Tally {
     /// How many transactions have begun in all groups.
     pub fn transactions(&self) -> u32
         ensures value { result ≡ self.now.counts.transactions }
-        ensures counted { (xs : List Symbol) → StandsFor self.now xs → result ≡ begun Acknowledgement xs }
+        ensures counted { (xs : List Symbol) → IsTallyOf self.now xs → result ≡ transactions_begun Acknowledgement xs }
         ensures kept { KeepsTally self.now }
     {
         self.counts.transactions
@@ -283,24 +290,24 @@ impl Tally {
     /// field holds no number. Of a kind that may not come now the answer says nothing.
     #[inline(always)]
     pub fn expects(&self, kind: Kind, j: u8) -> Option<u64>
-        ensures { (xs : List Symbol) → StandsFor self.now xs → IsNumberAt xs kind j result }
+        ensures { (xs : List Symbol) → IsTallyOf self.now xs → IsNumberAt xs kind j result }
     {
         let number = self.counts.number(type_at(self.stage), kind, j)?;
         Some(u64::from(number))
     }
 
-    /// Whether the record may come next: it is misplaced where no transmission goes on so, and else barred by the first
+    /// Whether the record may come next: it is misplaced where no transmission continues so, and else barred by the first
     /// limit that it passes.
     #[inline(always)]
     pub fn admits(&self, symbol: Symbol) -> Result<(), Bar>
-        ensures answer { (xs : List Symbol) → StandsFor self.now xs → Answers self.now.limits xs symbol result }
+        ensures answer { (xs : List Symbol) → IsTallyOf self.now xs → Answers self.now.limits xs symbol result }
         ensures admitted { OnOk result (IsAdmitted self.now symbol) }
     {
         let Some(stage) = self.stage.next(symbol) else {
             return Err(Bar::Misplaced);
         };
         let counts = self.counts.with(type_at(self.stage), symbol);
-        match passed(self.limits, stage, &counts) {
+        match passed_limit_at(self.limits, stage, &counts) {
             Some(limit) => Err(Bar::Limit(limit)),
             None => Ok(()),
         }
@@ -308,7 +315,7 @@ impl Tally {
 
     /// Whether some record of the kind may come next: else the first bar that one of them gets.
     pub fn admits_kind(&self, kind: Kind) -> Result<(), Bar>
-        ensures { (xs : List Symbol) → StandsFor self.now xs → AnswersKind self.now.limits xs kind result }
+        ensures { (xs : List Symbol) → IsTallyOf self.now xs → AnswersKind self.now.limits xs kind result }
     {
         match kind {
             Kind::Ipa => self.admits(Symbol::Ipa(wanted_role(self.stage))),
@@ -321,7 +328,7 @@ impl Tally {
     pub fn step(&mut self, symbol: Symbol)
         requires { IsAdmitted self.old symbol }
         ensures limits { self.new.limits ≡ self.old.limits }
-        ensures stands { (xs : List Symbol) → StandsFor self.old xs → StandsFor self.new (xs ++ symbol ∷ []) }
+        ensures stands { (xs : List Symbol) → IsTallyOf self.old xs → IsTallyOf self.new (xs ++ symbol ∷ []) }
     {
         self.counts = self.counts.with(type_at(self.stage), symbol);
         if let Some(stage) = self.stage.next(symbol) {

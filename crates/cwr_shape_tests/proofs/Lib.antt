@@ -1,3 +1,3 @@
-mod Worked
+mod WorkedStages
 mod WorkedShapes
 mod WorkedLevels

@@ -18,7 +18,7 @@ use Rattle.cwr_shape.specs.declared.reasons.Level.{Level}
 use Rattle.cwr_shape.specs.declared.reasons.Level.TheVariants.{E, G, T, R, F}
 use Rattle.cwr_shape.specs.declared.tallies.Place.{Place}
 use Rattle.cwr_shape.specs.declared.tallies.Place.TheVariants as places
-use Rattle.cwr_shape.specs.Levels.{level_of, level_of_type, place_behind}
+use Rattle.cwr_shape.specs.Levels.{level_of, level_of_type, place_after_kind}
 
 abbrev all_places : List Place
 all_places = places.File ∷ places.Group ∷ places.Transaction ∷ []
@@ -38,11 +38,11 @@ unknown = refl
 misplaced : map (λ place. map (λ kind. level_of (Some kind) 1 reasons.Misplaced place) all_kinds) all_places ≡ replicate 25 E ∷ replicate 25 G ∷ replicate 25 T ∷ []
 misplaced = refl
 
--- what is open behind each kind
-places_behind : (place_behind None ≡ places.File)
-    × (map (λ kind. place_behind (Some kind)) (kinds.Hdr ∷ kinds.Grh ∷ kinds.Grt ∷ kinds.Trl ∷ []) ≡ places.File ∷ places.Group ∷ places.File ∷ places.File ∷ [])
-    × (map (λ kind. place_behind (Some kind)) (kinds.Agr ∷ kinds.Nwr ∷ kinds.Rev ∷ kinds.Ack ∷ inner_kinds) ≡ replicate 21 places.Transaction)
-places_behind = (refl, refl, refl)
+-- what is open after each kind
+places_after_kinds : (place_after_kind None ≡ places.File)
+    × (map (λ kind. place_after_kind (Some kind)) (kinds.Hdr ∷ kinds.Grh ∷ kinds.Grt ∷ kinds.Trl ∷ []) ≡ places.File ∷ places.Group ∷ places.File ∷ places.File ∷ [])
+    × (map (λ kind. place_after_kind (Some kind)) (kinds.Agr ∷ kinds.Nwr ∷ kinds.Rev ∷ kinds.Ack ∷ inner_kinds) ≡ replicate 21 places.Transaction)
+places_after_kinds = (refl, refl, refl)
 
 -- a limit
 too_many_records : flat_map (λ place. map (λ kind. level_of (Some kind) 1 (reasons.Limit limits.Records) place) all_kinds) all_places ≡ replicate 75 E
@@ -56,7 +56,7 @@ transaction_too_long : (level_of (Some kinds.Grh) 2 (reasons.Limit limits.Transa
     × (map (λ kind. level_of (Some kind) 1 (reasons.Limit limits.Transaction) places.Transaction) (kinds.Agr ∷ kinds.Nwr ∷ kinds.Rev ∷ kinds.Ack ∷ inner_kinds) ≡ replicate 21 T)
 transaction_too_long = (refl, refl, refl)
 
--- a cell, a number or an excess around transactions and in their headers, at field 2, at the last one and behind it
+-- a cell, a number or an excess around transactions and in their headers, at field 2, at the last one and after it
 abbrev levels_in : Kind → Place → List Level
 levels_in kind place = flat_map (λ j. map (λ reason. level_of (Some kind) j reason place) cell_reasons) (2 ∷ length (layout kind) ∷ (length (layout kind) + 1) ∷ [])
 
@@ -69,15 +69,15 @@ in_group = (refl, refl)
 in_header : flat_map (λ kind. flat_map (levels_in kind) (places.Group ∷ places.Transaction ∷ [])) (kinds.Agr ∷ kinds.Nwr ∷ kinds.Rev ∷ kinds.Ack ∷ []) ≡ replicate 240 T
 in_header = refl
 
--- behind a header: the two sequences
+-- after a header: the two sequences
 in_sequences : flat_map (λ kind. flat_map (λ j. map (λ reason. level_of (Some kind) j reason places.Transaction) (reasons.Cell Blank ∷ reasons.Cell NotDigits ∷ reasons.Number 7 ∷ [])) (2 ∷ 3 ∷ [])) inner_kinds ≡ replicate 102 T
 in_sequences = refl
 
--- behind a header: the excess
+-- after a header: the excess
 in_excess : map (λ kind. level_of (Some kind) (length (layout kind) + 1) reasons.Excess places.Transaction) inner_kinds ≡ replicate 17 R
 in_excess = refl
 
--- behind a header: a cell, by its type
+-- after a header: a cell, by its type
 abbrev level_of_cells : CellType → Level
 level_of_cells ty = level_of_type (Some (record { name = []; width = 1; ty = ty; derived = false }))
 

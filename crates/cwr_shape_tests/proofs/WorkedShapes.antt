@@ -9,7 +9,7 @@ use Rattle.cwr_layouts.specs.declared.kinds.Kind.TheVariants.{Hdr, Grt, Trl, Agr
 use Rattle.cwr_shape.specs.declared.symbols.Symbol.{Symbol}
 use Rattle.cwr_shape.specs.declared.symbols.Symbol.TheVariants.{Plain, Ipa, Grh}
 use Rattle.cwr_shape.specs.Shapes.{IsShape, pattern_of, BeginsShape}
-use Rattle.cwr_shape.specs.Outlines.{GoesOn, group_symbols}
+use Rattle.cwr_shape.specs.Outlines.{Continues, group_symbols}
 use Rattle.cwr_shape.proofs.Matcher.{accepts_sound, no_match, no_begin, nullable, after, after_all, is_dead}
 
 abbrev p : Kind → Symbol
@@ -52,7 +52,7 @@ no_writer : ¬ IsShape NewWork (p Nwr ∷ p Spu ∷ [])
 unfolding nullable after after_all
 no_writer = no_match _ (pattern_of NewWork) refl
 
--- a publisher behind a writer begins nothing, nor a writer behind a title
+-- a publisher after a writer begins nothing, nor a writer after a title
 late_publisher : (rest : List Symbol) → ¬ IsShape NewWork ((p Nwr ∷ p Swr ∷ p Spu ∷ []) ++ rest)
 unfolding nullable after after_all is_dead
 late_publisher rest = no_begin (p Nwr ∷ p Swr ∷ p Spu ∷ []) rest (pattern_of NewWork) refl
@@ -61,9 +61,9 @@ late_writer : (rest : List Symbol) → ¬ IsShape NewWork ((p Nwr ∷ p Swr ∷ 
 unfolding nullable after after_all is_dead
 late_writer rest = no_begin (p Nwr ∷ p Swr ∷ p Ewt ∷ p Swr ∷ []) rest (pattern_of NewWork) refl
 
-no_swt_behind_owr : (rest : List Symbol) → ¬ IsShape NewWork ((p Nwr ∷ p Owr ∷ p Swt ∷ []) ++ rest)
+no_swt_after_owr : (rest : List Symbol) → ¬ IsShape NewWork ((p Nwr ∷ p Owr ∷ p Swt ∷ []) ++ rest)
 unfolding nullable after after_all is_dead
-no_swt_behind_owr rest = no_begin (p Nwr ∷ p Owr ∷ p Swt ∷ []) rest (pattern_of NewWork) refl
+no_swt_after_owr rest = no_begin (p Nwr ∷ p Owr ∷ p Swt ∷ []) rest (pattern_of NewWork) refl
 
 wrong_header : (rest : List Symbol) → ¬ IsShape NewWork (p Rev ∷ rest)
 unfolding nullable after after_all is_dead
@@ -78,12 +78,12 @@ no_begin_by_writer (RevisedWork, rest, m) = no_begin (p Swr ∷ []) rest (patter
 no_begin_by_writer (Acknowledgement, rest, m) = no_begin (p Swr ∷ []) rest (pattern_of Acknowledgement) refl m
 
 -- no transmission begins with two headers
-two_headers : ¬ GoesOn (λ groups. Unit {0}) (p Hdr ∷ p Hdr ∷ [])
+two_headers : ¬ Continues (λ groups. Unit {0}) (p Hdr ∷ p Hdr ∷ [])
 two_headers ([], w, q, b) = absurd (omega (arith, w.0))
 two_headers (g ∷ groups, w, q, b) = let second : Grh g.ty ≡ p Hdr = cc (b.1) in cc second
 
 -- nor does a group of new works with a revised one
-revised_among_new : ¬ GoesOn (λ groups. Unit {0}) (p Hdr ∷ Grh NewWork ∷ p Rev ∷ [])
+revised_among_new : ¬ Continues (λ groups. Unit {0}) (p Hdr ∷ Grh NewWork ∷ p Rev ∷ [])
 unfolding nullable after after_all is_dead
 revised_among_new ([], w, q, b) = absurd (omega (arith, w.0))
 revised_among_new (g ∷ groups, w, q, b) = by g.ty g.transactions w.1.0.0 w.1.0.1 (cc (b.1)) (cc (b.1))

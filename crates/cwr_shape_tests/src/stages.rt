@@ -2,10 +2,10 @@
 
 use cwr_fields::{Role, TransactionType};
 use cwr_layouts::Kind;
-use cwr_shape::{Stage, Step, Symbol};
+use cwr_shape::{Stage, Symbol, TransactionStep};
 
 /// The stage after some records. `None` where one of them may not come.
-fn walked(symbols: &[Symbol]) -> Option<Stage> {
+fn stage_after(symbols: &[Symbol]) -> Option<Stage> {
     let mut stage = Stage::start();
     for symbol in symbols {
         stage = stage.next(*symbol)?;
@@ -14,8 +14,8 @@ fn walked(symbols: &[Symbol]) -> Option<Stage> {
 }
 
 /// The stage after HDR, GRH of the type and the records of one transaction.
-fn inside(ty: TransactionType, symbols: &[Symbol]) -> Option<Stage> {
-    let mut stage = walked(&[Symbol::Plain(Kind::Hdr), Symbol::Grh(ty)])?;
+fn stage_inside(ty: TransactionType, symbols: &[Symbol]) -> Option<Stage> {
+    let mut stage = stage_after(&[Symbol::Plain(Kind::Hdr), Symbol::Grh(ty)])?;
     for symbol in symbols {
         stage = stage.next(*symbol)?;
     }
@@ -36,12 +36,12 @@ fn whole_acknowledgements(rt: HostRuntime) {
         Symbol::Plain(Kind::Grt),
         Symbol::Plain(Kind::Trl),
     ];
-    assert_eq!(rt; walked(&whole), Some(Stage::Ended));
-    assert_eq!(rt; walked(&whole[..6]), Some(Stage::Closed));
-    assert_eq!(rt; walked(&[]), Some(Stage::Start));
-    assert!(rt; walked(&whole[1..]).is_none());
-    assert!(rt; walked(&[whole[0], whole[9]]).is_none());
-    assert!(rt; walked(&[whole[0], whole[1], whole[5]]).is_none());
+    assert_eq!(rt; stage_after(&whole), Some(Stage::Ended));
+    assert_eq!(rt; stage_after(&whole[..6]), Some(Stage::Closed));
+    assert_eq!(rt; stage_after(&[]), Some(Stage::Start));
+    assert!(rt; stage_after(&whole[1..]).is_none());
+    assert!(rt; stage_after(&[whole[0], whole[9]]).is_none());
+    assert!(rt; stage_after(&[whole[0], whole[1], whole[5]]).is_none());
 }
 
 #[test]
@@ -55,22 +55,31 @@ fn agreements(rt: HostRuntime) {
         Symbol::Plain(Kind::Ter),
     ];
     let ty = TransactionType::Agreement;
-    let at = |step: Step| Some(Stage::Within(ty, step));
-    assert_eq!(rt; inside(ty, &agreement[..2]), at(Step::Territories));
+    let at = |step: TransactionStep| Some(Stage::Within(ty, step));
     assert_eq!(rt;
-        inside(ty, &agreement[..4]),
-        at(Step::OneSide(Role::Assignor))
+        stage_inside(ty, &agreement[..2]),
+        at(TransactionStep::Territories)
     );
-    assert_eq!(rt; inside(ty, &agreement[..5]), at(Step::Both));
-    assert_eq!(rt; inside(ty, &agreement), at(Step::Territories));
+    assert_eq!(rt;
+        stage_inside(ty, &agreement[..4]),
+        at(TransactionStep::OneSide(Role::Assignor))
+    );
+    assert_eq!(rt;
+        stage_inside(ty, &agreement[..5]),
+        at(TransactionStep::Both)
+    );
+    assert_eq!(rt;
+        stage_inside(ty, &agreement),
+        at(TransactionStep::Territories)
+    );
     let one_side = [
         agreement[0],
         agreement[1],
         agreement[2],
         Symbol::Plain(Kind::Grt),
     ];
-    assert!(rt; inside(ty, &one_side).is_none());
-    assert!(rt; inside(TransactionType::NewWork, &agreement[..1]).is_none());
+    assert!(rt; stage_inside(ty, &one_side).is_none());
+    assert!(rt; stage_inside(TransactionType::NewWork, &agreement[..1]).is_none());
 }
 
 #[test]
@@ -88,13 +97,16 @@ fn works(rt: HostRuntime) {
         Symbol::Plain(Kind::Alt),
     ];
     let ty = TransactionType::RevisedWork;
-    let at = |step: Step| Some(Stage::Within(ty, step));
-    assert_eq!(rt; inside(ty, &work[..4]), at(Step::Other));
-    assert_eq!(rt; inside(ty, &work[..7]), at(Step::Writer));
-    assert_eq!(rt; inside(ty, &work[..9]), at(Step::OtherWriter));
-    assert_eq!(rt; inside(ty, &work), at(Step::Tail));
-    assert!(rt; inside(ty, &[work[0], work[3], work[2]]).is_none());
-    assert!(rt; inside(ty, &[work[0], work[7], work[5]]).is_none());
-    assert!(rt; inside(ty, &[work[0], work[4], work[9], work[6]]).is_none());
-    assert!(rt; inside(ty, &[work[0], work[9]]).is_none());
+    let at = |step: TransactionStep| Some(Stage::Within(ty, step));
+    assert_eq!(rt; stage_inside(ty, &work[..4]), at(TransactionStep::Other));
+    assert_eq!(rt; stage_inside(ty, &work[..7]), at(TransactionStep::Writer));
+    assert_eq!(rt;
+        stage_inside(ty, &work[..9]),
+        at(TransactionStep::OtherWriter)
+    );
+    assert_eq!(rt; stage_inside(ty, &work), at(TransactionStep::Tail));
+    assert!(rt; stage_inside(ty, &[work[0], work[3], work[2]]).is_none());
+    assert!(rt; stage_inside(ty, &[work[0], work[7], work[5]]).is_none());
+    assert!(rt; stage_inside(ty, &[work[0], work[4], work[9], work[6]]).is_none());
+    assert!(rt; stage_inside(ty, &[work[0], work[9]]).is_none());
 }

@@ -2,7 +2,7 @@
 
 use cwr_fields::{Role, TransactionType};
 use cwr_layouts::Kind;
-use cwr_shape::{Bar, LimitKind, Limits, Place, Stage, Step, Symbol, Tally};
+use cwr_shape::{Bar, LimitKind, Limits, Place, Stage, Symbol, Tally, TransactionStep};
 use std::test::Fail;
 
 const HDR: Symbol = Symbol::Plain(Kind::Hdr);
@@ -38,8 +38,8 @@ fn tally() -> Result<Tally, Fail> {
     Ok(Tally::new(Limits::new(99_999_999, 99_999, 999_999)?))
 }
 
-/// Asks for each record and counts it.
-fn come(tally: &mut Tally, symbols: &[Symbol]) -> Result<(), Bar> {
+/// Checks that each record may come, and counts it.
+fn count_each(tally: &mut Tally, symbols: &[Symbol]) -> Result<(), Bar> {
     for symbol in symbols {
         tally.admits(*symbol)?;
         tally.step(*symbol);
@@ -54,10 +54,10 @@ fn numbers_before_a_first_work(rt: HostRuntime) -> Result<(), Fail> {
     assert_eq!(rt; tally.place(), Place::File);
     assert_eq!(rt; tally.expects(Kind::Hdr, 1), None);
     assert_eq!(rt; tally.expects(Kind::Hdr, 8), None);
-    come(&mut tally, &TWO_GROUPS[..1])?;
+    count_each(&mut tally, &TWO_GROUPS[..1])?;
     assert_eq!(rt; tally.expects(Kind::Grh, 2), None);
     assert_eq!(rt; tally.expects(Kind::Grh, 3), Some(1));
-    come(&mut tally, &TWO_GROUPS[1..2])?;
+    count_each(&mut tally, &TWO_GROUPS[1..2])?;
     assert_eq!(rt; tally.place(), Place::Group);
     assert_eq!(rt; tally.expects(Kind::Nwr, 2), Some(0));
     assert_eq!(rt; tally.expects(Kind::Nwr, 3), Some(0));
@@ -67,12 +67,12 @@ fn numbers_before_a_first_work(rt: HostRuntime) -> Result<(), Fail> {
 #[test]
 fn numbers_of_a_first_group(rt: HostRuntime) -> Result<(), Fail> {
     let mut tally = tally()?;
-    come(&mut tally, &TWO_GROUPS[..3])?;
+    count_each(&mut tally, &TWO_GROUPS[..3])?;
     assert_eq!(rt; tally.place(), Place::Transaction);
     assert_eq!(rt; tally.expects(Kind::Swr, 2), Some(0));
     assert_eq!(rt; tally.expects(Kind::Swr, 3), Some(1));
     assert_eq!(rt; tally.expects(Kind::Swr, 4), None);
-    come(&mut tally, &TWO_GROUPS[3..4])?;
+    count_each(&mut tally, &TWO_GROUPS[3..4])?;
     assert_eq!(rt; tally.expects(Kind::Nwr, 2), Some(1));
     assert_eq!(rt; tally.expects(Kind::Swr, 3), Some(2));
     assert_eq!(rt; tally.expects(Kind::Grt, 1), None);
@@ -86,11 +86,11 @@ fn numbers_of_a_first_group(rt: HostRuntime) -> Result<(), Fail> {
 #[test]
 fn numbers_of_a_second_group(rt: HostRuntime) -> Result<(), Fail> {
     let mut tally = tally()?;
-    come(&mut tally, &TWO_GROUPS[..6])?;
+    count_each(&mut tally, &TWO_GROUPS[..6])?;
     assert_eq!(rt; tally.groups(), 2);
     assert_eq!(rt; tally.expects(Kind::Rev, 2), Some(0));
     assert_eq!(rt; tally.expects(Kind::Rev, 3), Some(0));
-    come(&mut tally, &TWO_GROUPS[6..10])?;
+    count_each(&mut tally, &TWO_GROUPS[6..10])?;
     assert_eq!(rt; tally.expects(Kind::Grt, 2), Some(2));
     assert_eq!(rt; tally.expects(Kind::Grt, 3), Some(2));
     assert_eq!(rt; tally.expects(Kind::Grt, 4), Some(6));
@@ -98,15 +98,15 @@ fn numbers_of_a_second_group(rt: HostRuntime) -> Result<(), Fail> {
 }
 
 #[test]
-fn numbers_behind_two_groups(rt: HostRuntime) -> Result<(), Fail> {
+fn numbers_after_two_groups(rt: HostRuntime) -> Result<(), Fail> {
     let mut tally = tally()?;
-    come(&mut tally, &TWO_GROUPS[..11])?;
+    count_each(&mut tally, &TWO_GROUPS[..11])?;
     assert_eq!(rt; tally.place(), Place::File);
     assert_eq!(rt; tally.expects(Kind::Grh, 3), Some(3));
     assert_eq!(rt; tally.expects(Kind::Trl, 2), Some(2));
     assert_eq!(rt; tally.expects(Kind::Trl, 3), Some(3));
     assert_eq!(rt; tally.expects(Kind::Trl, 4), Some(12));
-    come(&mut tally, &TWO_GROUPS[11..])?;
+    count_each(&mut tally, &TWO_GROUPS[11..])?;
     assert_eq!(rt; tally.stage(), Stage::Ended);
     assert_eq!(rt;
         (tally.records(), tally.groups(), tally.transactions()),
@@ -122,9 +122,9 @@ fn bars(rt: HostRuntime) -> Result<(), Fail> {
     assert_eq!(rt; tally.admits(Symbol::Plain(Kind::Grh)), Err(Bar::Misplaced));
     assert_eq!(rt; tally.admits_kind(Kind::Grh), Err(Bar::Misplaced));
     assert_eq!(rt; tally.admits_kind(Kind::Hdr), Ok(()));
-    come(&mut tally, &[HDR])?;
+    count_each(&mut tally, &[HDR])?;
     assert_eq!(rt; tally.admits_kind(Kind::Grh), Ok(()));
-    come(
+    count_each(
         &mut tally,
         &[
             Symbol::Grh(TransactionType::Agreement),
@@ -133,10 +133,10 @@ fn bars(rt: HostRuntime) -> Result<(), Fail> {
     )?;
     assert_eq!(rt;
         tally.stage(),
-        Stage::Within(TransactionType::Agreement, Step::Agreed)
+        Stage::Within(TransactionType::Agreement, TransactionStep::Agreed)
     );
     assert_eq!(rt; tally.admits_kind(Kind::Ipa), Err(Bar::Misplaced));
-    come(
+    count_each(
         &mut tally,
         &[Symbol::Plain(Kind::Ter), Symbol::Ipa(Role::Acquirer)],
     )?;
@@ -156,11 +156,11 @@ fn limits_bar_in_their_order(rt: HostRuntime) -> Result<(), Fail> {
     let groups = Err(Bar::Limit(LimitKind::Groups));
     let long = Err(Bar::Limit(LimitKind::Transaction));
     let mut tally = Tally::new(Limits::new(9, 1, 1)?);
-    come(&mut tally, &acknowledged)?;
+    count_each(&mut tally, &acknowledged)?;
     assert_eq!(rt; tally.admits(Symbol::Plain(Kind::Msg)), long);
     assert_eq!(rt; tally.admits(Symbol::Plain(Kind::Ack)), Ok(()));
     assert_eq!(rt; tally.admits(SWR), Err(Bar::Misplaced));
-    come(&mut tally, &[GRT])?;
+    count_each(&mut tally, &[GRT])?;
     assert_eq!(rt;
         tally.admits(Symbol::Grh(TransactionType::Agreement)),
         records
@@ -168,7 +168,7 @@ fn limits_bar_in_their_order(rt: HostRuntime) -> Result<(), Fail> {
     assert_eq!(rt; tally.admits_kind(Kind::Grh), groups);
     assert_eq!(rt; tally.admits(TRL), Ok(()));
     let mut tally = Tally::new(Limits::new(5, 1, 1)?);
-    come(&mut tally, &acknowledged)?;
+    count_each(&mut tally, &acknowledged)?;
     assert_eq!(rt; tally.admits(Symbol::Plain(Kind::Ack)), records);
     assert_eq!(rt; tally.admits(GRT), Ok(()));
     Ok(())
@@ -177,7 +177,7 @@ fn limits_bar_in_their_order(rt: HostRuntime) -> Result<(), Fail> {
 #[test]
 fn a_role_decides_how_many_records_must_follow(rt: HostRuntime) -> Result<(), Fail> {
     let mut tally = Tally::new(Limits::new(8, 1, 4)?);
-    come(
+    count_each(
         &mut tally,
         &[
             HDR,

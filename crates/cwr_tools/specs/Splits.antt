@@ -10,8 +10,8 @@ abbrev pub runs : {X : Type 0} → ℕ → List X → List (List X)
 runs n xs = map (λ i. take n (drop (n * i) xs)) (range_with_len 0 ((length xs + n - 1) / n))
 
 -- the transactions in order, each under the place of its group
-abbrev pub placed : TransmissionValue → List (ℕ × List RecordValue)
-placed v = flat_map (λ g. map (λ t. (g.0, t)) g.1.transactions) (enumerate_from 0 v.groups)
+abbrev pub transactions_by_group : TransmissionValue → List (ℕ × List RecordValue)
+transactions_by_group v = flat_map (λ g. map (λ t. (g.0, t)) g.1.transactions) (enumerate_from 0 v.groups)
 
 -- the part of the group at a place whose transactions are in the run, with a blank GRT
 abbrev pub part_of : List (ℕ × List RecordValue) → ℕ → GroupValue → GroupValue
@@ -23,7 +23,7 @@ groups_in run groups = filter (λ g. nat_lt 0 (length g.transactions)) (map (λ 
 
 -- a transmission for each run of n transactions
 abbrev pub split_of : ℕ → TransmissionValue → List TransmissionValue
-split_of n v = map (λ run. record { opening = v.opening; groups = groups_in run v.groups }) (runs n (placed v))
+split_of n v = map (λ run. record { opening = v.opening; groups = groups_in run v.groups }) (runs n (transactions_by_group v))
 
 -- the first one's HDR, and the groups of all
 abbrev pub join_of : TransmissionValue → List TransmissionValue → TransmissionValue

@@ -1,5 +1,5 @@
 -- The texts that `check` and `show` write for the items and the end of a text.
-use Rattle.std.specs.Prelude.{ℕ, Bool, true, false, not, List, [], ◌∷◌, ◌++◌, codes, decimal, length, filter, take, zip, count_by, if◌then◌else◌, flat_map, sum_by}
+use Rattle.std.specs.Prelude.{ℕ, not, List, [], ◌∷◌, ◌++◌, codes, decimal, length, filter, take, zip, count_by, if◌then◌else◌, flat_map, sum_by}
 use Rattle.std.specs.List.{after_last, enumerate_from}
 use Rattle.cwr_fields.specs.Bytes.{is_spaces, trimmed}
 use Rattle.cwr_layouts.specs.Kinds.{letters}
@@ -12,7 +12,8 @@ use Rattle.cwr_values.specs.declared.items.Item.TheVariants.{Transaction}
 use Rattle.cwr_judge.specs.Items.{item_records, opens_group, is_transaction}
 use Rattle.cwr_levels.specs.Findings.{findings}
 use Rattle.cwr_shape.specs.declared.limits.LimitKind.{LimitKind}
-use Rattle.cwr_levels.specs.Lines.{refusal_line, truncated_line, good_line, finding_line, limit_text}
+use Rattle.cwr_shape.specs.ReasonTexts.{limit_text}
+use Rattle.cwr_levels.specs.Lines.{refusal_line, truncated_line, good_line, finding_line}
 use Rattle.cwr_tools.specs.declared.verdicts.Verdict.{Verdict}
 use Rattle.cwr_tools.specs.declared.verdicts.Verdict.TheVariants.{Good, Refused, Truncated}
 
@@ -21,7 +22,7 @@ abbrev pub finding_lines : List Item → Item → List ℕ
 finding_lines before (Transaction t) = flat_map (finding_line (count_by opens_group before) (count_by is_transaction (after_last opens_group before))) (findings t)
 finding_lines before item = []
 
--- the line that tells how a text ended
+-- the line that says how a text ended
 abbrev pub verdict_line : Verdict → List ℕ
 verdict_line (Good groups transactions records) = good_line groups transactions records
 verdict_line (Refused refusal) = refusal_line refusal
@@ -71,6 +72,6 @@ joined_line inputs groups transactions records = codes "JOINED inputs " ++ decim
 abbrev pub limit_line : LimitKind → List ℕ
 limit_line limit = codes "LIMIT " ++ limit_text limit ++ 10 ∷ []
 
--- a join puts the number of the input before what it tells of it
+-- a join puts the number of the input before what it says of it
 abbrev pub of_input : ℕ → List ℕ → List ℕ
 of_input input line = codes "input " ++ decimal input ++ codes ": " ++ line

@@ -5,11 +5,10 @@ ghost use Rattle.std.specs.Io.KnownBytes.{Appends};
 ghost use Rattle.cwr_fields.specs.Failures.{one_more_failure};
 ghost use Rattle.cwr_judge.specs.Items.{item_records};
 ghost use Rattle.cwr_tools.specs.Texts.{verdict_line};
-ghost use Rattle.cwr_tools.specs.Told.{counted, IsCheckFault, IsReadingsFault, IsToldOf, IsVerdictOf, JudgesAccepted, JudgesCanonical, StopsReading, WritesPart};
+ghost use Rattle.cwr_tools.specs.Verdicts.{totals_with, IsCheckFault, IsReadingsFault, IsRightVerdict, IsVerdictOf, JudgesAccepted, JudgesCanonical, StopsReading, WritesPart};
 
-use crate::texts::verdict_line;
+use crate::reporting::report;
 use crate::verdicts::{ToolFault, Verdict};
-use crate::writing::write_text;
 use cwr_decode::{ReadFault, Reading};
 use cwr_fields::{Source, Target};
 use cwr_shape::Limits;
@@ -18,18 +17,18 @@ use std::alloc::Global;
 
 /// How many groups, transactions and records were handed out.
 #[derive(Clone, Copy, Debug)]
-struct Counts {
+struct Totals {
     groups: u32,
     transactions: u32,
     records: u32,
 }
 
-impl Counts {
+impl Totals {
     /// Nothing was handed out.
     fn new() -> Self
         ensures { result ≡ record { groups = 0; transactions = 0; records = 0 } }
     {
-        Counts {
+        Totals {
             groups: 0,
             transactions: 0,
             records: 0,
@@ -41,7 +40,7 @@ impl Counts {
         requires groups { self.old.groups ≤ 199999998 }
         requires transactions { self.old.transactions ≤ 199999998 }
         requires records { self.old.records + length (item_records item.now) ≤ 99999999 }
-        ensures { self.new ≡ counted self.old item.now }
+        ensures { self.new ≡ totals_with self.old item.now }
     {
         match item {
             Item::Opened(_) | Item::GroupClosed(_) | Item::Ended => self.records += 1,
@@ -58,7 +57,7 @@ impl Counts {
 }
 
 /// The verdict on a text that is accepted with these numbers.
-fn good(counts: &Counts) -> Verdict
+fn good(counts: &Totals) -> Verdict
     ensures { result ≡ Verdict.Good counts.now.groups counts.now.transactions counts.now.records }
 {
     Verdict::Good {
@@ -68,7 +67,7 @@ fn good(counts: &Counts) -> Verdict
     }
 }
 
-/// The verdict on a text at whose reading this fault was told, or the fault that ends the run.
+/// The verdict on a text at whose reading this fault was reported, or the fault that ends the run.
 fn verdict_of(fault: ReadFault) -> Result<Verdict, ToolFault>
     ensures { IsVerdictOf fault result }
 {
@@ -86,13 +85,13 @@ fn read_verdict<R: Source>(
     limits: Limits,
     reader: &mut R,
 ) -> Result<Verdict, ToolFault>
-    ensures told { IfOk result (λ verdict. IsToldOf limits (R.remaining reader.old) verdict (R.remaining reader.new)) }
+    ensures reported { IfOk result (λ verdict. IsRightVerdict limits (R.remaining reader.old) verdict (R.remaining reader.new)) }
     ensures stops { IfErr result (λ fault. StopsReading limits fault (R.remaining reader.old) (R.remaining reader.new)) }
     ensures fault { IfErr result (λ fault. IsReadingsFault fault (R.failures reader.old) (R.failures reader.new)) }
     ensures failures { OnOk result (R.failures reader.new ≡ R.failures reader.old) }
 {
     let mut reading = Reading::new(alloc, limits, reader);
-    let mut counts = Counts::new();
+    let mut counts = Totals::new();
     'items: loop {
         match reading.next_item() {
             Ok(Some(item)) => counts.count(&item),
@@ -107,22 +106,21 @@ fn read_verdict<R: Source>(
 ///
 /// It is good exactly where the reader's bytes begin with a spelling of a transmission within the limits. Then just that
 /// front is consumed, and the verdict has the transmission's numbers. It answers `ToolFault::Reader` or
-/// `ToolFault::Writer` where that device failed, and `ToolFault::Memory` where memory for a transaction or the line was
-/// refused.
+/// `ToolFault::Writer` where that device failed, and `ToolFault::Memory` where memory for a transaction was refused.
 pub fn check<R: Source, W: Target + Drop>(
     alloc: Global,
     limits: Limits,
     reader: &mut R,
     writer: W,
 ) -> (W, Result<Verdict, ToolFault>)
-    ensures told { IfOk result.1 (λ verdict. IsToldOf limits (R.remaining reader.old) verdict (R.remaining reader.new)) }
+    ensures reported { IfOk result.1 (λ verdict. IsRightVerdict limits (R.remaining reader.old) verdict (R.remaining reader.new)) }
     ensures accepted { IfOk result.1 (λ verdict. JudgesAccepted limits (R.remaining reader.old) verdict (R.remaining reader.new)) }
     ensures canonical { IfOk result.1 (λ verdict. JudgesCanonical limits (R.remaining reader.old) verdict (R.remaining reader.new)) }
     ensures written { IfOk result.1 (λ verdict. Appends (W.contents writer) (W.contents result.0) (verdict_line verdict)) }
-    // The reader fails only while the transmission is being read: behind its end it isn't asked.
+    // The reader fails only while the transmission is being read: after its end it isn't read.
     ensures stops { IfErr result.1 (λ fault. StopsReading limits fault (R.remaining reader.old) (R.remaining reader.new)) }
     ensures reader_failed { result.1 ≡ Err ToolFault.Reader → R.failures reader.new ≡ one_more_failure (R.failures reader.old) }
-    // No other failure is passed over: neither device failed but where that is told.
+    // No other failure is passed over: neither device failed but where that is reported.
     ensures reader_quiet { result.1 ≢ Err ToolFault.Reader → R.failures reader.new ≡ R.failures reader.old }
     ensures writer_quiet { IfOk result.1 (λ _. W.failures result.0 ≡ W.failures writer) }
     ensures unwritten { (result.1 ≡ Err ToolFault.Reader) ⊎ (result.1 ≡ Err ToolFault.Memory) → result.0 ≡ writer }
@@ -130,20 +128,13 @@ pub fn check<R: Source, W: Target + Drop>(
     ensures part { IfErr result.1 (λ fault. IsCheckFault fault
         (WritesPart limits (R.remaining reader.old) (R.remaining reader.new) (W.contents writer) (W.contents result.0))) }
 {
-    let mut writer = writer;
     let verdict = match read_verdict(alloc, limits, reader) {
         Ok(verdict) => verdict,
         Err(fault) => return (writer, Err(fault)),
     };
-    let line = match verdict_line(alloc, &verdict) {
-        Ok(line) => line,
-        Err(_) => return (writer, Err(ToolFault::Memory)),
-    };
-    let told = match write_text(&mut writer, line.as_bytes()) {
-        Ok(()) => Ok(verdict),
-        Err(written) => Err(ToolFault::Writer {
-            written: written as u64,
-        }),
-    };
-    (writer, told)
+    let (writer, reported) = report(&verdict, writer);
+    match reported {
+        Ok(()) => (writer, Ok(verdict)),
+        Err(written) => (writer, Err(ToolFault::Writer { written })),
+    }
 }

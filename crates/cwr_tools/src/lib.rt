@@ -2,9 +2,8 @@
 #![tactic(auto)]
 
 mod checking;
-mod texts;
+mod reporting;
 mod verdicts;
-mod writing;
 
 pub use checking::check;
 pub use verdicts::{ToolFault, Verdict};

@@ -32,7 +32,7 @@ const GOOD: Verdict = Verdict::Good {
 };
 
 #[test]
-fn one_transmission_behind_another(rt: HostRuntime) -> Result<(), Fail> {
+fn one_transmission_after_another(rt: HostRuntime) -> Result<(), Fail> {
     let limits = Limits::new(99_999_999, 99_999, 999_999)?;
     let mut twice = canonical(rt.alloc(), ONE_ACKNOWLEDGEMENT)?;
     twice.extend_from_slice(canonical(rt.alloc(), ONE_ACKNOWLEDGEMENT)?.as_slice())?;

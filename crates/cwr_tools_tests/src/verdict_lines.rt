@@ -107,7 +107,7 @@ fn lines_on_texts_that_are_cut_off(rt: HostRuntime) -> Result<(), Fail> {
 }
 
 /// A line that is filled up with spaces to so many bytes, and its line end.
-fn filled(alloc: Global, line: &[u8], len: usize, end: &[u8]) -> Result<Vec<u8>, AllocError> {
+fn fill_up(alloc: Global, line: &[u8], len: usize, end: &[u8]) -> Result<Vec<u8>, AllocError> {
     let mut text = line.to_vec(alloc)?;
     for _ in line.len()..len {
         text.push(b' ')?;
@@ -128,7 +128,7 @@ fn lines_on_long_lines(rt: HostRuntime) -> Result<(), Fail> {
         (HDR, 1024, b"TRUNCATED records 1\n"),
     ];
     for (line, len, wanted) in longer {
-        let text = filled(rt.alloc(), line, len, b"\n")?;
+        let text = fill_up(rt.alloc(), line, len, b"\n")?;
         check_line(&rt, LARGEST, text.as_slice(), wanted)?;
     }
     Ok(())

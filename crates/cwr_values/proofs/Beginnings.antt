@@ -8,13 +8,13 @@ use Rattle.cwr_layouts.specs.declared.kinds.Kind.TheVariants as kinds
 use Rattle.cwr_layouts.specs.Records.{RecordValue, IsRecord}
 use Rattle.cwr_shape.specs.declared.symbols.Symbol.{Symbol}
 use Rattle.cwr_shape.specs.declared.symbols.Symbol.TheVariants.{Plain}
-use Rattle.cwr_shape.specs.declared.stages.Step.{Step}
+use Rattle.cwr_shape.specs.declared.stages.TransactionStep.{TransactionStep}
 use Rattle.std.specs.Prelude.{Result, Ok, Err, slice_get}
 use Rattle.cwr_values.specs.declared.transactions.PushFault.{PushFault}
 use Rattle.cwr_values.specs.declared.transactions.PushFault.TheVariants.{Misplaced, Memory}
 use Rattle.cwr_shape.specs.Shapes.{IsShape, BeginsShape}
-use Rattle.cwr_shape.specs.Left.{GoesOnIn, StandsIn}
-use Rattle.cwr_shape.proofs.HeadFirst.{part, head_first}
+use Rattle.cwr_shape.specs.Left.{ContinuesIn, StandsAtStep}
+use Rattle.cwr_shape.proofs.HeadFirst.{part_class, head_first}
 use Rattle.cwr_shape.proofs.StepPatterns.{stands_goes}
 use Rattle.cwr_values.specs.Values.{symbol_of}
 use Rattle.cwr_values.specs.Begun.{IsBegun, KeepsTransaction, IsWholeTransaction, BeginsWithOneMore}
@@ -26,7 +26,7 @@ header_of (Plain kinds.Nwr) = NewWork
 header_of (Plain kinds.Rev) = RevisedWork
 header_of s = Acknowledgement
 
-header_named : (ty : TransactionType) (s : Symbol) → part ty s ≡ 1 → header_of s ≡ ty
+header_named : (ty : TransactionType) (s : Symbol) → part_class ty s ≡ 1 → header_of s ≡ ty
 header_named Agreement (Plain kinds.Agr) h = refl
 header_named NewWork (Plain kinds.Nwr) h = refl
 header_named RevisedWork (Plain kinds.Rev) h = refl
@@ -44,8 +44,8 @@ one_type_by : (ty tz : TransactionType) (front rest more : List Symbol) → 0 < 
 one_type_by ty tz [] rest more some p q = absurd (omega arith)
 one_type_by ty tz (s ∷ front) rest more some p q = sym (shape_type ty s (front ++ rest) p) ∙ shape_type tz s (front ++ more) q
 
--- what begins a transaction goes on in its own type alone
-pub goes_in : (ty : TransactionType) (xs : List Symbol) (step : Step) (s : Symbol) → 0 < length xs → StandsIn ty xs step → GoesOnIn ty (xs ++ s ∷ []) ↔ BeginsShape (xs ++ s ∷ [])
+-- what begins a transaction continues in its own type alone
+pub goes_in : (ty : TransactionType) (xs : List Symbol) (step : TransactionStep) (s : Symbol) → 0 < length xs → StandsAtStep ty xs step → ContinuesIn ty (xs ++ s ∷ []) ↔ BeginsShape (xs ++ s ∷ [])
 goes_in ty xs step s some st = (
   λ g. (ty, g.0, g.1),
   λ b. let own = stands_goes ty xs step st in
@@ -58,7 +58,7 @@ goes_in ty xs step s some st = (
     appended (y ∷ ys) t zs = ap (λ (l : List Symbol). y ∷ l) (appended ys t zs)
 
 -- kept records begin a transaction
-pub keeps_begun : (ty : TransactionType) (step : Step) (kept records : List RecordValue) → KeepsTransaction ty step kept → kept ≡ records → IsBegun records
+pub keeps_begun : (ty : TransactionType) (step : TransactionStep) (kept records : List RecordValue) → KeepsTransaction ty step kept → kept ≡ records → IsBegun records
 keeps_begun ty step kept records k e =
     let own = stands_goes ty (map symbol_of kept) step k.stands in
     subst IsBegun e (record { each = k.each; begins = (ty, own.0, own.1) })
@@ -68,7 +68,7 @@ length_map [] = refl
 length_map (r ∷ records) = omega (arith, length_map records)
 
 -- and are whole where they are one of their own type
-pub whole_in : (ty : TransactionType) (step : Step) (records : List RecordValue) → KeepsTransaction ty step records → IsShape ty (map symbol_of records) ↔ IsWholeTransaction records
+pub whole_in : (ty : TransactionType) (step : TransactionStep) (records : List RecordValue) → KeepsTransaction ty step records → IsShape ty (map symbol_of records) ↔ IsWholeTransaction records
 whole_in ty step records k = (
   λ shape. (ty, shape),
   λ w. let own = stands_goes ty (map symbol_of records) step k.stands in
@@ -80,21 +80,21 @@ whole_in ty step records k = (
     nil [] = refl
     nil (x ∷ xs) = ap (λ (l : List Symbol). x ∷ l) (nil xs)
 
-pub none_is_some : (o : Option Step) (P : Type 0) → o ≡ None → IsSome o ↔ P → ¬ P
+pub none_is_some : (o : Option TransactionStep) (P : Type 0) → o ≡ None → IsSome o ↔ P → ¬ P
 none_is_some o P e t p = true≢false (sym (sym (ap is_some e) ∙ t.1 p))
 
 -- where no type begins by the symbol, no transaction does
-pub begins_none : (s : Symbol) (a b c d : Option Step) → a ≡ None → b ≡ None → c ≡ None → d ≡ None
-    → IsSome a ↔ GoesOnIn Agreement (s ∷ []) → IsSome b ↔ GoesOnIn NewWork (s ∷ []) → IsSome c ↔ GoesOnIn RevisedWork (s ∷ []) → IsSome d ↔ GoesOnIn Acknowledgement (s ∷ [])
+pub begins_none : (s : Symbol) (a b c d : Option TransactionStep) → a ≡ None → b ≡ None → c ≡ None → d ≡ None
+    → IsSome a ↔ ContinuesIn Agreement (s ∷ []) → IsSome b ↔ ContinuesIn NewWork (s ∷ []) → IsSome c ↔ ContinuesIn RevisedWork (s ∷ []) → IsSome d ↔ ContinuesIn Acknowledgement (s ∷ [])
     → ¬ BeginsShape (s ∷ [])
-begins_none s a b c d p q r t f g h k (Agreement, r0, m) = none_is_some a (GoesOnIn Agreement (s ∷ [])) p f (r0, m)
-begins_none s a b c d p q r t f g h k (NewWork, r0, m) = none_is_some b (GoesOnIn NewWork (s ∷ [])) q g (r0, m)
-begins_none s a b c d p q r t f g h k (RevisedWork, r0, m) = none_is_some c (GoesOnIn RevisedWork (s ∷ [])) r h (r0, m)
-begins_none s a b c d p q r t f g h k (Acknowledgement, r0, m) = none_is_some d (GoesOnIn Acknowledgement (s ∷ [])) t k (r0, m)
+begins_none s a b c d p q r t f g h k (Agreement, r0, m) = none_is_some a (ContinuesIn Agreement (s ∷ [])) p f (r0, m)
+begins_none s a b c d p q r t f g h k (NewWork, r0, m) = none_is_some b (ContinuesIn NewWork (s ∷ [])) q g (r0, m)
+begins_none s a b c d p q r t f g h k (RevisedWork, r0, m) = none_is_some c (ContinuesIn RevisedWork (s ∷ [])) r h (r0, m)
+begins_none s a b c d p q r t f g h k (Acknowledgement, r0, m) = none_is_some d (ContinuesIn Acknowledgement (s ∷ [])) t k (r0, m)
 
--- one more record goes on where some transaction begins with it
-pub more_exact : (ty : TransactionType) (step : Step) (kept records : List RecordValue) (s : Symbol) (r : RecordValue) (o : Option Step) → KeepsTransaction ty step kept → kept ≡ records → s ≡ symbol_of r
-    → ((t : TransactionType) (xs : List Symbol) → StandsIn t xs step → IsSome o ↔ GoesOnIn t (xs ++ s ∷ [])) → IsSome o ↔ BeginsWithOneMore records r
+-- one more record continues where some transaction begins with it
+pub more_exact : (ty : TransactionType) (step : TransactionStep) (kept records : List RecordValue) (s : Symbol) (r : RecordValue) (o : Option TransactionStep) → KeepsTransaction ty step kept → kept ≡ records → s ≡ symbol_of r
+    → ((t : TransactionType) (xs : List Symbol) → StandsAtStep t xs step → IsSome o ↔ ContinuesIn t (xs ++ s ∷ [])) → IsSome o ↔ BeginsWithOneMore records r
 more_exact ty step kept records s r o k e f t =
     let own = t ty (map symbol_of kept) k.stands in
     let all = goes_in ty (map symbol_of kept) step s (omega (arith, k.some, length_map kept)) k.stands in
@@ -114,19 +114,19 @@ longer [] r = omega arith
 longer (x ∷ records) r = omega arith
 
 -- and is kept with the step after it
-pub keeps_more : (ty : TransactionType) (step to : Step) (kept items : List RecordValue) (s : Symbol) (r kept_as : RecordValue) → KeepsTransaction ty step kept → IsRecord r → kept_as ≡ r → s ≡ symbol_of r
-    → StandsIn ty (map symbol_of kept ++ s ∷ []) to → items ≡ kept ++ kept_as ∷ [] → KeepsTransaction ty to items
+pub keeps_more : (ty : TransactionType) (step to : TransactionStep) (kept items : List RecordValue) (s : Symbol) (r kept_as : RecordValue) → KeepsTransaction ty step kept → IsRecord r → kept_as ≡ r → s ≡ symbol_of r
+    → StandsAtStep ty (map symbol_of kept ++ s ∷ []) to → items ≡ kept ++ kept_as ∷ [] → KeepsTransaction ty to items
 keeps_more ty step to kept items s r kept_as k h same f st e =
     let whole : KeepsTransaction ty to (kept ++ r ∷ []) = record {
       some = longer kept r;
       each = all_more kept r k.each h;
-      stands = subst (λ (xs : List Symbol). StandsIn ty xs to) (ap (λ (u : Symbol). map symbol_of kept ++ u ∷ []) f ∙ sym (map_more kept r)) st;
+      stands = subst (λ (xs : List Symbol). StandsAtStep ty xs to) (ap (λ (u : Symbol). map symbol_of kept ++ u ∷ []) f ∙ sym (map_more kept r)) st;
     } in
     subst (λ (rs : List RecordValue). KeepsTransaction ty to rs) (sym (e ∙ ap (λ (x : RecordValue). kept ++ x ∷ []) same)) whole
 
 -- a test of the step is one of the records
-pub complete_exact : (ty : TransactionType) (step : Step) (kept records : List RecordValue) (b : Bool) → KeepsTransaction ty step kept → kept ≡ records
-    → ((t : TransactionType) (xs : List Symbol) → StandsIn t xs step → IsTrue b ↔ IsShape t xs) → IsTrue b ↔ IsWholeTransaction records
+pub complete_exact : (ty : TransactionType) (step : TransactionStep) (kept records : List RecordValue) (b : Bool) → KeepsTransaction ty step kept → kept ≡ records
+    → ((t : TransactionType) (xs : List Symbol) → StandsAtStep t xs step → IsTrue b ↔ IsShape t xs) → IsTrue b ↔ IsWholeTransaction records
 complete_exact ty step kept records b k e t =
     let own = t ty (map symbol_of kept) k.stands in
     let all = whole_in ty step kept k in
@@ -141,11 +141,11 @@ memory_is_misplaced x e f = two_faults (cc (e, f))
     two_faults : Memory ≡ Misplaced → ⊥
     two_faults k = cc k
 
--- behind the end there is no record
-none_behind : (xs : List RecordValue) (i : ℕ) → length xs ≤ i → None ≡ slice_get xs i
-none_behind [] i h = refl
-none_behind (x ∷ xs) zero h = absurd (omega (arith, h))
-none_behind (x ∷ xs) (suc i) h = none_behind xs i (omega (arith, h))
+-- after the end there is no record
+none_after : (xs : List RecordValue) (i : ℕ) → length xs ≤ i → None ≡ slice_get xs i
+none_after [] i h = refl
+none_after (x ∷ xs) zero h = absurd (omega (arith, h))
+none_after (x ∷ xs) (suc i) h = none_after xs i (omega (arith, h))
 
 pub none_there : (records kept items : List RecordValue) (i : ℕ) → false ≡ ltb i (length items) → items ≡ kept → kept ≡ records → None ≡ slice_get records i
-none_there records kept items i h e f = none_behind records i (ltb-false i (length records) (sym (ap (λ (rs : List RecordValue). ltb i (length rs)) (e ∙ f)) ∙ sym h))
+none_there records kept items i h e f = none_after records i (ltb-false i (length records) (sym (ap (λ (rs : List RecordValue). ltb i (length rs)) (e ∙ f)) ∙ sym h))

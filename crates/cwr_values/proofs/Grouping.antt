@@ -53,15 +53,15 @@ group_counted g items i n e h same =
     omega (arith, e, whole)
 
 -- the records of a group
-abbrev pub records_in : GroupValue → ℕ
-records_in g = group_records (map length g.transactions)
+abbrev pub count_records : GroupValue → ℕ
+count_records g = group_records (map length g.transactions)
 
-groups-sum : (gs : List GroupValue) → sum_by records_in gs ≡ sum_by group_records (map (λ g. map length g.transactions) gs)
+groups-sum : (gs : List GroupValue) → sum_by count_records gs ≡ sum_by group_records (map (λ g. map length g.transactions) gs)
 groups-sum [] = refl
-groups-sum (g ∷ gs) = omega (arith, sum_by-cons records_in g gs, sum_by-cons group_records (map length g.transactions) (map (λ h. map length h.transactions) gs), groups-sum gs)
+groups-sum (g ∷ gs) = omega (arith, sum_by-cons count_records g gs, sum_by-cons group_records (map length g.transactions) (map (λ h. map length h.transactions) gs), groups-sum gs)
 
-pub transmission_counted : (v : TransmissionValue) (items : List GroupValue) (i n : ℕ) → n ≡ min (2 + sum_by records_in (take i items)) (2 ^ 64 - 1) → length items ≤ i → items ≡ v.groups
+pub transmission_counted : (v : TransmissionValue) (items : List GroupValue) (i n : ℕ) → n ≡ min (2 + sum_by count_records (take i items)) (2 ^ 64 - 1) → length items ≤ i → items ≡ v.groups
     → n ≡ min (length (rows v)) (2 ^ 64 - 1)
 transmission_counted v items i n e h same =
-    let whole : sum_by records_in (take i items) ≡ sum_by group_records (map (λ g. map length g.transactions) v.groups) = ap (sum_by records_in) (take_all i items h ∙ same) ∙ groups-sum v.groups in
+    let whole : sum_by count_records (take i items) ≡ sum_by group_records (map (λ g. map length g.transactions) v.groups) = ap (sum_by count_records) (take_all i items h ∙ same) ∙ groups-sum v.groups in
     omega (arith, e, whole, length-rows v, length-records_of v)

@@ -12,12 +12,12 @@ use Rattle.cwr_layouts.specs.Records.{RecordValue}
 use Rattle.cwr_shape.specs.declared.limits.Limits.{Limits}
 use Rattle.cwr_shape.specs.Outlines.{symbols_of}
 use Rattle.cwr_shape.specs.Numbers.{numbers_of, group_numbers, transaction_numbers, group_records, all_records}
-use Rattle.cwr_shape.proofs.HeadFirst.{part}
+use Rattle.cwr_shape.proofs.HeadFirst.{part_class}
 use Rattle.cwr_values.specs.Values.{GroupValue, TransmissionValue, IsTransmission, IsGroup, FitsIn, type_of, symbol_of, symbol_by, outline_of, outline_of_group}
 use Rattle.cwr_values.specs.Rows.{records_of, records_of_group, trailer, lengths_of_value}
 use Rattle.cwr_values.proofs.Spelling.{length-records_of}
-use Rattle.cwr_values.proofs.Parts.{IsPart}
-use Rattle.cwr_values.proofs.Unique.{parts_of, symbols-outline}
+use Rattle.cwr_values.proofs.OneCutIntoParts.{IsOnePart}
+use Rattle.cwr_values.proofs.OneSpelling.{parts_of, symbols-outline}
 
 -- each number has no more digits than its field
 abbrev pub NumbersFit : Kind → List ℕ → Type 0
@@ -34,7 +34,7 @@ AllFit-append (m ∷ ms) ns [] ss h k = absurd h
 AllFit-append (m ∷ ms) ns (r ∷ rs) ss h k = (h.0, AllFit-append ms ns rs ss h.1 k)
 
 -- what stands in a transaction carries two numbers of eight digits
-inside : (ty : TransactionType) (r : RecordValue) (kind : Kind) (j k : ℕ) → (part ty (symbol_by kind r) ≡ 0 → ⊥) → j < 10 ^ 8 → k < 10 ^ 8 → NumbersFit kind (j ∷ k ∷ [])
+inside : (ty : TransactionType) (r : RecordValue) (kind : Kind) (j k : ℕ) → (part_class ty (symbol_by kind r) ≡ 0 → ⊥) → j < 10 ^ 8 → k < 10 ^ 8 → NumbersFit kind (j ∷ k ∷ [])
 inside ty r kinds.Hdr j k h a b = absurd (h refl)
 inside ty r kinds.Grh j k h a b = absurd (h refl)
 inside ty r kinds.Grt j k h a b = absurd (h refl)
@@ -64,20 +64,20 @@ inside ty r kinds.Msg j k h a b = (a, (b, tt))
 not_zero : (n m : ℕ) → n ≡ suc m → n ≡ 0 → ⊥
 not_zero n m e z = omega arith
 
-later_fit : (ty : TransactionType) (j k : ℕ) (rs : List RecordValue) → AllByRecursion (λ r. part ty (symbol_of r) ≡ 2) rs → j < 10 ^ 8 → k + length rs ≤ 10 ^ 8
+later_fit : (ty : TransactionType) (j k : ℕ) (rs : List RecordValue) → AllByRecursion (λ r. part_class ty (symbol_of r) ≡ 2) rs → j < 10 ^ 8 → k + length rs ≤ 10 ^ 8
     → AllFit (map (λ m. j ∷ m ∷ []) (range_with_len k (length rs))) rs
 later_fit ty j k [] h a b = tt
 later_fit ty j k (r ∷ rs) h a b =
-    (inside ty r r.kind j k (not_zero (part ty (symbol_of r)) 1 h.0) a (omega arith), later_fit ty j (k + 1) rs h.1 a (omega arith))
+    (inside ty r r.kind j k (not_zero (part_class ty (symbol_of r)) 1 h.0) a (omega arith), later_fit ty j (k + 1) rs h.1 a (omega arith))
 
-transaction_fit : (ty : TransactionType) (j : ℕ) (t : List RecordValue) → IsPart (λ r. part ty (symbol_of r)) t → j < 10 ^ 8 → length t ≤ 10 ^ 8 → AllFit (transaction_numbers j (length t)) t
+transaction_fit : (ty : TransactionType) (j : ℕ) (t : List RecordValue) → IsOnePart (λ r. part_class ty (symbol_of r)) t → j < 10 ^ 8 → length t ≤ 10 ^ 8 → AllFit (transaction_numbers j (length t)) t
 transaction_fit ty j t p a b =
     subst (λ (x : List RecordValue). AllFit (transaction_numbers j (length x)) x) (sym p.whole) (
-      inside ty p.head p.head.kind j 0 (not_zero (part ty (symbol_of p.head)) 0 p.first) a (omega arith),
+      inside ty p.head p.head.kind j 0 (not_zero (part_class ty (symbol_of p.head)) 0 p.first) a (omega arith),
       later_fit ty j (0 + 1) p.rest p.later a (omega (arith, b, ap length p.whole)),
     )
 
-transactions_fit : (ty : TransactionType) (i : ℕ) (ts : List (List RecordValue)) → AllByRecursion (IsPart (λ r. part ty (symbol_of r))) ts → i + sum (map length ts) ≤ 10 ^ 8
+transactions_fit : (ty : TransactionType) (i : ℕ) (ts : List (List RecordValue)) → AllByRecursion (IsOnePart (λ r. part_class ty (symbol_of r))) ts → i + sum (map length ts) ≤ 10 ^ 8
     → AllFit (flat_map (λ p. transaction_numbers p.0 p.1) (enumerate_from i (map length ts))) (flat_map (λ t. t) ts)
 transactions_fit ty i [] h b = tt
 transactions_fit ty i (t ∷ ts) h b =
@@ -86,7 +86,7 @@ transactions_fit ty i (t ∷ ts) h b =
     AllFit-append (transaction_numbers i (length t)) (flat_map (λ p. transaction_numbers p.0 p.1) (enumerate_from (i + 1) (map length ts))) t (flat_map (λ u. u) ts)
     (transaction_fit ty i t h.0 (omega arith) (omega arith)) (transactions_fit ty (i + 1) ts h.1 (omega arith))
 
-at_least_one : (c : RecordValue → ℕ) (ts : List (List RecordValue)) → AllByRecursion (IsPart c) ts → length (map length ts) ≤ sum (map length ts)
+at_least_one : (c : RecordValue → ℕ) (ts : List (List RecordValue)) → AllByRecursion (IsOnePart c) ts → length (map length ts) ≤ sum (map length ts)
 at_least_one c [] h = omega arith
 at_least_one c (t ∷ ts) h =
     let total : sum (map length (t ∷ ts)) ≡ length t + sum (map length ts) = sum_by-cons (λ (x : ℕ). x) (length t) (map length ts) in
@@ -99,7 +99,7 @@ at_kind k l ns e h = subst (λ (j : Kind). NumbersFit j ns) (sym e) h
 group_fit : (i : ℕ) (g : GroupValue) → IsGroup g → i + 1 < 10 ^ 5 → group_records (map length g.transactions) < 10 ^ 8 → AllFit (group_numbers i (map length g.transactions)) (records_of_group g)
 group_fit i g h a b =
     let parts = parts_of (type_of g.head) g.transactions h.each in
-    let count = at_least_one (λ r. part (type_of g.head) (symbol_of r)) g.transactions parts in (
+    let count = at_least_one (λ r. part_class (type_of g.head) (symbol_of r)) g.transactions parts in (
       at_kind g.head.kind kinds.Grh ((i + 1) ∷ []) h.head.0 (a, tt),
       AllFit-append (flat_map (λ p. transaction_numbers p.0 p.1) (enumerate_from 0 (map length g.transactions))) _ (flat_map (λ t. t) g.transactions) (g.foot ∷ [])
           (transactions_fit (type_of g.head) 0 g.transactions parts (omega arith))
@@ -119,7 +119,7 @@ groups_count [] h = omega arith
 groups_count (g ∷ gs) h =
     let one = sum_by-cons length (map length g.transactions) (map (λ f. map length f.transactions) gs) in
     let two = sum_by-cons group_records (map length g.transactions) (map (λ f. map length f.transactions) gs) in
-    let count = at_least_one (λ r. part (type_of g.head) (symbol_of r)) g.transactions (parts_of (type_of g.head) g.transactions h.0.each) in
+    let count = at_least_one (λ r. part_class (type_of g.head) (symbol_of r)) g.transactions (parts_of (type_of g.head) g.transactions h.0.each) in
     omega (arith, one, two, count, groups_count gs h.1)
 
 -- Within limits of at most 99,999,999 records and 99,999 groups no number is cut.

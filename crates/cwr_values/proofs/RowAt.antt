@@ -11,14 +11,15 @@ use Rattle.cwr_layouts.specs.Records.{RecordValue, Row, row_of}
 use Rattle.cwr_shape.specs.declared.symbols.Symbol.{Symbol}
 use Rattle.cwr_shape.specs.declared.tallies.Counts.{Counts}
 use Rattle.cwr_shape.specs.Numbers.{numbers_of, lengths_of, symbol_kind}
-use Rattle.cwr_shape.specs.Tallies.{type_behind, open_type, counts_of}
-use Rattle.cwr_shape.specs.Counting.{counts_with, expected}
+use Rattle.cwr_shape.specs.Tallies.{type_after, open_type, counts_of}
+use Rattle.cwr_shape.specs.Counting.{counts_with, expected_numbers}
 use Rattle.cwr_shape.proofs.OneMore.{open_type-snoc, counts-snoc}
-use Rattle.cwr_shape.proofs.Walks.{walk, walks_whole}
+use Rattle.cwr_shape.proofs.TransactionNumbers.{walk}
+use Rattle.cwr_shape.proofs.NumbersAreCounted.{walks_whole}
 use Rattle.cwr_values.specs.Values.{GroupValue, TransmissionValue, IsTransmission, symbol_of, symbol_by, outline_of, outline_of_group}
 use Rattle.cwr_values.specs.Rows.{records_of, lengths_of_value, rows}
-use Rattle.cwr_values.specs.Begins.{row_behind, rows_behind, rows_so_far}
-use Rattle.cwr_values.proofs.Unique.{symbols-outline, outline_whole}
+use Rattle.cwr_values.specs.Begins.{row_after, rows_after, rows_so_far}
+use Rattle.cwr_values.proofs.OneSpelling.{symbols-outline, outline_whole}
 
 -- ---- lengths are those of the outline
 
@@ -42,16 +43,16 @@ kind_of_symbol r = by r.kind
     by k = refl
 
 rows_walked : (before rs : List RecordValue)
-    → map (λ p. row_of p.0 p.1) (zip (walk (open_type (map symbol_of before)) (counts_of (map symbol_of before)) (map symbol_of rs)) rs) ≡ rows_behind before rs
-unfolding rows_behind
+    → map (λ p. row_of p.0 p.1) (zip (walk (open_type (map symbol_of before)) (counts_of (map symbol_of before)) (map symbol_of rs)) rs) ≡ rows_after before rs
+unfolding rows_after
 rows_walked before [] = refl
 rows_walked before (r ∷ rs) =
     let xs : List Symbol = map symbol_of before in
     let s : Symbol = symbol_of r in
     let grown : map symbol_of (before ++ r ∷ []) ≡ xs ++ s ∷ [] = map-append symbol_of before (r ∷ []) in
-    let ty : type_behind (open_type xs) s ≡ open_type (map symbol_of (before ++ r ∷ [])) = sym (open_type-snoc xs s) ∙ sym (ap open_type grown) in
+    let ty : type_after (open_type xs) s ≡ open_type (map symbol_of (before ++ r ∷ [])) = sym (open_type-snoc xs s) ∙ sym (ap open_type grown) in
     let counts : counts_with (open_type xs) (counts_of xs) s ≡ counts_of (map symbol_of (before ++ r ∷ [])) = counts-snoc xs s ∙ sym (ap counts_of grown) in
-    ap₂ (λ (a : Row) (l : List Row). a ∷ l) (ap (λ (k : Kind). row_of (expected (open_type xs) (counts_of xs) k) r) (kind_of_symbol r))
+    ap₂ (λ (a : Row) (l : List Row). a ∷ l) (ap (λ (k : Kind). row_of (expected_numbers (open_type xs) (counts_of xs) k) r) (kind_of_symbol r))
     (ap₂ (λ (t : TransactionType) (c : Counts). map (λ p. row_of p.0 p.1) (zip (walk t c (map symbol_of rs)) rs)) ty counts ∙ rows_walked (before ++ r ∷ []) rs)
 
 -- the rows of a transmission are those of its records, one after another
@@ -64,46 +65,46 @@ rows_whole v h =
 
 -- ---- more records
 
-pub rows_behind-append : (before xs ys : List RecordValue) → rows_behind before (xs ++ ys) ≡ rows_behind before xs ++ rows_behind (before ++ xs) ys
-unfolding rows_behind
-rows_behind-append before [] ys = ap (λ (b : List RecordValue). rows_behind b ys) (sym (append-nil before))
-rows_behind-append before (x ∷ xs) ys =
-    ap (λ (l : List Row). row_behind before x ∷ l)
-    (rows_behind-append (before ++ x ∷ []) xs ys ∙ ap (λ (b : List RecordValue). rows_behind (before ++ x ∷ []) xs ++ rows_behind b ys) (append_assoc before (x ∷ []) xs))
+pub rows_after-append : (before xs ys : List RecordValue) → rows_after before (xs ++ ys) ≡ rows_after before xs ++ rows_after (before ++ xs) ys
+unfolding rows_after
+rows_after-append before [] ys = ap (λ (b : List RecordValue). rows_after b ys) (sym (append-nil before))
+rows_after-append before (x ∷ xs) ys =
+    ap (λ (l : List Row). row_after before x ∷ l)
+    (rows_after-append (before ++ x ∷ []) xs ys ∙ ap (λ (b : List RecordValue). rows_after (before ++ x ∷ []) xs ++ rows_after b ys) (append_assoc before (x ∷ []) xs))
 
 -- one more record has one more row
-pub rows_so_far-snoc : (rs : List RecordValue) (r : RecordValue) → rows_so_far (rs ++ r ∷ []) ≡ rows_so_far rs ++ row_behind rs r ∷ []
-unfolding rows_behind
-rows_so_far-snoc rs r = rows_behind-append [] rs (r ∷ [])
+pub rows_so_far-snoc : (rs : List RecordValue) (r : RecordValue) → rows_so_far (rs ++ r ∷ []) ≡ rows_so_far rs ++ row_after rs r ∷ []
+unfolding rows_after
+rows_so_far-snoc rs r = rows_after-append [] rs (r ∷ [])
 
 -- as many rows as records
-pub length-rows_behind : (before rs : List RecordValue) → length (rows_behind before rs) ≡ length rs
-unfolding rows_behind
-length-rows_behind before [] = refl
-length-rows_behind before (r ∷ rs) = ap suc (length-rows_behind (before ++ r ∷ []) rs)
+pub length-rows_after : (before rs : List RecordValue) → length (rows_after before rs) ≡ length rs
+unfolding rows_after
+length-rows_after before [] = refl
+length-rows_after before (r ∷ rs) = ap suc (length-rows_after (before ++ r ∷ []) rs)
 
 pub length-rows_so_far : (rs : List RecordValue) → length (rows_so_far rs) ≡ length rs
-length-rows_so_far rs = length-rows_behind [] rs
+length-rows_so_far rs = length-rows_after [] rs
 
 -- a transmission's rows begin with those of the records that it begins with
-pub rows_split : (v : TransmissionValue) (before after : List RecordValue) → IsTransmission v → records_of v ≡ before ++ after → rows v ≡ rows_so_far before ++ rows_behind before after
-rows_split v before after h e = rows_whole v h ∙ ap rows_so_far e ∙ rows_behind-append [] before after
+pub rows_split : (v : TransmissionValue) (before after : List RecordValue) → IsTransmission v → records_of v ≡ before ++ after → rows v ≡ rows_so_far before ++ rows_after before after
+rows_split v before after h e = rows_whole v h ∙ ap rows_so_far e ∙ rows_after-append [] before after
 
 pub rows_begin : (v : TransmissionValue) (before after : List RecordValue) → IsTransmission v → records_of v ≡ before ++ after → (rest : List Row) × (rows v ≡ rows_so_far before ++ rest)
-rows_begin v before after h e = (rows_behind before after, rows_split v before after h e)
+rows_begin v before after h e = (rows_after before after, rows_split v before after h e)
 
 -- the row of one record, by the records before it
 pub record RowAt (v : TransmissionValue) (before : List RecordValue) (r : RecordValue) : Type 0 where
   pub front : List Row
   pub rest : List Row
-  pub split : rows v ≡ front ++ row_behind before r ∷ rest
+  pub split : rows v ≡ front ++ row_after before r ∷ rest
   pub as_many : length front ≡ length before
 
 -- transmissions that begin with the same records begin with the same rows
 pub same_rows : (v w : TransmissionValue) (before rest others : List RecordValue) → IsTransmission v → IsTransmission w → records_of v ≡ before ++ rest → records_of w ≡ before ++ others
     → take (length before) (rows v) ≡ take (length before) (rows w)
 same_rows v w before rest others h k e f =
-    front (rows v) (rows_behind before rest) (rows_split v before rest h e) ∙ sym (front (rows w) (rows_behind before others) (rows_split w before others k f))
+    front (rows v) (rows_after before rest) (rows_split v before rest h e) ∙ sym (front (rows w) (rows_after before others) (rows_split w before others k f))
   where
     taken : (xs ys : List Row) → take (length xs) (xs ++ ys) ≡ xs
     taken [] ys = refl

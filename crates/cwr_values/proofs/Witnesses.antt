@@ -11,7 +11,7 @@ use Rattle.cwr_fields.specs.declared.codes.Role.TheVariants.{Assignor, Acquirer}
 use Rattle.cwr_fields.specs.declared.codes.TransactionType.{TransactionType}
 use Rattle.cwr_fields.specs.declared.codes.TransactionType.TheVariants.{Agreement, NewWork, RevisedWork, Acknowledgement}
 use Rattle.cwr_fields.specs.Bytes.{filled, digits}
-use Rattle.cwr_fields.proofs.Tests.{holds_test, number_test, day_test, time_test}
+use Rattle.cwr_fields.proofs.CellTests.{holds_test, number_test, day_test, time_test}
 use Rattle.cwr_fields.specs.Codes.{codes_of, code_width, word_text, role_code, type_code}
 use Rattle.cwr_layouts.specs.declared.kinds.Kind.{Kind}
 use Rattle.cwr_layouts.specs.declared.kinds.Kind.TheVariants as kinds
@@ -24,7 +24,7 @@ use Rattle.cwr_shape.specs.Outlines.{GroupOutline, group_symbols, symbols_of, Is
 use Rattle.cwr_shape.proofs.PrefixFree.{only, matched_pass}
 use Rattle.cwr_values.specs.Values.{TransmissionValue, IsTransmission, symbol_of, outline_of}
 use Rattle.cwr_values.specs.Rows.{records_of}
-use Rattle.cwr_values.proofs.Built.{built}
+use Rattle.cwr_values.proofs.OneTransmissionOfRecords.{built}
 
 -- a cell of each type
 abbrev pub some_cell : CellType → ℕ → List ℕ
@@ -142,7 +142,7 @@ rest_pass : (xs ys : List Symbol) → list_all is_of_record (xs ++ ys) ≡ true 
 rest_pass [] ys h = h
 rest_pass (x ∷ xs) ys h = rest_pass xs ys (and_parts (is_of_record x) (list_all is_of_record (xs ++ ys)) h).1
 
--- ---- some transmission goes on so
+-- ---- some transmission continues so
 
 -- a transmission of this order that begins with these records
 pub record Completed (groups : List GroupOutline) (records : List RecordValue) : Type 0 where

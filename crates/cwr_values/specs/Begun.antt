@@ -4,9 +4,9 @@ use Rattle.std.specs.List.{AllByRecursion}
 use Rattle.cwr_fields.specs.declared.codes.TransactionType.{TransactionType}
 use Rattle.cwr_layouts.specs.declared.kinds.Kind.TheVariants as kinds
 use Rattle.cwr_layouts.specs.Records.{RecordValue, IsRecord}
-use Rattle.cwr_shape.specs.declared.stages.Step.{Step}
+use Rattle.cwr_shape.specs.declared.stages.TransactionStep.{TransactionStep}
 use Rattle.cwr_shape.specs.Shapes.{IsShape, BeginsShape}
-use Rattle.cwr_shape.specs.Left.{StandsIn}
+use Rattle.cwr_shape.specs.Left.{StandsAtStep}
 use Rattle.cwr_shape.specs.Tallies.{header_kind}
 use Rattle.cwr_values.specs.Values.{GroupValue, TransmissionValue, symbol_of, type_of, IsTransaction, IsRecordOf, IsGroup}
 
@@ -24,22 +24,22 @@ abbrev pub BeginsWithOneMore : List RecordValue → RecordValue → Type 0
 BeginsWithOneMore records r = BeginsShape (map symbol_of records ++ symbol_of r ∷ [])
 
 -- records are kept with their transaction's type and the step after them
-pub record KeepsTransaction (ty : TransactionType) (step : Step) (records : List RecordValue) : Type 0 where
+pub record KeepsTransaction (ty : TransactionType) (step : TransactionStep) (records : List RecordValue) : Type 0 where
   pub some : 0 < length records
   pub each : AllByRecursion IsRecord records
-  pub stands : StandsIn ty (map symbol_of records) step
+  pub stands : StandsAtStep ty (map symbol_of records) step
 
 -- the first of the records is a header of the type
 abbrev pub HasHeaderOf : TransactionType → List RecordValue → Type 0
 HasHeaderOf ty records = IsSomeAnd (slice_get records 0) (λ r. r.kind ≡ header_kind ty)
 
--- a GRH record, transactions of its type, none or more, and a GRT record
+-- a GRH record, transactions of its type, zero or more, and a GRT record
 pub record IsBegunGroup (g : GroupValue) : Type 0 where
   pub head : IsRecordOf kinds.Grh g.head
   pub each : AllByRecursion (IsTransaction (type_of g.head)) g.transactions
   pub foot : IsRecordOf kinds.Grt g.foot
 
--- an HDR record and groups, none or more
+-- an HDR record and groups, zero or more
 pub record IsBegunTransmission (v : TransmissionValue) : Type 0 where
   pub opening : IsRecordOf kinds.Hdr v.opening
   pub each : AllByRecursion IsGroup v.groups

@@ -8,12 +8,12 @@ use Rattle.cwr_values.specs.Values.{TransmissionValue}
 use Rattle.cwr_values.specs.Rows.{rows, lengths_of_value}
 
 -- each transaction by its group's place, its own place in the group, and its length
-abbrev pub measured : TransmissionValue → List (ℕ × ℕ × ℕ)
-measured v = flat_map (λ g. map (λ t. (g.0, t.0, t.1)) (enumerate_from 0 g.1)) (enumerate_from 0 (lengths_of_value v))
+abbrev pub transaction_lengths : TransmissionValue → List (ℕ × ℕ × ℕ)
+transaction_lengths v = flat_map (λ g. map (λ t. (g.0, t.0, t.1)) (enumerate_from 0 g.1)) (enumerate_from 0 (lengths_of_value v))
 
 -- the first transaction that is longer than the limit
 abbrev pub first_too_long : ℕ → TransmissionValue → Option ValueFault
-first_too_long limit v = option_map (λ m. Transaction m.0 m.1) (find (λ m. nat_lt limit m.2) (measured v))
+first_too_long limit v = option_map (λ m. Transaction m.0 m.1) (find (λ m. nat_lt limit m.2) (transaction_lengths v))
 
 -- no group, too many records, too many groups, or a transaction that is too long: the first of these
 abbrev pub value_fault : Limits → TransmissionValue → Option ValueFault

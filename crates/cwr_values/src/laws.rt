@@ -19,13 +19,13 @@ pub fn canonical_text_spells()
     ensures { (v : TransmissionValue) → IsTransmission v → Spells v (canonical_text v) }
 {}
 
-/// A line stands for at most one row that a transmission can have.
+/// A line represents at most one row that a transmission can have.
 pub fn line_has_one_row()
     ensures { (v w : TransmissionValue) (r s : Row) (line : List ℕ) → IsTransmission v → IsTransmission w
         → Contains (rows v) r → Contains (rows w) s → IsLineOf r line → IsLineOf s line → r ≡ s }
 {}
 
-/// A text begins with at most one spelling of at most one transmission. So no spelling goes on to another.
+/// A text begins with at most one spelling of at most one transmission. So no spelling is the beginning of another.
 pub fn text_begins_with_one_spelling()
     ensures { (v w : TransmissionValue) (front other rest others : List ℕ) → IsTransmission v → IsTransmission w
         → Spells v front → Spells w other → front ++ rest ≡ other ++ others → (v ≡ w) × (front ≡ other) }
@@ -39,7 +39,7 @@ pub fn numbers_fit_their_fields()
         (numbers_of (lengths_of_value v)) (records_of v) }
 {}
 
-/// No fault is told of a transmission exactly where it has a group and is within the limits.
+/// No fault is reported of a transmission exactly where it has a group and is within the limits.
 pub fn fits_is_within()
     ensures { (limits : Limits) (v : TransmissionValue) → (value_fault limits v ≡ None) ↔ ((0 < length v.groups) × FitsIn limits v) }
 {}

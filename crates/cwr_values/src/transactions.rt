@@ -2,14 +2,14 @@
 
 ghost use Rattle.std.specs.Prelude.{◌≡◌, ◌↔◌, List, [], ◌∷◌, ◌++◌, length, option_map, slice_get, IsTrue, IsSome, IfSome, IfOk, OnOk, OnErr, Some, Err};
 ghost use Rattle.cwr_shape.specs.Shapes.{BeginsShape};
-ghost use Rattle.cwr_shape.specs.Left.{StandsIn};
+ghost use Rattle.cwr_shape.specs.Left.{StandsAtStep};
 ghost use Rattle.cwr_values.specs.Values.{symbol_of};
 ghost use Rattle.cwr_values.specs.Begun.{IsBegun, IsWholeTransaction, BeginsWithOneMore};
 
 use crate::symbols::symbol_of;
 use cwr_fields::TransactionType;
 use cwr_layouts::{Kind, Record, RecordRef};
-use cwr_shape::{Step, Symbol};
+use cwr_shape::{Symbol, TransactionStep};
 use std::alloc::Global;
 use std::error::Error;
 use std::fmt::{self, Display, Formatter, Write};
@@ -18,7 +18,7 @@ use std::marker::Model;
 /// Why a record wasn't added to a transaction: the first of these that holds.
 #[derive(Clone, Copy, Debug, PartialEq, Eq)]
 pub enum PushFault {
-    /// No transaction goes on so.
+    /// No transaction continues so.
     Misplaced,
     /// Memory for the record was refused.
     Memory,
@@ -36,32 +36,32 @@ impl Display for PushFault {
 impl Error for PushFault {}
 
 /// The type and the step of a transaction that begins with a record. `None` where none does.
-fn begin(symbol: Symbol) -> Option<(TransactionType, Step)>
+fn begin(symbol: Symbol) -> Option<(TransactionType, TransactionStep)>
     ensures some { IsSome result ↔ BeginsShape (symbol ∷ []) }
-    ensures value { IfSome result (λ p. StandsIn p.0 (symbol ∷ []) p.1) }
+    ensures value { IfSome result (λ p. StandsAtStep p.0 (symbol ∷ []) p.1) }
 {
-    if let Some(step) = Step::first(TransactionType::Agreement, symbol) {
+    if let Some(step) = TransactionStep::first(TransactionType::Agreement, symbol) {
         return Some((TransactionType::Agreement, step));
     }
-    if let Some(step) = Step::first(TransactionType::NewWork, symbol) {
+    if let Some(step) = TransactionStep::first(TransactionType::NewWork, symbol) {
         return Some((TransactionType::NewWork, step));
     }
-    if let Some(step) = Step::first(TransactionType::RevisedWork, symbol) {
+    if let Some(step) = TransactionStep::first(TransactionType::RevisedWork, symbol) {
         return Some((TransactionType::RevisedWork, step));
     }
-    match Step::first(TransactionType::Acknowledgement, symbol) {
+    match TransactionStep::first(TransactionType::Acknowledgement, symbol) {
         Some(step) => Some((TransactionType::Acknowledgement, step)),
         None => None,
     }
 }
 
-/// A transaction, or the records with which one begins: its header and the records behind it, in an order of this
+/// A transaction, or the records with which one begins: its header and the records after it, in an order of this
 /// profile.
 #[derive(Debug, Drop)]
 pub struct Transaction {
     ty: TransactionType,
     /// The step after its records.
-    step: Step,
+    step: TransactionStep,
     records: Vec<Record>,
 }
 
@@ -112,7 +112,7 @@ impl Transaction {
         }
     }
 
-    /// Adds a record at the end. It is refused as misplaced exactly where no transaction goes on so, and a refused one
+    /// Adds a record at the end. It is refused as misplaced exactly where no transaction continues so, and a refused one
     /// changes nothing.
     pub fn push(&mut self, next: RecordRef<'_>) -> Result<(), PushFault>
         ensures ok { OnOk result (self.new ≡ self.old ++ next.entry ∷ []) }

@@ -186,7 +186,7 @@ impl Transmission {
         }
     }
 
-    /// Whether it has a group and is within the limits. Where it isn't, the first fault is told.
+    /// Whether it has a group and is within the limits. Where it isn't, the first fault is reported.
     pub fn fits(&self, limits: Limits) -> Result<(), ValueFault>
         ensures within { IsOk result ↔ ((0 < length self.now.groups) × FitsIn limits self.now) }
         ensures fault { IfErr result (λ e. value_fault limits self.now ≡ Some e) }

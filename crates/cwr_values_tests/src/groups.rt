@@ -1,7 +1,7 @@
 //! Tests of groups and transmissions, on the worked transactions.
 
 use crate::worked_records::{
-    group_head, made, opening, publisher, revision, work, writer, written,
+    group_head, opening, publisher, record_with, revision, short_work, work, writer,
 };
 use cwr_layouts::{Kind, Record};
 use cwr_shape::Limits;
@@ -23,7 +23,7 @@ fn fault_of<F, T: Drop>(pushed: Result<(), (F, T)>) -> Result<(), F> {
 
 /// Adds a work of the header and one writer.
 fn push_written(rt: &(impl Abort + AllocGlobal), group: &mut Group, header: &Record) {
-    assert_eq!(rt; fault_of(group.push(written(rt, header))), Ok(()));
+    assert_eq!(rt; fault_of(group.push(short_work(rt, header))), Ok(()));
 }
 
 /// A group of one new work, and a group of two revised ones.
@@ -83,17 +83,17 @@ fn groups_into_transmissions(rt: HostRuntime) {
 }
 
 /// The kind of the record that is handed back.
-fn handed_back<T: Drop>(refused: Result<T, Record>) -> Option<Kind> {
+fn kind_returned<T: Drop>(refused: Result<T, Record>) -> Option<Kind> {
     refused.err().map(|given| given.view().kind())
 }
 
 #[test]
 fn records_of_another_kind(rt: HostRuntime) {
-    let refused = handed_back(Group::new(rt.alloc(), opening(&rt)));
+    let refused = kind_returned(Group::new(rt.alloc(), opening(&rt)));
     assert_eq!(rt; refused, Some(Kind::Hdr));
-    let refused = handed_back(Transmission::new(rt.alloc(), group_head(&rt, b"NWR")));
+    let refused = kind_returned(Transmission::new(rt.alloc(), group_head(&rt, b"NWR")));
     assert_eq!(rt; refused, Some(Kind::Grh));
-    let refused = handed_back(group(&rt, b"NWR").set_foot(opening(&rt)));
+    let refused = kind_returned(group(&rt, b"NWR").set_foot(opening(&rt)));
     assert_eq!(rt; refused, Some(Kind::Hdr));
 }
 
@@ -103,7 +103,7 @@ fn feet(rt: HostRuntime) {
     assert_eq!(rt; works.head().view().cell(2), Some(&b"NWR"[..]));
     assert_eq!(rt; works.foot().view().kind(), Kind::Grt);
     assert_eq!(rt; works.foot().view().cell(5), Some(&b"   "[..]));
-    let foot = made(&rt, Kind::Grt, &[(5, b"EUR")]);
+    let foot = record_with(&rt, Kind::Grt, &[(5, b"EUR")]);
     assert!(rt; works.set_foot(foot).is_ok());
     assert_eq!(rt; works.foot().view().cell(5), Some(&b"EUR"[..]));
 }

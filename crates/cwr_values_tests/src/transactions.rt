@@ -1,12 +1,12 @@
 //! Tests of transactions, on the worked orders of records.
 
-use crate::worked_records::{made, publisher, work, writer};
+use crate::worked_records::{publisher, record_with, work, writer};
 use cwr_layouts::{Kind, Record};
 use cwr_values::{PushFault, Transaction};
 use std::process::Abort;
 
 fn party(rt: &impl Abort, role: &[u8]) -> Record {
-    made(rt, Kind::Ipa, &[(4, role), (8, b"SMITH")])
+    record_with(rt, Kind::Ipa, &[(4, role), (8, b"SMITH")])
 }
 
 #[test]
@@ -37,10 +37,10 @@ fn faults_are_printed(rt: HostRuntime) {
 #[test]
 fn agreements(rt: HostRuntime) {
     let cells: [(u8, &[u8]); 3] = [(4, b"A0000000000001"), (6, b"OS"), (15, b"00001")];
-    let header = made(&rt, Kind::Agr, &cells);
+    let header = record_with(&rt, Kind::Agr, &cells);
     let begun = Transaction::new(rt.alloc(), header.view());
     let mut transaction = begun.expect(&rt, "no transaction");
-    let territory = made(&rt, Kind::Ter, &[(4, b"I"), (5, b"2136")]);
+    let territory = record_with(&rt, Kind::Ter, &[(4, b"I"), (5, b"2136")]);
     assert_eq!(rt; transaction.push(territory.view()), Ok(()));
     let roles: [(&[u8], bool); 3] = [(b"AS", false), (b"AS", false), (b"AC", true)];
     for (role, complete) in roles {

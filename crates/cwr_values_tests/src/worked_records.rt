@@ -5,7 +5,7 @@ use cwr_values::Transaction;
 use std::process::Abort;
 
 /// The record of the kind in which these cells are set.
-pub(crate) fn made(rt: &impl Abort, kind: Kind, cells: &[(u8, &[u8])]) -> Record {
+pub(crate) fn record_with(rt: &impl Abort, kind: Kind, cells: &[(u8, &[u8])]) -> Record {
     let mut draft = Draft::blank(kind);
     for (j, text) in cells {
         assert_eq!(rt; draft.set(*j, text), Ok(()));
@@ -15,7 +15,7 @@ pub(crate) fn made(rt: &impl Abort, kind: Kind, cells: &[(u8, &[u8])]) -> Record
 
 /// HDR.
 pub(crate) fn opening(rt: &impl Abort) -> Record {
-    made(
+    record_with(
         rt,
         Kind::Hdr,
         &[
@@ -31,12 +31,12 @@ pub(crate) fn opening(rt: &impl Abort) -> Record {
 
 /// GRH of a type.
 pub(crate) fn group_head(rt: &impl Abort, ty: &[u8]) -> Record {
-    made(rt, Kind::Grh, &[(2, ty), (5, b"0000000001")])
+    record_with(rt, Kind::Grh, &[(2, ty), (5, b"0000000001")])
 }
 
 /// NWR.
 pub(crate) fn work(rt: &impl Abort) -> Record {
-    made(
+    record_with(
         rt,
         Kind::Nwr,
         &[
@@ -50,12 +50,12 @@ pub(crate) fn work(rt: &impl Abort) -> Record {
 
 /// REV of a title and a number of the work.
 pub(crate) fn revision<'a>(rt: &impl Abort, title: &'a [u8], number: &'a [u8]) -> Record {
-    made(rt, Kind::Rev, &[(4, title), (6, number), (15, b"ORI")])
+    record_with(rt, Kind::Rev, &[(4, title), (6, number), (15, b"ORI")])
 }
 
 /// SWR.
 pub(crate) fn writer(rt: &impl Abort) -> Record {
-    made(
+    record_with(
         rt,
         Kind::Swr,
         &[(4, b"W1"), (5, b"SMITH"), (6, b"ANNA"), (8, b"CA")],
@@ -64,7 +64,7 @@ pub(crate) fn writer(rt: &impl Abort) -> Record {
 
 /// SPU.
 pub(crate) fn publisher(rt: &impl Abort) -> Record {
-    made(
+    record_with(
         rt,
         Kind::Spu,
         &[
@@ -80,7 +80,7 @@ pub(crate) fn publisher(rt: &impl Abort) -> Record {
 }
 
 /// A work of its header and one writer.
-pub(crate) fn written(rt: &(impl Abort + AllocGlobal), header: &Record) -> Transaction {
+pub(crate) fn short_work(rt: &(impl Abort + AllocGlobal), header: &Record) -> Transaction {
     let begun = Transaction::new(rt.alloc(), header.view());
     let mut transaction = begun.expect(rt, "no transaction");
     assert_eq!(rt; transaction.push(writer(rt).view()), Ok(()));

@@ -92,7 +92,7 @@ pub const AGREEMENT_OF_TWO_BLOCKS: &[&[u8]] = &[
     b"TRL000010000000100000011",
 ];
 
-/// The canonical text of lines: each in the full width of its kind, with CR LF behind it. Of a line of unknown kind just
+/// The canonical text of lines: each in the full width of its kind, with CR LF after it. Of a line of unknown kind just
 /// its bytes, with CR LF.
 pub fn canonical(alloc: Global, lines: &[&[u8]]) -> Result<Vec<u8>, AllocError> {
     let mut text = Vec::new(alloc);
@@ -114,7 +114,7 @@ fn full_width(line: &[u8]) -> usize {
     }
 }
 
-/// The same text without trailing spaces: LF stands between the lines, and none behind the last.
+/// The same text without trailing spaces: LF stands between the lines, and none after the last.
 pub fn trimmed_text(alloc: Global, lines: &[&[u8]]) -> Result<Vec<u8>, AllocError> {
     let mut text = Vec::new(alloc);
     for (i, line) in lines.iter().enumerate() {

@@ -4,10 +4,10 @@ use Rattle.cwr_decode.specs.Readings.{FeedsOn}
 use Rattle.cwr_decode.specs.Represents.{RepresentsSome}
 use Rattle.cwr_decode.proofs.readings.read_on.Given as goal
 
-abbrev pub invariant-loop-told : goal.invariant-loop-told
-invariant-loop-told g l = FeedsOn l.pieces l.initial.decoder (g.R.Source.remaining l.initial.reader) l.decoder (g.R.Source.remaining l.reader)
+abbrev pub invariant-loop-reported : goal.invariant-loop-reported
+invariant-loop-reported g l = FeedsOn l.pieces l.initial.decoder (g.R.Source.remaining l.initial.reader) l.decoder (g.R.Source.remaining l.reader)
     × (g.R.Source.failures l.reader ≡ g.R.Source.failures l.initial.reader)
     × ((l.decoder ≡ l.initial.decoder) ⊎ RepresentsSome l.initial.decoder)
 
-abbrev pub decreases-loop-told : goal.decreases-loop-told
-decreases-loop-told g l = 103000000000 - l.pieces
+abbrev pub decreases-loop-reported : goal.decreases-loop-reported
+decreases-loop-reported g l = 103000000000 - l.pieces

@@ -3,7 +3,7 @@ use Rattle.std.proofs.lemmas.List.{length-append}
 use Rattle.cwr_values.specs.declared.items.Item.{Item}
 use Rattle.cwr_decode.specs.declared.readings.ReadFault.TheVariants as faults
 use Rattle.cwr_decode.specs.Runs.{IsReadingOn, HasReadAll, StopsRun}
-use Rattle.cwr_decode.proofs.Running.{fault_read, fewer_left, memory_stops, none_read, of_fault, some_read}
+use Rattle.cwr_decode.proofs.ItemsReadSoFar.{fault_read, fewer_left, memory_stops, none_read, of_fault, some_read}
 use Rattle.cwr_decode.proofs.whole.read_items.Goals as goal
 
 pub returns-in_err-item-clause-stops : goal.returns-in_err-item-clause-stops

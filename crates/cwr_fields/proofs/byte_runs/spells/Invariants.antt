@@ -1,10 +1,10 @@
 use Rattle.std.proofs.Common.{length}
 use Rattle.std.specs.Prelude.{◌↔◌}
-use Rattle.cwr_fields.proofs.Spelled.{Spells}
+use Rattle.cwr_fields.proofs.DigitsFromTheEnd.{SpellsDigits}
 use Rattle.cwr_fields.proofs.byte_runs.spells.Given as goal
 
 abbrev pub invariant-loop-text : goal.invariant-loop-text
-invariant-loop-text l = Spells l.text l.rest ↔ Spells l.fn.cell l.fn.number
+invariant-loop-text l = SpellsDigits l.text l.rest ↔ SpellsDigits l.fn.cell l.fn.number
 
 abbrev pub decreases-loop-text : goal.decreases-loop-text
 decreases-loop-text l = length l.text

@@ -17,8 +17,8 @@ is_opt_time-requires c = c.requires 6 (ap type_width c.in-OptTime.is)
 pub is_cell-requires-in-OptDuration-clause-width : goal.is_cell-requires-in-OptDuration-clause-width
 is_cell-requires-in-OptDuration-clause-width c = c.requires 6 (ap type_width c.in-OptDuration.is)
 
-pub share-requires : goal.share-requires
-share-requires c = c.requires 5 (ap type_width c.in-Share.is)
+pub fits_share-requires : goal.fits_share-requires
+fits_share-requires c = c.requires 5 (ap type_width c.in-Share.is)
 
 pub is_cell-requires-in-Flag-clause-width : goal.is_cell-requires-in-Flag-clause-width
 is_cell-requires-in-Flag-clause-width c = c.requires 1 (ap type_width c.in-Flag.is)

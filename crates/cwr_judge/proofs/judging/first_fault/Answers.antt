@@ -1,6 +1,6 @@
 use Rattle.std.proofs.Common.{sym, subst, arith, ℕ, ◌+◌}
 use Rattle.cwr_shape.specs.declared.reasons.Reason.TheVariants.{Excess}
-use Rattle.cwr_judge.specs.Judged.{IsGoodAt, IsWrongAt, cell, behind}
+use Rattle.cwr_judge.specs.Judged.{IsGoodAt, IsWrongAt, cell, past_last}
 use Rattle.cwr_judge.proofs.FirstFaults.{first_of, first_barred, one_more}
 use Rattle.cwr_judge.proofs.GoodLines.{excess_left}
 use Rattle.cwr_judge.proofs.judging.first_fault.Goals as goal
@@ -23,6 +23,6 @@ returns c = λ xs st none.
     let excess = excess_left c.args.tally.now.limits xs c.args.line.now c.in-Some.kind (sym c.in-Some.ensures) (c.in_default-admits_kind.ensures xs st) (λ i from to. c.loop-j.invariant xs st i from (omega arith)) none in
     first_of c.args.tally.now.limits xs c.args.line.now c.in-Some.kind (c.fields-count.result + 1) Excess (sym c.in-Some.ensures)
     (record {
-      here = subst (λ (n : ℕ). IsWrongAt c.args.tally.now.limits xs c.args.line.now c.in-Some.kind (n + 1) Excess) (sym count) (behind (c.in_default-admits_kind.ensures xs st) excess);
+      here = subst (λ (n : ℕ). IsWrongAt c.args.tally.now.limits xs c.args.line.now c.in-Some.kind (n + 1) Excess) (sym count) (past_last (c.in_default-admits_kind.ensures xs st) excess);
       before = λ i from to. c.loop-j.invariant xs st i from (omega arith);
     })

@@ -1,7 +1,7 @@
 use Rattle.std.proofs.Common.{sym, ap, ◌∙◌, option_map, true, false}
 use Rattle.std.proofs.lemmas.Result.{on_ok_weaker, IfErr-weaker}
 use Rattle.cwr_layouts.specs.Views.{field_view}
-use Rattle.cwr_judge.specs.Judged.{IsTextFault, IsNumberFault, HasFaultAt}
+use Rattle.cwr_judge.specs.Judged.{IsTextFault, IsNumberFault, HasReasonAt}
 use Rattle.cwr_judge.proofs.NumberCells.{wide_as_type}
 use Rattle.cwr_judge.proofs.FirstFaults.{no_field, no_cell, good_at, fault_at, no_number}
 use Rattle.cwr_judge.proofs.judging.judge_field.Goals as goal
@@ -23,7 +23,7 @@ returns-then-not-place-clause-ok c = λ xs st may.
 
 pub returns-then-not-place-clause-err : goal.returns-then-not-place-clause-err
 returns-then-not-place-clause-err c = λ xs st may.
-    IfErr-weaker c.judge_text.result (IsTextFault c.args.tally.now.limits xs c.args.kind c.args.j c.in-Some.place.ty c.in-Some-cell.cell.now) (HasFaultAt c.args.tally.now.limits xs c.args.line.now c.args.kind c.args.j)
+    IfErr-weaker c.judge_text.result (IsTextFault c.args.tally.now.limits xs c.args.kind c.args.j c.in-Some.place.ty c.in-Some-cell.cell.now) (HasReasonAt c.args.tally.now.limits xs c.args.line.now c.args.kind c.args.j)
     (λ reason. fault_at c.args.tally.now.limits xs c.args.line.now c.args.kind c.args.j c.in-Some.place c.in-Some-cell.cell.now false reason c.in-Some.ensures c.in-Some-cell.ensures c.if-not-place.true)
     (c.judge_text.ensures.err xs st)
 
@@ -38,7 +38,7 @@ returns-in-Some-expects-clause-ok c = λ xs st may.
 
 pub returns-in-Some-expects-clause-err : goal.returns-in-Some-expects-clause-err
 returns-in-Some-expects-clause-err c = λ xs st may.
-    IfErr-weaker c.judge_number.result (IsNumberFault c.in-Some.place.ty c.in-Some-cell.cell.now c.in-Some-expects.expected) (HasFaultAt c.args.tally.now.limits xs c.args.line.now c.args.kind c.args.j)
+    IfErr-weaker c.judge_number.result (IsNumberFault c.in-Some.place.ty c.in-Some-cell.cell.now c.in-Some-expects.expected) (HasReasonAt c.args.tally.now.limits xs c.args.line.now c.args.kind c.args.j)
     (λ reason q. fault_at c.args.tally.now.limits xs c.args.line.now c.args.kind c.args.j c.in-Some.place c.in-Some-cell.cell.now true reason c.in-Some.ensures c.in-Some-cell.ensures c.if-not-place.false (c.in-Some-expects.expected, c.in-Some-expects.ensures xs st, q))
     c.judge_number.ensures.err
 

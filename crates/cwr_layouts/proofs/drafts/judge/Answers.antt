@@ -1,7 +1,7 @@
 use Rattle.std.proofs.Common.{◌+◌, arith, below_more, refl}
 use Rattle.std.proofs.lemmas.Bool.{false≢true}
 use Rattle.cwr_layouts.specs.Carried.{FitsAt, record_in}
-use Rattle.cwr_layouts.proofs.FitCells.{all_fit, fits_before, no_fault}
+use Rattle.cwr_layouts.proofs.FitCells.{all_fit, fits_before, record_has_no_fault}
 use Rattle.cwr_layouts.proofs.drafts.judge.Goals as goal
 
 pub loop-before-init : goal.loop-before-init
@@ -15,4 +15,4 @@ returns-clause-variant c = (λ _. all_fit c.args.kind c.args.line.now c.requires
 
 pub returns-in-Err-clause-variant : goal.returns-in-Err-clause-variant
 returns-in-Err-clause-variant c =
-    (λ e. absurd (false≢true e), λ h. absurd (no_fault (record_in c.args.kind c.args.line.now) (c.loop-before.before + 1) c.in-Err.fault h c.in-Err.ensures.err))
+    (λ e. absurd (false≢true e), λ h. absurd (record_has_no_fault (record_in c.args.kind c.args.line.now) (c.loop-before.before + 1) c.in-Err.fault h c.in-Err.ensures.err))

@@ -1,5 +1,5 @@
 use Rattle.std.proofs.Common.{◌≤◌, ◌-◌, ◌≡◌, length, arith}
-use Rattle.cwr_layouts.proofs.Filling.{filled_by_extending}
+use Rattle.cwr_layouts.proofs.FilledTexts.{filled_by_extending}
 use Rattle.cwr_layouts.proofs.lines.fill_up.Goals as goal
 
 pub returns : goal.returns

@@ -1,11 +1,8 @@
-use Rattle.cwr_tools.proofs.Checked.{tells_accepted, tells_canonical}
+use Rattle.cwr_tools.proofs.RightVerdicts.{judges_accepted, judges_canonical}
 use Rattle.cwr_tools.proofs.checking.check.Goals as goal
-use Rattle.cwr_tools.proofs.checking.check.Goals.{in-Ok-write_text, in-Err-write_text}
 
-pub returns-clause-accepted : goal.returns-clause-accepted
-returns-clause-accepted g c =
-    elim c.match-write_text.branch [ in-Ok-write_text w ↦ rw w.told-is (tells_accepted c.args.limits _ c.in-Ok.verdict _ c.in-Ok.ensures.told) | in-Err-write_text w ↦ rw w.told-is tt ]
+pub returns-in-Ok-reported-clause-accepted : goal.returns-in-Ok-reported-clause-accepted
+returns-in-Ok-reported-clause-accepted g c = judges_accepted c.args.limits _ c.in-Ok.verdict _ c.in-Ok.ensures.reported
 
-pub returns-clause-canonical : goal.returns-clause-canonical
-returns-clause-canonical g c =
-    elim c.match-write_text.branch [ in-Ok-write_text w ↦ rw w.told-is (tells_canonical c.args.limits _ c.in-Ok.verdict _ c.in-Ok.ensures.told) | in-Err-write_text w ↦ rw w.told-is tt ]
+pub returns-in-Ok-reported-clause-canonical : goal.returns-in-Ok-reported-clause-canonical
+returns-in-Ok-reported-clause-canonical g c = judges_canonical c.args.limits _ c.in-Ok.verdict _ c.in-Ok.ensures.reported

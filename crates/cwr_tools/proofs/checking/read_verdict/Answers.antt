@@ -1,11 +1,11 @@
 use Rattle.std.proofs.Common.{rules, [], refl, sym, ap, subst, ◌∙◌, arith}
 use Rattle.std.specs.Prelude.{IfErr, IfOk}
 use Rattle.cwr_decode.specs.Runs.{HasReadAll}
-use Rattle.cwr_decode.proofs.Running.{fault_read, none_read, nothing_read_yet}
+use Rattle.cwr_decode.proofs.ItemsReadSoFar.{fault_read, none_read, nothing_read_yet}
 use Rattle.cwr_tools.specs.declared.verdicts.Verdict.{Verdict}
-use Rattle.cwr_tools.specs.declared.checking.Counts.{Counts}
-use Rattle.cwr_tools.specs.Told.{counted, IsToldOf, StopsReading}
-use Rattle.cwr_tools.proofs.Checked.{IsCounting, counts_none, counts_on, fault_stops, fault_told, good_told, room_in, total_grows}
+use Rattle.cwr_tools.specs.declared.checking.Totals.{Totals}
+use Rattle.cwr_tools.specs.Verdicts.{totals_with, IsRightVerdict, StopsReading}
+use Rattle.cwr_tools.proofs.RightVerdicts.{IsCounting, counts_none, counts_on, fault_stops, fault_reported, good_reported, room_in, total_grows}
 use Rattle.cwr_tools.proofs.checking.read_verdict.Goals as goal
 
 pub items-init : goal.items-init
@@ -32,22 +32,22 @@ pub count-requires-clause-records : goal.count-requires-clause-records
 count-requires-clause-records g c =
     let on = counts_on c.args.limits c.items.reading.decoder c.next_item.new.self.decoder (g.R.Source.remaining c.args.reader.now) _ _ c.items.counts c.in-Ok-Some.field-0 c.in-Ok-Some.item _ _
     c.in-Ok-Some.field-0-is c.items.invariant.counting c.in-Ok-Some.ensures.reads c.in-Ok-Some.ensures.again in
-    (room_in c.args.limits _ _ _ (counted c.items.counts c.in-Ok-Some.item) on).records
+    (room_in c.args.limits _ _ _ (totals_with c.items.counts c.in-Ok-Some.item) on).records
 
 pub items-smaller-in-Ok-Some : goal.items-smaller-in-Ok-Some
 items-smaller-in-Ok-Some g c =
     let on = counts_on c.args.limits c.items.reading.decoder c.next_item.new.self.decoder (g.R.Source.remaining c.args.reader.now) _ _ c.items.counts c.in-Ok-Some.field-0 c.in-Ok-Some.item _ _
     c.in-Ok-Some.field-0-is c.items.invariant.counting c.in-Ok-Some.ensures.reads c.in-Ok-Some.ensures.again in
-    let room = room_in c.args.limits _ _ _ (counted c.items.counts c.in-Ok-Some.item) on in
+    let room = room_in c.args.limits _ _ _ (totals_with c.items.counts c.in-Ok-Some.item) on in
     omega (
       arith,
       room.groups,
       room.transactions,
       room.records,
       total_grows c.items.counts c.in-Ok-Some.item,
-      ap (λ (n : Counts). n.groups) c.count.ensures,
-      ap (λ (n : Counts). n.transactions) c.count.ensures,
-      ap (λ (n : Counts). n.records) c.count.ensures,
+      ap (λ (n : Totals). n.groups) c.count.ensures,
+      ap (λ (n : Totals). n.transactions) c.count.ensures,
+      ap (λ (n : Totals). n.records) c.count.ensures,
     )
 
 pub items-preserved-in-Ok-Some : goal.items-preserved-in-Ok-Some
@@ -55,7 +55,7 @@ items-preserved-in-Ok-Some g c =
     let on = counts_on c.args.limits c.items.reading.decoder c.next_item.new.self.decoder (g.R.Source.remaining c.args.reader.now) _ _ c.items.counts c.in-Ok-Some.field-0 c.in-Ok-Some.item _ _
     c.in-Ok-Some.field-0-is c.items.invariant.counting c.in-Ok-Some.ensures.reads c.in-Ok-Some.ensures.again in
     record {
-      counting = subst (λ (counts : Counts). IsCounting c.args.limits c.next_item.new.self.decoder (g.R.Source.remaining c.args.reader.now) (g.R.Source.remaining c.next_item.new.self.reader.now) counts) (sym c.count.ensures) on;
+      counting = subst (λ (counts : Totals). IsCounting c.args.limits c.next_item.new.self.decoder (g.R.Source.remaining c.args.reader.now) (g.R.Source.remaining c.next_item.new.self.reader.now) counts) (sym c.count.ensures) on;
       failures = c.in-Ok-Some.ensures.failures ∙ c.items.invariant.failures;
       same = c.in-Ok-Some.ensures.same_reference ∙ c.items.invariant.same;
     }
@@ -64,16 +64,16 @@ pub items-smaller : goal.items-smaller
 items-smaller g c =
     let on = counts_on c.args.limits c.items.reading.decoder c.next_item.new.self.decoder (g.R.Source.remaining c.args.reader.now) _ _ c.items.counts c.in-Ok-Some.field-0 c.in-Ok-Some.item _ _
     c.in-Ok-Some.field-0-is c.items.invariant.counting c.in-Ok-Some.ensures.reads c.in-Ok-Some.ensures.again in
-    let room = room_in c.args.limits _ _ _ (counted c.items.counts c.in-Ok-Some.item) on in
+    let room = room_in c.args.limits _ _ _ (totals_with c.items.counts c.in-Ok-Some.item) on in
     omega (
       arith,
       room.groups,
       room.transactions,
       room.records,
       total_grows c.items.counts c.in-Ok-Some.item,
-      ap (λ (n : Counts). n.groups) c.count.ensures,
-      ap (λ (n : Counts). n.transactions) c.count.ensures,
-      ap (λ (n : Counts). n.records) c.count.ensures,
+      ap (λ (n : Totals). n.groups) c.count.ensures,
+      ap (λ (n : Totals). n.transactions) c.count.ensures,
+      ap (λ (n : Totals). n.records) c.count.ensures,
     )
 
 pub items-preserved : goal.items-preserved
@@ -81,25 +81,25 @@ items-preserved g c =
     let on = counts_on c.args.limits c.items.reading.decoder c.next_item.new.self.decoder (g.R.Source.remaining c.args.reader.now) _ _ c.items.counts c.in-Ok-Some.field-0 c.in-Ok-Some.item _ _
     c.in-Ok-Some.field-0-is c.items.invariant.counting c.in-Ok-Some.ensures.reads c.in-Ok-Some.ensures.again in
     record {
-      counting = subst (λ (counts : Counts). IsCounting c.args.limits c.next_item.new.self.decoder (g.R.Source.remaining c.args.reader.now) (g.R.Source.remaining c.next_item.new.self.reader.now) counts) (sym c.count.ensures) on;
+      counting = subst (λ (counts : Totals). IsCounting c.args.limits c.next_item.new.self.decoder (g.R.Source.remaining c.args.reader.now) (g.R.Source.remaining c.next_item.new.self.reader.now) counts) (sym c.count.ensures) on;
       failures = c.in-Ok-Some.ensures.failures ∙ c.items.invariant.failures;
       same = c.in-Ok-Some.ensures.same_reference ∙ c.items.invariant.same;
     }
 
-pub returns-in-Ok-None-clause-told : goal.returns-in-Ok-None-clause-told
-returns-in-Ok-None-clause-told g c =
+pub returns-in-Ok-None-clause-reported : goal.returns-in-Ok-None-clause-reported
+returns-in-Ok-None-clause-reported g c =
     let all : HasReadAll c.args.limits (g.R.Source.remaining c.args.reader.now) (g.R.Source.remaining c.next_item.new.self.reader.now) c.items.invariant.counting.given
     = none_read c.args.limits c.items.reading.decoder c.next_item.new.self.decoder (g.R.Source.remaining c.args.reader.now) _ _ c.items.invariant.counting.given c.in-Ok-None.field-0 _ c.in-Ok-None.field-0-is
     c.items.invariant.counting.reading c.in-Ok-None.ensures.reads c.in-Ok-None.ensures.again (λ e. ap g.R.Source.remaining e) in
-    let told : IsToldOf c.args.limits (g.R.Source.remaining c.args.reader.now) c.good.result (g.R.Source.remaining c.next_item.new.self.reader.now)
-    = subst (λ (v : Verdict). IsToldOf c.args.limits (g.R.Source.remaining c.args.reader.now) v (g.R.Source.remaining c.next_item.new.self.reader.now)) (sym c.good.ensures)
-    (good_told c.args.limits _ _ c.items.invariant.counting.given c.items.counts all c.items.invariant.counting.counts) in
+    let reported : IsRightVerdict c.args.limits (g.R.Source.remaining c.args.reader.now) c.good.result (g.R.Source.remaining c.next_item.new.self.reader.now)
+    = subst (λ (v : Verdict). IsRightVerdict c.args.limits (g.R.Source.remaining c.args.reader.now) v (g.R.Source.remaining c.next_item.new.self.reader.now)) (sym c.good.ensures)
+    (good_reported c.args.limits _ _ c.items.invariant.counting.given c.items.counts all c.items.invariant.counting.counts) in
     search rules
 
-pub returns-in-Err-clause-told : goal.returns-in-Err-clause-told
-returns-in-Err-clause-told g c =
-    let told : IfOk c.verdict_of.result (λ verdict. IsToldOf c.args.limits (g.R.Source.remaining c.args.reader.now) verdict (g.R.Source.remaining c.next_item.new.self.reader.now))
-    = fault_told c.args.limits _ _ c.in-Err.fault c.verdict_of.result
+pub returns-in-Err-clause-reported : goal.returns-in-Err-clause-reported
+returns-in-Err-clause-reported g c =
+    let reported : IfOk c.verdict_of.result (λ verdict. IsRightVerdict c.args.limits (g.R.Source.remaining c.args.reader.now) verdict (g.R.Source.remaining c.next_item.new.self.reader.now))
+    = fault_reported c.args.limits _ _ c.in-Err.fault c.verdict_of.result
     (fault_read c.args.limits c.items.reading.decoder c.next_item.new.self.decoder (g.R.Source.remaining c.args.reader.now) _ _ c.items.invariant.counting.given c.in-Err.fault _ _
     c.items.invariant.counting.reading c.in-Err.ensures.reads c.in-Err.ensures.again) c.verdict_of.ensures in
     search rules

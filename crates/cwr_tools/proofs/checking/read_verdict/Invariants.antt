@@ -1,5 +1,5 @@
 use Rattle.std.proofs.Common.{◌≡◌, ◌+◌, ◌-◌}
-use Rattle.cwr_tools.proofs.Checked.{IsCounting}
+use Rattle.cwr_tools.proofs.RightVerdicts.{IsCounting}
 use Rattle.cwr_tools.proofs.checking.read_verdict.Given as goal
 
 abbrev pub invariant-items : goal.invariant-items

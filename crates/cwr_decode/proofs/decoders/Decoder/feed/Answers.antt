@@ -1,7 +1,7 @@
 use Rattle.std.proofs.Common.{◌≡◌, ◌≤◌, subst, sym}
 use Rattle.std.specs.Prelude.{IfSome}
 use Rattle.cwr_decode.specs.Machines.{Standing, again}
-use Rattle.cwr_decode.specs.Calls.{IsLive, WantsMemory}
+use Rattle.cwr_decode.specs.Calls.{IsLive, RunsOutOfMemory}
 use Rattle.cwr_decode.specs.Represents.{RepresentsSome}
 use Rattle.cwr_decode.proofs.decoders.Decoder.feed.Goals as goal
 
@@ -25,5 +25,5 @@ returns-clause-empties c =
 pub returns-clause-memory : goal.returns-clause-memory
 returns-clause-memory c = λ is live.
     let was = c.self.invariant.under_way in
-    subst (λ (d : Standing). WantsMemory d c.feed.result.used c.feed.new.self) c.self.view_is
+    subst (λ (d : Standing). RunsOutOfMemory d c.feed.result.used c.feed.new.self) c.self.view_is
     (c.feed.ensures.memory is (subst (λ (d : Standing). IsLive d.state) (sym c.self.view_is) live) was.input was.given was.stands)

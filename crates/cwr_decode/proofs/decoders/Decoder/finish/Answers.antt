@@ -1,7 +1,7 @@
 use Rattle.std.proofs.Common.{◌≡◌, ◌≤◌, subst, sym}
 use Rattle.std.specs.Prelude.{IfSome}
-use Rattle.cwr_decode.specs.Machines.{Standing, again, over}
-use Rattle.cwr_decode.specs.Calls.{IsLive, WantsMemory}
+use Rattle.cwr_decode.specs.Machines.{Standing, again, end_input}
+use Rattle.cwr_decode.specs.Calls.{IsLive, RunsOutOfMemory}
 use Rattle.cwr_decode.specs.Represents.{RepresentsSome}
 use Rattle.cwr_decode.proofs.decoders.Decoder.finish.Goals as goal
 
@@ -10,7 +10,7 @@ returns-clause-some c = subst RepresentsSome c.self.view_is c.self.invariant.und
 
 pub returns-clause-again : goal.returns-clause-again
 returns-clause-again c =
-    subst (λ (d : Standing). IfSome (again d.state) (λ o. (c.finish.result.outcome ≡ o) × (c.finish.new.self ≡ over d))) c.self.view_is c.finish.ensures.finishes.again
+    subst (λ (d : Standing). IfSome (again d.state) (λ o. (c.finish.result.outcome ≡ o) × (c.finish.new.self ≡ end_input d))) c.self.view_is c.finish.ensures.finishes.again
 
 pub returns-clause-kept : goal.returns-clause-kept
 returns-clause-kept c =
@@ -25,5 +25,5 @@ returns-clause-empties c =
 pub returns-clause-memory : goal.returns-clause-memory
 returns-clause-memory c = λ is live.
     let was = c.self.invariant.under_way in
-    subst (λ (d : Standing). WantsMemory d 0 c.finish.new.self) c.self.view_is
+    subst (λ (d : Standing). RunsOutOfMemory d 0 c.finish.new.self) c.self.view_is
     (c.finish.ensures.finishes.memory is (subst (λ (d : Standing). IsLive d.state) (sym c.self.view_is) live) was.input was.given was.stands)

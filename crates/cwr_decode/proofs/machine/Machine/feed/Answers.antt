@@ -3,8 +3,9 @@ use Rattle.std.proofs.lemmas.List.{take_rest}
 use Rattle.cwr_decode.specs.Machines.{Standing, Judges}
 use Rattle.cwr_decode.specs.declared.outcomes.Outcome.TheVariants as outcomes
 use Rattle.cwr_decode.specs.Calls.{Feeds}
-use Rattle.cwr_decode.proofs.Advancing.{advanced_line, advanced_open}
-use Rattle.cwr_decode.proofs.Feeding.{finished_feeds, settled_feeds, fed_none, fed_more, fed_out, rest_smaller}
+use Rattle.cwr_decode.proofs.AfterBytes.{advanced_line, advanced_open}
+use Rattle.cwr_decode.proofs.AnsweredAtOnce.{settled_feeds}
+use Rattle.cwr_decode.proofs.AfterPiece.{finished_feeds, fed_none, fed_more, fed_out, rest_smaller}
 use Rattle.cwr_decode.proofs.HeldOpen.{fed_holds, waiting_fits}
 use Rattle.cwr_decode.proofs.machine.Machine.feed.Goals as goal
 

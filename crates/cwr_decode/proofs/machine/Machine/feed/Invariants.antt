@@ -1,5 +1,5 @@
 use Rattle.std.proofs.Common.{◌-◌, length}
-use Rattle.cwr_decode.proofs.Feeding.{Fed}
+use Rattle.cwr_decode.proofs.AfterPiece.{Fed}
 use Rattle.cwr_decode.proofs.machine.Machine.feed.Given as goal
 
 abbrev pub invariant-loop-self : goal.invariant-loop-self

@@ -1,4 +1,4 @@
-use Rattle.cwr_decode.proofs.Feeding.{ends_with, ends_without}
+use Rattle.cwr_decode.proofs.AfterInputEnd.{ends_with, ends_without}
 use Rattle.cwr_decode.proofs.HeldOpen.{closed_holds}
 use Rattle.cwr_decode.proofs.machine.Machine.last_line.Goals as goal
 

@@ -1,7 +1,7 @@
 use Rattle.std.proofs.Common.{refl, sym, ap, subst, ◌+◌, ◌∙◌, ℕ}
 use Rattle.cwr_shape.specs.declared.tallies.Place.{Place}
 use Rattle.cwr_shape.specs.Levels.{level_of}
-use Rattle.cwr_shape.specs.Tallies.{StandsFor}
+use Rattle.cwr_shape.specs.Tallies.{IsTallyOf}
 use Rattle.cwr_decode.specs.Machines.{Standing}
 use Rattle.cwr_decode.proofs.machine.Machine.refuse.Goals as goal
 
@@ -11,7 +11,7 @@ returns c = record {
   number = ap (λ (n : ℕ). n + 1) (c.records.ensures.value ∙ ap (λ (d : Standing). d.tally.counts.records) c.self.view_is);
   field = refl;
   reason = refl;
-  level = λ xs st. c.level.ensures ∙ ap (λ (p : Place). level_of c.args.kind c.args.fault.field c.args.fault.reason p) (c.place.ensures xs (subst (λ (d : Standing). StandsFor d.tally xs) (sym c.self.view_is) st));
-  told = refl;
+  level = λ xs st. c.level.ensures ∙ ap (λ (p : Place). level_of c.args.kind c.args.fault.field c.args.fault.reason p) (c.place.ensures xs (subst (λ (d : Standing). IsTallyOf d.tally xs) (sym c.self.view_is) st));
+  reported = refl;
   stops = c.stop.ensures;
 }

@@ -5,34 +5,34 @@ use Rattle.cwr_decode.specs.declared.machine.State.TheVariants as states
 use Rattle.cwr_values.specs.declared.items.Item.TheVariants as items
 use Rattle.cwr_decode.specs.Machines.{Standing, HoldsOpen, Judges}
 use Rattle.cwr_decode.proofs.HeldOpen.{entry_fits}
-use Rattle.cwr_decode.proofs.Steps.{refused_line, waits_now, enters_now}
+use Rattle.cwr_decode.proofs.LineSteps.{refused_judged, waits_now, enters_now}
 use Rattle.cwr_decode.proofs.machine.Machine.take_line.Goals as goal
 
 pub returns-in-Err : goal.returns-in-Err
 returns-in-Err c =
-    refused_line c.args.self.now c.self.inside.tally c.self.inside.line c.cut-cut.result c.kind-kind.result c.in-Err.fault c.refuse.result c.refuse.new.self
+    refused_judged c.args.self.now c.self.inside.tally c.self.inside.line c.cut-cut.result c.kind-kind.result c.in-Err.fault c.refuse.result c.refuse.new.self
     (ap (λ (d : Standing). d.tally) c.self.view_is) (ap (λ (d : Standing). d.line) c.self.view_is) c.cut-cut.ensures c.kind-kind.ensures c.in-Err.ensures.err c.in-Err.ensures.first c.refuse.ensures
 
-pub entered-outcome-requires : goal.entered-outcome-requires
-entered-outcome-requires c =
+pub add_accepted-outcome-requires : goal.add_accepted-outcome-requires
+add_accepted-outcome-requires c =
     let i = c.self.inside in
     let d : Standing = record { line = i.line; tally = i.tally; held = i.held; state = i.state; finished = i.finished } in
     let h : HoldsOpen d = subst HoldsOpen (sym c.self.view_is) c.requires.holds in
-    entry_fits d h c.cut-cut.result c.in-Ok.found.0 c.in-Ok.found.1 c.goes_on-goes_on.result c.hand_out.result c.hand_out.new.held (c.in-Ok.ensures.ok (map symbol_of h.records) h.counted)
-    (c.goes_on-goes_on.ensures.same (map symbol_of h.records) h.counted) c.hand_out.ensures
+    entry_fits d h c.cut-cut.result c.in-Ok.found.0 c.in-Ok.found.1 c.step_continues_open-continues.result c.hand_out.result c.hand_out.new.held (c.in-Ok.ensures.ok (map symbol_of h.records) h.counted)
+    (c.step_continues_open-continues.ensures.same (map symbol_of h.records) h.counted) c.hand_out.ensures
 
 pub returns-in-Some : goal.returns-in-Some
 returns-in-Some c =
     let i = c.self.inside in
     let d : Standing = record { line = i.line; tally = i.tally; held = i.held; state = i.state; finished = i.finished } in
-    subst (λ (q : Standing). Judges q (Some (outcomes.Item (items.Transaction c.in-Some.whole))) (record { line = i.line; tally = c.goes_on-goes_on.new.tally; held = c.hand_out.new.held; state = states.Pending; finished = i.finished })) c.self.view_is
-    (waits_now d c.goes_on-goes_on.new.tally c.cut-cut.result c.in-Ok.found.0 c.in-Ok.found.1 c.goes_on-goes_on.result c.in-Some.whole c.hand_out.result c.hand_out.new.held c.cut-cut.ensures c.in-Ok.ensures.carried c.in-Ok.ensures.ok c.goes_on-goes_on.ensures.limits c.goes_on-goes_on.ensures.stands
-    c.goes_on-goes_on.ensures.same c.hand_out.ensures c.in-Some.is)
+    subst (λ (q : Standing). Judges q (Some (outcomes.Item (items.Transaction c.in-Some.whole))) (record { line = i.line; tally = c.step_continues_open-continues.new.tally; held = c.hand_out.new.held; state = states.Pending; finished = i.finished })) c.self.view_is
+    (waits_now d c.step_continues_open-continues.new.tally c.cut-cut.result c.in-Ok.found.0 c.in-Ok.found.1 c.step_continues_open-continues.result c.in-Some.whole c.hand_out.result c.hand_out.new.held c.cut-cut.ensures c.in-Ok.ensures.carried c.in-Ok.ensures.ok c.step_continues_open-continues.ensures.limits c.step_continues_open-continues.ensures.stands
+    c.step_continues_open-continues.ensures.same c.hand_out.ensures c.in-Some.is)
 
 pub returns : goal.returns
 returns c =
     let i = c.self.inside in
     let d : Standing = record { line = i.line; tally = i.tally; held = i.held; state = i.state; finished = i.finished } in
-    subst (λ (q : Standing). Judges q c.go_on.result c.go_on.new.self) c.self.view_is
-    (enters_now d c.goes_on-goes_on.new.tally c.cut-cut.result c.in-Ok.found.0 c.in-Ok.found.1 c.goes_on-goes_on.result c.hand_out.result c.hand_out.new.held c.entered-outcome.result c.entered-outcome.new.held c.go_on.result c.go_on.new.self
-    c.cut-cut.ensures c.in-Ok.ensures.carried c.in-Ok.ensures.ok c.goes_on-goes_on.ensures.limits c.goes_on-goes_on.ensures.stands c.goes_on-goes_on.ensures.same c.hand_out.ensures c.in_default.is c.entered-outcome.ensures c.go_on.ensures)
+    subst (λ (q : Standing). Judges q c.finish_record.result c.finish_record.new.self) c.self.view_is
+    (enters_now d c.step_continues_open-continues.new.tally c.cut-cut.result c.in-Ok.found.0 c.in-Ok.found.1 c.step_continues_open-continues.result c.hand_out.result c.hand_out.new.held c.add_accepted-outcome.result c.add_accepted-outcome.new.held c.finish_record.result c.finish_record.new.self
+    c.cut-cut.ensures c.in-Ok.ensures.carried c.in-Ok.ensures.ok c.step_continues_open-continues.ensures.limits c.step_continues_open-continues.ensures.stands c.step_continues_open-continues.ensures.same c.hand_out.ensures c.in_default.is c.add_accepted-outcome.ensures c.finish_record.ensures)

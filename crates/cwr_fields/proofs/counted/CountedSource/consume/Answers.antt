@@ -1,5 +1,5 @@
 use Rattle.std.proofs.Common.{arith}
-use Rattle.cwr_fields.proofs.Windows.{consumed}
+use Rattle.cwr_fields.proofs.BytesReadAhead.{consumed}
 use Rattle.cwr_fields.proofs.counted.CountedSource.consume.Goals as goal
 
 pub returns-clause-bytes : goal.returns-clause-bytes

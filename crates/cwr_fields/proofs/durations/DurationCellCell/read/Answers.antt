@@ -3,7 +3,7 @@ use Rattle.std.proofs.lemmas.Grind.{common_steps}
 use Rattle.cwr_fields.specs.Bytes.{is_spaces}
 use Rattle.cwr_fields.proofs.Blanks.{blank}
 use Rattle.cwr_fields.proofs.Spellings.{time_spelled}
-use Rattle.cwr_fields.proofs.Written.{duration_or, three_back}
+use Rattle.cwr_fields.proofs.DigitsWritten.{duration_or, three_back}
 use Rattle.cwr_fields.proofs.durations.DurationCellCell.read.Goals as goal
 
 pub returns-then-is_spaces-clause-some : goal.returns-then-is_spaces-clause-some

@@ -3,7 +3,7 @@ use Rattle.std.proofs.lemmas.Grind.{common_steps}
 use Rattle.cwr_fields.specs.Bytes.{is_spaces}
 use Rattle.cwr_fields.specs.ShareLaws.{share_text}
 use Rattle.cwr_fields.proofs.Blanks.{blank}
-use Rattle.cwr_fields.proofs.Written.{share_or, number_back}
+use Rattle.cwr_fields.proofs.DigitsWritten.{share_or, number_back}
 use Rattle.cwr_fields.proofs.numbers.ShareCell.read.Goals as goal
 
 pub returns-then-is_spaces-clause-some : goal.returns-then-is_spaces-clause-some

@@ -4,11 +4,11 @@ use Rattle.cwr_fields.specs.Bytes.{filled}
 use Rattle.cwr_fields.specs.Cells.{HasFault}
 use Rattle.cwr_layouts.specs.Views.{field_view}
 use Rattle.cwr_layouts.proofs.CarriedCells.{cells_whole, whole_of}
-use Rattle.cwr_layouts.proofs.SetCells.{no_field, of_field, of_carried, field_most, filled_wide, part_within, is_set}
+use Rattle.cwr_layouts.proofs.SetCells.{no_field_to_set, of_field, of_carried, field_most, filled_cell_wide, part_within, is_set}
 use Rattle.cwr_layouts.proofs.drafts.Draft.set.Goals as goal
 
 pub returns-in_default-clause-fault : goal.returns-in_default-clause-fault
-returns-in_default-clause-fault c = no_field c.self.inside.kind c.self.inside.text.items c.args.j c.args.self.now c.self.view_is c.in_default.ensures
+returns-in_default-clause-fault c = no_field_to_set c.self.inside.kind c.self.inside.text.items c.args.j c.args.self.now c.self.view_is c.in_default.ensures
 
 pub returns-then-place-clause-fault : goal.returns-then-place-clause-fault
 returns-then-place-clause-fault c =
@@ -23,7 +23,7 @@ filled_cell-cell-requires-clause-fits c = field_most c.self.inside.kind c.args.j
 
 pub fits-requires : goal.fits-requires
 fits-requires c =
-    filled_wide c.self.inside.kind c.args.j (field_view c.in-Some.place) c.args.text.now c.as_slice.result.now c.in-Some.ensures c.if-text-place.false (c.as_slice.ensures.value ∙ c.filled_cell-cell.ensures)
+    filled_cell_wide c.self.inside.kind c.args.j (field_view c.in-Some.place) c.args.text.now c.as_slice.result.now c.in-Some.ensures c.if-text-place.false (c.as_slice.ensures.value ∙ c.filled_cell-cell.ensures)
 
 pub returns-in-Err-clause-fault : goal.returns-in-Err-clause-fault
 returns-in-Err-clause-fault c =

@@ -2,26 +2,26 @@ use Rattle.std.proofs.Common.{List, Err, Ok, ap, subst, ◌∙◌}
 use Rattle.cwr_fields.specs.declared.codes.TransactionType.{TransactionType}
 use Rattle.cwr_shape.specs.declared.symbols.Symbol.{Symbol}
 use Rattle.cwr_shape.specs.declared.tallies.Bar.TheVariants.{Limit}
-use Rattle.cwr_shape.specs.Tallies.{TallyValue, StandsFor, Answers, IsAdmitted}
+use Rattle.cwr_shape.specs.Tallies.{TallyValue, IsTallyOf, Answers, IsAdmitted}
 use Rattle.cwr_shape.specs.Counting.{counts_with}
-use Rattle.cwr_shape.proofs.Barred.{next_of, may_come, is_barred}
+use Rattle.cwr_shape.proofs.FirstBars.{next_of, may_come, is_barred}
 use Rattle.cwr_shape.proofs.tallies.Tally.admits.Goals as goal
 
-pub returns-in-Some-passed-clause-answer : goal.returns-in-Some-passed-clause-answer
-returns-in-Some-passed-clause-answer c =
+pub returns-in-Some-passed_limit_at-clause-answer : goal.returns-in-Some-passed_limit_at-clause-answer
+returns-in-Some-passed_limit_at-clause-answer c =
     let t : TallyValue = record { limits = c.self.inside.limits; stage = c.self.inside.stage; counts = c.self.inside.counts } in
-    subst (λ (t : TallyValue). (xs : List Symbol) → StandsFor t xs → Answers t.limits xs c.args.symbol (Err (Limit c.in-Some-passed.limit))) c.self.view_is
-    (λ xs st. is_barred t xs c.args.symbol c.in-Some.stage c.with-counts.result c.passed.result c.in-Some-passed.limit
+    subst (λ (t : TallyValue). (xs : List Symbol) → IsTallyOf t xs → Answers t.limits xs c.args.symbol (Err (Limit c.in-Some-passed_limit_at.limit))) c.self.view_is
+    (λ xs st. is_barred t xs c.args.symbol c.in-Some.stage c.with-counts.result c.passed_limit_at.result c.in-Some-passed_limit_at.limit
     (next_of t xs c.args.symbol c.in-Some.stage c.with-counts.result c.self.invariant.counts.in_range.least_transaction st (c.in-Some.ensures.value xs st.stands)
-    (c.with-counts.ensures ∙ ap (λ (ty : TransactionType). counts_with ty c.self.inside.counts c.args.symbol) c.type_at.ensures)) c.passed.ensures c.in-Some-passed.is)
+    (c.with-counts.ensures ∙ ap (λ (ty : TransactionType). counts_with ty c.self.inside.counts c.args.symbol) c.type_at.ensures)) c.passed_limit_at.ensures c.in-Some-passed_limit_at.is)
 
 pub returns-in-None-clause-answer : goal.returns-in-None-clause-answer
 returns-in-None-clause-answer c =
     let t : TallyValue = record { limits = c.self.inside.limits; stage = c.self.inside.stage; counts = c.self.inside.counts } in
-    subst (λ (t : TallyValue). (xs : List Symbol) → StandsFor t xs → Answers t.limits xs c.args.symbol (Ok tt)) c.self.view_is
-    (λ xs st. may_come t xs c.args.symbol c.in-Some.stage c.with-counts.result c.passed.result
+    subst (λ (t : TallyValue). (xs : List Symbol) → IsTallyOf t xs → Answers t.limits xs c.args.symbol (Ok tt)) c.self.view_is
+    (λ xs st. may_come t xs c.args.symbol c.in-Some.stage c.with-counts.result c.passed_limit_at.result
     (next_of t xs c.args.symbol c.in-Some.stage c.with-counts.result c.self.invariant.counts.in_range.least_transaction st (c.in-Some.ensures.value xs st.stands)
-    (c.with-counts.ensures ∙ ap (λ (ty : TransactionType). counts_with ty c.self.inside.counts c.args.symbol) c.type_at.ensures)) c.passed.ensures c.in-None.is)
+    (c.with-counts.ensures ∙ ap (λ (ty : TransactionType). counts_with ty c.self.inside.counts c.args.symbol) c.type_at.ensures)) c.passed_limit_at.ensures c.in-None.is)
 
 pub returns-in-None-clause-admitted : goal.returns-in-None-clause-admitted
 returns-in-None-clause-admitted c =
@@ -30,7 +30,7 @@ returns-in-None-clause-admitted c =
     subst (λ (t : TallyValue). IsAdmitted t c.args.symbol) c.self.view_is (
       xs,
       c.self.invariant.stands.1,
-      may_come t xs c.args.symbol c.in-Some.stage c.with-counts.result c.passed.result
+      may_come t xs c.args.symbol c.in-Some.stage c.with-counts.result c.passed_limit_at.result
           (next_of t xs c.args.symbol c.in-Some.stage c.with-counts.result c.self.invariant.counts.in_range.least_transaction c.self.invariant.stands.1 (c.in-Some.ensures.value xs c.self.invariant.stands.1.stands)
-          (c.with-counts.ensures ∙ ap (λ (ty : TransactionType). counts_with ty c.self.inside.counts c.args.symbol) c.type_at.ensures)) c.passed.ensures c.in-None.is,
+          (c.with-counts.ensures ∙ ap (λ (ty : TransactionType). counts_with ty c.self.inside.counts c.args.symbol) c.type_at.ensures)) c.passed_limit_at.ensures c.in-None.is,
     )

@@ -7,7 +7,7 @@ use Rattle.cwr_shape.specs.declared.symbols.Symbol.TheVariants.{Plain, Ipa, Grh}
 use Rattle.cwr_shape.specs.Candidates.{candidates}
 use Rattle.cwr_shape.specs.Counting.{wanted_role}
 use Rattle.cwr_shape.specs.Tallies.{TallyValue, Answers, AnswersAmong}
-use Rattle.cwr_shape.proofs.Barred.{answers_best, best_one, best_party, best_group, one_symbol, parties}
+use Rattle.cwr_shape.proofs.FirstBarsOfKinds.{answers_best, best_one, best_party, best_group, one_symbol, parties}
 use Rattle.cwr_shape.proofs.tallies.Tally.admits_kind.Goals as goal
 
 pub returns-in_default : goal.returns-in_default

@@ -1,6 +1,6 @@
 use Rattle.std.proofs.Common.{None, Some, sym, ◌∙◌}
 use Rattle.cwr_values.specs.Fits.{first_too_long}
-use Rattle.cwr_values.proofs.Fitting.{turn}
+use Rattle.cwr_values.proofs.FitsIsWithin.{turn}
 use Rattle.cwr_values.proofs.transmissions.Transmission.first_too_long.Goals as goal
 
 pub returns-in-Some : goal.returns-in-Some

@@ -1,6 +1,6 @@
 use Rattle.std.proofs.Common.{◌≡◌, drop}
 use Rattle.cwr_values.specs.Fits.{first_too_long}
-use Rattle.cwr_values.proofs.Fitting.{too_long_from}
+use Rattle.cwr_values.proofs.FitsIsWithin.{too_long_from}
 use Rattle.cwr_values.proofs.transmissions.Transmission.first_too_long.Given as goal
 
 abbrev pub invariant-loop-group : goal.invariant-loop-group

@@ -1,13 +1,13 @@
 use Rattle.std.proofs.Common.{◌∙◌, ap, arith}
 use Rattle.std.proofs.lemmas.List.Sums.{sum_by_more}
 use Rattle.cwr_values.specs.Values.{TransmissionValue}
-use Rattle.cwr_values.proofs.Grouping.{records_in, transmission_counted}
+use Rattle.cwr_values.proofs.Grouping.{count_records, transmission_counted}
 use Rattle.cwr_values.proofs.transmissions.Transmission.records.Goals as goal
 
 pub loop-group-preserved : goal.loop-group-preserved
 loop-group-preserved c =
-    let more = sum_by_more records_in c.deref-group-items.result.now c.loop-group.group-index c.group-item.result (omega arith) in
-    let item = ap records_in c.group-item.is in
+    let more = sum_by_more count_records c.deref-group-items.result.now c.loop-group.group-index c.group-item.result (omega arith) in
+    let item = ap count_records c.group-item.is in
     omega (arith, more, item, c.loop-group.invariant, c.saturating_add-records.ensures, c.records.ensures)
 
 pub returns : goal.returns

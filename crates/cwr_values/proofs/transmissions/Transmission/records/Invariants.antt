@@ -1,7 +1,7 @@
 use Rattle.std.proofs.Common.{◌≡◌, ◌+◌, ◌-◌, ◌^◌, min, take}
 use Rattle.std.specs.Prelude.{sum_by}
-use Rattle.cwr_values.proofs.Grouping.{records_in}
+use Rattle.cwr_values.proofs.Grouping.{count_records}
 use Rattle.cwr_values.proofs.transmissions.Transmission.records.Given as goal
 
 abbrev pub invariant-loop-group : goal.invariant-loop-group
-invariant-loop-group l = l.records ≡ min (2 + sum_by records_in (take l.group-index l.group-items)) (2 ^ 64 - 1)
+invariant-loop-group l = l.records ≡ min (2 + sum_by count_records (take l.group-index l.group-items)) (2 ^ 64 - 1)

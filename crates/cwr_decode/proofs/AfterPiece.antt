@@ -1,0 +1,151 @@
+-- What a decoder represents after a piece, line by line.
+use Rattle.std.proofs.Common.{◌≡◌, ℕ, zero, suc, ◌+◌, ◌-◌, ◌<◌, ◌≤◌, Bool, true, false, List, [], ◌∷◌, ◌++◌, length, take, drop, Option, Some, None, refl, sym, ap, subst, ◌∙◌, append_assoc, append-nil, arith, inr, true≢false}
+use Rattle.std.specs.Prelude.{IfSome, IsSomeAnd}
+use Rattle.std.proofs.lemmas.List.{length-drop, take-append-drop}
+use Rattle.cwr_layouts.specs.declared.kinds.Kind.{Kind}
+use Rattle.cwr_layouts.specs.declared.kinds.Kind.TheVariants.{Hdr, Grh, Grt, Trl}
+use Rattle.cwr_layouts.specs.Records.{RecordValue}
+use Rattle.cwr_layouts.specs.Held.{held_record}
+use Rattle.cwr_shape.specs.Ranges.{LimitValues}
+use Rattle.cwr_values.specs.declared.items.Item.{Item}
+use Rattle.cwr_decode.specs.declared.outcomes.Outcome.{Outcome}
+use Rattle.cwr_decode.specs.declared.machine.State.{State}
+use Rattle.cwr_decode.specs.declared.machine.State.TheVariants as states
+use Rattle.cwr_judge.specs.Items.{stands_in_transaction}
+use Rattle.cwr_decode.specs.Machines.{Standing, IsReady, Settles, Enters, EntersHeld, WaitsOutside, again, end_input}
+use Rattle.cwr_decode.specs.Represents.{Represents, IsRight, items_out}
+use Rattle.cwr_decode.specs.Calls.{IsLive, Advances, Feeds, Finishes, seen_input}
+use Rattle.cwr_decode.proofs.StepsWithoutBytes.{settled}
+use Rattle.cwr_decode.proofs.AnsweredAtOnce.{settles_live, if_some}
+
+-- ---- line by line
+
+-- so many bytes of the piece were used, and nothing was answered
+pub record Fed (old : Standing) (piece : List ℕ) (used : ℕ) (d : Standing) : Type 0 where
+  pub within : used ≤ length piece
+  pub stands : (input : List ℕ) (given : List Item) → Represents old input given → Represents d (input ++ take used piece) given
+  pub reading : d.state ≡ states.Reading
+  pub ready : IsReady d.state d.finished d.line
+  pub fresh : d.finished ≡ false
+  pub was_fresh : old.finished ≡ false
+  pub live : IsLive old.state
+  pub inside : ¬ WaitsOutside old
+  pub grows : (input : List ℕ) (given : List Item) → Represents old input given → old.tally.counts.records ≤ d.tally.counts.records
+  pub limits : d.tally.limits ≡ old.tally.limits
+
+-- a record that is an item of its own isn't entered without an answer
+outside_enters : (kind : Kind) (r : RecordValue) (old new : Standing) → stands_in_transaction kind ≡ false → Enters kind r old None new → ⊥
+outside_enters Hdr r old new out e = cc e.0
+outside_enters Grh r old new out e = cc e.0
+outside_enters Grt r old new out e = cc e.0
+outside_enters Trl r old new out e = cc e.0
+outside_enters kind r old new out e = cc out
+
+outside_held : (held : Option RecordValue) (old new : Standing) → IsSomeAnd held (λ r. stands_in_transaction r.kind ≡ false) → EntersHeld held old None new → ⊥
+outside_held None old new w e = e
+outside_held (Some r) old new w e = outside_enters r.kind r old new w e
+
+outside_known : (old new : Standing) → Settles old.state old None new → ¬ WaitsOutside old
+outside_known old new e w = outside_held (held_record old.line) old new w.1 (subst (λ (s : State). Settles s old None new) w.0 e)
+
+pub fed_none : (old d : Standing) (piece : List ℕ) → IsReady old.state old.finished old.line → old.finished ≡ false → Settles old.state old None d → Fed old piece 0 d
+fed_none old d piece ready fresh e =
+    let m = settled old.state old d None refl ready e in
+    let live = settles_live old.state old d e in
+    record {
+      within = omega arith;
+      stands = λ input given st. subst (λ (x : List ℕ). Represents d x given) (sym (append-nil input)) (subst (Represents d input) (append-nil given) (m.stands input given st));
+      reading = m.none live;
+      ready = m.ready;
+      fresh = m.finished ∙ fresh;
+      was_fresh = fresh;
+      live = live;
+      inside = outside_known old d e;
+      grows = λ input given st. omega (arith, m.counts);
+      limits = m.limits;
+    }
+
+take-nothing : (k : ℕ) → take {A = ℕ} k [] ≡ []
+take-nothing zero = refl
+take-nothing (suc k) = refl
+
+take-take_drop : (m n : ℕ) (xs : List ℕ) → take m xs ++ take n (drop m xs) ≡ take (m + n) xs
+take-take_drop zero n xs = let same : n ≡ 0 + n = omega arith in ap (λ (k : ℕ). take k xs) same
+take-take_drop (suc m) n [] = take-nothing n ∙ sym (take-nothing (suc m + n))
+take-take_drop (suc m) n (x ∷ xs) =
+    let more : suc (m + n) ≡ suc m + n = omega arith in
+    ap (λ (l : List ℕ). x ∷ l) (take-take_drop m n xs) ∙ ap (λ (k : ℕ). take k (x ∷ xs)) more
+
+pieces : (input piece : List ℕ) (m n : ℕ) → (input ++ take m piece) ++ take n (drop m piece) ≡ input ++ take (m + n) piece
+pieces input piece m n = append_assoc input (take m piece) (take n (drop m piece)) ∙ ap (λ (x : List ℕ). input ++ x) (take-take_drop m n piece)
+
+whole_piece : (input piece : List ℕ) (m : ℕ) → (input ++ take m piece) ++ drop m piece ≡ input ++ piece
+whole_piece input piece m = append_assoc input (take m piece) (drop m piece) ∙ ap (λ (x : List ℕ). input ++ x) (take-append-drop m piece)
+
+pub fed_more : (old d new : Standing) (piece : List ℕ) (used n : ℕ) → Fed old piece used d → Advances d (drop used piece) n None new → Fed old piece (used + n) new
+fed_more old d new piece used n f a = record {
+  within = omega (arith, f.within, a.within, length-drop used piece);
+  stands = λ input given st. subst (λ (x : List ℕ). Represents new x given) (pieces input piece used n) (subst (Represents new ((input ++ take used piece) ++ take n (drop used piece))) (append-nil given) (a.stands (input ++ take used piece) given (f.stands input given st)));
+  reading = a.none;
+  ready = a.ready;
+  fresh = a.finished ∙ f.fresh;
+  was_fresh = f.was_fresh;
+  live = f.live;
+  inside = f.inside;
+  grows = λ input given st. omega (arith, f.grows input given st, (a.grows (input ++ take used piece) given (f.stands input given st)).0);
+  limits = a.limits ∙ f.limits;
+}
+
+-- what is left of the piece grows less, as long as nothing is answered
+pub rest_smaller : (piece : List ℕ) (used n : ℕ) (d new : Standing) → Advances d (drop used piece) n None new → length piece - (used + n) < length piece - used
+rest_smaller piece used n d new a = omega (arith, a.some, a.within, length-drop used piece)
+
+pub fed_out : (old d new : Standing) (piece : List ℕ) (used n : ℕ) (o : Outcome) → Fed old piece used d → Advances d (drop used piece) n (Some o) new → Feeds old piece (used + n) o new
+fed_out old d new piece used n o f a = record {
+  within = omega (arith, f.within, a.within, length-drop used piece);
+  stands = λ input given st. subst (λ (x : List ℕ). Represents new x (given ++ items_out o)) (pieces input piece used n) (a.stands (input ++ take used piece) given (f.stands input given st));
+  right = λ l input given st.
+      subst (λ (b : Bool). IsRight old.tally.limits o b (input ++ take (used + n) piece) (seen_input b input piece) (given ++ items_out o)) (sym f.was_fresh)
+      (subst (λ (k : LimitValues). IsRight k o false (input ++ take (used + n) piece) (input ++ piece) (given ++ items_out o)) f.limits
+      (subst (λ (x : List ℕ). IsRight d.tally.limits o false x (input ++ piece) (given ++ items_out o)) (pieces input piece used n)
+      (subst (λ (x : List ℕ). IsRight d.tally.limits o false ((input ++ take used piece) ++ take n (drop used piece)) x (given ++ items_out o)) (whole_piece input piece used)
+      (a.right (input ++ take used piece) given (f.stands input given st)))));
+  ready = a.ready;
+  leaves = a.leaves;
+  empties = λ input given st. a.empties (input ++ take used piece) given (f.stands input given st);
+  again = subst (λ (q : Option Outcome). IfSome q (λ p. (o ≡ p) × (used + n ≡ 0) × (new ≡ old))) (sym f.live) tt;
+  more = λ e. (omega (arith, f.within, a.more (ap (λ (x : Outcome). Some x) e), length-drop used piece), f.was_fresh);
+  unused = λ z. absurd (true≢false (sym z ∙ f.was_fresh));
+  alone = λ w. absurd (f.inside w);
+  memory = λ q l input given st.
+      let before : old.tally.counts.records ≤ d.tally.counts.records = f.grows input given st in
+      let more : d.tally.counts.records < new.tally.counts.records = (a.grows (input ++ take used piece) given (f.stands input given st)).1 (ap (λ (x : Outcome). Some x) q) in
+      inr (omega (arith, before, more));
+  kept = λ input given st. omega (arith, f.grows input given st, (a.grows (input ++ take used piece) given (f.stands input given st)).0);
+  finished = a.finished ∙ f.fresh ∙ sym f.was_fresh;
+  limits = a.limits ∙ f.limits;
+}
+
+-- after the end of the input nothing of the piece is used
+pub finished_feeds : (old new : Standing) (piece : List ℕ) (o : Outcome) → old.finished ≡ true → Finishes old o new → Feeds old piece 0 o new
+finished_feeds old new piece o is_ended f = record {
+  within = omega arith;
+  stands = λ input given st. subst (λ (x : List ℕ). Represents new x (given ++ items_out o)) (sym (append-nil input)) (f.stands input given st);
+  right = λ l input given st.
+      subst (λ (b : Bool). IsRight old.tally.limits o b (input ++ []) (seen_input b input piece) (given ++ items_out o)) (sym is_ended)
+      (subst (λ (x : List ℕ). IsRight old.tally.limits o true x input (given ++ items_out o)) (sym (append-nil input)) (f.right l input given st));
+  ready = f.ready;
+  leaves = f.leaves;
+  empties = f.empties;
+  again = if_some (again old.state) (λ p. (o ≡ p) × (new ≡ end_input old)) (λ p. (o ≡ p) × (0 ≡ 0) × (new ≡ old)) (λ p h. (h.0, refl, h.1 ∙ same)) f.again;
+  more = λ e. absurd (f.more e);
+  unused = λ z. refl;
+  alone = λ w. (refl, f.more);
+  memory = f.memory;
+  kept = f.kept;
+  finished = f.finished ∙ sym is_ended;
+  limits = f.limits;
+}
+  where
+    same : end_input old ≡ old
+    same = λ i. record { line = old.line; tally = old.tally; held = old.held; state = old.state; finished = sym is_ended i }

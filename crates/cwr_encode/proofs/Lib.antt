@@ -1,0 +1,15 @@
+pub mod Moves
+pub mod Puts
+pub mod CountedOn
+pub mod TransactionTexts
+pub mod PutRows
+pub mod Comes
+pub mod Adding
+pub mod Groups
+pub mod Ready
+pub mod Reaching
+pub mod CountedAll
+pub mod OpenTypes
+pub mod Transactions
+pub mod Ends
+pub mod PartLaws

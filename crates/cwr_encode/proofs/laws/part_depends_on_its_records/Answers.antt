@@ -1,0 +1,5 @@
+use Rattle.cwr_encode.proofs.PartLaws.{one_part}
+use Rattle.cwr_encode.proofs.laws.part_depends_on_its_records.Goals as goal
+
+pub returns : goal.returns
+returns c = one_part

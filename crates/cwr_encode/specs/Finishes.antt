@@ -1,0 +1,54 @@
+-- What finishing an encoder does.
+use Rattle.std.specs.Prelude.{◌≡◌, ℕ, ◌-◌, ◌^◌, min, List, [], ◌∷◌, ◌++◌, length, Option, Result, Ok, Err}
+use Rattle.std.specs.Io.KnownBytes.{Appends}
+use Rattle.cwr_fields.specs.Failures.{one_more_failure}
+use Rattle.cwr_layouts.specs.declared.kinds.Kind.TheVariants as kinds
+use Rattle.cwr_layouts.specs.Records.{RecordValue}
+use Rattle.cwr_shape.specs.declared.symbols.Symbol.{Symbol}
+use Rattle.cwr_shape.specs.declared.symbols.Symbol.TheVariants.{Plain}
+use Rattle.cwr_shape.specs.Ranges.{LimitValues}
+use Rattle.cwr_values.specs.Values.{TransmissionValue, IsTransmission, FitsIn}
+use Rattle.cwr_values.specs.Rows.{records_of, trailer, canonical_text}
+use Rattle.cwr_encode.specs.declared.encoders.Encoder.{Encoder}
+use Rattle.cwr_encode.specs.declared.encoders.Reached.{Reached}
+use Rattle.cwr_encode.specs.declared.encoders.Reached.TheVariants as reached_to
+use Rattle.cwr_encode.specs.declared.encoders.EncodeFault.{EncodeFault}
+use Rattle.cwr_encode.specs.declared.encoders.EncodeFault.TheVariants.{Writer}
+use Rattle.cwr_encode.specs.Encoders.{Encodes, Judges, limits_of, reached, target_of}
+
+-- a transmission ends after a group, and no call but the last comes after HDR alone
+abbrev pub MayEnd : Reached → Type 0
+MayEnd reached_to.Opening = Unit {0}
+MayEnd reached_to.GroupFoot = Unit {0}
+MayEnd r = ⊥
+
+-- a transmission ends that has a group
+abbrev pub JudgesEnd : {A : Type 0} → LimitValues → List Symbol → Result A EncodeFault → Type 0
+JudgesEnd limits xs answer = Judges (MayEnd (reached xs)) (Unit {0}) (reached xs ≡ reached_to.GroupFoot) limits xs (Plain kinds.Trl ∷ []) answer
+
+-- with TRL behind them the records are those of the transmission, which is within the limits
+pub record Completes (limits : LimitValues) (records : List RecordValue) (v : TransmissionValue) : Type 0 where
+  pub whole : IsTransmission v
+  pub within : FitsIn limits v
+  pub records_are : records_of v ≡ records ++ trailer ∷ []
+
+-- after what the writer had at the start it has the text, and the number is the text's length
+pub record HasAll {W : Type 0} (contents : W → Option (List ℕ)) (start : Option (List ℕ)) (writer : W) (text : List ℕ) (n : ℕ) : Type 0 where
+  pub appended : Appends start (contents writer) text
+  pub counted : n ≡ min (length text) (2 ^ 64 - 1)
+
+-- after what the writer had at the start it has the text's first bytes, so many
+pub record HasFront {W : Type 0} (contents : W → Option (List ℕ)) (start : Option (List ℕ)) (writer : W) (text : List ℕ) (n : ℕ) : Type 0 where
+  pub bytes : List ℕ
+  pub rest : List ℕ
+  pub split : text ≡ bytes ++ rest
+  pub has : HasAll contents start writer bytes n
+
+-- Where all goes well the canonical text of the transmission is written that the accepted records and TRL are, and its
+-- length is the answer; where the writer fails, its first bytes are. Where the call is refused nothing is written.
+abbrev pub Finishes : {W : Type 0} → (W → Option (List ℕ)) → (W → ℕ) → Encoder W → W → Result ℕ EncodeFault → Type 0
+Finishes contents failures e writer (Ok n) = (failures writer ≡ failures (target_of e))
+    × ((start : Option (List ℕ)) (records : List RecordValue) → Encodes contents start records e → (v : TransmissionValue) × Completes (limits_of e) records v × HasAll contents start writer (canonical_text v) n)
+Finishes contents failures e writer (Err (Writer n)) = (failures writer ≡ one_more_failure (failures (target_of e)))
+    × ((start : Option (List ℕ)) (records : List RecordValue) → Encodes contents start records e → (v : TransmissionValue) × Completes (limits_of e) records v × HasFront contents start writer (canonical_text v) n)
+Finishes contents failures e writer (Err fault) = writer ≡ target_of e

@@ -1,0 +1,73 @@
+//! What an encoder asks of a transaction before it takes it, and how it counts its records.
+
+ghost use Rattle.std.specs.Prelude.{◌≡◌, ◌↔◌, ◌≤◌, List, [], ◌∷◌, ◌++◌, map, length, IsTrue};
+ghost use Rattle.cwr_layouts.specs.declared.kinds.Kind.TheVariants.{Grt};
+ghost use Rattle.cwr_shape.specs.declared.symbols.Symbol.{Symbol};
+ghost use Rattle.cwr_shape.specs.declared.symbols.Symbol.TheVariants.{Plain};
+ghost use Rattle.cwr_shape.specs.Left.{Any, StandsAt};
+ghost use Rattle.cwr_shape.specs.Outlines.{IsWithin, Continues};
+ghost use Rattle.cwr_shape.specs.Tallies.{header_kind, KeepsTally, IsTallyOf};
+ghost use Rattle.cwr_values.specs.Begun.{HasHeaderOf};
+ghost use Rattle.cwr_values.specs.Values.{symbol_of as symbol_by_cells};
+ghost use Rattle.cwr_encode.specs.Encoders.{passed_with};
+
+use cwr_fields::TransactionType;
+use cwr_layouts::Kind;
+use cwr_shape::{LimitKind, Stage, Symbol, Tally};
+use cwr_values::{Transaction, symbol_of};
+
+/// The kind of a type's header.
+fn header_kind(ty: TransactionType) -> Kind
+    ensures { result ≡ header_kind ty }
+{
+    match ty {
+        TransactionType::Agreement => Kind::Agr,
+        TransactionType::NewWork => Kind::Nwr,
+        TransactionType::RevisedWork => Kind::Rev,
+        TransactionType::Acknowledgement => Kind::Ack,
+    }
+}
+
+/// Whether the transaction begins with the header of the type.
+pub(crate) fn has_header(transaction: &Transaction, ty: TransactionType) -> bool
+    ensures { IsTrue result ↔ HasHeaderOf ty transaction.now }
+{
+    transaction.kind() == header_kind(ty)
+}
+
+/// Whether a group may end at the stage.
+pub(crate) fn may_end(stage: Stage) -> bool
+    ensures { (xs : List Symbol) → StandsAt xs stage → IsTrue result ↔ Continues Any (xs ++ Plain Grt ∷ []) }
+{
+    stage.next(Symbol::Plain(Kind::Grt)).is_some()
+}
+
+/// The first limit that is passed with a transaction of so many records more, and GRT and TRL.
+pub(crate) fn passed(tally: &Tally, records: usize) -> Option<LimitKind>
+    ensures value { result ≡ passed_with tally.now records }
+    ensures kept { KeepsTally tally.now }
+{
+    let limits = tally.limits();
+    let others = tally.records() as usize + 2;
+    if others.saturating_add(records) > limits.records() as usize {
+        Some(LimitKind::Records)
+    } else if records > limits.transaction() as usize {
+        Some(LimitKind::Transaction)
+    } else {
+        None
+    }
+}
+
+/// Counts the records of a transaction with which some transmission within the limits goes on.
+pub(crate) fn count_all(tally: &mut Tally, transaction: &Transaction)
+    requires few { length transaction.now ≤ 999999 }
+    requires may_come { (xs : List Symbol) × IsTallyOf tally.old xs × Continues (IsWithin tally.old.limits) (xs ++ map symbol_by_cells transaction.now) }
+    ensures limits { tally.new.limits ≡ tally.old.limits }
+    ensures stands { (xs : List Symbol) → IsTallyOf tally.old xs → IsTallyOf tally.new (xs ++ map symbol_by_cells transaction.now) }
+{
+    let mut i = 0;
+    while let Some(shown) = transaction.record(i) {
+        tally.step(symbol_of(&shown));
+        i += 1;
+    }
+}

@@ -1,0 +1,12 @@
+use Rattle.std.proofs.Common.{◌≡◌, ◌≤◌, ◌++◌, length, drop}
+use Rattle.cwr_fields.specs.Bytes.{digits}
+use Rattle.cwr_layouts.proofs.canonical_lines.write_digits.Given as goal
+
+abbrev pub invariant-loop-at : goal.invariant-loop-at
+invariant-loop-at l = record {
+  within : l.at ≤ length l.cell;
+  written : digits l.at l.rest ++ drop l.at l.cell ≡ digits (length l.cell) l.fn.number;
+}
+
+abbrev pub decreases-loop-at : goal.decreases-loop-at
+decreases-loop-at l = l.at

@@ -1,0 +1,186 @@
+//! The lines of reports. Each is put to a sink whole, and takes no memory.
+
+ghost use Rattle.std.specs.Prelude.{◌≡◌, ◌+◌, ◌≤◌, ◌++◌, [], ◌∷◌, length, codes, decimal};
+ghost use Rattle.cwr_shape.specs.ReasonTexts.{reason_text};
+ghost use Rattle.cwr_levels.specs.Lines.{finding_line, good_line, refusal_line, truncated_line};
+ghost use Rattle.cwr_levels.specs.Putting.{PutsText};
+
+use crate::rules::Finding;
+use arrayvec::ArrayVec;
+use cwr_encode::{Sink, SinkFault};
+use cwr_fields::Target;
+use cwr_judge::Refusal;
+use cwr_shape::Reason;
+use itoa::Buffer;
+
+/// The most bytes that a line of a report may have; none comes near.
+pub const LONGEST_LINE: usize = 200;
+
+/// A line, while it is put together.
+#[derive(Clone, Drop)]
+struct Line {
+    text: ArrayVec<u8, LONGEST_LINE>,
+}
+
+impl Line {
+    /// The line that begins with these words.
+    fn of(words: &[u8]) -> Line
+        requires { length words.now ≤ LONGEST_LINE }
+        ensures { result.text.items ≡ words.now }
+    {
+        let mut line = Line {
+            text: ArrayVec::new(),
+        };
+        line.add(words);
+        line
+    }
+
+    /// Adds words at its end.
+    fn add(&mut self, words: &[u8])
+        requires { length self.old.text.items + length words.now ≤ LONGEST_LINE }
+        ensures { self.new.text.items ≡ self.old.text.items ++ words.now }
+    {
+        let _fits = self.text.try_extend_from_slice(words);
+    }
+
+    /// Adds a number at its end, in plain decimals.
+    fn add_number(&mut self, number: u64)
+        requires { length self.old.text.items + 20 ≤ LONGEST_LINE }
+        ensures text { self.new.text.items ≡ self.old.text.items ++ decimal number }
+        ensures length { length self.new.text.items ≤ length self.old.text.items + 20 }
+    {
+        self.add(Buffer::new().format(number).as_bytes());
+    }
+
+    /// Adds the words for a reason at its end.
+    fn add_reason(&mut self, reason: &Reason)
+        requires { length self.old.text.items + 36 ≤ LONGEST_LINE }
+        ensures text { self.new.text.items ≡ self.old.text.items ++ reason_text reason.now }
+        ensures length { length self.new.text.items ≤ length self.old.text.items + 36 }
+    {
+        match reason {
+            Reason::UnknownKind => self.add(b"unknown kind"),
+            Reason::Misplaced => self.add(b"misplaced"),
+            Reason::Cell(fault) => self.add(fault.words().as_bytes()),
+            Reason::Number { expected } => {
+                self.add(b"number expected ");
+                self.add_number(*expected);
+            }
+            Reason::Limit(limit) => {
+                self.add(b"limit ");
+                self.add(limit.word().as_bytes());
+            }
+            Reason::Excess => self.add(b"excess"),
+        }
+    }
+
+    /// Puts it to the sink.
+    fn put<W: Target>(&self, sink: &mut Sink<W>) -> Result<(), SinkFault>
+        ensures puts { PutsText W.contents W.failures self.now.text.items result sink.old sink.new }
+        ensures short { length self.now.text.items ≤ LONGEST_LINE }
+    {
+        sink.put(self.text.as_slice())
+    }
+
+    /// The line on an accepted transmission with these numbers.
+    fn good(groups: u32, transactions: u32, records: u32) -> Line
+        ensures { result.text.items ≡ good_line groups transactions records }
+    {
+        let mut line = Line::of(b"GOOD groups ");
+        line.add_number(groups.into());
+        line.add(b" transactions ");
+        line.add_number(transactions.into());
+        line.add(b" records ");
+        line.add_number(records.into());
+        line.add(b"\n");
+        line
+    }
+
+    /// The line on an input that ended too early.
+    fn truncated(records: u32) -> Line
+        ensures { result.text.items ≡ truncated_line records }
+    {
+        let mut line = Line::of(b"TRUNCATED records ");
+        line.add_number(records.into());
+        line.add(b"\n");
+        line
+    }
+
+    /// The line on an input that is refused.
+    fn refused(refusal: &Refusal) -> Line
+        ensures { result.text.items ≡ refusal_line refusal.now }
+    {
+        let mut line = Line::of(b"REFUSED record ");
+        line.add_number(refusal.rec.into());
+        line.add(b" field ");
+        line.add_number(refusal.field.into());
+        line.add(b" level ");
+        line.add(refusal.level.letter().as_bytes());
+        line.add(b" ");
+        line.add_reason(&refusal.reason);
+        line.add(b"\n");
+        line
+    }
+
+    /// The line on a finding in a transaction, whose sequence this is, of the group with this ID.
+    fn finding(group: u32, transaction: u32, finding: &Finding) -> Line
+        ensures { result.text.items ≡ finding_line group transaction finding.now }
+    {
+        let mut line = Line::of(b"FINDING group ");
+        line.add_number(group.into());
+        line.add(b" transaction ");
+        line.add_number(transaction.into());
+        line.add(b" record ");
+        line.add_number(finding.rec as u64);
+        line.add(b" field ");
+        line.add_number(finding.field.into());
+        line.add(b" level ");
+        line.add(finding.level.letter().as_bytes());
+        line.add(b" rule ");
+        line.add(finding.rule.name().as_bytes());
+        line.add(b"\n");
+        line
+    }
+}
+
+/// Puts the line on an accepted transmission with these numbers.
+pub fn good_line<W: Target>(
+    groups: u32,
+    transactions: u32,
+    records: u32,
+    sink: &mut Sink<W>,
+) -> Result<(), SinkFault>
+    ensures puts { PutsText W.contents W.failures (good_line groups transactions records) result sink.old sink.new }
+    ensures short { length (good_line groups transactions records) ≤ LONGEST_LINE }
+{
+    Line::good(groups, transactions, records).put(sink)
+}
+
+/// Puts the line on an input that ended too early, after so many records.
+pub fn truncated_line<W: Target>(records: u32, sink: &mut Sink<W>) -> Result<(), SinkFault>
+    ensures puts { PutsText W.contents W.failures (truncated_line records) result sink.old sink.new }
+    ensures short { length (truncated_line records) ≤ LONGEST_LINE }
+{
+    Line::truncated(records).put(sink)
+}
+
+/// Puts the line on an input that is refused.
+pub fn refusal_line<W: Target>(refusal: &Refusal, sink: &mut Sink<W>) -> Result<(), SinkFault>
+    ensures puts { PutsText W.contents W.failures (refusal_line refusal.now) result sink.old sink.new }
+    ensures short { length (refusal_line refusal.now) ≤ LONGEST_LINE }
+{
+    Line::refused(refusal).put(sink)
+}
+
+/// Puts the line on a finding: `group` is the group's ID, from 1, and `transaction` its sequence in the group, from 0.
+pub fn finding_line<W: Target>(
+    group: u32,
+    transaction: u32,
+    finding: &Finding,
+    sink: &mut Sink<W>,
+) -> Result<(), SinkFault>
+    ensures puts { PutsText W.contents W.failures (finding_line group transaction finding.now) result sink.old sink.new }
+    ensures short { length (finding_line group transaction finding.now) ≤ LONGEST_LINE }
+{
+    Line::finding(group, transaction, finding).put(sink)
+}

@@ -1,5 +1,0 @@
-use Rattle.cwr_shape.proofs.StageStands.{stands_leaves}
-use Rattle.cwr_shape.proofs.laws.stages_tell_what_is_left.Goals as goal
-
-pub returns : goal.returns
-returns c = stands_leaves
