@@ -10,6 +10,8 @@ pub(crate) struct Narrow {
     pub(crate) at_once: usize,
     pub(crate) room: usize,
     pub(crate) fails: bool,
+    /// It can't hand on what it has.
+    pub(crate) stuck: bool,
 }
 
 impl Write for Narrow {
@@ -26,6 +28,9 @@ impl Write for Narrow {
     }
 
     fn flush(&mut self) -> io::Result<()> {
+        if self.stuck {
+            return Err(io::Error::from(ErrorKind::Other));
+        }
         Ok(())
     }
 }

@@ -82,6 +82,7 @@ fn narrow(rt: &impl AllocGlobal, at_once: usize, room: usize) -> Counted<Narrow>
         at_once,
         room,
         fails: true,
+        stuck: false,
     })
 }
 
@@ -117,6 +118,33 @@ fn writers_that_fail(rt: HostRuntime) {
         let kept = writer.into_inner().text;
         assert_eq!(rt; text.as_slice().get(..room), Some(kept.as_slice()));
     }
+}
+
+#[test]
+fn a_writer_that_cannot_hand_on(rt: HostRuntime) {
+    let text = canonical(rt.alloc(), ONE_ACKNOWLEDGEMENT).expect(&rt, "no memory");
+    let stuck = Counted::new(Narrow {
+        text: Vec::new(rt.alloc()),
+        at_once: 4096,
+        room: 9999,
+        fails: true,
+        stuck: true,
+    });
+    let (writer, answer) = encoded(&rt, ACKNOWLEDGED, stuck);
+    assert_eq!(rt; answer, Err(EncodeFault::Writer { written: 359 }));
+    assert_eq!(rt; writer.into_inner().text.as_slice(), text.as_slice());
+}
+
+#[test]
+fn an_encoder_that_is_abandoned(rt: HostRuntime) {
+    let text = canonical(rt.alloc(), ONE_ACKNOWLEDGEMENT).expect(&rt, "no memory");
+    let mut encoder = Encoder::new(narrow(&rt, 4096, 9999), largest(&rt));
+    let head = record(&rt, GRH_ACK);
+    assert_eq!(rt; encoder.open(&head), Err(EncodeFault::WrongKind));
+    assert_eq!(rt; encoder.open(&record(&rt, HDR)), Ok(()));
+    assert_eq!(rt; encoder.group(&head), Ok(()));
+    let kept = encoder.abandon().into_inner().text;
+    assert_eq!(rt; text.as_slice().get(..133), Some(kept.as_slice()));
 }
 
 #[test]

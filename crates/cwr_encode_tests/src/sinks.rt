@@ -12,6 +12,7 @@ fn texts_into_narrow_writers(rt: HostRuntime) -> Result<(), Fail> {
         at_once: 1,
         room: 7,
         fails: true,
+        stuck: false,
     };
     let mut sink = Sink::new(Counted::new(narrow));
     assert_eq!(rt; sink.put(b"first"), Ok(()));
@@ -32,6 +33,7 @@ fn writers_that_take_nothing(rt: HostRuntime) -> Result<(), Fail> {
         at_once: 9,
         room: 3,
         fails: false,
+        stuck: false,
     };
     let mut sink = Sink::new(Counted::new(full));
     assert_eq!(rt; sink.put(b""), Ok(()));
