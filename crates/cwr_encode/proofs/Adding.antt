@@ -24,7 +24,7 @@ use Rattle.cwr_encode.specs.declared.encoders.Reached.TheVariants as reached_to
 use Rattle.cwr_encode.specs.declared.encoders.EncodeFault.{EncodeFault}
 use Rattle.cwr_encode.specs.declared.encoders.EncodeFault.TheVariants.{Writer}
 use Rattle.cwr_encode.specs.Sinks.{HasWritten, Puts}
-use Rattle.cwr_encode.specs.Encoders.{part_of, reached, reached_by, Encodes, Judges, GoesOnTo, Adds, bytes_written}
+use Rattle.cwr_encode.specs.Encoders.{part_of, reached, reached_by, Encodes, Judges, RepresentsMore, Adds, bytes_written}
 
 -- ---- the part grows by the rows of what comes
 
@@ -62,7 +62,7 @@ encodes_more contents start records r s text old new symbol in_order line outsid
   written = subst (λ (l : List ℕ). HasWritten contents start l new.sink) (sym (part-snoc records r ∙ ap (λ (l : List ℕ). part_of records ++ l) (sym line))) (writes (part_of records) e.written);
 }
 
-pub adds_by : {W : Type 0} (contents : W → Option (List ℕ)) (failures : W → ℕ) (added : List RecordValue) (text : List ℕ) (old new : Encoder W) (result : Result (Unit {0}) EncodeFault) → GoesOnTo contents added old new
+pub adds_by : {W : Type 0} (contents : W → Option (List ℕ)) (failures : W → ℕ) (added : List RecordValue) (text : List ℕ) (old new : Encoder W) (result : Result (Unit {0}) EncodeFault) → RepresentsMore contents added old new
     → Puts contents failures text result old.sink new.sink → IfErr result (λ e. e ≡ Writer (bytes_written new)) → Adds contents failures added result old new
 adds_by contents failures added text old new (Ok x) goes p f = (goes, p.failed, p.counts)
 adds_by contents failures added text old new (Err e) goes p f = subst (λ (x : EncodeFault). Adds contents failures added (Err x) old new) (sym f) (goes, p.failed, refl, p.counts)

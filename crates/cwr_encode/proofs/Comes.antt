@@ -206,7 +206,7 @@ trailer_last t xs st g = sym (reached_stands xs t.stage st.stands) ∙ by t.stag
 
 -- ---- GRH
 
--- where a group may begin, transmissions go on by a GRH of each type
+-- where a group may begin, transmissions continue by a GRH of each type
 pub head_goes : (t : TallyValue) (xs : List Symbol) (ty : TransactionType) → IsTallyOf t xs → MayBeginGroup (reached xs) → Continues Any (xs ++ Grh ty ∷ [])
 head_goes t xs ty st m = by t.stage st.stands (subst MayBeginGroup (sym (reached_stands xs t.stage st.stands)) m)
   where

@@ -21,7 +21,7 @@ use Rattle.cwr_encode.specs.declared.encoders.Reached.{Reached}
 use Rattle.cwr_encode.specs.declared.encoders.EncodeFault.TheVariants.{Incomplete}
 use Rattle.cwr_encode.proofs.Comes.{head_goes, foot_comes}
 
--- the number that is expected_numbers is that of each transmission that goes on so
+-- the number that is expected is that of each transmission that continues so
 pub number_next : (xs : List Symbol) (s : Symbol) (kind : Kind) (j : ℕ) (n : Option ℕ) → IsNumberAt xs kind j n → symbol_kind s ≡ kind → Continues Any (xs ++ s ∷ []) → n ≡ number_in kind j (numbers_after xs kind)
 number_next xs s kind j n at k g =
     let split = g.3.1 ∙ append_assoc xs (s ∷ []) g.3.0 in

@@ -1,4 +1,4 @@
--- Within which limits a transmission goes on by a whole transaction of the open group's type: by sums.
+-- Within which limits a transmission continues by a whole transaction of the open group's type: by sums.
 use Rattle.std.proofs.Common.{◌≡◌, ℕ, ◌+◌, ◌≤◌, Bool, true, false, cond, List, [], ◌∷◌, ◌++◌, length, refl, sym, ap, subst, ◌∙◌, arith, append_assoc, append-nil}
 use Rattle.std.specs.Prelude.{◌↔◌}
 use Rattle.std.specs.List.{count_by}
@@ -22,7 +22,7 @@ use Rattle.cwr_shape.proofs.WithinByFronts.{Keeps, is_of_transaction, open_by, i
 use Rattle.cwr_shape.proofs.LimitsByNeeds.{records_reach, groups_reach, transaction_reach, transaction_goes, within_goes, open_named, KeptSoFar, kept_within, to_start}
 use Rattle.cwr_encode.specs.Encoders.{reached, IsInGroup, IsBetween}
 use Rattle.cwr_encode.proofs.Comes.{Ending, ending_at, least_transaction}
-use Rattle.cwr_encode.proofs.CountedOn.{behind_transaction}
+use Rattle.cwr_encode.proofs.CountedOn.{counted_after_transaction}
 use Rattle.cwr_encode.proofs.Ready.{takes}
 
 at_most : (b : Bool) (n limit : ℕ) → n ≤ limit → cond b n 0 ≤ limit
@@ -40,11 +40,11 @@ keeps_transaction limit ty c t shape few =
       subst (λ (u : TransactionType). Keeps limit u (counts_with ty c h.head) h.rest) (sym h.same_type) (subst (λ (d : Counts). Keeps limit ty d h.rest) (sym (h.counts c)) rest),
     )
 
--- what goes on to more symbols goes on to fewer
+-- what continues to more symbols continues to fewer
 pub goes_front : (xs ys : List Symbol) → Continues Any (xs ++ ys) → Continues Any xs
 goes_front xs ys g = (g.0, g.1, tt, (ys ++ g.3.0, g.3.1 ∙ append_assoc xs ys g.3.0))
 
--- the transmissions that go on by the transaction
+-- the transmissions that continue by the transaction
 pub record Reaches (tally : TallyValue) (xs t : List Symbol) : Type 0 where
   pub ends : Continues Any ((xs ++ t) ++ Plain kinds.Grt ∷ [])
   pub records : Continues (KeepsTo Records tally.limits) (xs ++ t) ↔ (tally.counts.records + 2 + length t ≤ tally.limits.records)
@@ -59,9 +59,9 @@ reaches tally xs t ty st same inside between shape =
     let stage : Stage = stage_after ys in
     let on : StandsAt ys stage = record { begins = goes_front ys (Plain kinds.Grt ∷ []) goes; named = refl } in
     let e : Ending stage = ending_at ys stage on goes in
-    let counted = behind_transaction ty xs t same shape in
+    let counted = counted_after_transaction ty xs t same shape in
     let one : 1 ≤ tally.limits.transaction = least_transaction tally.limits xs st.within in
-    let long : open_records ys ≡ length t = open_named ys stage on ∙ e.opened (counts_of ys) ∙ omega (arith, counted.behind_counted) in
+    let long : open_records ys ≡ length t = open_named ys stage on ∙ e.opened (counts_of ys) ∙ omega (arith, counted.counted_after) in
     let total : length ys ≡ tally.counts.records + length t = omega (arith, length-append xs t, ap (λ (c : Counts). c.records) st.counted) in
     let within = st.within in
     let few : count_by is_grh xs + (needs_at tally.stage).groups ≤ tally.limits.groups = (groups_reach tally.limits xs tally.stage st.stands).0 (within.0, within.1, within.2.1, within.3) in

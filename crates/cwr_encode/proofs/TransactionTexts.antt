@@ -43,7 +43,7 @@ inner_text ty groups j k before (r ∷ rs) h a =
     let p = and_parts (is_inner ty (symbol_of r)) (list_all (is_inner ty) (map symbol_of rs)) a in
     let here = inner_symbol ty (counts_of xs) (symbol_of r) p.0 in
     let pair : ((counts_of xs).in_group - 1) ∷ ((counts_of xs).after_header + 1) ∷ [] ≡ j ∷ k ∷ []
-    = ap₂ (λ (m n : ℕ). m ∷ n ∷ []) (omega (arith, h.in_group_counted)) h.behind_counted in
+    = ap₂ (λ (m n : ℕ). m ∷ n ∷ []) (omega (arith, h.in_group_counted)) h.counted_after in
     let numbers : numbers_after xs r.kind ≡ j ∷ k ∷ [] =
     ap (expected_numbers (open_type xs) (counts_of xs)) (sym (kind_of_symbol r)) ∙ ap (λ (t : TransactionType). expected_numbers t (counts_of xs) (symbol_kind (symbol_of r))) h.same_type ∙ here.numbers ∙ pair in
     let next : Inside ty groups j (k + 1) (map symbol_of (before ++ r ∷ [])) = subst (Inside ty groups j (k + 1)) (sym (symbols-snoc before r)) (inside_more ty groups j k xs (symbol_of r) h p.0) in

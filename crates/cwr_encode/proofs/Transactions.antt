@@ -28,7 +28,7 @@ use Rattle.cwr_encode.specs.declared.encoders.EncodeFault.{EncodeFault}
 use Rattle.cwr_encode.specs.declared.encoders.EncodeFault.TheVariants.{Limit, WrongKind}
 use Rattle.cwr_encode.specs.Sinks.{HasWritten, Puts}
 use Rattle.cwr_encode.specs.Texts.{text_from}
-use Rattle.cwr_encode.specs.Encoders.{part_of, IsReady, IsNextNumber, passed_with, JudgesTransaction, GoesOnTo}
+use Rattle.cwr_encode.specs.Encoders.{part_of, IsReady, IsNextNumber, passed_with, JudgesTransaction, RepresentsMore}
 use Rattle.cwr_encode.proofs.Adding.{part-append, all_more}
 use Rattle.cwr_encode.proofs.Reaching.{Reaches, reaches, goes_front}
 use Rattle.cwr_encode.proofs.TransactionTexts.{transaction_text}
@@ -123,7 +123,7 @@ number_known tally xs ty (r ∷ rs) kind n st ready w k next =
 
 pub transaction_added : {W : Type 0} (contents : W → Option (List ℕ)) (failures : W → ℕ) (old new : Encoder W) (ty : TransactionType) (t : List RecordValue) (kind : Kind) (n : ℕ) (result : Result (Unit {0}) EncodeFault)
     → ((xs : List Symbol) → IsTallyOf old.tally xs → IsReady ty xs) → Whole ty t → Some kind ≡ option_map (λ r. r.kind) (slice_get t 0) → IsNextNumber old.tally kind 2 n
-    → ((xs : List Symbol) → IsTallyOf old.tally xs → IsTallyOf new.tally (xs ++ map symbol_of t)) → Puts contents failures (text_from n 0 t) result old.sink new.sink → GoesOnTo contents t old new
+    → ((xs : List Symbol) → IsTallyOf old.tally xs → IsTallyOf new.tally (xs ++ map symbol_of t)) → Puts contents failures (text_from n 0 t) result old.sink new.sink → RepresentsMore contents t old new
 transaction_added contents failures old new ty t kind n result ready w k next stands p start records e =
     let xs : List Symbol = map symbol_of records in
     let all : map symbol_of (records ++ t) ≡ xs ++ map symbol_of t = map-append symbol_of records t in

@@ -102,20 +102,25 @@ Judges comes right whole limits xs added (Err (Writer written)) = comes × right
 Judges comes right whole limits xs added (Ok x) = comes × right × whole × Continues (IsWithin limits) (xs ++ added)
 
 -- whatever records the encoder represented, it represents these records more
-abbrev pub GoesOnTo : {W : Type 0} → (W → Option (List ℕ)) → List RecordValue → Encoder W → Encoder W → Type 0
-GoesOnTo contents added old new = (start : Option (List ℕ)) (records : List RecordValue) → Encodes contents start records old → Encodes contents start (records ++ added) new
+abbrev pub RepresentsMore : {W : Type 0} → (W → Option (List ℕ)) → List RecordValue → Encoder W → Encoder W → Type 0
+RepresentsMore contents added old new = (start : Option (List ℕ)) (records : List RecordValue) → Encodes contents start records old → Encodes contents start (records ++ added) new
 
 -- What a call does that adds these records, where the writer hasn't failed before: where it is refused nothing is changed
 -- and nothing written. Else the records are accepted, and the writer failed exactly where that is the answer.
 abbrev pub Adds : {W : Type 0} → (W → Option (List ℕ)) → (W → ℕ) → List RecordValue → Result (Unit {0}) EncodeFault → Encoder W → Encoder W → Type 0
-Adds contents failures added (Ok x) old new = GoesOnTo contents added old new × (is_stopped new ≡ false) × (failures (target_of new) ≡ failures (target_of old))
+Adds contents failures added (Ok x) old new = RepresentsMore contents added old new × (is_stopped new ≡ false) × (failures (target_of new) ≡ failures (target_of old))
 Adds contents failures added (Err (Writer written)) old new =
-    GoesOnTo contents added old new × (is_stopped new ≡ true) × (written ≡ bytes_written new) × (failures (target_of new) ≡ one_more_failure (failures (target_of old)))
+    RepresentsMore contents added old new × (is_stopped new ≡ true) × (written ≡ bytes_written new) × (failures (target_of new) ≡ one_more_failure (failures (target_of old)))
 Adds contents failures added (Err fault) old new = new ≡ old
 
 -- after a fault of the writer each call answers the same, and changes nothing
 abbrev pub AnswersAgain : {W A : Type 0} → Result A EncodeFault → Encoder W → Encoder W → Type 0
 AnswersAgain result old new = (result ≡ Err (Writer (bytes_written old))) × (new ≡ old)
+
+-- the answer isn't a limit
+abbrev pub IsUnlimited : {A : Type 0} → Result A EncodeFault → Type 0
+IsUnlimited (Err (Limit limit)) = ⊥
+IsUnlimited answer = Unit {0}
 
 -- ---- each call
 

@@ -26,7 +26,7 @@ MayEnd r = ⊥
 abbrev pub JudgesEnd : {A : Type 0} → LimitValues → List Symbol → Result A EncodeFault → Type 0
 JudgesEnd limits xs answer = Judges (MayEnd (reached xs)) (Unit {0}) (reached xs ≡ reached_to.GroupFoot) limits xs (Plain kinds.Trl ∷ []) answer
 
--- with TRL behind them the records are those of the transmission, which is within the limits
+-- with TRL after them the records are those of the transmission, which is within the limits
 pub record Completes (limits : LimitValues) (records : List RecordValue) (v : TransmissionValue) : Type 0 where
   pub whole : IsTransmission v
   pub within : FitsIn limits v

@@ -58,7 +58,7 @@ pub(crate) fn passed(tally: &Tally, records: usize) -> Option<LimitKind>
     }
 }
 
-/// Counts the records of a transaction with which some transmission within the limits goes on.
+/// Counts the records of a transaction with which some transmission within the limits continues.
 pub(crate) fn count_all(tally: &mut Tally, transaction: &Transaction)
     requires few { length transaction.now ≤ 999999 }
     requires may_come { (xs : List Symbol) × IsTallyOf tally.old xs × Continues (IsWithin tally.old.limits) (xs ++ map symbol_by_cells transaction.now) }

@@ -8,7 +8,7 @@ ghost use Rattle.cwr_values.specs.Values.{symbol_of as symbol_by_cells};
 ghost use Rattle.cwr_values.specs.Rows.{canonical_line, trailer};
 ghost use Rattle.cwr_encode.specs.Sinks.{Puts, writer_of, written_of};
 ghost use Rattle.cwr_encode.specs.Texts.{text_from};
-ghost use Rattle.cwr_encode.specs.Encoders.{Encodes, Adds, AnswersAgain, IsBetween, IsInGroup, IsNextNumber, IsReady, JudgesTransaction, JudgesFoot, JudgesGroup, JudgesOpening, MayBeginGroup, end_fault, fault_of, reached, reached_at, is_stopped, limits_of, target_of, bytes_written};
+ghost use Rattle.cwr_encode.specs.Encoders.{Encodes, IsUnlimited, Adds, AnswersAgain, IsBetween, IsInGroup, IsNextNumber, IsReady, JudgesTransaction, JudgesFoot, JudgesGroup, JudgesOpening, MayBeginGroup, end_fault, fault_of, reached, reached_at, is_stopped, limits_of, target_of, bytes_written};
 ghost use Rattle.std.specs.Io.KnownBytes.{Keeps};
 ghost use Rattle.cwr_fields.specs.Failures.{one_more_failure};
 ghost use Rattle.cwr_encode.specs.Finishes.{Finishes, JudgesEnd};
@@ -154,6 +154,7 @@ impl<W: Target> Encoder<W> {
         ensures again { is_stopped self.old ≡ true → AnswersAgain result self.old self.new }
         ensures judged { is_stopped self.old ≡ false → (start : Option (List ℕ)) (records : List RecordValue) → Encodes W.contents start records self.old
             → JudgesOpening (limits_of self.old) opening.now (map symbol_by_cells records) result }
+        ensures unlimited { IsUnlimited result }
         ensures adds { is_stopped self.old ≡ false → Adds W.contents W.failures (opening.now ∷ []) result self.old self.new }
         ensures limits { limits_of self.new ≡ limits_of self.old }
     {
@@ -272,6 +273,7 @@ impl<W: Target> Encoder<W> {
         ensures again { is_stopped self.old ≡ true → AnswersAgain result self.old self.new }
         ensures judged { is_stopped self.old ≡ false → (start : Option (List ℕ)) (records : List RecordValue) → Encodes W.contents start records self.old
             → JudgesFoot (limits_of self.old) foot.now (map symbol_by_cells records) result }
+        ensures unlimited { IsUnlimited result }
         ensures adds { is_stopped self.old ≡ false → Adds W.contents W.failures (foot.now ∷ []) result self.old self.new }
         ensures limits { limits_of self.new ≡ limits_of self.old }
     {
@@ -300,6 +302,7 @@ impl<W: Target> Encoder<W> {
         ensures again { is_stopped self.old ≡ true → AnswersAgain result self.old self.new }
         ensures judged { is_stopped self.old ≡ false → (start : Option (List ℕ)) (records : List RecordValue) → Encodes W.contents start records self.old
             → JudgesEnd (limits_of self.old) (map symbol_by_cells records) result }
+        ensures unlimited { IsUnlimited result }
         ensures adds { is_stopped self.old ≡ false → Adds W.contents W.failures (trailer ∷ []) result self.old self.new }
         ensures limits { limits_of self.new ≡ limits_of self.old }
     {
@@ -323,6 +326,7 @@ impl<W: Target> Encoder<W> {
         ensures again { is_stopped self ≡ true → (result.0 ≡ target_of self) × (result.1 ≡ Err (EncodeFault.Writer (bytes_written self))) }
         ensures judged { is_stopped self ≡ false → (start : Option (List ℕ)) (records : List RecordValue) → Encodes W.contents start records self
             → JudgesEnd (limits_of self) (map symbol_by_cells records) result.1 }
+        ensures unlimited { IsUnlimited result.1 }
         ensures finishes { is_stopped self ≡ false → Finishes W.contents W.failures self result.0 result.1 }
     {
         let mut encoder = self;

@@ -55,7 +55,7 @@ plain_filled (f ∷ fields) numbers text h e =
     plain_by f.derived f fields numbers text p.0
     (plain_filled fields numbers (drop f.width text) p.1 (omega (arith, e, length-drop f.width text, sum_by-cons (λ (g : FieldLayout). g.width) f fields)))
 
--- what is left behind some bytes
+-- what is left after some bytes
 left_by : (n m : ℕ) (line : List ℕ) → length line ≡ n + m → length (drop n line) ≡ m
 left_by n m line e = omega (arith, e, length-drop n line)
 

@@ -9,7 +9,7 @@ use Rattle.cwr_program.specs.declared.program.Status.TheVariants as statuses
 use Rattle.cwr_program.specs.declared.faults.Fault.{Fault}
 use Rattle.cwr_program.specs.declared.faults.Fault.TheVariants as faults
 
--- an input that is good ends so, one that is refused or ends too early otherwise, and the fault of a device or of memory is told
+-- an input that is good ends so, one that is refused or ends too early otherwise, and the fault of a device or of memory is reported
 abbrev pub EndsAs : Result Verdict ToolFault → Result Status Fault → Type 0
 EndsAs (Ok (Good groups transactions records)) ending = ending ≡ Ok statuses.Good
 EndsAs (Ok (Refused refusal)) ending = ending ≡ Ok statuses.Refused

@@ -43,7 +43,7 @@ pub fn run<R: Files + AllocGlobal, S: AsStr, I: Read + Drop, O: Write + Drop, E:
     let status = match task_of(rt.alloc(), words) {
         Ok(task) => match perform(rt, task, input, output) {
             Ok(status) => status,
-            Err(fault) => tell(error, fault),
+            Err(fault) => report(error, fault),
         },
         Err(answer) => answer_words(error, &answer, file_in_place(rt, words, &answer)),
     };
@@ -55,7 +55,7 @@ pub fn refuse_words<E: Write + Drop>(fault: &io::Error, mut error: E) -> u8
     ensures { result ≤ 3 }
 {
     let status = if fault.kind() == io::ErrorKind::OutOfMemory {
-        tell(error, Fault::Memory)
+        report(error, Fault::Memory)
     } else {
         let _ = error.write_all(b"error: a word of the command line is not UTF-8\n");
         Status::CommandLine
@@ -88,7 +88,7 @@ fn answer_words<E: Write + Drop>(mut error: E, answer: &clap::Error, file: Optio
     ensures words { kind_of answer.now ≢ ErrorKind.OutOfMemory → result ≡ Status.CommandLine }
 {
     if matches!(answer.kind(), ErrorKind::OutOfMemory) {
-        return tell(error, Fault::Memory);
+        return report(error, Fault::Memory);
     }
     // What standard error doesn't take is lost.
     let _ = write!(error, "{answer}");
@@ -99,7 +99,7 @@ fn answer_words<E: Write + Drop>(mut error: E, answer: &clap::Error, file: Optio
 }
 
 /// Writes the line of a fault.
-fn tell<E: Write + Drop>(mut error: E, fault: Fault<'_>) -> Status
+fn report<E: Write + Drop>(mut error: E, fault: Fault<'_>) -> Status
     ensures { result ≡ Status.Fault }
 {
     // What standard error doesn't take is lost.
