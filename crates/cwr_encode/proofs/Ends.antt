@@ -95,7 +95,7 @@ appends_kept (Some x) None c xs h k = absurd h
 appends_kept (Some x) (Some y) None xs h k = absurd k
 appends_kept (Some x) (Some y) (Some z) xs h k = k ∙ h
 
-all_written : {W : Type 0} (contents : W → Option (List ℕ)) (start : Option (List ℕ)) (text other : List ℕ) (sink : Sink W) (writer : W) (n : ℕ) → text ≡ other → has_failed sink ≡ false → Keeps (contents (writer_of sink)) (contents writer)
+pub all_written : {W : Type 0} (contents : W → Option (List ℕ)) (start : Option (List ℕ)) (text other : List ℕ) (sink : Sink W) (writer : W) (n : ℕ) → text ≡ other → has_failed sink ≡ false → Keeps (contents (writer_of sink)) (contents writer)
     → n ≡ written_of sink → HasWritten contents start other sink → HasAll contents start writer text n
 all_written contents start text other sink writer n e unfailed kept count h =
     let same : text ≡ h.bytes = e ∙ h.split ∙ ap (λ (l : List ℕ). h.bytes ++ l) (h.whole unfailed) ∙ append-nil h.bytes in
@@ -132,7 +132,7 @@ cut_short contents start records limits new writer n same kept count e =
 
 -- ---- what finishing does
 
-kept_same : (a : Option (List ℕ)) → Keeps a a
+pub kept_same : (a : Option (List ℕ)) → Keeps a a
 kept_same None = tt
 kept_same (Some x) = refl
 

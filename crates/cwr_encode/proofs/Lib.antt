@@ -13,3 +13,8 @@ pub mod OpenTypes
 pub mod Transactions
 pub mod Ends
 pub mod PartLaws
+pub mod Numbered
+pub mod Totals
+pub mod WholeTexts
+pub mod Few
+pub mod WholeWrites

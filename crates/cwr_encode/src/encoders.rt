@@ -386,7 +386,7 @@ fn end_fault(reached: Reached) -> EncodeFault
 }
 
 /// A TRL record.
-fn trailer() -> Record
+pub(crate) fn trailer() -> Record
     ensures { result ≡ trailer }
 {
     match Draft::blank(Kind::Trl).done() {
@@ -396,7 +396,7 @@ fn trailer() -> Record
 }
 
 /// The writer of a sink, once it handed on what was written, and how many bytes that are.
-fn flushed<W: Target>(sink: Sink<W>) -> (W, Result<u64, EncodeFault>)
+pub(crate) fn flushed<W: Target>(sink: Sink<W>) -> (W, Result<u64, EncodeFault>)
     ensures kept { Keeps (W.contents (writer_of sink)) (W.contents result.0) }
     ensures ok { IfOk result.1 (λ n. (n ≡ written_of sink) × (W.failures result.0 ≡ W.failures (writer_of sink))) }
     ensures err { IfErr result.1 (λ e. (e ≡ EncodeFault.Writer (written_of sink)) × (W.failures result.0 ≡ one_more_failure (W.failures (writer_of sink)))) }
