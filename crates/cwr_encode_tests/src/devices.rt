@@ -1,6 +1,9 @@
-//! Writers of the tests.
+//! Writers and limits of the tests.
 
+use cwr_fields::Counted;
+use cwr_shape::Limits;
 use std::io::{self, ErrorKind, Write};
+use std::process::Abort;
 
 /// A writer that keeps what it is given: at most so many bytes a call, and so many in all. Once it is full it fails,
 /// or takes nothing.
@@ -33,4 +36,31 @@ impl Write for Narrow {
         }
         Ok(())
     }
+}
+
+/// A writer over memory with so much room, which takes so many bytes at once.
+pub(crate) fn narrow_writer(rt: &impl AllocGlobal, at_once: usize, room: usize) -> Counted<Narrow> {
+    Counted::new(Narrow {
+        text: Vec::new(rt.alloc()),
+        at_once,
+        room,
+        fails: true,
+        stuck: false,
+    })
+}
+
+/// The largest limits.
+pub(crate) fn largest(rt: &impl Abort) -> Limits {
+    Limits::new(99_999_999, 99_999, 999_999).expect(rt, "no limits")
+}
+
+/// A writer over memory that takes all, and can't hand it on.
+pub(crate) fn stuck_writer(rt: &impl AllocGlobal) -> Counted<Narrow> {
+    Counted::new(Narrow {
+        text: Vec::new(rt.alloc()),
+        at_once: 4096,
+        room: 9999,
+        fails: true,
+        stuck: true,
+    })
 }

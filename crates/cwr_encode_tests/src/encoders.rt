@@ -1,49 +1,16 @@
 //! Tests of encoders.
 
-use crate::devices::Narrow;
-use crate::worked_values::{record, transaction};
+use crate::devices::{largest, narrow_writer, stuck_writer};
+use crate::worked_values::{
+    ACKNOWLEDGED, NEW_AND_REVISED, OF_ELEVEN, WorkedGroup, record, transaction,
+};
 use cwr_encode::{EncodeFault, Encoder};
-use cwr_fields::{Counted, Target};
+use cwr_fields::Target;
 use cwr_shape::{LimitKind, Limits};
 use cwr_worked::lines::*;
 use cwr_worked::texts::{ONE_ACKNOWLEDGEMENT, TWO_GROUPS, WORK_OF_ELEVEN, canonical};
 use std::process::Abort;
 use std::test::Fail;
-
-/// The largest limits.
-fn largest(rt: &impl Abort) -> Limits {
-    Limits::new(99_999_999, 99_999, 999_999).expect(rt, "no limits")
-}
-
-/// A group of the worked texts: its GRH, and the lines of its transactions.
-type WorkedGroup<'a> = (&'a [u8], &'a [&'a [&'a [u8]]]);
-
-/// The groups of the transmission of one acknowledgement.
-const ACKNOWLEDGED: &[WorkedGroup<'static>] = &[(GRH_ACK, &[&[ACK_0]])];
-
-/// The groups of the transmission of a new work and two revised ones.
-const NEW_AND_REVISED: &[WorkedGroup<'static>] = &[
-    (GRH_NWR, &[&[NWR_0, SWR_0_1]]),
-    (GRH_REV_2, &[&[REV_0, SWR_0_1], &[REV_1, SWR_1_1]]),
-];
-
-/// The group of the work of eleven records.
-const OF_ELEVEN: &[WorkedGroup<'static>] = &[(
-    GRH_NWR,
-    &[&[
-        NWR_0,
-        SPU_0_1,
-        SPT_0_2,
-        OPU_0_3,
-        SWR_0_4_WITH_SHARE,
-        SWT_0_5,
-        PWR_0_6,
-        OWR_0_7,
-        ALT_0_8,
-        PER_0_9,
-        REC_0_10,
-    ]],
-)];
 
 /// Writes all but TRL.
 fn write_groups<W: Target>(
@@ -75,17 +42,6 @@ fn encoded<W: Target>(
     }
 }
 
-/// A writer over memory with so much room, which takes so many bytes at once.
-fn narrow(rt: &impl AllocGlobal, at_once: usize, room: usize) -> Counted<Narrow> {
-    Counted::new(Narrow {
-        text: Vec::new(rt.alloc()),
-        at_once,
-        room,
-        fails: true,
-        stuck: false,
-    })
-}
-
 /// Checks what is written of worked groups.
 fn check_encoded(
     rt: &(impl Abort + AllocGlobal),
@@ -95,7 +51,7 @@ fn check_encoded(
 ) {
     let text = canonical(rt.alloc(), lines).expect(rt, "no memory");
     for at_once in [1, 4096] {
-        let (writer, answer) = encoded(rt, groups, narrow(rt, at_once, 9999));
+        let (writer, answer) = encoded(rt, groups, narrow_writer(rt, at_once, 9999));
         assert_eq!(rt; answer, Ok(length));
         assert_eq!(rt; writer.into_inner().text.as_slice(), text.as_slice());
     }
@@ -112,7 +68,7 @@ fn worked_transmissions(rt: HostRuntime) {
 fn writers_that_fail(rt: HostRuntime) {
     let text = canonical(rt.alloc(), ONE_ACKNOWLEDGEMENT).expect(&rt, "no memory");
     for room in [0, 50, 103, 104, 200, 333, 358] {
-        let (writer, answer) = encoded(&rt, ACKNOWLEDGED, narrow(&rt, 4096, room));
+        let (writer, answer) = encoded(&rt, ACKNOWLEDGED, narrow_writer(&rt, 4096, room));
         let written = room as u64;
         assert_eq!(rt; answer, Err(EncodeFault::Writer { written }));
         let kept = writer.into_inner().text;
@@ -123,14 +79,7 @@ fn writers_that_fail(rt: HostRuntime) {
 #[test]
 fn a_writer_that_cannot_hand_on(rt: HostRuntime) {
     let text = canonical(rt.alloc(), ONE_ACKNOWLEDGEMENT).expect(&rt, "no memory");
-    let stuck = Counted::new(Narrow {
-        text: Vec::new(rt.alloc()),
-        at_once: 4096,
-        room: 9999,
-        fails: true,
-        stuck: true,
-    });
-    let (writer, answer) = encoded(&rt, ACKNOWLEDGED, stuck);
+    let (writer, answer) = encoded(&rt, ACKNOWLEDGED, stuck_writer(&rt));
     assert_eq!(rt; answer, Err(EncodeFault::Writer { written: 359 }));
     assert_eq!(rt; writer.into_inner().text.as_slice(), text.as_slice());
 }
@@ -138,7 +87,7 @@ fn a_writer_that_cannot_hand_on(rt: HostRuntime) {
 #[test]
 fn an_encoder_that_is_abandoned(rt: HostRuntime) {
     let text = canonical(rt.alloc(), ONE_ACKNOWLEDGEMENT).expect(&rt, "no memory");
-    let mut encoder = Encoder::new(narrow(&rt, 4096, 9999), largest(&rt));
+    let mut encoder = Encoder::new(narrow_writer(&rt, 4096, 9999), largest(&rt));
     let head = record(&rt, GRH_ACK);
     assert_eq!(rt; encoder.open(&head), Err(EncodeFault::WrongKind));
     assert_eq!(rt; encoder.open(&record(&rt, HDR)), Ok(()));
@@ -150,7 +99,7 @@ fn an_encoder_that_is_abandoned(rt: HostRuntime) {
 #[test]
 fn a_writer_that_fails_in_hdr(rt: HostRuntime) -> Result<(), Fail> {
     let failed = EncodeFault::Writer { written: 50 };
-    let mut encoder = Encoder::new(narrow(&rt, 4096, 50), largest(&rt));
+    let mut encoder = Encoder::new(narrow_writer(&rt, 4096, 50), largest(&rt));
     assert_eq!(rt; encoder.open(&record(&rt, HDR)), Err(failed));
     assert_eq!(rt; encoder.open(&record(&rt, HDR)), Err(failed));
     let (writer, answer) = encoder.finish();
@@ -165,7 +114,7 @@ fn calls_that_are_refused(rt: HostRuntime) -> Result<(), Fail> {
     let opening = record(&rt, HDR);
     let works = record(&rt, GRH_NWR);
     let foot = record(&rt, b"GRT");
-    let mut encoder = Encoder::new(narrow(&rt, 4096, 9999), Limits::new(5, 1, 1)?);
+    let mut encoder = Encoder::new(narrow_writer(&rt, 4096, 9999), Limits::new(5, 1, 1)?);
     assert_eq!(rt; encoder.group(&works), Err(EncodeFault::OutOfOrder));
     assert_eq!(rt; encoder.open(&works), Err(EncodeFault::WrongKind));
     assert_eq!(rt; encoder.open(&opening), Ok(()));
@@ -185,7 +134,7 @@ fn calls_that_are_refused(rt: HostRuntime) -> Result<(), Fail> {
 
 #[test]
 fn whole_transactions(rt: HostRuntime) -> Result<(), Fail> {
-    let mut encoder = Encoder::new(narrow(&rt, 4096, 9999), Limits::new(8, 1, 2)?);
+    let mut encoder = Encoder::new(narrow_writer(&rt, 4096, 9999), Limits::new(8, 1, 2)?);
     assert_eq!(rt; encoder.open(&record(&rt, HDR)), Ok(()));
     assert_eq!(rt; encoder.group(&record(&rt, GRH_NWR)), Ok(()));
     let begun = transaction(&rt, &[NWR_0]);
@@ -212,7 +161,7 @@ fn whole_transactions(rt: HostRuntime) -> Result<(), Fail> {
 
 #[test]
 fn transmissions_without_a_group(rt: HostRuntime) -> Result<(), Fail> {
-    let mut encoder = Encoder::new(narrow(&rt, 4096, 9999), largest(&rt));
+    let mut encoder = Encoder::new(narrow_writer(&rt, 4096, 9999), largest(&rt));
     assert_eq!(rt; encoder.open(&record(&rt, HDR)), Ok(()));
     let (writer, answer) = encoder.finish();
     assert_eq!(rt; answer, Err(EncodeFault::Incomplete));

@@ -8,4 +8,6 @@ mod encoders;
 #[cfg(test)]
 mod sinks;
 #[cfg(test)]
+mod whole;
+#[cfg(test)]
 mod worked_values;

@@ -1,11 +1,42 @@
-//! Records and transactions of the worked texts.
+//! Records, transactions and transmissions of the worked texts.
 
 ghost use Rattle.std.specs.Prelude.{◌≢◌};
 ghost use Rattle.cwr_layouts.specs.declared.lines.LineEnd.TheVariants.{Open};
 
 use cwr_layouts::{LineBuf, LineEnd, Record};
-use cwr_values::Transaction;
+use cwr_values::{Group, Transaction, Transmission};
+use cwr_worked::lines::*;
 use std::process::Abort;
+
+/// A group of the worked texts: its GRH, and the lines of its transactions.
+pub(crate) type WorkedGroup<'a> = (&'a [u8], &'a [&'a [&'a [u8]]]);
+
+/// The groups of the transmission of one acknowledgement.
+pub(crate) const ACKNOWLEDGED: &[WorkedGroup<'static>] = &[(GRH_ACK, &[&[ACK_0]])];
+
+/// The groups of the transmission of a new work and two revised ones.
+pub(crate) const NEW_AND_REVISED: &[WorkedGroup<'static>] = &[
+    (GRH_NWR, &[&[NWR_0, SWR_0_1]]),
+    (GRH_REV_2, &[&[REV_0, SWR_0_1], &[REV_1, SWR_1_1]]),
+];
+
+/// The group of the work of eleven records.
+pub(crate) const OF_ELEVEN: &[WorkedGroup<'static>] = &[(
+    GRH_NWR,
+    &[&[
+        NWR_0,
+        SPU_0_1,
+        SPT_0_2,
+        OPU_0_3,
+        SWR_0_4_WITH_SHARE,
+        SWT_0_5,
+        PWR_0_6,
+        OWR_0_7,
+        ALT_0_8,
+        PER_0_9,
+        REC_0_10,
+    ]],
+)];
 
 /// The record of a line that ended.
 fn held(rt: &impl Abort, buffer: &LineBuf) -> Record
@@ -36,4 +67,30 @@ pub(crate) fn transaction(rt: &(impl Abort + AllocGlobal), lines: &[&[u8]]) -> T
         assert_eq!(rt; transaction.push(record(rt, line).view()), Ok(()));
     }
     transaction
+}
+
+/// A group of worked lines, whose GRT has nothing set.
+fn group(rt: &(impl Abort + AllocGlobal), worked: &WorkedGroup<'_>) -> Group {
+    let (head, transactions) = worked;
+    let begun = Group::new(rt.alloc(), record(rt, head));
+    let mut group = begun.ok().expect(rt, "no group");
+    for lines in *transactions {
+        let taken = group.push(transaction(rt, lines)).is_ok();
+        assert!(rt; taken);
+    }
+    group
+}
+
+/// The transmission of worked groups.
+pub(crate) fn transmission(
+    rt: &(impl Abort + AllocGlobal),
+    groups: &[WorkedGroup<'_>],
+) -> Transmission {
+    let begun = Transmission::new(rt.alloc(), record(rt, HDR));
+    let mut transmission = begun.ok().expect(rt, "no transmission");
+    for worked in groups {
+        let taken = transmission.push(group(rt, worked)).is_ok();
+        assert!(rt; taken);
+    }
+    transmission
 }
