@@ -53,8 +53,8 @@ fn push_digits<const WIDTH: usize>(text: &mut Buffer, number: u64)
     push(text, &cell);
 }
 
-/// The three bytes that name a kind.
-fn letters(kind: Kind) -> &'static [u8]
+/// The three bytes that name a kind, as CWR 2.1 spells it.
+pub fn letters(kind: Kind) -> &'static [u8]
     ensures { result.now ≡ letters_of kind }
 {
     match kind {

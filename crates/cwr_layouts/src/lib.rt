@@ -10,7 +10,7 @@ mod lines;
 mod lookups;
 mod records;
 
-pub use canonical_lines::CanonicalLine;
+pub use canonical_lines::{CanonicalLine, letters};
 pub use drafts::{Draft, DraftFault, SetFault};
 pub use kinds::Kind;
 pub use layouts::Field;

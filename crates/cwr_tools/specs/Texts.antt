@@ -2,6 +2,7 @@
 use Rattle.std.specs.Prelude.{ℕ, not, List, [], ◌∷◌, ◌++◌, codes, decimal, length, filter, take, zip, count_by, if◌then◌else◌, flat_map, sum_by}
 use Rattle.std.specs.List.{after_last, enumerate_from}
 use Rattle.cwr_fields.specs.Bytes.{is_spaces, trimmed}
+use Rattle.cwr_layouts.specs.declared.kinds.Kind.{Kind}
 use Rattle.cwr_layouts.specs.Kinds.{letters}
 use Rattle.cwr_layouts.specs.Layouts.{FieldLayout, layout}
 use Rattle.cwr_layouts.specs.Records.{RecordValue}
@@ -9,7 +10,7 @@ use Rattle.cwr_values.specs.Values.{TransmissionValue}
 use Rattle.cwr_values.specs.Rows.{rows}
 use Rattle.cwr_values.specs.declared.items.Item.{Item}
 use Rattle.cwr_values.specs.declared.items.Item.TheVariants.{Transaction}
-use Rattle.cwr_judge.specs.Items.{item_records, opens_group, is_transaction}
+use Rattle.cwr_judge.specs.Items.{records_in, opens_group, is_transaction}
 use Rattle.cwr_levels.specs.Findings.{findings}
 use Rattle.cwr_shape.specs.declared.limits.LimitKind.{LimitKind}
 use Rattle.cwr_shape.specs.ReasonTexts.{limit_text}
@@ -44,14 +45,25 @@ check_text items verdict = check_lines items ++ verdict_line verdict
 abbrev pub cell_line : ℕ → FieldLayout → List ℕ → List ℕ
 cell_line j f cell = if is_spaces cell then [] else codes "  " ++ decimal j ++ codes " " ++ f.name ++ codes ": " ++ trimmed cell ++ 10 ∷ []
 
--- record n, by its number and kind, and its cells
+-- the line of record n, by its number and kind
+abbrev pub head_line : ℕ → Kind → List ℕ
+head_line n kind = decimal n ++ codes " " ++ letters kind ++ 10 ∷ []
+
+-- the lines of a record's cells
+unfoldable pub cell_lines : RecordValue → List ℕ
+cell_lines r = flat_map (λ p. cell_line p.0.0 p.0.1 p.1) (zip (filter (λ q. not q.1.derived) (enumerate_from 1 (layout r.kind))) r.cells)
+
+-- record n, and its cells
 abbrev pub record_lines : ℕ → RecordValue → List ℕ
-record_lines n r = decimal n ++ codes " " ++ letters r.kind ++ 10 ∷ []
-    ++ flat_map (λ p. cell_line p.0.0 p.0.1 p.1) (zip (filter (λ q. not q.1.derived) (enumerate_from 1 (layout r.kind))) r.cells)
+record_lines n r = head_line n r.kind ++ cell_lines r
+
+-- records, numbered from n on
+abbrev pub numbered_records : ℕ → List RecordValue → List ℕ
+numbered_records n records = flat_map (λ p. record_lines p.0 p.1) (enumerate_from n records)
 
 -- what `show` writes for items
 unfoldable pub show_lines : List Item → List ℕ
-show_lines items = flat_map (λ p. record_lines p.0 p.1) (enumerate_from 1 (flat_map item_records items))
+show_lines items = numbered_records 1 (records_in items)
 
 -- what `show` writes
 abbrev pub show_text : List Item → Verdict → List ℕ

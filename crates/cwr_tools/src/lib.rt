@@ -2,8 +2,13 @@
 #![tactic(auto)]
 
 mod checking;
+mod item_lines;
+mod record_lines;
 mod reporting;
+mod showing;
+mod totals;
 mod verdicts;
 
 pub use checking::check;
+pub use showing::show;
 pub use verdicts::{ToolFault, Verdict};

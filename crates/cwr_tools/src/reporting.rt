@@ -1,21 +1,68 @@
-//! The line of a verdict, written to a target.
+//! Whole runs over a text: the lines of its items, and the line of the verdict.
 
-ghost use Rattle.std.specs.Prelude.{◌≡◌, ◌≤◌, IfErr, OnOk, length, take};
-ghost use Rattle.std.specs.Io.KnownBytes.{Appends};
-ghost use Rattle.cwr_fields.specs.Failures.{CountsFailure};
+ghost use Rattle.std.specs.Prelude.{◌≡◌, ◌≤◌, [], false, length};
+ghost use Rattle.cwr_encode.specs.Sinks.{HasWritten, has_failed, writer_of};
 ghost use Rattle.cwr_levels.specs.declared.lines.TheConstants.{LONGEST_LINE};
 ghost use Rattle.cwr_levels.specs.Putting.{PutsText};
 ghost use Rattle.cwr_tools.specs.Texts.{verdict_line};
+ghost use Rattle.cwr_tools.specs.Verdicts.{IsVerdictOf};
+ghost use Rattle.cwr_tools.specs.Reports.{CountsReaderFault, CountsWriterFault, PutsReport, Reports, lines_in};
 
-use crate::verdicts::Verdict;
+use crate::item_lines::{Report, put_item, writer_fault};
+use crate::record_lines::RecordLines;
+use crate::totals::Totals;
+use crate::verdicts::{ToolFault, Verdict};
+use cwr_decode::{ReadFault, Reading};
 use cwr_encode::{Sink, SinkFault};
-use cwr_fields::Target;
+use cwr_fields::{Source, Target};
 use cwr_levels::{good_line, refusal_line, truncated_line};
+use cwr_shape::Limits;
+use std::alloc::Global;
+
+/// The verdict on a text at whose reading this fault was reported, or the fault that ends the run.
+fn verdict_of(fault: ReadFault) -> Result<Verdict, ToolFault>
+    ensures { IsVerdictOf fault result }
+{
+    match fault {
+        ReadFault::Refused(refusal) => Ok(Verdict::Refused(refusal)),
+        ReadFault::Truncated { records } => Ok(Verdict::Truncated { records }),
+        ReadFault::Reader => Err(ToolFault::Reader),
+        ReadFault::Memory => Err(ToolFault::Memory),
+    }
+}
+
+/// Reads a transmission item by item, up to its end or to where it is refused or ends too early, and puts the lines of
+/// each item.
+fn put_items<R: Source, W: Target>(
+    report: Report,
+    alloc: Global,
+    limits: Limits,
+    reader: &mut R,
+    sink: &mut Sink<W>,
+) -> Result<Verdict, ToolFault>
+    requires unfailed { has_failed sink.old ≡ false }
+    requires empty { HasWritten W.contents (W.contents (writer_of sink.old)) [] sink.old }
+    ensures puts { PutsReport (lines_in report) (λ verdict. []) limits (R.remaining reader.old) (R.remaining reader.new) W.contents W.failures result sink.old sink.new }
+    ensures failures { CountsReaderFault result (R.failures reader.old) (R.failures reader.new) }
+{
+    let mut reading = Reading::new(alloc, limits, reader);
+    let mut counts = Totals::new();
+    let mut lines = RecordLines::new();
+    'items: loop {
+        match reading.next_item() {
+            Ok(Some(item)) => {
+                put_item(report, &counts, &item, &mut lines, sink)?;
+                counts.count(&item);
+            }
+            Ok(None) => return Ok(counts.good()),
+            Err(fault) => return verdict_of(fault),
+        }
+    }
+}
 
 /// Puts the line that says how a text ended.
 fn put_verdict<W: Target>(verdict: &Verdict, sink: &mut Sink<W>) -> Result<(), SinkFault>
-    ensures puts { PutsText W.contents W.failures (verdict_line verdict.now) result sink.old sink.new }
-    ensures short { length (verdict_line verdict.now) ≤ LONGEST_LINE }
+    ensures { PutsText W.contents W.failures (verdict_line verdict.now) result sink.old sink.new }
 {
     match verdict {
         Verdict::Good {
@@ -28,22 +75,48 @@ fn put_verdict<W: Target>(verdict: &Verdict, sink: &mut Sink<W>) -> Result<(), S
     }
 }
 
-/// Writes the line of a verdict and hands it on, or answers how many of its bytes were written before the writer failed.
+/// Reads a transmission, and puts the lines of its items and the line of the verdict.
+fn put_report<R: Source, W: Target>(
+    report: Report,
+    alloc: Global,
+    limits: Limits,
+    reader: &mut R,
+    sink: &mut Sink<W>,
+) -> Result<Verdict, ToolFault>
+    requires unfailed { has_failed sink.old ≡ false }
+    requires empty { HasWritten W.contents (W.contents (writer_of sink.old)) [] sink.old }
+    ensures puts { PutsReport (lines_in report) verdict_line limits (R.remaining reader.old) (R.remaining reader.new) W.contents W.failures result sink.old sink.new }
+    ensures failures { CountsReaderFault result (R.failures reader.old) (R.failures reader.new) }
+{
+    let verdict = put_items(report, alloc, limits, reader, sink)?;
+    match put_verdict(&verdict, sink) {
+        Ok(()) => Ok(verdict),
+        Err(fault) => Err(writer_fault(fault)),
+    }
+}
+
+/// Reads a transmission, and writes the lines of its items and the line of the verdict, which it has the writer hand on.
 /// The writer comes back.
-pub fn report<W: Target>(verdict: &Verdict, writer: W) -> (W, Result<(), u64>)
-    ensures whole { OnOk result.1 (Appends (W.contents writer) (W.contents result.0) (verdict_line verdict.now)) }
-    ensures part { IfErr result.1 (λ written. (written ≤ length (verdict_line verdict.now)) × Appends (W.contents writer) (W.contents result.0) (take written (verdict_line verdict.now))) }
-    ensures failures { CountsFailure result.1 (W.failures writer) (W.failures result.0) }
+pub(crate) fn write_report<R: Source, W: Target>(
+    report: Report,
+    alloc: Global,
+    limits: Limits,
+    reader: &mut R,
+    writer: W,
+) -> (W, Result<Verdict, ToolFault>)
+    ensures reported { Reports (lines_in report) limits (R.remaining reader.old) (R.remaining reader.new) W.contents writer result.0 result.1 }
+    ensures reader_failures { CountsReaderFault result.1 (R.failures reader.old) (R.failures reader.new) }
+    ensures writer_failures { CountsWriterFault result.1 (W.failures writer) (W.failures result.0) }
 {
     let mut sink = Sink::new(writer);
-    let put = put_verdict(verdict, &mut sink);
+    let put = put_report(report, alloc, limits, reader, &mut sink);
     let written = sink.written();
     let mut writer = sink.into_inner();
     match put {
-        Err(_) => (writer, Err(written)),
-        Ok(()) => match writer.flush() {
-            Ok(()) => (writer, Ok(())),
-            Err(_) => (writer, Err(written)),
+        Err(fault) => (writer, Err(fault)),
+        Ok(verdict) => match writer.flush() {
+            Ok(()) => (writer, Ok(verdict)),
+            Err(_) => (writer, Err(ToolFault::Writer { written })),
         },
     }
 }

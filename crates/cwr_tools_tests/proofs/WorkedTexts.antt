@@ -18,7 +18,7 @@ use Rattle.cwr_values.specs.Fits.{value_fault}
 use Rattle.cwr_values.specs.declared.items.Item.TheVariants.{Opened, GroupOpened, Transaction, GroupClosed, Ended}
 use Rattle.cwr_judge.specs.Items.{items, items_after}
 use Rattle.cwr_levels.specs.Findings.{findings}
-use Rattle.cwr_tools.specs.Texts.{check_text, check_lines, show_text, show_lines, good_verdict}
+use Rattle.cwr_tools.specs.Texts.{check_text, check_lines, show_text, cell_lines, show_lines, good_verdict}
 use Rattle.cwr_tools.specs.Splits.{split_of, join_of}
 use Rattle.cwr_tools_tests.proofs.Samples
 
@@ -97,7 +97,7 @@ one_acknowledgement_show : show_text (items (rows Samples.one_acknowledgement)) 
     ++ codes "2 GRH\n  2 transaction type: ACK\n  4 version: 02.10\n  5 batch request: 0000000001\n"
     ++ codes "3 ACK\n  4 creation date: 20240102\n  5 creation time: 101500\n  6 original group id: 00001\n  7 original transaction sequence: 00000000\n  8 original transaction type: NWR\n  9 creation title: BLUE RIVER\n  10 submitter creation number: W0001\n  12 processing date: 20240110\n  13 transaction status: AS\n"
     ++ codes "4 GRT\n5 TRL\nGOOD groups 1 transactions 1 records 5\n"
-unfolding digits trimmed plain_digits rows items_after show_lines
+unfolding digits trimmed plain_digits rows items_after cell_lines show_lines
 one_acknowledgement_show = refl
 
 -- ---- one work with records of many kinds

@@ -4,4 +4,6 @@
 #[cfg(test)]
 mod devices;
 #[cfg(test)]
+mod shown_texts;
+#[cfg(test)]
 mod verdict_lines;

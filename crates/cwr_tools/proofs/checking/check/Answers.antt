@@ -1,8 +1,9 @@
-use Rattle.cwr_tools.proofs.RightVerdicts.{judges_accepted, judges_canonical}
+use Rattle.cwr_tools.specs.Reports.{no_lines}
+use Rattle.cwr_tools.proofs.RightReports.{accepted_reports, canonical_reports}
 use Rattle.cwr_tools.proofs.checking.check.Goals as goal
 
-pub returns-in-Ok-reported-clause-accepted : goal.returns-in-Ok-reported-clause-accepted
-returns-in-Ok-reported-clause-accepted g c = judges_accepted c.args.limits _ c.in-Ok.verdict _ c.in-Ok.ensures.reported
+pub returns-clause-accepted : goal.returns-clause-accepted
+returns-clause-accepted g c = accepted_reports no_lines c.args.limits _ _ g.W.Target.contents c.args.writer c.write_report.result.0 c.write_report.result.1 c.write_report.ensures.reported
 
-pub returns-in-Ok-reported-clause-canonical : goal.returns-in-Ok-reported-clause-canonical
-returns-in-Ok-reported-clause-canonical g c = judges_canonical c.args.limits _ c.in-Ok.verdict _ c.in-Ok.ensures.reported
+pub returns-clause-canonical : goal.returns-clause-canonical
+returns-clause-canonical g c = canonical_reports no_lines c.args.limits _ _ g.W.Target.contents c.args.writer c.write_report.result.0 c.write_report.result.1 c.write_report.ensures.reported

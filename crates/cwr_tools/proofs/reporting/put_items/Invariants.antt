@@ -1,10 +1,10 @@
 use Rattle.std.proofs.Common.{◌≡◌, ◌+◌, ◌-◌}
-use Rattle.cwr_tools.proofs.RightVerdicts.{IsCounting}
-use Rattle.cwr_tools.proofs.checking.read_verdict.Given as goal
+use Rattle.cwr_tools.proofs.ReportsOn.{IsReporting}
+use Rattle.cwr_tools.proofs.reporting.put_items.Given as goal
 
 abbrev pub invariant-items : goal.invariant-items
 invariant-items g l = record {
-  counting : IsCounting l.fn.limits l.reading.decoder (g.R.Source.remaining l.fn.reader) (g.R.Source.remaining l.reading.reader.now) l.counts;
+  reporting : IsReporting l.report l.fn.limits l.reading.decoder (g.R.Source.remaining l.fn.reader) (g.R.Source.remaining l.reading.reader.now) g.W.Target.contents g.W.Target.failures l.counts l.fn.sink l.sink;
   failures : g.R.Source.failures l.reading.reader.now ≡ g.R.Source.failures l.fn.reader;
   same : l.reading.reader.ghost_name ≡ l.initial.reading.reader.ghost_name;
 }

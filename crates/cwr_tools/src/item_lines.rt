@@ -1,0 +1,127 @@
+//! The lines of items, put to a sink.
+
+ghost use Rattle.std.specs.Prelude.{◌≡◌, ◌+◌, ◌≤◌, length, false, IfErr};
+ghost use Rattle.cwr_encode.specs.Sinks.{Puts, has_failed, written_of};
+ghost use Rattle.cwr_judge.specs.Items.{item_records};
+ghost use Rattle.cwr_values.specs.Rows.{trailer};
+ghost use Rattle.cwr_tools.specs.Texts.{numbered_records, record_lines};
+ghost use Rattle.cwr_tools.specs.Reports.{ItemLines, PutsLines, lines_at, lines_in};
+
+use crate::record_lines::RecordLines;
+use crate::totals::Totals;
+use crate::verdicts::ToolFault;
+use cwr_encode::{Sink, SinkFault};
+use cwr_fields::Target;
+use cwr_layouts::{Kind, RecordRef};
+use cwr_values::{Item, Transaction};
+
+/// What a run writes of items.
+#[derive(Clone, Copy, Debug)]
+pub(crate) enum Report {
+    /// Nothing: the verdict alone is written.
+    Verdict,
+    /// Each record with its cells.
+    Records,
+}
+
+/// Puts the lines of a record, which has that number.
+fn put_record<W: Target>(
+    number: u64,
+    shown: &RecordRef<'_>,
+    lines: &mut RecordLines,
+    sink: &mut Sink<W>,
+) -> Result<(), SinkFault>
+    requires { has_failed sink.old ≡ false }
+    ensures puts { Puts W.contents W.failures (record_lines number shown.now) result sink.old sink.new }
+    ensures fault { IfErr result (λ f. f.written ≡ written_of sink.new) }
+{
+    lines.set(number, shown);
+    sink.put(lines.as_slice())
+}
+
+/// Puts the line of TRL, which has that number.
+fn put_trailer<W: Target>(
+    number: u64,
+    lines: &mut RecordLines,
+    sink: &mut Sink<W>,
+) -> Result<(), SinkFault>
+    requires { has_failed sink.old ≡ false }
+    ensures puts { Puts W.contents W.failures (record_lines number trailer) result sink.old sink.new }
+    ensures fault { IfErr result (λ f. f.written ≡ written_of sink.new) }
+{
+    lines.set_head(number, Kind::Trl);
+    sink.put(lines.as_slice())
+}
+
+/// Puts the lines of a transaction's records, whose first has that number.
+fn put_transaction<W: Target>(
+    first: u64,
+    transaction: &Transaction,
+    lines: &mut RecordLines,
+    sink: &mut Sink<W>,
+) -> Result<(), SinkFault>
+    requires unfailed { has_failed sink.old ≡ false }
+    requires few { first + length transaction.now ≤ 100000000 }
+    ensures puts { Puts W.contents W.failures (numbered_records first transaction.now) result sink.old sink.new }
+    ensures fault { IfErr result (λ f. f.written ≡ written_of sink.new) }
+{
+    let mut i = 0;
+    while let Some(shown) = transaction.record(i) {
+        put_record(first + i as u64, &shown, lines, sink)?;
+        i += 1;
+    }
+    Ok(())
+}
+
+/// Puts the lines of an item's records, whose first has that number.
+fn put_records<W: Target>(
+    first: u64,
+    item: &Item,
+    lines: &mut RecordLines,
+    sink: &mut Sink<W>,
+) -> Result<(), SinkFault>
+    requires unfailed { has_failed sink.old ≡ false }
+    requires few { first + length (item_records item.now) ≤ 100000000 }
+    ensures puts { Puts W.contents W.failures (numbered_records first (item_records item.now)) result sink.old sink.new }
+    ensures fault { IfErr result (λ f. f.written ≡ written_of sink.new) }
+{
+    match item {
+        Item::Opened(record) | Item::GroupOpened(record) | Item::GroupClosed(record) => {
+            put_record(first, &record.view(), lines, sink)
+        }
+        Item::Transaction(transaction) => put_transaction(first, transaction, lines, sink),
+        Item::Ended => put_trailer(first, lines, sink),
+    }
+}
+
+/// The fault of a run whose writer failed.
+pub(crate) fn writer_fault(fault: SinkFault) -> ToolFault
+    ensures { result ≡ ToolFault.Writer fault.written }
+{
+    ToolFault::Writer {
+        written: fault.written,
+    }
+}
+
+/// Puts the lines of an item that comes after items with these numbers. Those of a record are made in the buffer.
+pub(crate) fn put_item<W: Target>(
+    report: Report,
+    counts: &Totals,
+    item: &Item,
+    lines: &mut RecordLines,
+    sink: &mut Sink<W>,
+) -> Result<(), ToolFault>
+    requires unfailed { has_failed sink.old ≡ false }
+    requires few { counts.now.records + length (item_records item.now) ≤ 99999999 }
+    ensures { PutsLines W.contents W.failures ((lines_in report).take_memory item.now) (lines_at report counts.now item.now) result sink.old sink.new }
+{
+    match report {
+        Report::Verdict => Ok(()),
+        Report::Records => {
+            match put_records(u64::from(counts.records) + 1, item, lines, sink) {
+                Ok(()) => Ok(()),
+                Err(fault) => Err(writer_fault(fault)),
+            }
+        }
+    }
+}

@@ -1,0 +1,34 @@
+//! Showing a transmission.
+
+ghost use Rattle.std.specs.Prelude.{IfOk};
+ghost use Rattle.cwr_tools.specs.Reports.{CountsReaderFault, CountsWriterFault, JudgesAccepted, JudgesCanonical, Reports, lines_of_records};
+
+use crate::item_lines::Report;
+use crate::reporting::write_report;
+use crate::verdicts::{ToolFault, Verdict};
+use cwr_fields::{Source, Target};
+use cwr_shape::Limits;
+use std::alloc::Global;
+
+/// Shows a transmission: reads it up to its end or to where it is refused, and writes each record's number and kind,
+/// its cells that aren't blank, each under its field's number and name, and at the end the line of the verdict. The
+/// writer comes back.
+///
+/// The verdict and the faults are those of a check. Where the text is refused or ends too early, the records are those
+/// of the items before: of a transaction that isn't followed by a record that may come next, none is shown. It holds one
+/// transaction and the lines of one record, whatever the text.
+pub fn show<R: Source, W: Target + Drop>(
+    alloc: Global,
+    limits: Limits,
+    reader: &mut R,
+    writer: W,
+) -> (W, Result<Verdict, ToolFault>)
+    ensures reported { Reports lines_of_records limits (R.remaining reader.old) (R.remaining reader.new) W.contents writer result.0 result.1 }
+    ensures accepted { IfOk result.1 (JudgesAccepted lines_of_records limits (R.remaining reader.old) (R.remaining reader.new) W.contents writer result.0) }
+    ensures canonical { IfOk result.1 (JudgesCanonical lines_of_records limits (R.remaining reader.old) (R.remaining reader.new) W.contents writer result.0) }
+    // No failure is passed over: a device failed only where that is the answer.
+    ensures reader_failures { CountsReaderFault result.1 (R.failures reader.old) (R.failures reader.new) }
+    ensures writer_failures { CountsWriterFault result.1 (W.failures writer) (W.failures result.0) }
+{
+    write_report(Report::Records, alloc, limits, reader, writer)
+}

@@ -1,0 +1,60 @@
+//! How many groups, transactions and records were handed out.
+
+ghost use Rattle.std.specs.Prelude.{◌≡◌, ◌+◌, ◌≤◌, length};
+ghost use Rattle.cwr_judge.specs.Items.{item_records};
+ghost use Rattle.cwr_tools.specs.Verdicts.{totals_with};
+
+use crate::verdicts::Verdict;
+use cwr_values::Item;
+
+/// How many groups, transactions and records were handed out.
+#[derive(Clone, Copy, Debug)]
+pub(crate) struct Totals {
+    pub(crate) groups: u32,
+    pub(crate) transactions: u32,
+    pub(crate) records: u32,
+}
+
+impl Totals {
+    /// Nothing was handed out.
+    pub(crate) fn new() -> Self
+        ensures { result ≡ record { groups = 0; transactions = 0; records = 0 } }
+    {
+        Totals {
+            groups: 0,
+            transactions: 0,
+            records: 0,
+        }
+    }
+
+    /// Counts one item more.
+    pub(crate) fn count(&mut self, item: &Item)
+        requires groups { self.old.groups ≤ 199999998 }
+        requires transactions { self.old.transactions ≤ 199999998 }
+        requires records { self.old.records + length (item_records item.now) ≤ 99999999 }
+        ensures { self.new ≡ totals_with self.old item.now }
+    {
+        match item {
+            Item::Opened(_) | Item::GroupClosed(_) | Item::Ended => self.records += 1,
+            Item::GroupOpened(_) => {
+                self.groups += 1;
+                self.records += 1;
+            }
+            Item::Transaction(transaction) => {
+                self.transactions += 1;
+                self.records += transaction.len() as u32;
+            }
+        }
+    }
+
+    /// The verdict on a text that is accepted with these numbers.
+    pub(crate) fn good(&self) -> Verdict
+        ensures { result ≡ Verdict.Good self.now.groups self.now.transactions self.now.records }
+    {
+        Verdict::Good {
+            groups: self.groups,
+            transactions: self.transactions,
+            records: self.records,
+        }
+    }
+}
