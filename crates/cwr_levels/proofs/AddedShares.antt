@@ -21,7 +21,7 @@ use Rattle.cwr_levels.proofs.KindTests.{kind_of}
 use Rattle.cwr_levels.proofs.NamedCells.{named_cell, cell_width}
 use Rattle.cwr_levels.proofs.NumberCells.{share_is_number}
 use Rattle.cwr_levels.proofs.RuleFields.{role_of_ipa}
-use Rattle.cwr_levels.proofs.RuleTests.{shown}
+use Rattle.cwr_levels.proofs.RuleTests.{cell_of_field}
 
 -- a sum of capped sums, capped
 pub capped_sum : (a b s m n : ℕ) → a ≡ capped s → b ≡ capped m → n ≡ min (a + b) 18446744073709551615 → n ≡ capped (s + m)
@@ -44,13 +44,13 @@ only_party kind h spu opu swr owr = absurd (cc h)
 
 -- ---- one record
 
-pub share_is_short : (right : String) (r : RecordValue) (j : ℕ) (cell : List ℕ) → cell ≡ shown r j → IsField right r.kind j 5 → IsRecord r → length cell ≤ 8
+pub share_is_short : (right : String) (r : RecordValue) (j : ℕ) (cell : List ℕ) → cell ≡ cell_of_field r j → IsField right r.kind j 5 → IsRecord r → length cell ≤ 8
 share_is_short right r j cell e field fits = omega (arith, ap length e, cell_width right r.kind j 5 r field refl fits)
 
 capped_one : (x y : ℕ) → x ≡ y → x < 10 ^ 10 → x ≡ capped (0 + y)
 capped_one x y e small = omega (arith, e, small)
 
-pub one_share : (right : String) (r : RecordValue) (j : ℕ) (cell : List ℕ) (x : ℕ) → cell ≡ shown r j → IsField right r.kind j 5 → IsRecord r → x ≡ number_of cell → x < 10 ^ 10
+pub one_share : (right : String) (r : RecordValue) (j : ℕ) (cell : List ℕ) (x : ℕ) → cell ≡ cell_of_field r j → IsField right r.kind j 5 → IsRecord r → x ≡ number_of cell → x < 10 ^ 10
     → x ≡ capped (sum_by (share_of right) (r ∷ []))
 one_share right r j cell x e field fits number small =
     capped_one x (share_of right r) (number ∙ ap number_of (e ∙ named_cell right r.kind j 5 r field refl fits) ∙ share_is_number (cell_named right r)) small
@@ -63,7 +63,7 @@ share_more right rs r a b n p q e =
 
 -- ---- parties
 
-pub role_more : (role : Role) (rs : List RecordValue) (r : RecordValue) (s : Shares) (cell : List ℕ) (b : Bool) → cell ≡ shown r 4 → is_party r ≡ true → IsRecord r → b ≡ bytes_eq cell (role_code role)
+pub role_more : (role : Role) (rs : List RecordValue) (r : RecordValue) (s : Shares) (cell : List ℕ) (b : Bool) → cell ≡ cell_of_field r 4 → is_party r ≡ true → IsRecord r → b ≡ bytes_eq cell (role_code role)
     → AddUpTo (of_role role rs ++ cond b (r ∷ []) []) s → AddUpTo (of_role role (rs ++ r ∷ [])) s
 role_more role rs r s cell b e party fits same h =
     let test : b ≡ bytes_eq (cell_named "agreement role" r) (role_code role) =

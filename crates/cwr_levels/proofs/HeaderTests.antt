@@ -10,16 +10,16 @@ use Rattle.cwr_levels.specs.Walks.{capped}
 use Rattle.cwr_levels.proofs.NamedCells.{named_cell, cell_width}
 use Rattle.cwr_levels.proofs.NumberCells.{day_is_number}
 use Rattle.cwr_levels.proofs.RuleFields.{count_of_nwr, count_of_rev, start_of_agr, end_of_agr}
-use Rattle.cwr_levels.proofs.RuleTests.{shown, header_of_work, header_of_agreement}
+use Rattle.cwr_levels.proofs.RuleTests.{cell_of_field, header_of_work, header_of_agreement}
 
 -- ---- the number of components
 
-count_cell : (r : RecordValue) → is_work (r ∷ []) ≡ true → IsRecord r → shown r 23 ≡ cell_named "composite component count" r
+count_cell : (r : RecordValue) → is_work (r ∷ []) ≡ true → IsRecord r → cell_of_field r 23 ≡ cell_named "composite component count" r
 count_cell r h fits = elim (header_of_work r h) [ inl e ↦ named_cell "composite component count" kinds.Nwr 23 3 r count_of_nwr e fits | inr e ↦ named_cell "composite component count" kinds.Rev 23 3 r count_of_rev e fits ]
 
-pub count_is_short : (r : RecordValue) (cell : List ℕ) → cell ≡ shown r 23 → is_work (r ∷ []) ≡ true → IsRecord r → length cell ≤ 8
+pub count_is_short : (r : RecordValue) (cell : List ℕ) → cell ≡ cell_of_field r 23 → is_work (r ∷ []) ≡ true → IsRecord r → length cell ≤ 8
 count_is_short r cell e h fits =
-    let wide : length (shown r 23) ≡ 3 = elim (header_of_work r h) [ inl e ↦ cell_width "composite component count" kinds.Nwr 23 3 r count_of_nwr e fits | inr e ↦ cell_width "composite component count" kinds.Rev 23 3 r count_of_rev e fits ] in
+    let wide : length (cell_of_field r 23) ≡ 3 = elim (header_of_work r h) [ inl e ↦ cell_width "composite component count" kinds.Nwr 23 3 r count_of_nwr e fits | inr e ↦ cell_width "composite component count" kinds.Rev 23 3 r count_of_rev e fits ] in
     omega (arith, ap length e, wide)
 
 -- a small number is compared with a capped one as with the whole one
@@ -33,7 +33,7 @@ others_by : (b : Bool) (x c n : ℕ) → x < 10 ^ 10 → c ≡ capped n → b �
 others_by false x c n small e h = ap not (same_test x c n small e)
 others_by true x c n small e h = absurd (cc h)
 
-pub counts_others_filled : (r : RecordValue) (cell : List ℕ) (x c n : ℕ) → cell ≡ shown r 23 → is_work (r ∷ []) ≡ true → IsRecord r → is_spaces cell ≡ false → x ≡ number_of cell → x < 10 ^ 10 → c ≡ capped n
+pub counts_others_filled : (r : RecordValue) (cell : List ℕ) (x c n : ℕ) → cell ≡ cell_of_field r 23 → is_work (r ∷ []) ≡ true → IsRecord r → is_spaces cell ≡ false → x ≡ number_of cell → x < 10 ^ 10 → c ≡ capped n
     → not (nat_eq x c) ≡ counts_others r n
 counts_others_filled r cell x c n e h fits filled number small total =
     others_by (is_spaces cell) x c n small total filled
@@ -44,24 +44,24 @@ blank_by : (b d : Bool) → b ≡ true → not b ≡ (not b && d)
 blank_by true d h = refl
 blank_by false d h = absurd (cc h)
 
-pub counts_others_blank : (r : RecordValue) (cell : List ℕ) (n : ℕ) → cell ≡ shown r 23 → is_work (r ∷ []) ≡ true → IsRecord r → is_spaces cell ≡ true → not (is_spaces cell) ≡ counts_others r n
+pub counts_others_blank : (r : RecordValue) (cell : List ℕ) (n : ℕ) → cell ≡ cell_of_field r 23 → is_work (r ∷ []) ≡ true → IsRecord r → is_spaces cell ≡ true → not (is_spaces cell) ≡ counts_others r n
 counts_others_blank r cell n e h fits blank =
     blank_by (is_spaces cell) (not (number_of cell == n)) blank
     ∙ ap (λ (text : List ℕ). not (is_spaces text) && not (number_of text == n)) (e ∙ count_cell r h fits)
 
 -- ---- dates
 
-pub start_is_short : (r : RecordValue) (cell : List ℕ) → cell ≡ shown r 7 → is_agreement (r ∷ []) ≡ true → IsRecord r → length cell ≤ 8
+pub start_is_short : (r : RecordValue) (cell : List ℕ) → cell ≡ cell_of_field r 7 → is_agreement (r ∷ []) ≡ true → IsRecord r → length cell ≤ 8
 start_is_short r cell e h fits = omega (arith, ap length e, cell_width "start date" kinds.Agr 7 8 r start_of_agr (header_of_agreement r h) fits)
 
-pub end_is_short : (r : RecordValue) (cell : List ℕ) → cell ≡ shown r 8 → is_agreement (r ∷ []) ≡ true → IsRecord r → length cell ≤ 8
+pub end_is_short : (r : RecordValue) (cell : List ℕ) → cell ≡ cell_of_field r 8 → is_agreement (r ∷ []) ≡ true → IsRecord r → length cell ≤ 8
 end_is_short r cell e h fits = omega (arith, ap length e, cell_width "end date" kinds.Agr 8 8 r end_of_agr (header_of_agreement r h) fits)
 
 -- what is asked of both dates, by their numbers
 abbrev pub in_wrong_order : ℕ → ℕ → Bool
 in_wrong_order start end = not (start == 0) && not (end == 0) && nat_lt end start
 
-pub order_of_dates : (r : RecordValue) (from to : List ℕ) (start end : ℕ) → from ≡ shown r 7 → to ≡ shown r 8 → is_agreement (r ∷ []) ≡ true → IsRecord r → start ≡ number_of from → end ≡ number_of to
+pub order_of_dates : (r : RecordValue) (from to : List ℕ) (start end : ℕ) → from ≡ cell_of_field r 7 → to ≡ cell_of_field r 8 → is_agreement (r ∷ []) ≡ true → IsRecord r → start ≡ number_of from → end ≡ number_of to
     → in_wrong_order start end ≡ ends_before_start r
 order_of_dates r from to start end e f h fits s t =
     let kind = header_of_agreement r h in

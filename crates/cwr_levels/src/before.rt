@@ -31,16 +31,16 @@ impl<'a> Before<'a> {
     }
 
     /// With one more record.
-    pub(crate) fn with(self, one: &RecordRef<'a>) -> Before<'a>
-        ensures { (rs : List RecordValue) → IsBefore rs self.entry → IsBefore (rs ++ one.now ∷ []) result }
+    pub(crate) fn with(self, shown: &RecordRef<'a>) -> Before<'a>
+        ensures { (rs : List RecordValue) → IsBefore rs self.entry → IsBefore (rs ++ shown.now ∷ []) result }
     {
-        match one.kind() {
+        match shown.kind() {
             Kind::Spu => Before {
-                publisher: Some(cell(one, 5)),
+                publisher: Some(cell(shown, 5)),
                 ..self
             },
             Kind::Swr => Before {
-                writer: Some(cell(one, 4)),
+                writer: Some(cell(shown, 4)),
                 ..self
             },
             Kind::Ter => Before {

@@ -10,7 +10,7 @@ ghost use Rattle.cwr_levels.specs.Findings.{breaks, counts_others, ends_before_s
 ghost use Rattle.cwr_levels.specs.Walks.{AreTotals, IsBefore, capped, is_number, is_publisher};
 
 use crate::before::Before;
-use crate::named_cells::{cell, is_a, number_in};
+use crate::named_cells::{cell, is_of, number_of};
 use crate::rules::Rule;
 use crate::shares::{Sides, is_off};
 use crate::totals::Totals;
@@ -41,12 +41,12 @@ fn is_wrong_iswc(iswc: &[u8]) -> bool
 }
 
 /// Whether the record's work code isn't blank and isn't right.
-fn has_wrong_iswc(one: &RecordRef<'_>) -> bool
-    ensures { (t : List RecordValue) (k : ℕ) → result ≡ breaks V1 t k one.now }
+fn has_wrong_iswc(shown: &RecordRef<'_>) -> bool
+    ensures { (t : List RecordValue) (k : ℕ) → result ≡ breaks V1 t k shown.now }
 {
-    match one.kind() {
-        Kind::Nwr | Kind::Rev => is_wrong_iswc(cell(one, 7)),
-        Kind::Ewt | Kind::Ver | Kind::Com => is_wrong_iswc(cell(one, 5)),
+    match shown.kind() {
+        Kind::Nwr | Kind::Rev => is_wrong_iswc(cell(shown, 7)),
+        Kind::Ewt | Kind::Ver | Kind::Com => is_wrong_iswc(cell(shown, 5)),
         _ => false,
     }
 }
@@ -62,22 +62,22 @@ fn is_number(number: &[u8], party: Option<&[u8]>) -> bool
 }
 
 /// Whether a territory names another party than the nearest publisher or writer before it.
-fn names_another_party(one: &RecordRef<'_>, before: &Before<'_>) -> bool
-    ensures { (t : List RecordValue) (k : ℕ) → is_work t ≡ true → IsBefore (take k t) before.now → result ≡ breaks V2 t k one.now }
+fn names_another_party(shown: &RecordRef<'_>, before: &Before<'_>) -> bool
+    ensures { (t : List RecordValue) (k : ℕ) → is_work t ≡ true → IsBefore (take k t) before.now → result ≡ breaks V2 t k shown.now }
 {
-    match one.kind() {
-        Kind::Spt => !is_number(cell(one, 4), before.publisher),
-        Kind::Swt => !is_number(cell(one, 4), before.writer),
+    match shown.kind() {
+        Kind::Spt => !is_number(cell(shown, 4), before.publisher),
+        Kind::Swt => !is_number(cell(shown, 4), before.writer),
         _ => false,
     }
 }
 
 /// Whether the record is an SPU of this number.
-fn is_publisher(number: &[u8], one: &RecordRef<'_>) -> bool
-    ensures { result ≡ is_publisher number.now one.now }
+fn is_publisher(number: &[u8], shown: &RecordRef<'_>) -> bool
+    ensures { result ≡ is_publisher number.now shown.now }
 {
-    match one.kind() {
-        Kind::Spu => number == cell(one, 5),
+    match shown.kind() {
+        Kind::Spu => number == cell(shown, 5),
         _ => false,
     }
 }
@@ -87,10 +87,10 @@ fn has_publisher(transaction: &Transaction, end: usize, number: &[u8]) -> bool
     ensures { result ≡ list_any (is_publisher number.now) (take end transaction.now) }
 {
     for i in 0..end {
-        let Some(one) = transaction.record(i) else {
+        let Some(shown) = transaction.record(i) else {
             break;
         };
-        if is_publisher(number, &one) {
+        if is_publisher(number, &shown) {
             return true;
         }
     }
@@ -98,11 +98,11 @@ fn has_publisher(transaction: &Transaction, end: usize, number: &[u8]) -> bool
 }
 
 /// Whether PWR names a publisher that the work hasn't.
-fn names_no_publisher(transaction: &Transaction, totals: &Totals, one: &RecordRef<'_>) -> bool
+fn names_no_publisher(transaction: &Transaction, totals: &Totals, shown: &RecordRef<'_>) -> bool
     requires { AreTotals transaction.now totals.now }
-    ensures { (k : ℕ) → is_work transaction.now ≡ true → result ≡ breaks V7 transaction.now k one.now }
+    ensures { (k : ℕ) → is_work transaction.now ≡ true → result ≡ breaks V7 transaction.now k shown.now }
 {
-    is_a(one, Kind::Pwr) && !has_publisher(transaction, totals.publishers_end, cell(one, 4))
+    is_of(shown, Kind::Pwr) && !has_publisher(transaction, totals.publishers_end, cell(shown, 4))
 }
 
 /// Whether the header of a work has no excerpt type.
@@ -129,7 +129,7 @@ fn counts_others(header: &RecordRef<'_>, components: u64) -> bool
     ensures { (n : ℕ) → components ≡ capped n → result ≡ counts_others header.now n }
 {
     let count = cell(header, 23);
-    !is_spaces(count) && number_in(count) != components
+    !is_spaces(count) && number_of(count) != components
 }
 
 /// Whether the header of an agreement has both dates, and its end is before its start.
@@ -137,8 +137,8 @@ fn ends_before_start(header: &RecordRef<'_>) -> bool
     requires { is_agreement (header.now ∷ []) ≡ true }
     ensures { result ≡ ends_before_start header.now }
 {
-    let start = number_in(cell(header, 7));
-    let end = number_in(cell(header, 8));
+    let start = number_of(cell(header, 7));
+    let end = number_of(cell(header, 8));
     end != 0 && end < start
 }
 
@@ -147,13 +147,13 @@ fn begins_block_over_whole(
     transaction: &Transaction,
     before: &Before<'_>,
     sequence: usize,
-    one: &RecordRef<'_>,
+    shown: &RecordRef<'_>,
 ) -> bool
     requires before { IsBefore (take sequence transaction.now) before.now }
-    requires there { slice_get transaction.now sequence ≡ Some one.now }
-    ensures { is_agreement transaction.now ≡ true → result ≡ breaks V11 transaction.now sequence one.now }
+    requires there { slice_get transaction.now sequence ≡ Some shown.now }
+    ensures { is_agreement transaction.now ≡ true → result ≡ breaks V11 transaction.now sequence shown.now }
 {
-    if !is_a(one, Kind::Ter) {
+    if !is_of(shown, Kind::Ter) {
         return false;
     }
     !before.after_territory && Sides::of_block(transaction, sequence).exceed_whole()
@@ -166,27 +166,29 @@ pub(crate) fn breaks(
     totals: &Totals,
     before: &Before<'_>,
     sequence: usize,
-    one: &RecordRef<'_>,
+    shown: &RecordRef<'_>,
 ) -> bool
     requires totals { AreTotals transaction.now totals.now }
     requires before { IsBefore (take sequence transaction.now) before.now }
-    requires there { slice_get transaction.now sequence ≡ Some one.now }
-    ensures { result ≡ breaks rule transaction.now sequence one.now }
+    requires there { slice_get transaction.now sequence ≡ Some shown.now }
+    ensures { result ≡ breaks rule transaction.now sequence shown.now }
 {
     match rule {
-        Rule::V1 => has_wrong_iswc(one),
-        Rule::V2 => is_work(transaction) && names_another_party(one, before),
+        Rule::V1 => has_wrong_iswc(shown),
+        Rule::V2 => is_work(transaction) && names_another_party(shown, before),
         Rule::V3 => is_off_in(transaction, sequence, totals.ownership.performing),
         Rule::V4 => is_off_in(transaction, sequence, totals.ownership.mechanical),
         Rule::V5 => is_off_in(transaction, sequence, totals.ownership.synchronization),
         Rule::V6 => is_work(transaction) && sequence == 0 && !totals.has_author,
-        Rule::V7 => is_work(transaction) && names_no_publisher(transaction, totals, one),
+        Rule::V7 => is_work(transaction) && names_no_publisher(transaction, totals, shown),
         Rule::V8 => is_work(transaction)
-            && is_a(one, Kind::Ewt)
+            && is_of(shown, Kind::Ewt)
             && has_no_excerpt_type(transaction),
-        Rule::V9 => is_work(transaction) && sequence == 0 && counts_others(one, totals.components),
-        Rule::V10 => is_agreement(transaction) && sequence == 0 && ends_before_start(one),
+        Rule::V9 => is_work(transaction)
+            && sequence == 0
+            && counts_others(shown, totals.components),
+        Rule::V10 => is_agreement(transaction) && sequence == 0 && ends_before_start(shown),
         Rule::V11 => is_agreement(transaction)
-            && begins_block_over_whole(transaction, before, sequence, one),
+            && begins_block_over_whole(transaction, before, sequence, shown),
     }
 }

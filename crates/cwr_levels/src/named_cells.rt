@@ -9,25 +9,25 @@ ghost use Rattle.cwr_levels.specs.Findings.{is_a};
 use cwr_layouts::{Kind, RecordRef};
 
 /// Whether the record is of the kind.
-pub(crate) fn is_a(one: &RecordRef<'_>, kind: Kind) -> bool
-    ensures { result ≡ is_a kind one.now }
+pub(crate) fn is_of(shown: &RecordRef<'_>, kind: Kind) -> bool
+    ensures { result ≡ is_a kind shown.now }
 {
-    one.kind() == kind
+    shown.kind() == kind
 }
 
 /// The cell of field `j`, from 1, and no bytes where the record carries none there.
-pub(crate) fn cell<'a>(one: &RecordRef<'a>, j: u8) -> &'a [u8]
-    ensures value { result.now ≡ unwrap_or (record_cell one.now j) [] }
-    ensures fits { IsRecord one.now }
+pub(crate) fn cell<'a>(shown: &RecordRef<'a>, j: u8) -> &'a [u8]
+    ensures value { result.now ≡ unwrap_or (record_cell shown.now j) [] }
+    ensures fits { IsRecord shown.now }
 {
-    match one.cell(j) {
+    match shown.cell(j) {
         Some(text) => text,
         None => b"",
     }
 }
 
 /// The number that the digits of a cell write, and 0 of a blank cell.
-pub(crate) fn number_in(cell: &[u8]) -> u64
+pub(crate) fn number_of(cell: &[u8]) -> u64
     requires { length cell.now ≤ 8 }
     ensures value { result ≡ number_of cell.now }
     ensures small { result < 10 ^ 10 }

@@ -6,7 +6,7 @@ ghost use Rattle.cwr_levels.specs.Fields.{HasSharesFrom};
 ghost use Rattle.cwr_levels.specs.Findings.{is_off, is_party, parties_after, are_over_whole, have_side_over_whole};
 ghost use Rattle.cwr_levels.specs.Walks.{AddUpTo, SidesAddUpTo, capped, has_shares};
 
-use crate::named_cells::{cell, is_a, number_in};
+use crate::named_cells::{cell, is_of, number_of};
 use cwr_layouts::{Kind, RecordRef};
 use cwr_values::Transaction;
 
@@ -31,39 +31,39 @@ impl Shares {
     }
 
     /// The shares of an owner of a work, or of a party to an agreement.
-    fn of(one: &RecordRef<'_>) -> Shares
-        requires { has_shares one.now ≡ true }
-        ensures { AddUpTo (one.now ∷ []) result }
+    fn of(shown: &RecordRef<'_>) -> Shares
+        requires { has_shares shown.now ≡ true }
+        ensures { AddUpTo (shown.now ∷ []) result }
     {
-        match one.kind() {
-            Kind::Spu | Kind::Opu => Shares::from_field(one, 13),
-            Kind::Swr | Kind::Owr => Shares::from_field(one, 12),
-            _ => Shares::from_field(one, 11),
+        match shown.kind() {
+            Kind::Spu | Kind::Opu => Shares::from_field(shown, 13),
+            Kind::Swr | Kind::Owr => Shares::from_field(shown, 12),
+            _ => Shares::from_field(shown, 11),
         }
     }
 
     /// The shares in the three rights, which stand in this field, in the next but one, and in the one two further.
-    fn from_field(one: &RecordRef<'_>, first: u8) -> Shares
+    fn from_field(shown: &RecordRef<'_>, first: u8) -> Shares
         requires few { first < 20 }
-        requires there { HasSharesFrom one.now.kind first }
-        ensures { AddUpTo (one.now ∷ []) result }
+        requires there { HasSharesFrom shown.now.kind first }
+        ensures { AddUpTo (shown.now ∷ []) result }
     {
         Shares {
-            performing: number_in(cell(one, first)),
-            mechanical: number_in(cell(one, first + 2)),
-            synchronization: number_in(cell(one, first + 4)),
+            performing: number_of(cell(shown, first)),
+            mechanical: number_of(cell(shown, first + 2)),
+            synchronization: number_of(cell(shown, first + 4)),
         }
     }
 
     /// With those of one more record, where it counts.
-    pub(crate) fn with(self, one: &RecordRef<'_>, counts: bool) -> Shares
-        requires { counts ≡ true → has_shares one.now ≡ true }
-        ensures { (rs : List RecordValue) → AddUpTo rs self → AddUpTo (rs ++ (if counts then one.now ∷ [] else [])) result }
+    pub(crate) fn with(self, shown: &RecordRef<'_>, counts: bool) -> Shares
+        requires { counts ≡ true → has_shares shown.now ≡ true }
+        ensures { (rs : List RecordValue) → AddUpTo rs self → AddUpTo (rs ++ (if counts then shown.now ∷ [] else [])) result }
     {
         if !counts {
             return self;
         }
-        let more = Shares::of(one);
+        let more = Shares::of(shown);
         Shares {
             performing: self.performing.saturating_add(more.performing),
             mechanical: self.mechanical.saturating_add(more.mechanical),
@@ -123,15 +123,15 @@ impl Sides {
         let mut sides = Sides::none();
         let mut among_parties = false;
         for i in first..transaction.len() {
-            let Some(one) = transaction.record(i) else {
+            let Some(shown) = transaction.record(i) else {
                 return sides;
             };
-            if is_a(&one, Kind::Ipa) {
-                sides = sides.with(&one);
+            if is_of(&shown, Kind::Ipa) {
+                sides = sides.with(&shown);
                 among_parties = true;
                 continue;
             }
-            if among_parties && is_a(&one, Kind::Ter) {
+            if among_parties && is_of(&shown, Kind::Ter) {
                 return sides;
             }
         }

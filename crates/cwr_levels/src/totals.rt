@@ -5,16 +5,19 @@ ghost use Rattle.cwr_layouts.specs.Records.{RecordValue};
 ghost use Rattle.cwr_levels.specs.Findings.{is_owner, is_author, names_author};
 ghost use Rattle.cwr_levels.specs.Walks.{AreTotals};
 
-use crate::named_cells::{cell, is_a};
+use crate::named_cells::{cell, is_of};
 use crate::shares::Shares;
 use cwr_layouts::{Kind, RecordRef};
 use cwr_values::Transaction;
 
 /// Whether the record owns shares of a work.
-fn is_owner(one: &RecordRef<'_>) -> bool
-    ensures { result ≡ is_owner one.now }
+fn is_owner(shown: &RecordRef<'_>) -> bool
+    ensures { result ≡ is_owner shown.now }
 {
-    is_a(one, Kind::Spu) || is_a(one, Kind::Opu) || is_a(one, Kind::Swr) || is_a(one, Kind::Owr)
+    is_of(shown, Kind::Spu)
+        || is_of(shown, Kind::Opu)
+        || is_of(shown, Kind::Swr)
+        || is_of(shown, Kind::Owr)
 }
 
 /// Whether the designation is that of someone who has written words or music.
@@ -27,11 +30,11 @@ fn names_author(designation: &[u8]) -> bool
 }
 
 /// Whether the record is a writer who has written words or music.
-fn is_author(one: &RecordRef<'_>) -> bool
-    ensures { result ≡ is_author one.now }
+fn is_author(shown: &RecordRef<'_>) -> bool
+    ensures { result ≡ is_author shown.now }
 {
-    match one.kind() {
-        Kind::Swr | Kind::Owr => names_author(cell(one, 8)),
+    match shown.kind() {
+        Kind::Swr | Kind::Owr => names_author(cell(shown, 8)),
         _ => false,
     }
 }
@@ -62,24 +65,24 @@ impl Totals {
         }
     }
 
-    /// With one more record, which stands after `k` others.
-    fn with(self, k: usize, one: &RecordRef<'_>) -> Totals
-        requires { k + 1 < 2 ^ 64 }
-        ensures { (rs : List RecordValue) → length rs ≡ k → AreTotals rs self → AreTotals (rs ++ one.now ∷ []) result }
+    /// With one more record, which stands after `sequence` others.
+    fn with(self, sequence: usize, shown: &RecordRef<'_>) -> Totals
+        requires { sequence + 1 < 2 ^ 64 }
+        ensures { (rs : List RecordValue) → length rs ≡ sequence → AreTotals rs self → AreTotals (rs ++ shown.now ∷ []) result }
     {
-        let author = is_author(one);
-        let component = is_a(one, Kind::Com);
+        let author = is_author(shown);
+        let component = is_of(shown, Kind::Com);
         let totals = Totals {
-            ownership: self.ownership.with(one, is_owner(one)),
+            ownership: self.ownership.with(shown, is_owner(shown)),
             has_author: self.has_author | author,
             components: self.components.saturating_add(u64::from(component)),
             publishers_end: self.publishers_end,
         };
-        if !is_a(one, Kind::Spu) {
+        if !is_of(shown, Kind::Spu) {
             return totals;
         }
         Totals {
-            publishers_end: k + 1,
+            publishers_end: sequence + 1,
             ..totals
         }
     }
@@ -89,11 +92,11 @@ impl Totals {
         ensures { AreTotals transaction.now result }
     {
         let mut totals = Totals::none();
-        for k in 0..transaction.len() {
-            let Some(one) = transaction.record(k) else {
+        for sequence in 0..transaction.len() {
+            let Some(shown) = transaction.record(sequence) else {
                 return totals;
             };
-            totals = totals.with(k, &one);
+            totals = totals.with(sequence, &shown);
         }
         totals
     }

@@ -64,17 +64,17 @@ fn add_findings_at(
     totals: &Totals,
     before: &Before<'_>,
     sequence: usize,
-    one: &RecordRef<'_>,
+    shown: &RecordRef<'_>,
 ) -> Result<(), AllocError>
     requires totals { AreTotals transaction.now totals.now }
     requires before { IsBefore (take sequence transaction.now) before.now }
-    requires there { slice_get transaction.now sequence ≡ Some one.now }
-    ensures ok { OnOk result (found.new.items ≡ found.old.items ++ findings_at transaction.now sequence one.now) }
-    ensures err { OnErr result (findings_at transaction.now sequence one.now ≢ []) }
+    requires there { slice_get transaction.now sequence ≡ Some shown.now }
+    ensures ok { OnOk result (found.new.items ≡ found.old.items ++ findings_at transaction.now sequence shown.now) }
+    ensures err { OnErr result (findings_at transaction.now sequence shown.now ≢ []) }
 {
-    let kind = one.kind();
+    let kind = shown.kind();
     for rule in rules_on(kind) {
-        if breaks(*rule, transaction, totals, before, sequence, one) {
+        if breaks(*rule, transaction, totals, before, sequence, shown) {
             found.push(Finding {
                 rec: sequence,
                 field: field_of(*rule, kind),
@@ -99,11 +99,11 @@ pub fn findings(alloc: Global, transaction: &Transaction) -> Result<Vec<Finding>
     let mut found = Vec::new(alloc);
     let mut before = Before::none();
     for sequence in 0..transaction.len() {
-        let Some(one) = transaction.record(sequence) else {
+        let Some(shown) = transaction.record(sequence) else {
             return Ok(found);
         };
-        add_findings_at(&mut found, transaction, &totals, &before, sequence, &one)?;
-        before = before.with(&one);
+        add_findings_at(&mut found, transaction, &totals, &before, sequence, &shown)?;
+        before = before.with(&shown);
     }
     Ok(found)
 }

@@ -7,6 +7,6 @@ use Rattle.cwr_levels.proofs.totals.is_author.Goals as goal
 
 pub returns-in-Swr : goal.returns-in-Swr
 returns-in-Swr c = c.names_author.ensures ∙ ap names_author c.cell.ensures.value ∙ elim c.in-Swr.is [
-  | inl e ↦ author_of_kind kinds.Swr c.args.one.now refl designation_of_swr (sym c.kind.ensures.value ∙ e) c.cell.ensures.fits
-  | inr e ↦ author_of_kind kinds.Owr c.args.one.now refl designation_of_owr (sym c.kind.ensures.value ∙ e) c.cell.ensures.fits
+  | inl e ↦ author_of_kind kinds.Swr c.args.shown.now refl designation_of_swr (sym c.kind.ensures.value ∙ e) c.cell.ensures.fits
+  | inr e ↦ author_of_kind kinds.Owr c.args.shown.now refl designation_of_owr (sym c.kind.ensures.value ∙ e) c.cell.ensures.fits
 ]

@@ -11,15 +11,15 @@ use Rattle.cwr_levels.proofs.walk.findings.Goals as goal
 
 pub returns-in_err-add_findings_at-clause-err : goal.returns-in_err-add_findings_at-clause-err
 returns-in_err-add_findings_at-clause-err c = on_err c.from_residual.result (findings c.args.transaction.now ≢ [])
-    (some_finding c.args.transaction.now c.loop-sequence.sequence c.in-Some.one (sym c.record.ensures.value ∙ c.in-Some.is) c.in_err-add_findings_at.ensures.err)
+    (some_finding c.args.transaction.now c.loop-sequence.sequence c.in-Some.shown (sym c.record.ensures.value ∙ c.in-Some.is) c.in_err-add_findings_at.ensures.err)
 
 pub loop-sequence-preserved : goal.loop-sequence-preserved
 loop-sequence-preserved c =
     let there = sym c.record.ensures.value ∙ c.in-Some.is in
     record {
-      found = c.in_ok-add_findings_at.ensures.ok ∙ ap (λ (l : List Finding). l ++ findings_at c.args.transaction.now c.loop-sequence.sequence c.in-Some.one) c.loop-sequence.invariant.found
-          ∙ found_more c.args.transaction.now c.loop-sequence.sequence c.in-Some.one there;
-      before = subst (λ (l : List RecordValue). IsBefore l c.with-before.result) (sym (take_more c.args.transaction.now c.loop-sequence.sequence c.in-Some.one there))
+      found = c.in_ok-add_findings_at.ensures.ok ∙ ap (λ (l : List Finding). l ++ findings_at c.args.transaction.now c.loop-sequence.sequence c.in-Some.shown) c.loop-sequence.invariant.found
+          ∙ found_more c.args.transaction.now c.loop-sequence.sequence c.in-Some.shown there;
+      before = subst (λ (l : List RecordValue). IsBefore l c.with-before.result) (sym (take_more c.args.transaction.now c.loop-sequence.sequence c.in-Some.shown there))
           (c.with-before.ensures (take c.loop-sequence.sequence c.args.transaction.now) c.loop-sequence.invariant.before);
     }
 
