@@ -2,12 +2,11 @@
 
 ghost use Rattle.std.specs.Prelude.{◌≡◌, ◌+◌, ◌≤◌, ◌++◌, ◌∷◌, [], length, replicate, slice_index, take};
 ghost use Rattle.cwr_fields.specs.Bytes.{digits};
-ghost use Rattle.cwr_layouts.specs.Kinds.{letters as letters_of};
 ghost use Rattle.cwr_layouts.specs.Layouts.{line_width};
 ghost use Rattle.cwr_layouts.specs.Records.{full_line, row_of};
 ghost use Rattle.cwr_layouts.specs.Numbered.{numbered_part, with_part};
 
-use crate::kinds::Kind;
+use crate::kinds::{Kind, letters};
 use crate::records::{RecordRef, WIDEST_LINE};
 use std::marker::Model;
 
@@ -38,39 +37,6 @@ fn set_digits<const WIDTH: usize>(line: &mut [u8], start: usize, number: u64)
     let mut cell = [b'0'; WIDTH];
     write_digits(&mut cell, number);
     line[start..start + WIDTH].copy_from_slice(&cell);
-}
-
-/// The three bytes that name a kind.
-fn letters(kind: Kind) -> &'static [u8]
-    ensures { result.now ≡ letters_of kind }
-{
-    match kind {
-        Kind::Hdr => b"HDR",
-        Kind::Grh => b"GRH",
-        Kind::Grt => b"GRT",
-        Kind::Trl => b"TRL",
-        Kind::Agr => b"AGR",
-        Kind::Ter => b"TER",
-        Kind::Ipa => b"IPA",
-        Kind::Nwr => b"NWR",
-        Kind::Rev => b"REV",
-        Kind::Spu => b"SPU",
-        Kind::Opu => b"OPU",
-        Kind::Spt => b"SPT",
-        Kind::Swr => b"SWR",
-        Kind::Owr => b"OWR",
-        Kind::Swt => b"SWT",
-        Kind::Pwr => b"PWR",
-        Kind::Alt => b"ALT",
-        Kind::Ewt => b"EWT",
-        Kind::Ver => b"VER",
-        Kind::Per => b"PER",
-        Kind::Rec => b"REC",
-        Kind::Orn => b"ORN",
-        Kind::Com => b"COM",
-        Kind::Ack => b"ACK",
-        Kind::Msg => b"MSG",
-    }
 }
 
 /// Number `i` of those given, and 0 where there is none.
