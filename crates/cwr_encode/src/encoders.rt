@@ -12,9 +12,9 @@ ghost use Rattle.cwr_encode.specs.Encoders.{Encodes, IsUnlimited, Adds, AnswersA
 ghost use Rattle.std.specs.Io.KnownBytes.{Keeps};
 ghost use Rattle.cwr_fields.specs.Failures.{one_more_failure};
 ghost use Rattle.cwr_encode.specs.EncodeFaultTexts.{encode_fault_text};
-ghost use Rattle.cwr_encode.specs.Finishes.{Finishes, JudgesEnd};
+ghost use Rattle.cwr_encode.specs.Finishing.{FinishesWriting, JudgesEnd};
 
-use crate::checks::{count_all, has_header, may_end, passed};
+use crate::checks::{count_all, has_header, group_may_end, passed};
 use crate::rows::{put_row, put_transaction};
 use crate::sinks::Sink;
 use cwr_fields::{Target, TransactionType};
@@ -216,7 +216,7 @@ impl<W: Target> Encoder<W> {
         match stage {
             Stage::Within(ty, step) => match step {
                 TransactionStep::InGroup => Some(ty),
-                _ => { if may_end(stage) { Some(ty) } else { None } }
+                _ => { if group_may_end(stage) { Some(ty) } else { None } }
             },
             _ => None,
         }
@@ -326,7 +326,7 @@ impl<W: Target> Encoder<W> {
         ensures judged { is_stopped self ≡ false → (start : Option (List ℕ)) (records : List RecordValue) → Encodes W.contents start records self
             → JudgesEnd (limits_of self) (map symbol_by_cells records) result.1 }
         ensures unlimited { IsUnlimited result.1 }
-        ensures finishes { is_stopped self ≡ false → Finishes W.contents W.failures self result.0 result.1 }
+        ensures finishes { is_stopped self ≡ false → FinishesWriting W.contents W.failures self result.0 result.1 }
     {
         let mut encoder = self;
         match encoder.end() {
