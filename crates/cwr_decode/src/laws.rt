@@ -35,6 +35,13 @@ pub fn canonical_text_is_accepted()
         → IsAccepted limits (canonical_text v ++ more) v (length (canonical_text v)) }
 {}
 
+/// The canonical text of a transmission that was read, from whatever spelling, is accepted as the same transmission,
+/// whatever follows it.
+pub fn accepted_again_when_canonical()
+    ensures { (limits : Limits) (text : List ℕ) (v : TransmissionValue) (n : ℕ) (more : List ℕ) → IsAccepted limits text v n
+        → IsAccepted limits (canonical_text v ++ more) v (length (canonical_text v)) }
+{}
+
 /// The items that a transmission's rows give are it, opened, each of its groups with each of its transactions, and
 /// its end: no record is handed out with another transaction's.
 pub fn items_are_its_parts()

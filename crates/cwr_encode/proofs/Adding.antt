@@ -24,7 +24,7 @@ use Rattle.cwr_encode.specs.declared.encoders.Reached.TheVariants as reached_to
 use Rattle.cwr_encode.specs.declared.encoders.EncodeFault.{EncodeFault}
 use Rattle.cwr_encode.specs.declared.encoders.EncodeFault.TheVariants.{Writer}
 use Rattle.cwr_encode.specs.Sinks.{HasWritten, Puts}
-use Rattle.cwr_encode.specs.Encoders.{part_of, reached, reached_by, Encodes, Judges, RepresentsMore, Adds, bytes_written}
+use Rattle.cwr_encode.specs.Encoders.{part_of, reached, reached_by, Encodes, JudgesCall, RepresentsMore, Adds, bytes_written}
 
 -- ---- the part grows by the rows of what comes
 
@@ -79,9 +79,9 @@ adds_one contents failures r q s ns old new result same symbol in_order outside 
 -- ---- answers
 
 pub judged_taken : {A comes right whole : Type 0} (limits : LimitValues) (xs added : List Symbol) (result : Result A EncodeFault) (n : ℕ) → IfErr result (λ e. e ≡ Writer n) → comes → right → whole
-    → Continues (IsWithin limits) (xs ++ added) → Judges comes right whole limits xs added result
+    → Continues (IsWithin limits) (xs ++ added) → JudgesCall comes right whole limits xs added result
 judged_taken limits xs added (Ok x) n f c r w g = (c, r, w, g)
-judged_taken {A = A} {comes = comes} {right = right} {whole = whole} limits xs added (Err e) n f c r w g = subst (λ (x : EncodeFault). Judges {A = A} comes right whole limits xs added (Err x)) (sym f) (c, r, w, g)
+judged_taken {A = A} {comes = comes} {right = right} {whole = whole} limits xs added (Err e) n f c r w g = subst (λ (x : EncodeFault). JudgesCall {A = A} comes right whole limits xs added (Err x)) (sym f) (c, r, w, g)
 
 pub admitted : (limits : LimitValues) (xs : List Symbol) (s : Symbol) (answer : Result (Unit {0}) Bar) (b : Bool) → b ≡ is_err answer → b ≡ false → Answers limits xs s answer → MayCome limits xs s
 admitted limits xs s (Ok u) b e f a = a

@@ -1,9 +1,10 @@
 -- What a sink has written with one more text.
 use Rattle.std.proofs.Common.{◌≡◌, ℕ, ◌+◌, ◌-◌, ◌≤◌, ◌^◌, min, false, List, [], ◌∷◌, ◌++◌, length, take, drop, Option, refl, sym, ap, subst, ◌∙◌, arith, append_assoc, append-nil}
 use Rattle.std.proofs.lemmas.List.{length-append, length-take-le, take-append-drop}
+use Rattle.std.specs.Prelude.{Result, Ok, Err, OnOk}
 use Rattle.std.specs.Io.KnownBytes.{Appends}
 use Rattle.cwr_encode.specs.declared.sinks.Sink.{Sink}
-use Rattle.cwr_encode.specs.Sinks.{written_of, writer_of, has_failed, counted_up, HasWritten}
+use Rattle.cwr_encode.specs.Sinks.{written_of, writer_of, has_failed, counted_up, GrowsBy, HasWritten}
 use Rattle.cwr_encode.proofs.Moves.{appends_both}
 
 -- a sink that hasn't failed has written all
@@ -34,6 +35,21 @@ taken_whole (x ∷ xs) = ap (λ (l : List ℕ). x ∷ l) (taken_whole xs)
 dropped_whole : (xs : List ℕ) → drop (length xs) xs ≡ []
 dropped_whole [] = refl
 dropped_whole (x ∷ xs) = dropped_whole xs
+
+-- what holds anyhow holds of a success
+on_ok : {E : Type 0} (result : Result (Unit {0}) E) {P : Type 0} → P → OnOk result P
+on_ok (Ok x) p = p
+on_ok (Err e) p = tt
+
+pub grown_whole : {W E : Type 0} (contents : W → Option (List ℕ)) (text : List ℕ) (result : Result (Unit {0}) E) (old new : Sink W) → Appends (contents (writer_of old)) (contents (writer_of new)) text
+    → written_of new ≡ counted_up (written_of old) (length text) → GrowsBy contents text result old new
+grown_whole contents text result old new more count = record {
+  taken = length text;
+  within = omega arith;
+  whole = on_ok result refl;
+  appended = subst (Appends (contents (writer_of old)) (contents (writer_of new))) (sym (taken_whole text)) more;
+  counted = count;
+}
 
 pub written_all : {W : Type 0} (contents : W → Option (List ℕ)) (start : Option (List ℕ)) (before text : List ℕ) (old new : Sink W) → has_failed old ≡ false
     → Appends (contents (writer_of old)) (contents (writer_of new)) text → written_of new ≡ counted_up (written_of old) (length text) → HasWritten contents start before old → HasWritten contents start (before ++ text) new

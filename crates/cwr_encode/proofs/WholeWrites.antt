@@ -9,7 +9,7 @@ use Rattle.cwr_encode.specs.declared.encoders.EncodeFault.{EncodeFault}
 use Rattle.cwr_encode.specs.declared.encoders.EncodeFault.TheVariants.{Writer}
 use Rattle.cwr_encode.specs.declared.sinks.Sink.{Sink}
 use Rattle.cwr_encode.specs.Sinks.{HasWritten, Puts, writer_of, written_of}
-use Rattle.cwr_encode.specs.Finishes.{HasFront}
+use Rattle.cwr_encode.specs.Finishing.{HasFront}
 use Rattle.cwr_encode.specs.Whole.{WritesAll}
 use Rattle.cwr_encode.proofs.Ends.{all_written, appends_kept, kept_same}
 

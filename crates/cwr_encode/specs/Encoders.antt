@@ -93,13 +93,13 @@ pub record Encodes {W : Type 0} (contents : W → Option (List ℕ)) (start : Op
 
 -- The answer to a call that adds symbols, where it may come, where what it is given is of the right kind, and where that
 -- and what it ends are whole: the first fault that holds, or none. A fault of the writer comes only where no other holds.
-abbrev pub Judges : {A : Type 0} → Type 0 → Type 0 → Type 0 → LimitValues → List Symbol → List Symbol → Result A EncodeFault → Type 0
-Judges comes right whole limits xs added (Err OutOfOrder) = ¬ comes
-Judges comes right whole limits xs added (Err WrongKind) = comes × ¬ right
-Judges comes right whole limits xs added (Err Incomplete) = comes × right × ¬ whole
-Judges comes right whole limits xs added (Err (Limit limit)) = comes × right × whole × IsBarredFirst limits (λ P. Continues P (xs ++ added)) (bars.Limit limit)
-Judges comes right whole limits xs added (Err (Writer written)) = comes × right × whole × Continues (IsWithin limits) (xs ++ added)
-Judges comes right whole limits xs added (Ok x) = comes × right × whole × Continues (IsWithin limits) (xs ++ added)
+abbrev pub JudgesCall : {A : Type 0} → Type 0 → Type 0 → Type 0 → LimitValues → List Symbol → List Symbol → Result A EncodeFault → Type 0
+JudgesCall comes right whole limits xs added (Err OutOfOrder) = ¬ comes
+JudgesCall comes right whole limits xs added (Err WrongKind) = comes × ¬ right
+JudgesCall comes right whole limits xs added (Err Incomplete) = comes × right × ¬ whole
+JudgesCall comes right whole limits xs added (Err (Limit limit)) = comes × right × whole × IsBarredFirst limits (λ P. Continues P (xs ++ added)) (bars.Limit limit)
+JudgesCall comes right whole limits xs added (Err (Writer written)) = comes × right × whole × Continues (IsWithin limits) (xs ++ added)
+JudgesCall comes right whole limits xs added (Ok x) = comes × right × whole × Continues (IsWithin limits) (xs ++ added)
 
 -- whatever records the encoder represented, it represents these records more
 abbrev pub RepresentsMore : {W : Type 0} → (W → Option (List ℕ)) → List RecordValue → Encoder W → Encoder W → Type 0
@@ -126,7 +126,7 @@ IsUnlimited answer = Unit {0}
 
 -- HDR comes first
 abbrev pub JudgesOpening : LimitValues → RecordValue → List Symbol → Result (Unit {0}) EncodeFault → Type 0
-JudgesOpening limits r xs answer = Judges (reached xs ≡ reached_to.Nothing) (r.kind ≡ kinds.Hdr) (Unit {0}) limits xs (symbol_of r ∷ []) answer
+JudgesOpening limits r xs answer = JudgesCall (reached xs ≡ reached_to.Nothing) (r.kind ≡ kinds.Hdr) (Unit {0}) limits xs (symbol_of r ∷ []) answer
 
 -- a group comes after HDR, or after another group
 abbrev pub MayBeginGroup : Reached → Type 0
@@ -135,7 +135,7 @@ MayBeginGroup reached_to.GroupFoot = Unit {0}
 MayBeginGroup r = ⊥
 
 abbrev pub JudgesGroup : LimitValues → RecordValue → List Symbol → Result (Unit {0}) EncodeFault → Type 0
-JudgesGroup limits r xs answer = Judges (MayBeginGroup (reached xs)) (r.kind ≡ kinds.Grh) (Unit {0}) limits xs (symbol_of r ∷ []) answer
+JudgesGroup limits r xs answer = JudgesCall (MayBeginGroup (reached xs)) (r.kind ≡ kinds.Grh) (Unit {0}) limits xs (symbol_of r ∷ []) answer
 
 -- a transaction, and the group's end, come in an open group
 abbrev pub IsInGroup : Reached → Type 0
@@ -144,11 +144,11 @@ IsInGroup reached_to.Inside = Unit {0}
 IsInGroup r = ⊥
 
 abbrev pub JudgesTransaction : LimitValues → List RecordValue → List Symbol → Result (Unit {0}) EncodeFault → Type 0
-JudgesTransaction limits t xs answer = Judges (IsInGroup (reached xs)) (HasHeaderOf (open_type xs) t) (IsWholeTransaction t) limits xs (map symbol_of t) answer
+JudgesTransaction limits t xs answer = JudgesCall (IsInGroup (reached xs)) (HasHeaderOf (open_type xs) t) (IsWholeTransaction t) limits xs (map symbol_of t) answer
 
 -- a group ends that has a transaction
 abbrev pub JudgesFoot : LimitValues → RecordValue → List Symbol → Result (Unit {0}) EncodeFault → Type 0
-JudgesFoot limits r xs answer = Judges (IsInGroup (reached xs)) (r.kind ≡ kinds.Grt) (reached xs ≡ reached_to.Inside) limits xs (symbol_of r ∷ []) answer
+JudgesFoot limits r xs answer = JudgesCall (IsInGroup (reached xs)) (r.kind ≡ kinds.Grt) (reached xs ≡ reached_to.Inside) limits xs (symbol_of r ∷ []) answer
 
 -- ---- steps of the calls
 

@@ -1,5 +1,5 @@
 -- What a sink shows of itself, and what it has written.
-use Rattle.std.specs.Prelude.{◌≡◌, ℕ, ◌+◌, ◌-◌, ◌^◌, min, Bool, false, List, [], ◌++◌, length, Option, Result, Ok, Err, is_err}
+use Rattle.std.specs.Prelude.{◌≡◌, ℕ, ◌+◌, ◌-◌, ◌≤◌, ◌^◌, min, Bool, false, List, [], ◌++◌, length, take, Option, Result, Ok, Err, OnOk, is_err}
 use Rattle.std.specs.Io.KnownBytes.{Appends}
 use Rattle.cwr_fields.specs.Failures.{one_more_failure}
 use Rattle.cwr_encode.specs.declared.sinks.Sink.{Sink}
@@ -34,6 +34,15 @@ pub record HasWritten {W : Type 0} (contents : W → Option (List ℕ)) (start :
   pub appended : Appends start (contents (writer_of sink)) bytes
   pub counted : written_of sink ≡ min (length bytes) (2 ^ 64 - 1)
   pub whole : has_failed sink ≡ false → rest ≡ []
+
+-- The text was appended to what the writer had, or, where the writer failed, its first bytes were; the count has grown by as
+-- many.
+pub record GrowsBy {W E : Type 0} (contents : W → Option (List ℕ)) (text : List ℕ) (result : Result (Unit {0}) E) (old new : Sink W) : Type 0 where
+  pub taken : ℕ
+  pub within : taken ≤ length text
+  pub whole : OnOk result (taken ≡ length text)
+  pub appended : Appends (contents (writer_of old)) (contents (writer_of new)) (take taken text)
+  pub counted : written_of new ≡ counted_up (written_of old) taken
 
 -- What a call does that puts a text. Whatever text was put before, that text followed by this one is now put: it is written
 -- whole, or after a fault its first bytes are. The fault is that of the writer in this call.

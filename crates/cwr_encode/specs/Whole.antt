@@ -6,7 +6,7 @@ use Rattle.cwr_values.specs.declared.transmissions.ValueFault.{ValueFault}
 use Rattle.cwr_values.specs.declared.transmissions.ValueFault.TheVariants.{NoGroup, Records, Groups, Transaction}
 use Rattle.cwr_encode.specs.declared.encoders.EncodeFault.{EncodeFault}
 use Rattle.cwr_encode.specs.declared.encoders.EncodeFault.TheVariants.{Incomplete, Limit, Writer}
-use Rattle.cwr_encode.specs.Finishes.{HasAll, HasFront}
+use Rattle.cwr_encode.specs.Finishing.{HasAll, HasFront}
 
 -- why a transmission is refused that doesn't fit
 abbrev pub refusal_of : ValueFault → EncodeFault

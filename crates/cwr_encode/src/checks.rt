@@ -36,7 +36,7 @@ pub(crate) fn has_header(transaction: &Transaction, ty: TransactionType) -> bool
 }
 
 /// Whether a group may end at the stage.
-pub(crate) fn may_end(stage: Stage) -> bool
+pub(crate) fn group_may_end(stage: Stage) -> bool
     ensures { (xs : List Symbol) → StandsAt xs stage → IsTrue result ↔ Continues Any (xs ++ Plain Grt ∷ []) }
 {
     stage.next(Symbol::Plain(Kind::Grt)).is_some()

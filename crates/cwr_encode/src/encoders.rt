@@ -1,6 +1,6 @@
 //! Transmissions that are written call by call.
 
-ghost use Rattle.std.specs.Prelude.{◌≡◌, ◌↔◌, ◌≤◌, IsTrue, ℕ, List, Option, [], ◌∷◌, length, map, true, false, IfErr, MatchOption, IfOk, Err};
+ghost use Rattle.std.specs.Prelude.{◌≡◌, ◌↔◌, ◌≤◌, IsTrue, ℕ, List, Option, [], ◌∷◌, length, map, true, false, IfErr, MatchOption, IfOk, Err, Some};
 ghost use Rattle.cwr_layouts.specs.Records.{RecordValue, row_of};
 ghost use Rattle.cwr_shape.specs.declared.symbols.Symbol.{Symbol};
 ghost use Rattle.cwr_shape.specs.Tallies.{IsTallyOf};
@@ -11,9 +11,10 @@ ghost use Rattle.cwr_encode.specs.Texts.{text_from};
 ghost use Rattle.cwr_encode.specs.Encoders.{Encodes, IsUnlimited, Adds, AnswersAgain, IsBetween, IsInGroup, IsNextNumber, IsReady, JudgesTransaction, JudgesFoot, JudgesGroup, JudgesOpening, MayBeginGroup, end_fault, fault_of, reached, reached_at, is_stopped, limits_of, target_of, bytes_written};
 ghost use Rattle.std.specs.Io.KnownBytes.{Keeps};
 ghost use Rattle.cwr_fields.specs.Failures.{one_more_failure};
-ghost use Rattle.cwr_encode.specs.Finishes.{Finishes, JudgesEnd};
+ghost use Rattle.cwr_encode.specs.EncodeFaultTexts.{encode_fault_text};
+ghost use Rattle.cwr_encode.specs.Finishing.{FinishesWriting, JudgesEnd};
 
-use crate::checks::{count_all, has_header, may_end, passed};
+use crate::checks::{count_all, has_header, group_may_end, passed};
 use crate::rows::{put_row, put_transaction};
 use crate::sinks::Sink;
 use cwr_fields::{Target, TransactionType};
@@ -42,16 +43,14 @@ pub enum EncodeFault {
 }
 
 impl Display for EncodeFault {
+    ghost output = { λ fault. Some (encode_fault_text fault) };
+
     fn fmt<O: Write>(&self, f: &mut Formatter<O>) -> fmt::Result {
         match self {
-            EncodeFault::OutOfOrder => f.pad("a call out of order"),
+            EncodeFault::OutOfOrder => f.pad("out of order"),
             EncodeFault::WrongKind => f.pad("of the wrong kind"),
             EncodeFault::Incomplete => f.pad("incomplete"),
-            EncodeFault::Limit(LimitKind::Records) => f.pad("too many records"),
-            EncodeFault::Limit(LimitKind::Groups) => f.pad("too many groups"),
-            EncodeFault::Limit(LimitKind::Transaction) => f.pad(
-                "a transaction of too many records",
-            ),
+            EncodeFault::Limit(limit) => write!(f, "limit {limit}"),
             EncodeFault::Writer { written } => write!(f, "the writer failed after {written} bytes"),
         }
     }
@@ -217,7 +216,7 @@ impl<W: Target> Encoder<W> {
         match stage {
             Stage::Within(ty, step) => match step {
                 TransactionStep::InGroup => Some(ty),
-                _ => { if may_end(stage) { Some(ty) } else { None } }
+                _ => { if group_may_end(stage) { Some(ty) } else { None } }
             },
             _ => None,
         }
@@ -327,7 +326,7 @@ impl<W: Target> Encoder<W> {
         ensures judged { is_stopped self ≡ false → (start : Option (List ℕ)) (records : List RecordValue) → Encodes W.contents start records self
             → JudgesEnd (limits_of self) (map symbol_by_cells records) result.1 }
         ensures unlimited { IsUnlimited result.1 }
-        ensures finishes { is_stopped self ≡ false → Finishes W.contents W.failures self result.0 result.1 }
+        ensures finishes { is_stopped self ≡ false → FinishesWriting W.contents W.failures self result.0 result.1 }
     {
         let mut encoder = self;
         match encoder.end() {

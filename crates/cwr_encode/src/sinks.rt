@@ -1,9 +1,10 @@
 //! Texts that are put to a writer, one after another.
 
-ghost use Rattle.std.specs.Prelude.{◌≡◌, ◌≤◌, ℕ, List, Option, [], ◌++◌, IfErr, OnErr, OnOk, IsErr, is_err, true, false, length, take};
+ghost use Rattle.std.specs.Prelude.{◌≡◌, ◌≤◌, ℕ, List, Option, [], ◌++◌, IfErr, OnErr, OnOk, IsErr, is_err, true, false, length, take, Some};
 ghost use Rattle.std.specs.Io.KnownBytes.{Appends};
 ghost use Rattle.cwr_fields.specs.Failures.{CountsFailure};
-ghost use Rattle.cwr_encode.specs.Sinks.{written_of, writer_of, has_failed, CountsOn, HasWritten};
+ghost use Rattle.cwr_encode.specs.EncodeFaultTexts.{writer_fault_text};
+ghost use Rattle.cwr_encode.specs.Sinks.{written_of, writer_of, has_failed, CountsOn, GrowsBy, HasWritten};
 
 use cwr_fields::Target;
 use std::error::Error;
@@ -17,6 +18,8 @@ pub struct SinkFault {
 }
 
 impl Display for SinkFault {
+    ghost output = { λ fault. Some (writer_fault_text fault.written) };
+
     fn fmt<O: Write>(&self, f: &mut Formatter<O>) -> fmt::Result {
         write!(f, "the writer failed after {} bytes", self.written)
     }
@@ -69,6 +72,8 @@ impl<W: Target> Sink<W> {
     pub fn put(&mut self, text: &[u8]) -> Result<(), SinkFault>
         // Whatever text was put so far, that text followed by this one is now put: it is written whole, or after a fault its first bytes are.
         ensures written { (start : Option (List ℕ)) (before : List ℕ) → HasWritten W.contents start before self.old → HasWritten W.contents start (before ++ text.now) self.new }
+        // Of an unfailed sink whose past isn't known: this call only appends, and counts what it appends.
+        ensures grows { has_failed self.old ≡ false → GrowsBy W.contents text.now result self.old self.new }
         ensures fault { IfErr result (λ f. f.written ≡ written_of self.new) }
         ensures failed { has_failed self.new ≡ is_err result }
         // A fault is reported only where the writer failed in this call, or in an earlier one.

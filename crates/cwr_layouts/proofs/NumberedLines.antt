@@ -1,11 +1,13 @@
 -- The line of a record's row is the line that the record is kept in, with the numbers put in.
-use Rattle.std.proofs.Common.{◌≡◌, ℕ, ◌+◌, ◌-◌, ◌≤◌, Bool, true, false, not, cond, List, [], ◌∷◌, ◌++◌, length, map, take, drop, filter, refl, sym, ap, ap₂, ◌∙◌, arith, lit≤, true≢false, append_assoc}
+use Rattle.std.proofs.Common.{◌≡◌, ℕ, ◌+◌, ◌≤◌, Bool, true, false, not, cond, List, [], ◌∷◌, ◌++◌, length, map, take, drop, filter, refl, sym, ap, ap₂, ◌∙◌, arith, lit≤, true≢false, append_assoc, take-add}
 use Rattle.std.specs.Prelude.{slice_get, slice_index, unwrap_or, if◌then◌else◌}
 use Rattle.std.specs.List.{concat, list_all, zip}
 use Rattle.std.proofs.lemmas.Bool.{and_parts}
-use Rattle.std.proofs.lemmas.List.{length-drop, take-append-drop, drop-drop, take_all}
+use Rattle.std.proofs.Math.Seq.{take-append_seam, drop-append_seam}
+use Rattle.std.proofs.lemmas.List.{length-append, length-drop, length-take-le, take-append-drop, drop-drop}
 use Rattle.std.proofs.lemmas.List.Sums.{sum_by-cons}
 use Rattle.cwr_fields.specs.Bytes.{digits}
+use Rattle.cwr_fields.proofs.Digits.{length-digits}
 use Rattle.cwr_layouts.specs.declared.kinds.Kind.{Kind}
 use Rattle.cwr_layouts.specs.declared.kinds.Kind.TheVariants.{Hdr, Grh, Grt, Trl, Agr, Ter, Ipa, Nwr, Rev, Spu, Opu, Spt, Swr, Owr, Swt, Pwr, Alt, Ewt, Ver, Per, Rec, Orn, Com, Ack, Msg}
 use Rattle.cwr_layouts.specs.Kinds.{letters}
@@ -13,7 +15,7 @@ use Rattle.cwr_layouts.specs.Layouts.{FieldLayout, fields_after_type, in_transac
 use Rattle.cwr_layouts.specs.Lines.{pieces}
 use Rattle.cwr_layouts.specs.Records.{RecordValue, rest_if, row_cells, row_of, full_line}
 use Rattle.cwr_layouts.specs.Carried.{carried_cells, record_in}
-use Rattle.cwr_layouts.specs.Numbered.{numbered_part}
+use Rattle.cwr_layouts.specs.Numbered.{numbered_part, with_part}
 use Rattle.cwr_layouts.proofs.GoodLinesAreRows.{carried_in}
 
 -- the text of some fields, with numbers in the place of their derived cells
@@ -137,6 +139,34 @@ numbered_inside Grt ns line a b c d = absurd (c refl)
 numbered_inside Trl ns line a b c d = absurd (d refl)
 numbered_inside kind ns line a b c d = refl
 
+-- a kind is named by three bytes
+letters_long : (kind : Kind) → length (letters kind) ≡ 3
+letters_long Hdr = refl
+letters_long Grh = refl
+letters_long Grt = refl
+letters_long Trl = refl
+letters_long Agr = refl
+letters_long Ter = refl
+letters_long Ipa = refl
+letters_long Nwr = refl
+letters_long Rev = refl
+letters_long Spu = refl
+letters_long Opu = refl
+letters_long Spt = refl
+letters_long Swr = refl
+letters_long Owr = refl
+letters_long Swt = refl
+letters_long Pwr = refl
+letters_long Alt = refl
+letters_long Ewt = refl
+letters_long Ver = refl
+letters_long Per = refl
+letters_long Rec = refl
+letters_long Orn = refl
+letters_long Com = refl
+letters_long Ack = refl
+letters_long Msg = refl
+
 -- no line is narrower than that of TRL
 pub line_width_least : (kind : Kind) → 24 ≤ line_width kind
 line_width_least Hdr = lit≤ tt
@@ -165,19 +195,89 @@ line_width_least Com = lit≤ tt
 line_width_least Ack = lit≤ tt
 line_width_least Msg = lit≤ tt
 
--- ---- what the code appends, one part after another
+-- ---- what the code sets, one number after another
 
-pub pushed_inside : (kind : Kind) (ns line old a b c : List ℕ) (x y : ℕ) → (kind ≡ Hdr → ⊥) → (kind ≡ Grh → ⊥) → (kind ≡ Grt → ⊥) → (kind ≡ Trl → ⊥)
-    → x ≡ slice_index ns 0 → y ≡ slice_index ns 1 → a ≡ old ++ digits 8 x → b ≡ a ++ digits 8 y → c ≡ b ++ take (length line - 19) (drop 19 line) → c ≡ old ++ numbered_part kind ns line
-pushed_inside kind ns line old a b c x y h k l m e f p q r =
-    let rest : take (length line - 19) (drop 19 line) ≡ drop 19 line = take_all (length line - 19) (drop 19 line) (omega (arith, length-drop 19 line)) in
-    r ∙ ap₂ (λ (z t : List ℕ). z ++ t) (q ∙ ap (λ (z : List ℕ). z ++ digits 8 y) p) rest
-    ∙ append_assoc (old ++ digits 8 x) (digits 8 y) (drop 19 line) ∙ append_assoc old (digits 8 x) (digits 8 y ++ drop 19 line)
-    ∙ ap₂ (λ (n i : ℕ). old ++ (digits 8 n ++ (digits 8 i ++ drop 19 line))) e f ∙ ap (λ (z : List ℕ). old ++ z) (sym (numbered_inside kind ns line h k l m))
+-- a part in the place of what stands after a front
+part_after : (x y part : List ℕ) (at : ℕ) → at ≡ length x → with_part at part (x ++ y) ≡ x ++ (part ++ drop (length part) y)
+part_after x y part at e =
+    let front : take at (x ++ y) ≡ x = ap (λ (n : ℕ). take n (x ++ y)) e ∙ take-append_seam x y in
+    let back : drop (at + length part) (x ++ y) ≡ drop (length part) y =
+    sym (drop-drop (length part) at (x ++ y)) ∙ ap (drop (length part)) (ap (λ (n : ℕ). drop n (x ++ y)) e ∙ drop-append_seam x y) in
+    ap₂ (λ (z t : List ℕ). z ++ (part ++ t)) front back
 
-pub line_set : (r : RecordValue) (kind : Kind) (ns line name start a b c d : List ℕ) → kind ≡ r.kind → length line ≡ line_width r.kind → r ≡ record_in r.kind line → start ≡ [] → name ≡ letters kind → a ≡ start ++ name
-    → b ≡ a ++ numbered_part kind ns line → c ≡ b ++ d → c ≡ full_line (row_of ns r) ++ d
-line_set r kind ns line name start a b c d k h e n l p q s =
-    let full : full_line (row_of ns r) ≡ letters r.kind ++ numbered_part r.kind ns line = ap (λ (x : RecordValue). full_line (row_of ns x)) e ∙ full_line-numbered r.kind ns line h in
-    let begun : a ≡ letters kind = p ∙ ap₂ (λ (y z : List ℕ). y ++ z) n l in
-    s ∙ ap (λ (z : List ℕ). z ++ d) (q ∙ ap (λ (z : List ℕ). z ++ numbered_part kind ns line) begun ∙ ap (λ (j : Kind). letters j ++ numbered_part j ns line) k ∙ sym full)
+-- two numbers, one after the other
+two_set : (at next : ℕ) (line p q one two : List ℕ) → at ≤ length line → next ≡ at + length p → one ≡ with_part at p line → two ≡ with_part next q one
+    → two ≡ take at line ++ (p ++ (q ++ drop (next + length q) line))
+two_set at next line p q one two within e f g =
+    let begun : one ≡ (take at line ++ p) ++ drop next line = f ∙ ap (λ (n : ℕ). take at line ++ (p ++ drop n line)) (sym e) ∙ sym (append_assoc (take at line) p (drop next line)) in
+    let long : next ≡ length (take at line ++ p) = omega (arith, e, length-append (take at line) p, length-take-le at line within) in
+    g ∙ ap (with_part next q) begun ∙ part_after (take at line ++ p) (drop next line) q next long
+    ∙ ap (λ (t : List ℕ). (take at line ++ p) ++ (q ++ t)) (drop-drop (length q) next line)
+    ∙ append_assoc (take at line) p (q ++ drop (next + length q) line)
+
+pub set_in_group_head : (ns line p one : List ℕ) (x : ℕ) → length line ≡ 28 → x ≡ slice_index ns 0 → p ≡ digits 5 x → one ≡ with_part 6 p line
+    → one ≡ take 3 line ++ numbered_part Grh ns line
+set_in_group_head ns line p one x h e f g =
+    let begun : take 6 line ≡ take 3 line ++ take 3 (drop 3 line) = take-add 3 3 line in
+    let part : p ≡ digits 5 (slice_index ns 0) = f ∙ ap (digits 5) e in
+    let long : length p ≡ 5 = ap length f ∙ length-digits 5 x in
+    g ∙ ap (λ (n : ℕ). take 6 line ++ (p ++ drop (6 + n) line)) long
+    ∙ ap₂ (λ (z t : List ℕ). z ++ (t ++ drop 11 line)) begun part
+    ∙ append_assoc (take 3 line) (take 3 (drop 3 line)) (digits 5 (slice_index ns 0) ++ drop 11 line)
+
+pub set_inside : (kind : Kind) (ns line one two : List ℕ) (x y : ℕ) → (kind ≡ Hdr → ⊥) → (kind ≡ Grh → ⊥) → (kind ≡ Grt → ⊥) → (kind ≡ Trl → ⊥) → length line ≡ line_width kind
+    → x ≡ slice_index ns 0 → y ≡ slice_index ns 1 → one ≡ with_part 3 (digits 8 x) line → two ≡ with_part 11 (digits 8 y) one → two ≡ take 3 line ++ numbered_part kind ns line
+set_inside kind ns line one two x y h k l m wide e f g i =
+    let least : 24 ≤ line_width kind = line_width_least kind in
+    two_set 3 11 line (digits 8 x) (digits 8 y) one two (omega (arith, least, wide)) (omega (arith, length-digits 8 x)) g i
+    ∙ ap (λ (n : ℕ). take 3 line ++ (digits 8 x ++ (digits 8 y ++ drop (11 + n) line))) (length-digits 8 y)
+    ∙ ap₂ (λ (n j : ℕ). take 3 line ++ (digits 8 n ++ (digits 8 j ++ drop 19 line))) e f
+    ∙ ap (λ (z : List ℕ). take 3 line ++ z) (sym (numbered_inside kind ns line h k l m))
+
+-- the three numbers of GRT and TRL
+pub set_at_ends : (ns line one two three : List ℕ) (x y z : ℕ) → 24 ≤ length line → x ≡ slice_index ns 0 → y ≡ slice_index ns 1 → z ≡ slice_index ns 2
+    → one ≡ with_part 3 (digits 5 x) line → two ≡ with_part 8 (digits 8 y) one → three ≡ with_part 16 (digits 8 z) two
+    → three ≡ take 3 line ++ (digits 5 (slice_index ns 0) ++ (digits 8 (slice_index ns 1) ++ (digits 8 (slice_index ns 2) ++ drop 24 line)))
+set_at_ends ns line one two three x y z wide e f g h i j =
+    let both : two ≡ take 3 line ++ (digits 5 x ++ (digits 8 y ++ drop 16 line)) =
+    two_set 3 8 line (digits 5 x) (digits 8 y) one two (omega (arith, wide)) (omega (arith, length-digits 5 x)) h i
+    ∙ ap (λ (n : ℕ). take 3 line ++ (digits 5 x ++ (digits 8 y ++ drop (8 + n) line))) (length-digits 8 y) in
+    let front : List ℕ = take 3 line ++ (digits 5 x ++ digits 8 y) in
+    let same : two ≡ front ++ drop 16 line =
+    both ∙ ap (λ (t : List ℕ). take 3 line ++ t) (sym (append_assoc (digits 5 x) (digits 8 y) (drop 16 line))) ∙ sym (append_assoc (take 3 line) (digits 5 x ++ digits 8 y) (drop 16 line)) in
+    let long : 16 ≡ length front =
+    omega (arith, wide, length-append (take 3 line) (digits 5 x ++ digits 8 y), length-append (digits 5 x) (digits 8 y), length-digits 5 x, length-digits 8 y, length-take-le 3 line (omega (arith, wide))) in
+    j ∙ ap (with_part 16 (digits 8 z)) same ∙ part_after front (drop 16 line) (digits 8 z) 16 long
+    ∙ ap (λ (n : ℕ). front ++ (digits 8 z ++ drop n (drop 16 line))) (length-digits 8 z)
+    ∙ ap (λ (t : List ℕ). front ++ (digits 8 z ++ t)) (drop-drop 8 16 line)
+    ∙ append_assoc (take 3 line) (digits 5 x ++ digits 8 y) (digits 8 z ++ drop 24 line)
+    ∙ ap (λ (t : List ℕ). take 3 line ++ t) (append_assoc (digits 5 x) (digits 8 y) (digits 8 z ++ drop 24 line))
+    ∙ ap₂ (λ (n m : ℕ). take 3 line ++ (digits 5 n ++ (digits 8 m ++ (digits 8 z ++ drop 24 line)))) e f
+    ∙ ap (λ (n : ℕ). take 3 line ++ (digits 5 (slice_index ns 0) ++ (digits 8 (slice_index ns 1) ++ (digits 8 n ++ drop 24 line)))) g
+
+-- ---- the whole line
+
+-- a line that was copied to the front of a text
+pub copied : (line copy tail : List ℕ) → copy ≡ line → take (length line) (copy ++ tail) ≡ line
+copied line copy tail e = ap (λ (z : List ℕ). take (length line) (z ++ tail)) e ∙ take-append_seam line tail
+
+-- the record type is put over the first bytes of a line with its numbers, and the line end after it
+pub line_set : (r : RecordValue) (ns line body name end tail rest begun whole text : List ℕ) (n : ℕ) → n ≡ length line → length line ≡ line_width r.kind → r ≡ record_in r.kind line
+    → length body ≡ length line → body ≡ take 3 line ++ numbered_part r.kind ns line → name ≡ letters r.kind → end ≡ 13 ∷ 10 ∷ []
+    → begun ≡ body ++ tail → whole ≡ name ++ drop 3 begun → text ≡ take n whole ++ (end ++ rest) → take (n + 2) text ≡ full_line (row_of ns r) ++ 13 ∷ 10 ∷ []
+line_set r ns line body name end tail rest begun whole text n many wide carries long numbered named ended e f g =
+    let part : List ℕ = numbered_part r.kind ns line in
+    let least : 24 ≤ line_width r.kind = line_width_least r.kind in
+    let three : length (take 3 line) ≡ 3 = length-take-le 3 line (omega (arith, least, wide)) in
+    let cells : begun ≡ take 3 line ++ (part ++ tail) = e ∙ ap (λ (z : List ℕ). z ++ tail) numbered ∙ append_assoc (take 3 line) part tail in
+    let after : drop 3 begun ≡ part ++ tail = ap (drop 3) cells ∙ ap (λ (m : ℕ). drop m (take 3 line ++ (part ++ tail))) (sym three) ∙ drop-append_seam (take 3 line) (part ++ tail) in
+    let full : full_line (row_of ns r) ≡ letters r.kind ++ part = ap (λ (x : RecordValue). full_line (row_of ns x)) carries ∙ full_line-numbered r.kind ns line wide in
+    let front : whole ≡ full_line (row_of ns r) ++ tail =
+    f ∙ ap₂ (λ (z t : List ℕ). z ++ t) named after ∙ sym (append_assoc (letters r.kind) part tail) ∙ ap (λ (z : List ℕ). z ++ tail) (sym full) in
+    let size : length (full_line (row_of ns r)) ≡ n =
+    omega (arith, ap length full, length-append (letters r.kind) part, letters_long r.kind, long, ap length numbered, length-append (take 3 line) part, three, many) in
+    let kept : take n whole ≡ full_line (row_of ns r) = ap₂ (λ (m : ℕ) (z : List ℕ). take m z) (sym size) front ∙ take-append_seam (full_line (row_of ns r)) tail in
+    let line_end : List ℕ = 13 ∷ 10 ∷ [] in
+    let all : text ≡ (full_line (row_of ns r) ++ line_end) ++ rest = g ∙ ap₂ (λ (z t : List ℕ). z ++ (t ++ rest)) kept ended ∙ sym (append_assoc (full_line (row_of ns r)) line_end rest) in
+    let total : n + 2 ≡ length (full_line (row_of ns r) ++ line_end) = omega (arith, size, length-append (full_line (row_of ns r)) line_end) in
+    ap₂ (λ (m : ℕ) (z : List ℕ). take m z) total all ∙ take-append_seam (full_line (row_of ns r) ++ line_end) rest

@@ -1,7 +1,7 @@
 //! The kinds of records.
 
 ghost use Rattle.std.specs.Prelude.{◌≡◌};
-ghost use Rattle.cwr_layouts.specs.Kinds.{kind_of};
+ghost use Rattle.cwr_layouts.specs.Kinds.{kind_of, letters as letters_of};
 
 /// The kind of a record, by the three bytes that its line begins with.
 #[derive(Clone, Copy, Debug, PartialEq, Eq)]
@@ -92,5 +92,38 @@ impl Kind {
             b"MSG" => Some(Kind::Msg),
             _ => None,
         }
+    }
+}
+
+/// The three bytes that name a kind, as CWR 2.1 spells it.
+pub fn letters(kind: Kind) -> &'static [u8]
+    ensures { result.now ≡ letters_of kind }
+{
+    match kind {
+        Kind::Hdr => b"HDR",
+        Kind::Grh => b"GRH",
+        Kind::Grt => b"GRT",
+        Kind::Trl => b"TRL",
+        Kind::Agr => b"AGR",
+        Kind::Ter => b"TER",
+        Kind::Ipa => b"IPA",
+        Kind::Nwr => b"NWR",
+        Kind::Rev => b"REV",
+        Kind::Spu => b"SPU",
+        Kind::Opu => b"OPU",
+        Kind::Spt => b"SPT",
+        Kind::Swr => b"SWR",
+        Kind::Owr => b"OWR",
+        Kind::Swt => b"SWT",
+        Kind::Pwr => b"PWR",
+        Kind::Alt => b"ALT",
+        Kind::Ewt => b"EWT",
+        Kind::Ver => b"VER",
+        Kind::Per => b"PER",
+        Kind::Rec => b"REC",
+        Kind::Orn => b"ORN",
+        Kind::Com => b"COM",
+        Kind::Ack => b"ACK",
+        Kind::Msg => b"MSG",
     }
 }

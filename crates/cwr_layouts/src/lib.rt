@@ -10,9 +10,9 @@ mod lines;
 mod lookups;
 mod records;
 
-pub use canonical_lines::{CanonicalLine, letters};
+pub use canonical_lines::CanonicalLine;
 pub use drafts::{Draft, DraftFault, SetFault};
-pub use kinds::Kind;
+pub use kinds::{Kind, letters};
 pub use layouts::Field;
 pub use lines::{CutLine, LONGEST_LINE, LineBuf, LineEnd, Taken};
 pub use lookups::{field, fields, width};

@@ -7,7 +7,7 @@ use Rattle.cwr_shape.specs.declared.limits.Limits.{Limits}
 use Rattle.cwr_encode.specs.declared.sinks.Sink.{Sink}
 use Rattle.cwr_encode.specs.declared.sinks.SinkFault.{SinkFault}
 use Rattle.cwr_encode.specs.Sinks.{HasWritten, writer_of, written_of}
-use Rattle.cwr_encode.specs.Finishes.{HasFront}
+use Rattle.cwr_encode.specs.Finishing.{HasFront}
 use Rattle.cwr_encode.proofs.Ends.{all_written, appends_kept}
 use Rattle.cwr_levels.specs.Putting.{PutsText}
 use Rattle.cwr_tools.specs.declared.verdicts.Verdict.{Verdict}

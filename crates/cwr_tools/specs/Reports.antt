@@ -13,7 +13,7 @@ use Rattle.cwr_decode.specs.Machines.{Standing}
 use Rattle.cwr_decode.specs.Runs.{HasRead}
 use Rattle.cwr_encode.specs.declared.sinks.Sink.{Sink}
 use Rattle.cwr_encode.specs.Sinks.{HasWritten, Puts, has_failed, writer_of, written_of}
-use Rattle.cwr_encode.specs.Finishes.{HasFront}
+use Rattle.cwr_encode.specs.Finishing.{HasFront}
 use Rattle.cwr_tools.specs.declared.verdicts.Verdict.{Verdict}
 use Rattle.cwr_tools.specs.declared.verdicts.ToolFault.{ToolFault}
 use Rattle.cwr_tools.specs.declared.verdicts.ToolFault.TheVariants.{Reader, Writer, Memory}

@@ -1,4 +1,4 @@
-use Rattle.std.proofs.Common.{◌≡◌, ◌≤◌, ◌++◌, length, drop}
+use Rattle.std.proofs.Common.{◌≡◌, ◌≤◌, ◌++◌, length, drop, take, replicate}
 use Rattle.cwr_fields.specs.Bytes.{digits}
 use Rattle.cwr_layouts.proofs.canonical_lines.write_digits.Given as goal
 
@@ -6,6 +6,7 @@ abbrev pub invariant-loop-at : goal.invariant-loop-at
 invariant-loop-at l = record {
   within : l.at ≤ length l.cell;
   written : digits l.at l.rest ++ drop l.at l.cell ≡ digits (length l.cell) l.fn.number;
+  zeros : take l.at l.cell ≡ replicate l.at 48;
 }
 
 abbrev pub decreases-loop-at : goal.decreases-loop-at

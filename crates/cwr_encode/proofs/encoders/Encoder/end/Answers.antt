@@ -8,7 +8,7 @@ use Rattle.cwr_shape.proofs.FirstBarsOfKinds.{comes_any}
 use Rattle.cwr_values.specs.Values.{symbol_of}
 use Rattle.cwr_values.specs.Rows.{trailer}
 use Rattle.cwr_encode.specs.declared.encoders.EncodeFault.{EncodeFault}
-use Rattle.cwr_encode.specs.Finishes.{JudgesEnd, MayEnd}
+use Rattle.cwr_encode.specs.Finishing.{JudgesEnd, MayEnd}
 use Rattle.cwr_encode.proofs.Adding.{adds_one, judged_taken, admitted, refused}
 use Rattle.cwr_encode.proofs.Comes.{trailer_last}
 use Rattle.cwr_encode.proofs.Ends.{end_numbers, end_judged}

@@ -1,7 +1,7 @@
 use Rattle.std.proofs.Common.{map, sym, subst}
 use Rattle.std.specs.Prelude.{Err}
 use Rattle.cwr_values.specs.Values.{symbol_of}
-use Rattle.cwr_encode.specs.Finishes.{Finishes}
+use Rattle.cwr_encode.specs.Finishing.{FinishesWriting}
 use Rattle.cwr_encode.proofs.Ends.{finishes_flushed, finishes_refused, end_rejudged}
 use Rattle.cwr_encode.proofs.encoders.Encoder.finish.Goals as goal
 
@@ -15,5 +15,5 @@ returns-in-Ok-clause-finishes g c = λ unfailed.
 
 pub returns-in-Err-clause-finishes : goal.returns-in-Err-clause-finishes
 returns-in-Err-clause-finishes g c = λ unfailed.
-    subst (λ w. Finishes g.W.Target.contents g.W.Target.failures c.args.self w (Err c.in-Err.fault)) (sym c.into_inner.ensures)
+    subst (λ w. FinishesWriting g.W.Target.contents g.W.Target.failures c.args.self w (Err c.in-Err.fault)) (sym c.into_inner.ensures)
     (finishes_refused g.W.Target.contents g.W.Target.failures c.args.self c.end.new.self c.in-Err.fault c.in-Err.ensures.limits (c.in-Err.ensures.adds unfailed))

@@ -1,7 +1,15 @@
-use Rattle.cwr_layouts.proofs.NumberedLines.{line_set}
+use Rattle.std.proofs.Common.{◌∙◌, ◌++◌, List, ℕ, ap, ap₂, length, refl, take}
+use Rattle.cwr_layouts.specs.declared.kinds.Kind.{Kind}
+use Rattle.cwr_layouts.specs.Kinds.{letters}
+use Rattle.cwr_layouts.specs.Numbered.{numbered_part}
+use Rattle.cwr_layouts.proofs.NumberedLines.{copied, line_set}
 use Rattle.cwr_layouts.proofs.canonical_lines.CanonicalLine.set.Goals as goal
 
 pub returns : goal.returns
 returns c =
-    line_set c.args.shown.now c.kind-kind.result c.args.numbers.now c.whole_line.result.now c.letters.result.now _ _ _ _ _ c.kind-kind.ensures.value c.whole_line.ensures.whole c.whole_line.ensures.carries
-    c.clear.ensures c.letters.ensures c.push.ensures.value c.push_numbered.ensures.value c.push-2.ensures.value
+    let line : List ℕ = c.whole_line-line.result.now in
+    let cells = copied line c.copy_from_slice.new.self _ c.copy_from_slice.ensures.after in
+    line_set c.args.shown.now c.args.numbers.now line c.set_numbers.new.line c.copy_from_slice-2.new.self c.copy_from_slice-3.new.self _ _ _ _ _ (length line) refl
+    c.whole_line-line.ensures.whole c.whole_line-line.ensures.carries (c.set_numbers.auto.line ∙ ap length cells)
+    (c.set_numbers.ensures ∙ ap₂ (λ (k : Kind) (z : List ℕ). take 3 z ++ numbered_part k c.args.numbers.now z) c.kind-kind.ensures.value cells)
+    (c.copy_from_slice-2.ensures.after ∙ c.letters.ensures ∙ ap letters c.kind-kind.ensures.value) c.copy_from_slice-3.ensures.after refl refl refl
