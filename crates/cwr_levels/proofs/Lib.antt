@@ -1,1 +1,14 @@
 pub mod SameText
+pub mod NamedCells
+pub mod KindTests
+pub mod LeftBehind
+pub mod OneMore
+pub mod RuleFields
+pub mod NumberCells
+pub mod RuleTests
+pub mod AddedShares
+pub mod HeaderTests
+pub mod BlockParties
+pub mod FoundByRule
+pub mod CountedRecords
+pub mod FoundByRecord

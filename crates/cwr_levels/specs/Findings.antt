@@ -59,9 +59,13 @@ abbrev pub has_party_number : List ℕ → Option RecordValue → Bool
 has_party_number number None = false
 has_party_number number (Some r) = bytes_eq number (cell_named "interested party number" r)
 
+-- a designation for someone who has written words or music
+abbrev pub names_author : List ℕ → Bool
+names_author designation = list_any (λ code. bytes_eq designation (filled 2 code)) (codes "A" ∷ codes "C" ∷ codes "CA" ∷ [])
+
 -- a writer who has written words or music
 abbrev pub is_author : RecordValue → Bool
-is_author r = (is_a kinds.Swr r || is_a kinds.Owr r) && list_any (λ code. bytes_eq (filled 2 code) (cell_named "designation" r)) (codes "A" ∷ codes "C" ∷ codes "CA" ∷ [])
+is_author r = (is_a kinds.Swr r || is_a kinds.Owr r) && names_author (cell_named "designation" r)
 
 -- the date is there: an optional date that fits is spaces, zeros or a day
 abbrev pub is_day : List ℕ → Bool
@@ -88,13 +92,29 @@ begins_block before = not (is_territory (last_or None (in_blocks before)))
 abbrev pub parties_after : List RecordValue → List RecordValue
 parties_after after = take_while is_party (drop (prefix_len (is_a kinds.Ter) (in_blocks after)) (in_blocks after))
 
--- the shares of the parties of a role add up to more than the whole in a right
-abbrev pub is_over_whole : Role → List RecordValue → String → Bool
-is_over_whole role parties right = nat_lt 10006 (sum_by (share_of right) (filter (λ r. bytes_eq (cell_named "agreement role" r) (role_code role)) parties))
+-- the parties of a role
+abbrev pub of_role : Role → List RecordValue → List RecordValue
+of_role role parties = filter (λ r. bytes_eq (cell_named "agreement role" r) (role_code role)) parties
+
+-- the shares of the records in a right add up to more than the whole
+abbrev pub is_over_whole : List RecordValue → String → Bool
+is_over_whole records right = nat_lt 10006 (sum_by (share_of right) records)
 
 -- the same in one or more of the three rights
-abbrev pub has_role_over_whole : Role → List RecordValue → Bool
-has_role_over_whole role parties = is_over_whole role parties "pr share" || is_over_whole role parties "mr share" || is_over_whole role parties "sr share"
+abbrev pub are_over_whole : List RecordValue → Bool
+are_over_whole records = is_over_whole records "pr share" || is_over_whole records "mr share" || is_over_whole records "sr share"
+
+-- the record of a work counts its components, and not so many
+abbrev pub counts_others : RecordValue → ℕ → Bool
+counts_others r components = not (is_blank "composite component count" r) && not (number_of (cell_named "composite component count" r) == components)
+
+-- the record of an agreement has both dates, and its end is before its start
+abbrev pub ends_before_start : RecordValue → Bool
+ends_before_start r = is_day (cell_named "start date" r) && is_day (cell_named "end date" r) && nat_lt (number_of (cell_named "end date" r)) (number_of (cell_named "start date" r))
+
+-- one side of the parties has more than the whole
+abbrev pub have_side_over_whole : List RecordValue → Bool
+have_side_over_whole parties = are_over_whole (of_role Assignor parties) || are_over_whole (of_role Acquirer parties)
 
 -- Record r of the transaction t, after k others, breaks the rule.
 abbrev pub breaks : Rule → List RecordValue → ℕ → RecordValue → Bool
@@ -110,12 +130,9 @@ breaks V6 t k r = is_work t && (k == 0) && not (list_any is_author t)
 breaks V7 t k r = is_work t && is_a kinds.Pwr r
     && not (list_any (λ p. is_a kinds.Spu p && has_party_number (cell_named "publisher interested party number" r) (Some p)) t)
 breaks V8 t k r = is_work t && is_a kinds.Ewt r && list_any (is_blank "excerpt type") (take 1 t)
-breaks V9 t k r = is_work t && (k == 0) && not (is_blank "composite component count" r)
-    && not (number_of (cell_named "composite component count" r) == count_by (is_a kinds.Com) t)
-breaks V10 t k r = is_agreement t && (k == 0) && is_day (cell_named "start date" r) && is_day (cell_named "end date" r)
-    && nat_lt (number_of (cell_named "end date" r)) (number_of (cell_named "start date" r))
-breaks V11 t k r = is_agreement t && is_a kinds.Ter r && begins_block (take k t)
-    && (has_role_over_whole Assignor (parties_after (drop (k + 1) t)) || has_role_over_whole Acquirer (parties_after (drop (k + 1) t)))
+breaks V9 t k r = is_work t && (k == 0) && counts_others r (count_by (is_a kinds.Com) t)
+breaks V10 t k r = is_agreement t && (k == 0) && ends_before_start r
+breaks V11 t k r = is_agreement t && is_a kinds.Ter r && begins_block (take k t) && have_side_over_whole (parties_after (drop (k + 1) t))
 
 -- the field that the rule names in a record of the kind
 abbrev pub field_of_rule : Rule → Kind → ℕ

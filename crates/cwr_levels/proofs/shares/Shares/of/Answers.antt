@@ -1,0 +1,25 @@
+use Rattle.std.proofs.Common.{◌≡◌, sym, subst, ◌∙◌, inl, inr}
+use Rattle.cwr_layouts.specs.declared.kinds.Kind.{Kind}
+use Rattle.cwr_layouts.specs.declared.kinds.Kind.TheVariants as kinds
+use Rattle.cwr_levels.specs.Fields.{HasSharesFrom}
+use Rattle.cwr_levels.proofs.AddedShares.{only_party}
+use Rattle.cwr_levels.proofs.RuleFields.{shares_of_spu, shares_of_opu, shares_of_swr, shares_of_owr, shares_of_ipa}
+use Rattle.cwr_levels.proofs.shares.Shares.of.Goals as goal
+
+pub from_field-requires-clause-there : goal.from_field-requires-clause-there
+from_field-requires-clause-there c = elim c.in-Spu.is [
+  | inl e ↦ subst (λ (k : Kind). HasSharesFrom k 13) (sym (sym c.kind.ensures.value ∙ e)) shares_of_spu
+  | inr e ↦ subst (λ (k : Kind). HasSharesFrom k 13) (sym (sym c.kind.ensures.value ∙ e)) shares_of_opu
+]
+
+pub from_field-requires-in-Swr-clause-there : goal.from_field-requires-in-Swr-clause-there
+from_field-requires-in-Swr-clause-there c = elim c.in-Swr.is [
+  | inl e ↦ subst (λ (k : Kind). HasSharesFrom k 12) (sym (sym c.kind.ensures.value ∙ e)) shares_of_swr
+  | inr e ↦ subst (λ (k : Kind). HasSharesFrom k 12) (sym (sym c.kind.ensures.value ∙ e)) shares_of_owr
+]
+
+pub from_field-requires-in_default-clause-there : goal.from_field-requires-in_default-clause-there
+from_field-requires-in_default-clause-there c =
+    let kind : c.args.shown.now.kind ≡ kinds.Ipa = only_party c.args.shown.now.kind c.requires (λ e. c.in_default.not-Spu (c.kind.ensures.value ∙ e)) (λ e. c.in_default.not-Opu (c.kind.ensures.value ∙ e))
+    (λ e. c.in_default.not-Swr (c.kind.ensures.value ∙ e)) (λ e. c.in_default.not-Owr (c.kind.ensures.value ∙ e)) in
+    subst (λ (k : Kind). HasSharesFrom k 11) (sym kind) shares_of_ipa

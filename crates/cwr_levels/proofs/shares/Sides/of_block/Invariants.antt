@@ -1,0 +1,9 @@
+use Rattle.std.proofs.Common.{◌≡◌, List, ◌++◌, drop}
+use Rattle.cwr_layouts.specs.Records.{RecordValue}
+use Rattle.cwr_levels.specs.Findings.{parties_after}
+use Rattle.cwr_levels.specs.Walks.{SidesAddUpTo}
+use Rattle.cwr_levels.proofs.BlockParties.{parties_left}
+use Rattle.cwr_levels.proofs.shares.Sides.of_block.Given as goal
+
+abbrev pub invariant-loop-i : goal.invariant-loop-i
+invariant-loop-i l = (seen : List RecordValue) × SidesAddUpTo seen l.sides × (seen ++ parties_left l.among_parties (drop l.i l.transaction) ≡ parties_after (drop l.first l.transaction))

@@ -1,0 +1,11 @@
+use Rattle.std.proofs.Common.{List, take, sym, subst, ◌∙◌}
+use Rattle.cwr_layouts.specs.Records.{RecordValue}
+use Rattle.cwr_levels.specs.Walks.{AreTotals}
+use Rattle.cwr_levels.proofs.OneMore.{take_more, length_taken}
+use Rattle.cwr_levels.proofs.totals.Totals.of.Goals as goal
+
+pub loop-sequence-preserved : goal.loop-sequence-preserved
+loop-sequence-preserved c =
+    let there = sym c.record.ensures.value ∙ c.in-Some.is in
+    subst (λ (l : List RecordValue). AreTotals l c.with-totals.result) (sym (take_more c.args.transaction.now c.loop-sequence.sequence c.in-Some.shown there))
+    (c.with-totals.ensures (take c.loop-sequence.sequence c.args.transaction.now) (length_taken c.args.transaction.now c.loop-sequence.sequence c.in-Some.shown there) c.loop-sequence.invariant)

@@ -1,0 +1,10 @@
+use Rattle.std.proofs.Common.{◌≡◌, take}
+use Rattle.cwr_levels.specs.Walks.{IsBefore}
+use Rattle.cwr_levels.proofs.FoundByRecord.{found_before}
+use Rattle.cwr_levels.proofs.walk.findings.Given as goal
+
+abbrev pub invariant-loop-sequence : goal.invariant-loop-sequence
+invariant-loop-sequence l = record {
+  found : l.found.items ≡ found_before l.transaction l.sequence;
+  before : IsBefore (take l.sequence l.transaction) l.before;
+}

@@ -1,0 +1,57 @@
+//! What the rules ask of the records before one.
+
+ghost use Rattle.std.specs.Prelude.{◌≡◌, ◌++◌, ◌∷◌, [], List, option_map};
+ghost use Rattle.cwr_layouts.specs.Records.{RecordValue};
+ghost use Rattle.cwr_levels.specs.Walks.{IsBefore};
+
+use crate::named_cells::cell;
+use cwr_layouts::{Kind, RecordRef};
+
+/// What the records before one leave behind.
+#[derive(Clone, Copy)]
+pub(crate) struct Before<'a> {
+    /// The interested party's number of the last SPU.
+    pub(crate) publisher: Option<&'a [u8]>,
+    /// That of the last SWR.
+    pub(crate) writer: Option<&'a [u8]>,
+    /// Whether the last of the TER and IPA records is a TER.
+    pub(crate) after_territory: bool,
+}
+
+impl<'a> Before<'a> {
+    /// Before the first record.
+    pub(crate) fn none() -> Before<'a>
+        ensures { IsBefore [] result }
+    {
+        Before {
+            publisher: None,
+            writer: None,
+            after_territory: false,
+        }
+    }
+
+    /// With one more record.
+    pub(crate) fn with(self, shown: &RecordRef<'a>) -> Before<'a>
+        ensures { (rs : List RecordValue) → IsBefore rs self.entry → IsBefore (rs ++ shown.now ∷ []) result }
+    {
+        match shown.kind() {
+            Kind::Spu => Before {
+                publisher: Some(cell(shown, 5)),
+                ..self
+            },
+            Kind::Swr => Before {
+                writer: Some(cell(shown, 4)),
+                ..self
+            },
+            Kind::Ter => Before {
+                after_territory: true,
+                ..self
+            },
+            Kind::Ipa => Before {
+                after_territory: false,
+                ..self
+            },
+            _ => self,
+        }
+    }
+}

@@ -1,0 +1,103 @@
+//! What the rules ask of all records of a transaction: sums and counts.
+
+ghost use Rattle.std.specs.Prelude.{◌≡◌, ◌+◌, ◌^◌, ◌<◌, ◌++◌, ◌∷◌, [], List, length};
+ghost use Rattle.cwr_layouts.specs.Records.{RecordValue};
+ghost use Rattle.cwr_levels.specs.Findings.{is_owner, is_author, names_author};
+ghost use Rattle.cwr_levels.specs.Walks.{AreTotals};
+
+use crate::named_cells::{cell, is_of};
+use crate::shares::Shares;
+use cwr_layouts::{Kind, RecordRef};
+use cwr_values::Transaction;
+
+/// Whether the record owns shares of a work.
+fn is_owner(shown: &RecordRef<'_>) -> bool
+    ensures { result ≡ is_owner shown.now }
+{
+    is_of(shown, Kind::Spu)
+        || is_of(shown, Kind::Opu)
+        || is_of(shown, Kind::Swr)
+        || is_of(shown, Kind::Owr)
+}
+
+/// Whether the designation is that of someone who has written words or music.
+fn names_author(designation: &[u8]) -> bool
+    ensures { result ≡ names_author designation.now }
+{
+    designation == b"A ".as_slice()
+        || designation == b"C ".as_slice()
+        || designation == b"CA".as_slice()
+}
+
+/// Whether the record is a writer who has written words or music.
+fn is_author(shown: &RecordRef<'_>) -> bool
+    ensures { result ≡ is_author shown.now }
+{
+    match shown.kind() {
+        Kind::Swr | Kind::Owr => names_author(cell(shown, 8)),
+        _ => false,
+    }
+}
+
+/// Sums and counts over the records of a transaction.
+#[derive(Clone, Copy)]
+pub(crate) struct Totals {
+    /// The shares of the owners.
+    pub(crate) ownership: Shares,
+    /// Whether some writer has written words or music.
+    pub(crate) has_author: bool,
+    /// How many COM records there are.
+    pub(crate) components: u64,
+    /// How many records there are up to the last SPU.
+    pub(crate) publishers_end: usize,
+}
+
+impl Totals {
+    /// Those over no record.
+    fn none() -> Totals
+        ensures { AreTotals [] result }
+    {
+        Totals {
+            ownership: Shares::none(),
+            has_author: false,
+            components: 0,
+            publishers_end: 0,
+        }
+    }
+
+    /// With one more record, which stands after `sequence` others.
+    fn with(self, sequence: usize, shown: &RecordRef<'_>) -> Totals
+        requires { sequence + 1 < 2 ^ 64 }
+        ensures { (rs : List RecordValue) → length rs ≡ sequence → AreTotals rs self → AreTotals (rs ++ shown.now ∷ []) result }
+    {
+        let author = is_author(shown);
+        let component = is_of(shown, Kind::Com);
+        let totals = Totals {
+            ownership: self.ownership.with(shown, is_owner(shown)),
+            has_author: self.has_author | author,
+            components: self.components.saturating_add(u64::from(component)),
+            publishers_end: self.publishers_end,
+        };
+        if !is_of(shown, Kind::Spu) {
+            return totals;
+        }
+        Totals {
+            publishers_end: sequence + 1,
+            ..totals
+        }
+    }
+
+    /// Those over the records of a transaction.
+    pub(crate) fn of(transaction: &Transaction) -> Totals
+        ensures { AreTotals transaction.now result }
+    {
+        let mut totals = Totals::none();
+        for sequence in 0..transaction.len() {
+            let Some(shown) = transaction.record(sequence) else {
+                return totals;
+            };
+            totals = totals.with(sequence, &shown);
+        }
+        totals
+    }
+}

@@ -1,0 +1,109 @@
+//! The walk over a transaction that finds which record breaks which rule.
+
+ghost use Rattle.std.specs.Prelude.{◌≡◌, ◌≢◌, ◌++◌, [], take, true, Some, slice_get, IfOk, OnOk, OnErr};
+ghost use Rattle.cwr_levels.specs.Findings.{field_of_rule, level_of_rule, findings, findings_at};
+ghost use Rattle.cwr_levels.specs.Walks.{AreTotals, IsBefore, can_break, rules_on};
+
+use crate::before::Before;
+use crate::judging::breaks;
+use crate::rules::{Finding, Rule};
+use crate::totals::Totals;
+use cwr_layouts::{Kind, RecordRef};
+use cwr_shape::Level;
+use cwr_values::Transaction;
+use std::alloc::{AllocError, Global};
+
+/// The rules that a record of the kind can break, in their order.
+fn rules_on(kind: Kind) -> &'static [Rule]
+    ensures { result.now ≡ rules_on kind }
+{
+    match kind {
+        Kind::Nwr | Kind::Rev => &[Rule::V1, Rule::V3, Rule::V4, Rule::V5, Rule::V6, Rule::V9],
+        Kind::Agr => &[Rule::V10],
+        Kind::Ter => &[Rule::V11],
+        Kind::Spt | Kind::Swt => &[Rule::V2],
+        Kind::Pwr => &[Rule::V7],
+        Kind::Ewt => &[Rule::V1, Rule::V8],
+        Kind::Ver | Kind::Com => &[Rule::V1],
+        _ => &[],
+    }
+}
+
+/// The number of the field that the rule names in a record of the kind, which can break it.
+fn field_of(rule: Rule, kind: Kind) -> u8
+    requires { can_break rule kind ≡ true }
+    ensures { result ≡ field_of_rule rule kind }
+{
+    match rule {
+        Rule::V1 => match kind {
+            Kind::Nwr | Kind::Rev => 7,
+            _ => 5,
+        },
+        Rule::V2 | Rule::V7 => 4,
+        Rule::V9 => 23,
+        Rule::V10 => 8,
+        _ => 1,
+    }
+}
+
+/// How much a finding rejects.
+fn level_of(rule: Rule) -> Level
+    ensures { result ≡ level_of_rule rule }
+{
+    match rule {
+        Rule::V1 | Rule::V10 => Level::F,
+        Rule::V2 | Rule::V7 | Rule::V8 => Level::R,
+        _ => Level::T,
+    }
+}
+
+/// Adds the findings at a record, which stands after so many others, by rule.
+fn add_findings_at(
+    found: &mut Vec<Finding>,
+    transaction: &Transaction,
+    totals: &Totals,
+    before: &Before<'_>,
+    sequence: usize,
+    shown: &RecordRef<'_>,
+) -> Result<(), AllocError>
+    requires totals { AreTotals transaction.now totals.now }
+    requires before { IsBefore (take sequence transaction.now) before.now }
+    requires there { slice_get transaction.now sequence ≡ Some shown.now }
+    ensures ok { OnOk result (found.new.items ≡ found.old.items ++ findings_at transaction.now sequence shown.now) }
+    ensures err { OnErr result (findings_at transaction.now sequence shown.now ≢ []) }
+{
+    let kind = shown.kind();
+    for rule in rules_on(kind) {
+        if breaks(*rule, transaction, totals, before, sequence, shown) {
+            found.push(Finding {
+                rec: sequence,
+                field: field_of(*rule, kind),
+                rule: *rule,
+                level: level_of(*rule),
+            })?;
+        }
+    }
+    Ok(())
+}
+
+/// The findings of a transaction, whole or only begun: which record breaks which rule, by record and then by rule.
+///
+/// # Errors
+///
+/// Out of memory, and that only where there is a finding: without one it takes none.
+pub fn findings(alloc: Global, transaction: &Transaction) -> Result<Vec<Finding>, AllocError>
+    ensures ok { IfOk result (λ found. found.items ≡ findings transaction.now) }
+    ensures err { OnErr result (findings transaction.now ≢ []) }
+{
+    let totals = Totals::of(transaction);
+    let mut found = Vec::new(alloc);
+    let mut before = Before::none();
+    for sequence in 0..transaction.len() {
+        let Some(shown) = transaction.record(sequence) else {
+            return Ok(found);
+        };
+        add_findings_at(&mut found, transaction, &totals, &before, sequence, &shown)?;
+        before = before.with(&shown);
+    }
+    Ok(found)
+}
