@@ -106,8 +106,8 @@ no_header NewWork = refl
 no_header RevisedWork = refl
 no_header Acknowledgement = refl
 
-pub opening_first : (t : TallyValue) (xs : List Symbol) → IsTallyOf t xs → MayCome t.limits xs (Plain kinds.Hdr) → reached xs ≡ reached_to.Nothing
-opening_first t xs st g = sym (reached_stands xs t.stage st.stands) ∙ by t.stage ((next_exact xs t.stage (Plain kinds.Hdr) (next_stage t.stage (Plain kinds.Hdr)) refl st.stands).1 (g.0, g.1, tt, g.3))
+pub opening_at : (xs : List Symbol) (stage : Stage) → StandsAt xs stage → Continues Any (xs ++ Plain kinds.Hdr ∷ []) → reached xs ≡ reached_to.Nothing
+opening_at xs stage st g = sym (reached_stands xs stage st) ∙ by stage ((next_exact xs stage (Plain kinds.Hdr) (next_stage stage (Plain kinds.Hdr)) refl st).1 g)
   where
     next_none : (ty : TransactionType) → is_some (within ty (header_step ty (Plain kinds.Hdr))) ≡ true → ⊥
     next_none ty h = true≢false (sym h ∙ ap (λ (o : Option TransactionStep). is_some (within ty o)) (no_header ty))
@@ -124,6 +124,9 @@ opening_first t xs st g = sym (reached_stands xs t.stage st.stands) ∙ by t.sta
     by (stages.Within ty steps.OtherWriter) h = absurd (next_none ty h)
     by (stages.Within ty steps.Tail) h = absurd (next_none ty h)
     by (stages.Within ty step) h = absurd (true≢false (sym h))
+
+pub opening_first : (t : TallyValue) (xs : List Symbol) → IsTallyOf t xs → MayCome t.limits xs (Plain kinds.Hdr) → reached xs ≡ reached_to.Nothing
+opening_first t xs st g = opening_at xs t.stage st.stands (g.0, g.1, tt, g.3)
 
 -- ---- GRT
 

@@ -18,3 +18,4 @@ pub mod Totals
 pub mod WholeTexts
 pub mod Few
 pub mod WholeWrites
+pub mod NoMistakes

@@ -122,6 +122,14 @@ abbrev pub IsUnlimited : {A : Type 0} → Result A EncodeFault → Type 0
 IsUnlimited (Err (Limit limit)) = ⊥
 IsUnlimited answer = Unit {0}
 
+-- the caller made no mistake: the call may come, it is given what is of the right kind, and what that and what it ends are
+-- is whole
+abbrev pub IsNoMistake : {A : Type 0} → Result A EncodeFault → Type 0
+IsNoMistake (Ok x) = Unit {0}
+IsNoMistake (Err (Limit limit)) = Unit {0}
+IsNoMistake (Err (Writer written)) = Unit {0}
+IsNoMistake (Err fault) = ⊥
+
 -- ---- each call
 
 -- HDR comes first

@@ -6,34 +6,13 @@ ghost use Rattle.cwr_shape.specs.declared.symbols.Symbol.{Symbol};
 ghost use Rattle.cwr_shape.specs.declared.symbols.Symbol.TheVariants.{Plain};
 ghost use Rattle.cwr_shape.specs.Left.{Any, StandsAt};
 ghost use Rattle.cwr_shape.specs.Outlines.{IsWithin, Continues};
-ghost use Rattle.cwr_shape.specs.Tallies.{header_kind, KeepsTally, IsTallyOf};
-ghost use Rattle.cwr_values.specs.Begun.{HasHeaderOf};
+ghost use Rattle.cwr_shape.specs.Tallies.{KeepsTally, IsTallyOf};
 ghost use Rattle.cwr_values.specs.Values.{symbol_of as symbol_by_cells};
 ghost use Rattle.cwr_encode.specs.Encoders.{passed_with};
 
-use cwr_fields::TransactionType;
 use cwr_layouts::Kind;
 use cwr_shape::{LimitKind, Stage, Symbol, Tally};
 use cwr_values::{Transaction, symbol_of};
-
-/// The kind of a type's header.
-fn header_kind(ty: TransactionType) -> Kind
-    ensures { result ≡ header_kind ty }
-{
-    match ty {
-        TransactionType::Agreement => Kind::Agr,
-        TransactionType::NewWork => Kind::Nwr,
-        TransactionType::RevisedWork => Kind::Rev,
-        TransactionType::Acknowledgement => Kind::Ack,
-    }
-}
-
-/// Whether the transaction begins with the header of the type.
-pub(crate) fn has_header(transaction: &Transaction, ty: TransactionType) -> bool
-    ensures { IsTrue result ↔ HasHeaderOf ty transaction.now }
-{
-    transaction.kind() == header_kind(ty)
-}
 
 /// Whether a group may end at the stage.
 pub(crate) fn group_may_end(stage: Stage) -> bool

@@ -14,7 +14,7 @@ ghost use Rattle.cwr_fields.specs.Failures.{one_more_failure};
 ghost use Rattle.cwr_encode.specs.EncodeFaultTexts.{encode_fault_text};
 ghost use Rattle.cwr_encode.specs.Finishing.{FinishesWriting, JudgesEnd};
 
-use crate::checks::{count_all, has_header, group_may_end, passed};
+use crate::checks::{count_all, group_may_end, passed};
 use crate::rows::{put_row, put_transaction};
 use crate::sinks::Sink;
 use cwr_fields::{Target, TransactionType};
@@ -253,7 +253,7 @@ impl<W: Target> Encoder<W> {
         let Some(ty) = self.open_type() else {
             return Err(EncodeFault::OutOfOrder);
         };
-        if !has_header(transaction, ty) {
+        if !transaction.is_of(ty) {
             return Err(EncodeFault::WrongKind);
         }
         if !transaction.complete() {

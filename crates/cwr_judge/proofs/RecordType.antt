@@ -1,9 +1,8 @@
 -- The record type of a line of a kind is good: it is the kind's letters, and no number.
-use Rattle.std.proofs.Common.{lit≤, ◌≡◌, ℕ, ◌-◌, ◌≤◌, Bool, true, false, not, cond, List, [], ◌∷◌, ◌++◌, length, take, replicate, refl, sym, ap, subst, ◌∙◌, arith, append_assoc, true≢false}
+use Rattle.std.proofs.Common.{lit≤, ◌≡◌, ℕ, ◌≤◌, Bool, true, false, not, cond, List, [], ◌∷◌, take, refl, sym, ap, subst, ◌∙◌, true≢false}
 use Rattle.std.specs.Prelude.{Option, Some, None, find, zip, option_map, slice_index_or, ◌==◌}
 use Rattle.std.specs.List.{list_all}
 use Rattle.std.proofs.lemmas.Bool.{and_parts}
-use Rattle.std.proofs.lemmas.List.{length-append, length-replicate, replicate-append-replicate, take-append-le}
 use Rattle.cwr_fields.specs.declared.cell_types.CellType.TheVariants as types
 use Rattle.cwr_fields.specs.Bytes.{filled}
 use Rattle.cwr_fields.specs.Cells.{Holds}
@@ -13,23 +12,11 @@ use Rattle.cwr_layouts.specs.declared.kinds.Kind.TheVariants as kinds
 use Rattle.cwr_layouts.specs.Kinds.{letters}
 use Rattle.cwr_layouts.specs.Layouts.{FieldLayout, field_at, record_type, line_width}
 use Rattle.cwr_layouts.specs.Lines.{cells_as, line_body, line_kind}
-use Rattle.cwr_layouts.proofs.GoodLinesAreRows.{letters-of}
+use Rattle.cwr_layouts.proofs.GoodLinesAreRows.{letters-of, three-filled}
 use Rattle.cwr_shape.specs.Numbers.{number_fields, number_in}
 use Rattle.cwr_judge.specs.Reasons.{cell_of}
 
 -- ---- its cell
-
-length-filled : (w : ℕ) (body : List ℕ) → w ≤ length (filled w body)
-length-filled w body = omega (arith, length-append body (replicate (w - length body) 32), length-replicate {A = ℕ} (w - length body) 32)
-
--- filled up further, the first three bytes are the same
-three-filled : (w : ℕ) (body : List ℕ) → 3 ≤ w → take 3 (filled w body) ≡ take 3 (filled 3 body)
-three-filled w body h =
-    let a : ℕ = 3 - length body in
-    let b : ℕ = (w - length body) - (3 - length body) in
-    let split : filled w body ≡ filled 3 body ++ replicate b 32 =
-    ap (λ (n : ℕ). body ++ replicate n 32) (omega arith) ∙ ap (λ (x : List ℕ). body ++ x) (sym (replicate-append-replicate a b 32)) ∙ sym (append_assoc body (replicate a 32) (replicate b 32)) in
-    ap (take 3) split ∙ take-append-le 3 (filled 3 body) (replicate b 32) (length-filled 3 body)
 
 letters_hold : (kind : Kind) → Holds types.Required (letters kind)
 unfolding holds_test

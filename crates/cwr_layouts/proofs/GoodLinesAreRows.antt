@@ -120,7 +120,7 @@ length-filled : (w : ℕ) (body : List ℕ) → w ≤ length (filled w body)
 length-filled w body = omega (arith, length-append body (replicate (w - length body) 32), length-replicate {A = ℕ} (w - length body) 32)
 
 -- filled up further, the first three bytes are the same
-three-filled : (w : ℕ) (body : List ℕ) → 3 ≤ w → take 3 (filled w body) ≡ take 3 (filled 3 body)
+pub three-filled : (w : ℕ) (body : List ℕ) → 3 ≤ w → take 3 (filled w body) ≡ take 3 (filled 3 body)
 three-filled w body h =
     let a : ℕ = 3 - length body in
     let b : ℕ = (w - length body) - (3 - length body) in

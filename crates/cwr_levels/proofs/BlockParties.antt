@@ -3,7 +3,7 @@ use Rattle.std.proofs.Common.{◌≡◌, ℕ, suc, ◌+◌, ◌≤◌, Bool, tru
 use Rattle.std.specs.Prelude.{◌||◌, ◌&&◌, not, Some, None, take_while, slice_get}
 use Rattle.std.specs.List.{prefix_len, last_or}
 use Rattle.std.proofs.lemmas.Bool.{or_left, or_right, or_from}
-use Rattle.std.proofs.lemmas.List.{append-nil}
+use Rattle.std.proofs.lemmas.List.{append-nil, drop_all}
 use Rattle.std.proofs.lemmas.List.Sums.{take_while-cons}
 use Rattle.cwr_layouts.specs.declared.kinds.Kind.TheVariants as kinds
 use Rattle.cwr_layouts.specs.Records.{RecordValue}
@@ -11,7 +11,7 @@ use Rattle.cwr_levels.specs.declared.rules.Rule.TheVariants.{V11}
 use Rattle.cwr_levels.specs.Findings.{breaks, begins_block, have_side_over_whole, is_a, is_agreement, is_party, is_territory, in_blocks, parties_after}
 use Rattle.cwr_levels.specs.Walks.{is_kind}
 use Rattle.cwr_levels.proofs.KindTests.{kind_of}
-use Rattle.cwr_levels.proofs.OneMore.{drop_more, drop_whole}
+use Rattle.cwr_levels.proofs.OneMore.{drop_more}
 
 -- the parties that still come, where the walk is among the parties or still at the territories
 abbrev pub parties_left : Bool → List RecordValue → List RecordValue
@@ -76,7 +76,7 @@ passed_left false r rest no_party no_ter = by (is_a kinds.Ter r) refl
 
 module _ (t : List RecordValue) (first i : ℕ) (seen : List RecordValue) (among_parties : Bool) (e : seen ++ parties_left among_parties (drop i t) ≡ parties_after (drop first t)) where
   pub all_seen : length t ≤ i → seen ≡ parties_after (drop first t)
-  all_seen h = sym (append-nil seen) ∙ ap (λ (l : List RecordValue). seen ++ l) (sym (ap (parties_left among_parties) (drop_whole t i h) ∙ none_left among_parties)) ∙ e
+  all_seen h = sym (append-nil seen) ∙ ap (λ (l : List RecordValue). seen ++ l) (sym (ap (parties_left among_parties) (drop_all i t h) ∙ none_left among_parties)) ∙ e
 
   pub one_more_seen : (r : RecordValue) → slice_get t i ≡ Some r → is_a kinds.Ipa r ≡ true → (seen ++ r ∷ []) ++ parties_left true (drop (i + 1) t) ≡ parties_after (drop first t)
   one_more_seen r there h =

@@ -5,11 +5,11 @@ use Rattle.std.specs.List.{list_any, count_by}
 use mir.Val.{bool_byte}
 use Rattle.std.proofs.lemmas.List.Sums.{sum_by_push}
 use Rattle.std.proofs.lemmas.List.Folds.{list_any-append}
+use Rattle.std.proofs.lemmas.Option.{slice_get_within}
 use Rattle.cwr_layouts.specs.declared.kinds.Kind.TheVariants as kinds
 use Rattle.cwr_layouts.specs.Records.{RecordValue}
 use Rattle.cwr_levels.specs.Findings.{is_a, is_author}
 use Rattle.cwr_levels.specs.Walks.{capped}
-use Rattle.cwr_levels.proofs.OneMore.{there_is_less}
 use Rattle.cwr_levels.proofs.RuleTests.{or_none}
 
 pub author_more : (rs : List RecordValue) (r : RecordValue) (a b : Bool) → a ≡ list_any is_author rs → b ≡ is_author r → (a || b) ≡ list_any is_author (rs ++ r ∷ [])
@@ -43,4 +43,4 @@ pub publishers_same : (rs : List RecordValue) (r : RecordValue) (end : ℕ) → 
 publishers_same rs r end h no_spu = λ i p e q. elim (pushed rs r i p e) [ inl there ↦ h i p there q | inr new ↦ absurd (true≢false (sym q ∙ sym (ap (is_a kinds.Spu) new.0) ∙ no_spu)) ]
 
 pub publishers_more : (rs : List RecordValue) (r : RecordValue) (k : ℕ) → length rs ≡ k → StandBefore (k + 1) (rs ++ r ∷ [])
-publishers_more rs r k many = λ i p e q. elim (pushed rs r i p e) [ inl there ↦ omega (arith, there_is_less rs i p there, many) | inr new ↦ omega (arith, new.1, many) ]
+publishers_more rs r k many = λ i p e q. elim (pushed rs r i p e) [ inl there ↦ omega (arith, slice_get_within rs i p there, many) | inr new ↦ omega (arith, new.1, many) ]

@@ -2,13 +2,13 @@
 use Rattle.std.proofs.Common.{◌≡◌, ℕ, zero, suc, ◌+◌, ◌≤◌, List, [], ◌∷◌, ◌++◌, length, take, refl, sym, ap, ◌∙◌, arith}
 use Rattle.std.specs.Prelude.{Some, slice_get, flat_map}
 use Rattle.std.specs.List.{enumerate_from}
-use Rattle.std.proofs.lemmas.List.{append-nil}
+use Rattle.std.proofs.lemmas.List.{append-nil, take_all}
 use Rattle.std.proofs.lemmas.List.Concat.{flat_map-append}
 use Rattle.std.proofs.lemmas.List.FromFn.{length-enumerate_from}
 use Rattle.cwr_layouts.specs.Records.{RecordValue}
 use Rattle.cwr_levels.specs.declared.rules.Finding.{Finding}
 use Rattle.cwr_levels.specs.Findings.{findings, findings_at}
-use Rattle.cwr_levels.proofs.OneMore.{take_more, take_whole}
+use Rattle.cwr_levels.proofs.OneMore.{take_more}
 
 -- the findings at the first k records
 abbrev pub found_before : List RecordValue → ℕ → List Finding
@@ -30,7 +30,7 @@ found_more t k r e =
 
 pub found_at_end : (t : List RecordValue) (k : ℕ) → length t ≤ k → found_before t k ≡ findings t
 unfolding findings
-found_at_end t k h = ap (flat_map (λ (p : ℕ × RecordValue). findings_at t p.0 p.1)) (take_whole (enumerate_from 0 t) k (omega (arith, length-enumerate_from 0 t)))
+found_at_end t k h = ap (flat_map (λ (p : ℕ × RecordValue). findings_at t p.0 p.1)) (take_all k (enumerate_from 0 t) (omega (arith, length-enumerate_from 0 t)))
 
 front_none : {A : Type 0} → (xs ys : List A) → xs ++ ys ≡ [] → xs ≡ []
 front_none [] ys e = refl

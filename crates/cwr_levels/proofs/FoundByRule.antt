@@ -2,7 +2,7 @@
 use Rattle.std.proofs.Common.{◌≡◌, ℕ, zero, suc, ◌+◌, ◌<◌, ◌≤◌, Bool, true, false, cond, List, [], ◌∷◌, ◌++◌, length, map, take, get_or, refl, sym, ap, ◌∙◌, arith, nat_eq, append_assoc, true≢false}
 use Rattle.std.specs.Prelude.{OnErr, Ok, Err, Result, Some, filter, slice_get, ◌&&◌, ◌||◌}
 use Rattle.std.proofs.lemmas.Bool.{and_parts, eqb-true}
-use Rattle.std.proofs.lemmas.List.{append-nil, map-append}
+use Rattle.std.proofs.lemmas.List.{append-nil, map-append, take_all}
 use Rattle.std.proofs.lemmas.List.Elements.{filter_more}
 use Rattle.cwr_layouts.specs.declared.kinds.Kind.TheVariants as kinds
 use Rattle.cwr_layouts.specs.Records.{RecordValue}
@@ -11,7 +11,6 @@ use Rattle.cwr_levels.specs.declared.rules.Rule.TheVariants.{V1, V2, V3, V4, V5,
 use Rattle.cwr_levels.specs.declared.rules.Finding.{Finding}
 use Rattle.cwr_levels.specs.Findings.{breaks, is_a, is_work, is_agreement, field_of_rule, level_of_rule, all_rules, findings_at}
 use Rattle.cwr_levels.specs.Walks.{can_break, is_kind, rules_on}
-use Rattle.cwr_levels.proofs.OneMore.{take_whole}
 use Rattle.cwr_levels.proofs.RuleTests.{first_of_work, first_of_agreement, or_none}
 
 -- the finding of a rule at a record
@@ -86,7 +85,7 @@ found_by_all t k r there =
     ap (map (finding_of k r)) (filter_within (λ rule. breaks rule t k r) (λ rule. can_break rule r.kind) (λ rule h. broken_can_be rule t k r there h) all_rules)
 
 pub found_by_end : (t : List RecordValue) (k : ℕ) (r : RecordValue) (rules : List Rule) (i : ℕ) → slice_get t k ≡ Some r → rules ≡ rules_on r.kind → length rules ≤ i → found_by t k r (take i rules) ≡ findings_at t k r
-found_by_end t k r rules i there e end = ap (found_by t k r) (take_whole rules i end ∙ e) ∙ found_by_all t k r there
+found_by_end t k r rules i there e end = ap (found_by t k r) (take_all i rules end ∙ e) ∙ found_by_all t k r there
 
 -- ---- one rule more
 

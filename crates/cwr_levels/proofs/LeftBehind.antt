@@ -2,6 +2,7 @@
 use Rattle.std.proofs.Common.{◌≡◌, Bool, true, false, cond, List, [], ◌∷◌, ◌++◌, refl, ap, ◌∙◌}
 use Rattle.std.specs.Prelude.{Option, Some, None, filter, ◌||◌}
 use Rattle.std.specs.List.{last_or}
+use Rattle.std.proofs.lemmas.List.{append-nil}
 use Rattle.std.proofs.lemmas.List.Elements.{filter-append}
 use Rattle.cwr_layouts.specs.declared.kinds.Kind.{Kind}
 use Rattle.cwr_layouts.specs.declared.kinds.Kind.TheVariants as kinds
@@ -14,13 +15,9 @@ last_pushed : (o : Option RecordValue) (xs : List RecordValue) (r : RecordValue)
 last_pushed o [] r = refl
 last_pushed o (x ∷ xs) r = last_pushed (Some x) xs r
 
-and_none : (xs : List RecordValue) → xs ++ [] ≡ xs
-and_none [] = refl
-and_none (x ∷ xs) = ap (λ (l : List RecordValue). x ∷ l) (and_none xs)
-
 last_kept : (p : RecordValue → Bool) (rs : List RecordValue) (r : RecordValue) (b : Bool) → p r ≡ b → last_or None (filter p rs ++ filter p (r ∷ [])) ≡ cond b (Some r) (last_or None (filter p rs))
 last_kept p rs r true e = rw e (last_pushed None (filter p rs) r)
-last_kept p rs r false e = rw e (ap (last_or None) (and_none (filter p rs)))
+last_kept p rs r false e = rw e (ap (last_or None) (append-nil (filter p rs)))
 
 last_more : (p : RecordValue → Bool) (rs : List RecordValue) (r : RecordValue) (b : Bool) → p r ≡ b → last_or None (filter p (rs ++ r ∷ [])) ≡ cond b (Some r) (last_or None (filter p rs))
 last_more p rs r b e = ap (last_or None) (filter-append p rs (r ∷ [])) ∙ last_kept p rs r b e

@@ -3,7 +3,9 @@ use Rattle.std.proofs.Common.{◌≡◌, ℕ, zero, suc, ◌+◌, ◌≤◌, ◌
 use Rattle.std.specs.Prelude.{Some, slice_get, ◌||◌}
 use Rattle.std.specs.List.{list_any}
 use Rattle.std.proofs.lemmas.Bool.{false_from_ne_true, or_left, or_right, or_from}
+use Rattle.std.proofs.lemmas.List.{take_all, length-take-le}
 use Rattle.std.proofs.lemmas.List.Folds.{list_any-append}
+use Rattle.std.proofs.lemmas.Option.{slice_get_within}
 
 taken : {X : Type 0} → (t : List X) (k : ℕ) (r : X) → slice_get t k ≡ Some r → take (suc k) t ≡ take k t ++ r ∷ []
 taken [] k r e = absurd (cc e)
@@ -13,21 +15,8 @@ taken {X} (x ∷ t) (suc k) r e = ap (λ (l : List X). x ∷ l) (taken t k r e)
 pub take_more : {X : Type 0} → (t : List X) (k : ℕ) (r : X) → slice_get t k ≡ Some r → take (k + 1) t ≡ take k t ++ r ∷ []
 take_more {X} t k r e = let next : k + 1 ≡ suc k = omega arith in ap (λ (n : ℕ). take n t) next ∙ taken t k r e
 
-pub take_whole : {X : Type 0} → (t : List X) (k : ℕ) → length t ≤ k → take k t ≡ t
-take_whole [] zero h = refl
-take_whole [] (suc k) h = refl
-take_whole (x ∷ t) zero h = absurd (omega (arith, h))
-take_whole {X} (x ∷ t) (suc k) h = ap (λ (l : List X). x ∷ l) (take_whole t k (omega (arith, h)))
-
 pub length_taken : {X : Type 0} → (t : List X) (k : ℕ) (r : X) → slice_get t k ≡ Some r → length (take k t) ≡ k
-length_taken [] k r e = absurd (cc e)
-length_taken (x ∷ t) zero r e = refl
-length_taken (x ∷ t) (suc k) r e = ap suc (length_taken t k r e)
-
-pub there_is_less : {X : Type 0} → (t : List X) (k : ℕ) (r : X) → slice_get t k ≡ Some r → k < length t
-there_is_less [] k r e = absurd (cc e)
-there_is_less (x ∷ t) zero r e = omega arith
-there_is_less (x ∷ t) (suc k) r e = omega (arith, there_is_less t k r e)
+length_taken t k r e = length-take-le k t (omega (arith, slice_get_within t k r e))
 
 pub none_there_is_end : {X : Type 0} → (t : List X) (k : ℕ) → ((r : X) → slice_get t k ≡ Some r → ⊥) → length t ≤ k
 none_there_is_end [] k h = omega arith
@@ -42,12 +31,6 @@ dropped (x ∷ t) (suc k) r e = dropped t k r e
 pub drop_more : {X : Type 0} → (t : List X) (k : ℕ) (r : X) → slice_get t k ≡ Some r → drop k t ≡ r ∷ drop (k + 1) t
 drop_more {X} t k r e = let next : suc k ≡ k + 1 = omega arith in dropped t k r e ∙ ap (λ (n : ℕ). r ∷ drop n t) next
 
-pub drop_whole : {X : Type 0} → (t : List X) (k : ℕ) → length t ≤ k → drop k t ≡ []
-drop_whole [] zero h = refl
-drop_whole [] (suc k) h = refl
-drop_whole (x ∷ t) zero h = absurd (omega (arith, h))
-drop_whole (x ∷ t) (suc k) h = drop_whole t k (omega (arith, h))
-
 -- ---- what a test finds
 
 -- one more that doesn't pass
@@ -57,7 +40,7 @@ none_more p t k r e before here =
 
 -- none up to the end, and so none among however many
 pub none_at_end : {X : Type 0} → (p : X → Bool) (t : List X) (k n : ℕ) → length t ≤ k → k ≤ n → list_any p (take k t) ≡ false → false ≡ list_any p (take n t)
-none_at_end p t k n end more before = sym before ∙ ap (list_any p) (take_whole t k end ∙ sym (take_whole t n (omega (arith, end, more))))
+none_at_end p t k n end more before = sym before ∙ ap (list_any p) (take_all k t end ∙ sym (take_all n t (omega (arith, end, more))))
 
 -- a record that passes is found among the first ones
 pub any_there : {X : Type 0} → (p : X → Bool) (t : List X) (i n : ℕ) (r : X) → slice_get t i ≡ Some r → p r ≡ true → i < n → list_any p (take n t) ≡ true

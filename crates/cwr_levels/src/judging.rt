@@ -61,7 +61,7 @@ fn is_number(number: &[u8], party: Option<&[u8]>) -> bool
     }
 }
 
-/// Whether a territory names another party than the nearest publisher or writer before it.
+/// Whether a territory names another party than the nearest publisher or writer before it; also where there is none.
 fn names_another_party(shown: &RecordRef<'_>, before: &Before<'_>) -> bool
     ensures { (t : List RecordValue) (k : ℕ) → is_work t ≡ true → IsBefore (take k t) before.now → result ≡ breaks V2 t k shown.now }
 {
@@ -116,7 +116,8 @@ fn has_no_excerpt_type(transaction: &Transaction) -> bool
     }
 }
 
-/// Whether a sum of shares is neither nothing nor about the whole, told at the header of a work.
+/// Whether the record is the header of a work, and the sum of its shares in a right is neither nothing nor about the
+/// whole.
 fn is_off_in(transaction: &Transaction, sequence: usize, total: u64) -> bool
     ensures { (n : ℕ) → total ≡ capped n → result ≡ (is_work transaction.now && (sequence == 0) && is_off n) }
 {

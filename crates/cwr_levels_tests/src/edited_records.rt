@@ -13,10 +13,10 @@ use std::process::Abort;
 pub(crate) type Edits = &'static [(usize, u8, &'static [u8])];
 
 /// Where a finding stands, its level and its rule: the record from 0, the field from 1.
-pub(crate) type Told = (usize, u8, Level, Rule);
+pub(crate) type Expected = (usize, u8, Level, Rule);
 
 /// The worked lines of a transaction, the edits in them, and the findings.
-pub(crate) type Case = (&'static [&'static [u8]], Edits, &'static [Told]);
+pub(crate) type Case = (&'static [&'static [u8]], Edits, &'static [Expected]);
 
 /// The record of a line that ended, with the edits in the record of this sequence.
 fn edited(rt: &impl Abort, buffer: &LineBuf, sequence: usize, edits: Edits) -> Record
@@ -72,14 +72,14 @@ pub(crate) fn check_findings(rt: &(impl Abort + AllocGlobal), cases: &'static [C
         let answer = findings(rt.alloc(), &transaction(rt, lines, edits));
         let found = answer.expect(rt, "no memory");
         assert_eq!(rt; found.len(), expected.len());
-        for (shown, told) in found.iter().zip(expected.iter()) {
+        for (shown, wanted) in found.iter().zip(expected.iter()) {
             let Finding {
                 rec,
                 field,
                 rule,
                 level,
             } = *shown;
-            assert_eq!(rt; (rec, field, level, rule), *told);
+            assert_eq!(rt; (rec, field, level, rule), *wanted);
         }
     }
 }

@@ -4,7 +4,6 @@ ghost use Rattle.std.specs.Prelude.{◌≡◌, ◌↔◌, ◌++◌, ◌∷◌, [
 ghost use Rattle.std.specs.Result.{IsErrAnd};
 ghost use Rattle.cwr_layouts.specs.Records.{blank_record};
 ghost use Rattle.cwr_shape.specs.Numbers.{group_records};
-ghost use Rattle.cwr_shape.specs.Tallies.{header_kind};
 ghost use Rattle.cwr_values.specs.Values.{type_of, IsTransaction};
 ghost use Rattle.cwr_values.specs.Begun.{HasHeaderOf, IsBegunGroup, IsWholeTransaction};
 
@@ -40,25 +39,6 @@ impl Display for GroupFault {
 }
 
 impl Error for GroupFault {}
-
-/// The kind of a type's header.
-fn header_kind(ty: TransactionType) -> Kind
-    ensures { result ≡ header_kind ty }
-{
-    match ty {
-        TransactionType::Agreement => Kind::Agr,
-        TransactionType::NewWork => Kind::Nwr,
-        TransactionType::RevisedWork => Kind::Rev,
-        TransactionType::Acknowledgement => Kind::Ack,
-    }
-}
-
-/// Whether the header of a transaction is of the type.
-fn is_of(transaction: &Transaction, ty: TransactionType) -> bool
-    ensures { IsTrue result ↔ HasHeaderOf ty transaction.now }
-{
-    transaction.kind() == header_kind(ty)
-}
 
 /// A GRT record in which nothing was set.
 fn blank_foot() -> Record
@@ -144,7 +124,7 @@ impl Group {
         ensures incomplete { IsErrAnd result (λ e. e.0 ≡ GroupFault.Incomplete)
             ↔ (HasHeaderOf (type_of self.old.head) transaction × ¬ IsWholeTransaction transaction) }
     {
-        if !is_of(&transaction, self.ty()) {
+        if !transaction.is_of(self.ty()) {
             return Err((GroupFault::WrongKind, transaction));
         }
         if !transaction.complete() {
