@@ -1,4 +1,4 @@
-//! Tests of the line that a check writes on a worked text.
+//! Tests of the lines that a check writes on a worked text.
 
 use cwr_fields::Counted;
 use cwr_shape::Limits;
@@ -18,7 +18,7 @@ type Numbers = (u32, u32, u32);
 /// The largest numbers of limits.
 const LARGEST: Numbers = (99_999_999, 99_999, 999_999);
 
-/// Limits, the lines of a text, and the line that is written on its canonical text.
+/// Limits, the lines of a text, and the lines that are written on its canonical text.
 type Checked = (Numbers, &'static [&'static [u8]], &'static [u8]);
 
 #[rattlefmt::skip]
@@ -51,7 +51,17 @@ static REFUSED: [Checked; 17] = [
     (LARGEST, &[HDR, GRH_ACK, ACK_0, b""], b"REFUSED record 4 field 1 level T unknown kind\n"),
 ];
 
-/// Checks a text within these limits: the line that is written on it.
+#[rattlefmt::skip]
+static FOUND: [Checked; 2] = [
+    (LARGEST, &[
+        HDR, GRH_NWR, NWR_0_WITH_WRONG_ISWC, SWR_0_1, b"GRT000010000000100000004",
+        GRH_REV_2, REV_0, SWR_0_1, REV_1, SWR_1_1_OF_AN_ARRANGER, b"GRT000020000000200000006", b"TRL000020000000300000012",
+    ], b"FINDING group 1 transaction 0 record 0 field 7 level F rule V1\nFINDING group 2 transaction 1 record 0 field 1 level T rule V6\nGOOD groups 2 transactions 3 records 12\n"),
+    (LARGEST, &[HDR, GRH_NWR, NWR_0_WITH_WRONG_ISWC, SWR_0_1, NWR_1_OF_UNKNOWN_CATEGORY],
+        b"REFUSED record 5 field 10 level T cell not a code\n"),
+];
+
+/// Checks a text within these limits: the lines that are written on it.
 fn check_line(
     rt: &(impl Abort + AllocGlobal),
     numbers: Numbers,
@@ -69,7 +79,7 @@ fn check_line(
 
 #[test]
 fn lines_on_worked_texts(rt: HostRuntime) -> Result<(), Fail> {
-    for table in [GOOD.as_slice(), REFUSED.as_slice()] {
+    for table in [GOOD.as_slice(), REFUSED.as_slice(), FOUND.as_slice()] {
         for (numbers, lines, wanted) in table {
             let text = canonical(rt.alloc(), lines)?;
             check_line(&rt, *numbers, text.as_slice(), wanted)?;

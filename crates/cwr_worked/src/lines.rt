@@ -39,6 +39,10 @@ pub const MSG_0_1: &[u8] = b"MSG0000000000000001F           F   TITLE CHANGED";
 pub const NWR_0: &[u8] =
     b"NWR0000000000000000BLUE RIVER                                                    W0001                                        POP             ORI";
 
+/// The same with an ISWC whose check digit is wrong.
+pub const NWR_0_WITH_WRONG_ISWC: &[u8] =
+    b"NWR0000000000000000BLUE RIVER                                                    W0001         T0345246802                    POP             ORI";
+
 /// NWR, which opens transaction 1.
 pub const NWR_1: &[u8] =
     b"NWR0000000100000000BLUE RIVER                                                    W0001                                        POP             ORI";
@@ -77,6 +81,10 @@ pub const SWR_0_1: &[u8] =
 /// SWR, record 1 of transaction 1.
 pub const SWR_1_1: &[u8] =
     b"SWR0000000100000001W1       SMITH                                        ANNA                           CA";
+
+/// The same of a writer who arranged music.
+pub const SWR_1_1_OF_AN_ARRANGER: &[u8] =
+    b"SWR0000000100000001W1       SMITH                                        ANNA                           AR";
 
 /// SWR, record 3 of transaction 0.
 pub const SWR_0_3: &[u8] =
