@@ -6,4 +6,4 @@ mod program;
 mod words;
 
 pub use program::{refuse_words, run};
-pub use words::{Task, task_of};
+pub use words::{Task, Work, task_of};

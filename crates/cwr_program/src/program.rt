@@ -5,16 +5,16 @@ ghost use Rattle.clap.specs.Values.{kind_of};
 ghost use Rattle.cwr_program.specs.Endings.{EndsAs};
 
 use crate::faults::Fault;
-use crate::words::{Task, task_of};
+use crate::words::{Task, Work, task_of};
 use clap::error::ErrorKind;
 use cwr_fields::Counted;
 use cwr_shape::Limits;
-use cwr_tools::{ToolFault, Verdict, check};
+use cwr_tools::{ToolFault, Verdict, check, show};
 use std::alloc::Global;
 use std::convert::AsStr;
 use std::fs::File;
 use std::io;
-use std::io::{BufReader, Read, Write};
+use std::io::{BufReader, BufWriter, Read, Write};
 use std::rt::Files;
 
 /// How a run ended, as its exit status.
@@ -114,29 +114,48 @@ fn perform<'a, R: Files + AllocGlobal, I: Read + Drop, O: Write + Drop>(
     input: I,
     output: O,
 ) -> Result<Status, Fault<'a>> {
-    match task {
-        Task::Check { file: None, limits } => check_one(rt.alloc(), limits, input, output),
-        Task::Check {
-            file: Some(name),
-            limits,
-        } => match File::open(rt, name) {
-            Ok(file) => check_one(rt.alloc(), limits, file, output),
+    match task.file {
+        None => run_one(rt.alloc(), task.work, task.limits, input, output),
+        Some(name) => match File::open(rt, name) {
+            Ok(file) => run_one(rt.alloc(), task.work, task.limits, file, output),
             Err(_) => Err(Fault::Open(name)),
         },
     }
 }
 
-/// Checks one transmission, and writes the verdict's line to the output.
-fn check_one<'a, I: Read + Drop, O: Write + Drop>(
+/// How many bytes of output are gathered before they are written.
+const GATHERED: usize = 65_536;
+
+/// The output, with lines gathered before they are written. What is left is written when it is dropped.
+fn lines_to<'a, O: Write + Drop>(
     alloc: Global,
+    output: O,
+) -> Result<Counted<BufWriter<O>>, Fault<'a>> {
+    match BufWriter::with_capacity(alloc, GATHERED, output) {
+        Ok(lines) => Ok(Counted::new(lines)),
+        Err(_) => Err(Fault::Memory),
+    }
+}
+
+/// The bytes of the input. `Counted` has the one buffer: a `BufReader` of none hands each read on, and takes no memory.
+fn bytes_of<I: Read + Drop>(alloc: Global, input: I) -> Counted<BufReader<I>> {
+    Counted::new(BufReader::with_capacity(alloc, 0, input).unwrap())
+}
+
+/// Checks or shows one transmission, and writes the lines to the output.
+fn run_one<'a, I: Read + Drop, O: Write + Drop>(
+    alloc: Global,
+    work: Work,
     limits: Limits,
     input: I,
     output: O,
 ) -> Result<Status, Fault<'a>> {
-    // `Counted` has the one buffer. A `BufReader` of none hands each read on, and takes no memory.
-    let mut reader = Counted::new(BufReader::with_capacity(alloc, 0, input).unwrap());
-    let (_output, outcome) = check(alloc, limits, &mut reader, Counted::new(output));
-    ending(outcome)
+    let lines = lines_to(alloc, output)?;
+    let mut reader = bytes_of(alloc, input);
+    match work {
+        Work::Check => ending(check(alloc, limits, &mut reader, lines).1),
+        Work::Show => ending(show(alloc, limits, &mut reader, lines).1),
+    }
 }
 
 /// What a run over texts means for the program.

@@ -1,6 +1,7 @@
 //! The words of the command line.
 
-ghost use Rattle.std.specs.Prelude.{◌≡◌, ℕ, List, None, Some, IfSome, codes, false};
+ghost use Rattle.std.specs.Prelude.{◌≡◌, ℕ, List, None, Some, IfSome, codes, false, if◌then◌else◌};
+ghost use Rattle.std.specs.Str.{bytes_eq};
 ghost use Rattle.std.specs.Str.Parse.{digits_value, without_leading_plus};
 ghost use Rattle.clap.specs.Words.{found_of, has_subcommand, one_text};
 ghost use Rattle.cwr_shape.specs.Ranges.{limit_values};
@@ -11,17 +12,31 @@ use cwr_shape::Limits;
 use std::alloc::{AllocError, Global};
 use std::convert::AsStr;
 
+/// What is done with a transmission.
+#[derive(Clone, Copy, Debug, PartialEq, Eq)]
+pub enum Work {
+    /// It is checked.
+    Check,
+    /// Its records are shown.
+    Show,
+}
+
 /// What the words ask for.
 #[derive(Clone, Copy, Debug, PartialEq, Eq)]
-pub enum Task<'a> {
-    /// To check a transmission.
-    Check {
-        /// The name of its file. Without one it is read from standard input.
-        file: Option<&'a str>,
-        /// The limits that it is checked within.
-        limits: Limits,
-    },
+pub struct Task<'a> {
+    /// What is done with the transmission.
+    pub work: Work,
+    /// The name of its file. Without one it is read from standard input.
+    pub file: Option<&'a str>,
+    /// The limits that it is read within.
+    pub limits: Limits,
 }
+
+/// The name of the subcommand that checks.
+const CHECK: &str = "check";
+
+/// The name of the subcommand that shows.
+const SHOW: &str = "show";
 
 /// The id of the one file of a subcommand.
 const FILE: &str = "FILE";
@@ -55,11 +70,11 @@ fn with_limits<'a>(alloc: Global, command: Command<'a>) -> Result<Command<'a>, A
         .arg(transaction.help("The most records of one transaction, 1 to 999999"))
 }
 
-/// The subcommand `check`.
-fn check<'a>(alloc: Global) -> Result<Command<'a>, AllocError> {
+/// A subcommand over one transmission, within the limits that its words give.
+fn over_one<'a>(alloc: Global, name: &'a str, about: &'a str) -> Result<Command<'a>, AllocError> {
     let file = Arg::new(alloc, FILE).help("The transmission; without it standard input is read");
-    let judges = Command::new(alloc, "check").about("Judges a transmission");
-    with_limits(alloc, judges)?.arg(file)
+    let command = Command::new(alloc, name).about(about);
+    with_limits(alloc, command)?.arg(file)
 }
 
 /// The version of the program.
@@ -67,10 +82,13 @@ const VERSION: &str = "0.1.0";
 
 /// What stands at the end of the program's help.
 const OUTCOMES: &str = "\
-Standard output gets one line:
+The last line on standard output:
   GOOD groups G transactions T records R     the input begins with a transmission
   REFUSED record R field F level L REASON    no transmission continues from that field of line R
   TRUNCATED records R                        the input ended too early, after R records
+
+Before it `cwr check` writes a line for each finding in a transaction, and `cwr show` each record with its cells:
+  FINDING group G transaction T record S field F level L rule V
 
 Exit status: 0 good, 1 refused or truncated, 2 a wrong command line (or help), 3 a file, a device or memory failed
 
@@ -82,7 +100,12 @@ fn command<'a>(alloc: Global) -> Result<Command<'a>, AllocError> {
         .version(VERSION)
         .about("Reads CWR 2.1 transmissions; without words it is `cwr check`")
         .after_help(OUTCOMES)
-        .subcommand(check(alloc)?)
+        .subcommand(over_one(alloc, CHECK, "Judges a transmission")?)?
+        .subcommand(over_one(
+            alloc,
+            SHOW,
+            "Shows the records of a transmission, and judges it",
+        )?)
 }
 
 /// The largest limits.
@@ -107,17 +130,31 @@ fn limits_of(matches: &ArgMatches<'_>) -> Option<Limits>
     Limits::new(records, groups, transaction).ok()
 }
 
+/// The work that a subcommand is named for.
+fn work_of(name: &str) -> Work
+    ensures { result ≡ (if bytes_eq name.now (codes "show") then Work.Show else Work.Check) }
+{
+    if name == SHOW {
+        Work::Show
+    } else {
+        Work::Check
+    }
+}
+
 /// What is asked for. `None` where a limit is missing or out of its range.
 fn task_in<'a>(matches: &ArgMatches<'a>) -> Option<Task<'a>>
     // Without a subcommand it is a check of standard input within the largest limits.
-    ensures { has_subcommand matches.now ≡ false → result ≡ Some (Task.Check None (limit_values 99999999 99999 999999)) }
+    ensures { has_subcommand matches.now ≡ false
+        → result ≡ Some (record { work = Work.Check; file = None; limits = limit_values 99999999 99999 999999 }) }
 {
     match matches.subcommand() {
-        Some((_check, of_check)) => Some(Task::Check {
-            file: of_check.get_str(FILE),
-            limits: limits_of(of_check)?,
+        Some((name, given)) => Some(Task {
+            work: work_of(name),
+            file: given.get_str(FILE),
+            limits: limits_of(given)?,
         }),
-        None => Some(Task::Check {
+        None => Some(Task {
+            work: Work::Check,
             file: None,
             limits: largest(),
         }),

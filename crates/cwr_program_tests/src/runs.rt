@@ -86,6 +86,7 @@ fn version_and_help(rt: HostRuntime) {
         "GOOD groups G transactions T records R",
         "REFUSED record R field F level L REASON",
         "TRUNCATED records R",
+        "FINDING group G transaction T record S field F level L rule V",
         "Exit status: 0 good, 1 refused or truncated",
         "Example: cwr check works.cwr",
     ] {
@@ -122,6 +123,81 @@ fn input_that_is_empty(rt: HostRuntime) {
         assert_eq!(rt; ran.output.as_slice(), b"TRUNCATED records 0\n".as_slice());
         assert!(rt; ran.error.is_empty(), "at {count} words");
     }
+}
+
+/// What is shown at the end of one acknowledgement.
+const SHOWN_LAST: &[u8] = b"  12 processing date: 20240110
+  13 transaction status: AS
+4 GRT
+5 TRL
+GOOD groups 1 transactions 1 records 5
+";
+
+#[test]
+fn records_are_shown(rt: HostRuntime) -> Result<(), Fail> {
+    let text = canonical(rt.alloc(), ONE_ACKNOWLEDGEMENT)?;
+    let words = ["cwr", "show", "--records", "5"];
+    for count in [2, 4] {
+        let ran = run_over(&rt, &words[..count], text.as_slice());
+        assert_eq!(rt; ran.status, 0, "at {count} words");
+        assert!(rt;
+            ran.output
+                .as_slice()
+                .starts_with(b"1 HDR\n  2 sender type: PB\n")
+        );
+        assert!(rt; ran.output.as_slice().ends_with(SHOWN_LAST));
+        assert!(rt; ran.error.is_empty(), "at {count} words");
+    }
+    Ok(())
+}
+
+#[test]
+fn records_of_a_file_are_shown(rt: HostRuntime) {
+    // Where a file is named, standard input isn't read.
+    let empty = run_over(&rt, ["cwr", "show", "/dev/null"].as_slice(), Failing);
+    assert_eq!(rt; empty.status, 1);
+    assert_eq!(rt;
+        empty.output.as_slice(),
+        b"TRUNCATED records 0\n".as_slice()
+    );
+    let words = ["cwr", "show", "no/such/file.cwr"];
+    let missing = run_over(&rt, words.as_slice(), io::empty());
+    assert_eq!(rt; missing.status, 3);
+    assert!(rt; missing.output.is_empty());
+    assert_eq!(rt;
+        missing.error.as_slice(),
+        b"cwr: cannot open no/such/file.cwr\n".as_slice()
+    );
+}
+
+/// A reader that gives what it has, and then fails.
+#[derive(Drop)]
+struct FailsAtEnd<'a> {
+    left: &'a [u8],
+}
+
+impl Read for FailsAtEnd<'_> {
+    fn read(&mut self, buf: &mut [u8]) -> io::Result<usize> {
+        if self.left.is_empty() {
+            return Err(io::Error::from(io::ErrorKind::Other));
+        }
+        self.left.read(buf)
+    }
+}
+
+#[test]
+fn records_before_a_fault_are_shown(rt: HostRuntime) -> Result<(), Fail> {
+    let text = canonical(rt.alloc(), ONE_ACKNOWLEDGEMENT)?;
+    let left = text.as_slice().get(..333).unwrap_or(b"");
+    let ran = run_over(&rt, ["cwr", "show"].as_slice(), FailsAtEnd { left });
+    assert_eq!(rt; ran.status, 3);
+    assert!(rt;
+        ran.output
+            .as_slice()
+            .ends_with(b"  13 transaction status: AS\n4 GRT\n")
+    );
+    assert_eq!(rt; ran.error.as_slice(), b"cwr: read fault\n".as_slice());
+    Ok(())
 }
 
 #[test]

@@ -1,14 +1,15 @@
 //! What the program's words ask for. The limits are those of this profile.
 
-use cwr_program::{Task, task_of};
+use cwr_program::{Task, Work, task_of};
 use cwr_shape::Limits;
 use std::process::Abort;
 use std::test::Fail;
 
-/// Checks that the words ask for a check of this file within these limits.
+/// Checks that the words ask for this work on this file within these limits.
 fn check_task(
     rt: &(impl Abort + AllocGlobal),
     words: &[&str],
+    work: Work,
     file: Option<&str>,
     limits: (u32, u32, u32),
 ) -> Result<(), Fail> {
@@ -17,16 +18,20 @@ fn check_task(
         assert!(rt; false, "the words ask for nothing");
         return Ok(());
     };
-    assert_eq!(rt; task, Task::Check { file, limits });
+    let wanted = Task { work, file, limits };
+    assert_eq!(rt; task, wanted);
     Ok(())
 }
 
 #[test]
 fn limits_are_the_largest_without_options(rt: HostRuntime) -> Result<(), Fail> {
     let largest = (99_999_999, 99_999, 999_999);
-    check_task(&rt, &["cwr"], None, largest)?;
-    check_task(&rt, &["cwr", "check"], None, largest)?;
-    check_task(&rt, &["cwr", "check", "a.cwr"], Some("a.cwr"), largest)
+    check_task(&rt, &["cwr"], Work::Check, None, largest)?;
+    check_task(&rt, &["cwr", "check"], Work::Check, None, largest)?;
+    check_task(&rt, &["cwr", "show"], Work::Show, None, largest)?;
+    let file = Some("a.cwr");
+    check_task(&rt, &["cwr", "show", "a.cwr"], Work::Show, file, largest)?;
+    check_task(&rt, &["cwr", "check", "a.cwr"], Work::Check, file, largest)
 }
 
 #[test]
@@ -41,10 +46,11 @@ fn limits_are_those_of_the_options(rt: HostRuntime) -> Result<(), Fail> {
         "7",
         "a.cwr",
     ];
-    check_task(&rt, &words, Some("a.cwr"), (5, 2, 7))?;
+    check_task(&rt, &words, Work::Check, Some("a.cwr"), (5, 2, 7))?;
     check_task(
         &rt,
-        &["cwr", "check", "--groups", "3"],
+        &["cwr", "show", "--groups", "3"],
+        Work::Show,
         None,
         (99_999_999, 3, 999_999),
     )

@@ -1,7 +1,8 @@
 -- The numbers of the items that were handed out.
-use Rattle.std.proofs.Common.{◌≡◌, ℕ, ◌+◌, ◌≤◌, Bool, cond, List, [], ◌∷◌, ◌++◌, length, refl, sym, ap, subst, ◌∙◌, arith}
+use Rattle.std.proofs.Common.{◌≡◌, ℕ, ◌+◌, ◌-◌, ◌≤◌, Bool, true, false, not, cond, List, [], ◌∷◌, ◌++◌, length, drop, refl, sym, ap, subst, ◌∙◌, arith}
 use Rattle.std.specs.Prelude.{Option, count_by, sum_by}
-use Rattle.std.proofs.lemmas.List.{length-append}
+use Rattle.std.specs.List.{after_last, prefix_len, suffix_len}
+use Rattle.std.proofs.lemmas.List.{drop-append-le, drop_all, length-append, length-drop, reverse-append}
 use Rattle.std.proofs.lemmas.List.Sums.{count_by-le-length, sum_by-append}
 use Rattle.cwr_shape.specs.declared.limits.Limits.{Limits}
 use Rattle.cwr_values.specs.declared.items.Item.{Item}
@@ -21,11 +22,12 @@ use Rattle.cwr_tools.specs.Verdicts.{totals_with}
 pub record IsCount (c : Totals) (given : List Item) : Type 0 where
   pub groups : c.groups ≡ count_by opens_group given
   pub transactions : c.transactions ≡ count_by is_transaction given
+  pub in_group : c.in_group ≡ count_by is_transaction (after_last opens_group given)
   pub records : c.records ≡ length (records_in given)
 
 -- none were handed out
-pub counts_none : (c : Totals) → c ≡ record { groups = 0; transactions = 0; records = 0 } → IsCount c []
-counts_none c e = subst (λ (x : Totals). IsCount x []) (sym e) (record { groups = refl; transactions = refl; records = refl })
+pub counts_none : (c : Totals) → c ≡ record { groups = 0; transactions = 0; in_group = 0; records = 0 } → IsCount c []
+counts_none c e = subst (λ (x : Totals). IsCount x []) (sym e) (record { groups = refl; transactions = refl; in_group = refl; records = refl })
 
 count_by-snoc : (p : Item → Bool) (given : List Item) (item : Item) → count_by p (given ++ item ∷ []) ≡ count_by p given + count_by p (item ∷ [])
 count_by-snoc p given item = sum_by-append (λ (x : Item). cond (p x) 1 0) given (item ∷ [])
@@ -35,10 +37,36 @@ records_in-snoc [] item = omega (arith, length-append (item_records item) [])
 records_in-snoc (x ∷ given) item =
     omega (arith, records_in-snoc given item, length-append (item_records x) (records_in (given ++ item ∷ [])), length-append (item_records x) (records_in given))
 
+-- what stands after the last that passes, with one element more
+after_last-snoc : {X : Type 0} (p : X → Bool) (xs : List X) (x : X) → after_last p (xs ++ x ∷ []) ≡ cond (p x) [] (after_last p xs ++ x ∷ [])
+after_last-snoc {X = X} p xs x = by (p x) refl
+  where
+    others : X → Bool
+    others y = not (p y)
+
+    count : suffix_len others (xs ++ x ∷ []) ≡ cond (others x) (1 + suffix_len others xs) 0
+    count = ap (prefix_len others) (reverse-append xs (x ∷ []))
+
+    by : (b : Bool) → p x ≡ b → after_last p (xs ++ x ∷ []) ≡ cond b [] (after_last p xs ++ x ∷ [])
+    by true e =
+        let none : suffix_len others (xs ++ x ∷ []) ≡ 0 = count ∙ ap (λ (b : Bool). cond (not b) (1 + suffix_len others xs) 0) e in
+        let all : length (xs ++ x ∷ []) - suffix_len others (xs ++ x ∷ []) ≡ length (xs ++ x ∷ []) = omega (arith, none) in
+        ap (λ (n : ℕ). drop n (xs ++ x ∷ [])) all ∙ drop_all (length (xs ++ x ∷ [])) (xs ++ x ∷ []) (omega arith)
+    by false e =
+        let one : suffix_len others (xs ++ x ∷ []) ≡ 1 + suffix_len others xs = count ∙ ap (λ (b : Bool). cond (not b) (1 + suffix_len others xs) 0) e in
+        let same : length (xs ++ x ∷ []) - suffix_len others (xs ++ x ∷ []) ≡ length xs - suffix_len others xs = omega (arith, one, length-append xs (x ∷ [])) in
+        ap (λ (n : ℕ). drop n (xs ++ x ∷ [])) same ∙ drop-append-le (length xs - suffix_len others xs) xs (x ∷ []) (omega arith)
+
+in_group_more : (b : Bool) (given : List Item) (item : Item) (n : ℕ) → n ≡ count_by is_transaction (after_last opens_group given)
+    → cond b 0 (n + count_by is_transaction (item ∷ [])) ≡ count_by is_transaction (cond b [] (after_last opens_group given ++ item ∷ []))
+in_group_more true given item n e = refl
+in_group_more false given item n e = ap (λ (m : ℕ). m + count_by is_transaction (item ∷ [])) e ∙ sym (count_by-snoc is_transaction (after_last opens_group given) item)
+
 pub count_more : (c : Totals) (given : List Item) (item : Item) → IsCount c given → IsCount (totals_with c item) (given ++ item ∷ [])
 count_more c given item h = record {
   groups = ap (λ (n : ℕ). n + count_by opens_group (item ∷ [])) h.groups ∙ sym (count_by-snoc opens_group given item);
   transactions = ap (λ (n : ℕ). n + count_by is_transaction (item ∷ [])) h.transactions ∙ sym (count_by-snoc is_transaction given item);
+  in_group = in_group_more (opens_group item) given item c.in_group h.in_group ∙ ap (count_by is_transaction) (sym (after_last-snoc opens_group given item));
   records = ap (λ (n : ℕ). n + length (item_records item)) h.records ∙ sym (records_in-snoc given item);
 }
 
@@ -46,6 +74,7 @@ count_more c given item h = record {
 pub record HasRoomToCount (c : Totals) : Type 0 where
   pub groups : c.groups ≤ 199999998
   pub transactions : c.transactions ≤ 199999998
+  pub in_group : c.in_group ≤ 199999998
   pub records : c.records ≤ 99999999
 
 pub has_room : (limits : Limits) (d : Standing) (before now : Option (List ℕ)) (c : Totals) (given : List Item) → IsReadingOn limits d before now given → IsCount c given → HasRoomToCount c
@@ -54,6 +83,13 @@ has_room limits d before now c given h k =
     record {
       groups = omega (arith, k.groups, count_by-le-length opens_group given, b.0);
       transactions = omega (arith, k.transactions, count_by-le-length is_transaction given, b.0);
+      in_group = omega (
+        arith,
+        k.in_group,
+        count_by-le-length is_transaction (after_last opens_group given),
+        length-drop (length given - suffix_len (λ (item : Item). not (opens_group item)) given) given,
+        b.0,
+      );
       records = omega (arith, k.records, b.1);
     }
 

@@ -1,9 +1,10 @@
 -- What a run over a text reports: lines of the items that are handed out, in order, and then the line of the verdict.
-use Rattle.std.specs.Prelude.{◌≡◌, ◌⊎◌, ℕ, ◌+◌, Bool, true, false, List, [], ◌∷◌, ◌++◌, drop, Option, Some, IfSome, Result, Ok, Err}
+use Rattle.std.specs.Prelude.{◌≡◌, ◌⊎◌, ℕ, ◌+◌, Bool, true, false, nat_lt, length, List, [], ◌∷◌, ◌++◌, drop, Option, Some, IfSome, Result, Ok, Err}
 use Rattle.std.specs.Io.KnownBytes.{Appends}
 use Rattle.cwr_fields.specs.Failures.{one_more_failure}
 use Rattle.cwr_shape.specs.declared.limits.Limits.{Limits}
 use Rattle.cwr_values.specs.declared.items.Item.{Item}
+use Rattle.cwr_values.specs.declared.items.Item.TheVariants.{Transaction}
 use Rattle.cwr_values.specs.Values.{TransmissionValue, IsTransmission, FitsIn}
 use Rattle.cwr_values.specs.Rows.{canonical_text}
 use Rattle.cwr_judge.specs.Ends.{IsAccepted}
@@ -14,13 +15,14 @@ use Rattle.cwr_decode.specs.Runs.{HasRead}
 use Rattle.cwr_encode.specs.declared.sinks.Sink.{Sink}
 use Rattle.cwr_encode.specs.Sinks.{HasWritten, Puts, has_failed, writer_of, written_of}
 use Rattle.cwr_encode.specs.Finishing.{HasFront}
+use Rattle.cwr_levels.specs.Findings.{findings}
 use Rattle.cwr_tools.specs.declared.verdicts.Verdict.{Verdict}
 use Rattle.cwr_tools.specs.declared.verdicts.ToolFault.{ToolFault}
 use Rattle.cwr_tools.specs.declared.verdicts.ToolFault.TheVariants.{Reader, Writer, Memory}
 use Rattle.cwr_tools.specs.declared.totals.Totals.{Totals}
 use Rattle.cwr_tools.specs.declared.item_lines.Report.{Report}
 use Rattle.cwr_tools.specs.declared.item_lines.Report.TheVariants as reports
-use Rattle.cwr_tools.specs.Texts.{good_verdict, numbered_records, show_lines, verdict_line}
+use Rattle.cwr_tools.specs.Texts.{check_lines, finding_lines_in, good_verdict, numbered_records, show_lines, verdict_line}
 use Rattle.cwr_tools.specs.Verdicts.{StopsAfter, IsRightVerdict}
 
 -- the lines of items, in order, and for which items they take memory
@@ -28,9 +30,14 @@ pub record ItemLines : Type 0 where
   pub lines : List Item → List ℕ
   pub take_memory : Item → Bool
 
--- no lines
-abbrev pub no_lines : ItemLines
-no_lines = record { lines = λ given. []; take_memory = λ item. false }
+-- the item is a transaction that has findings
+abbrev pub has_findings : Item → Bool
+has_findings (Transaction t) = nat_lt 0 (length (findings t))
+has_findings item = false
+
+-- the findings in each transaction
+abbrev pub lines_of_findings : ItemLines
+lines_of_findings = record { lines = check_lines; take_memory = has_findings }
 
 -- the records with their cells
 abbrev pub lines_of_records : ItemLines
@@ -92,12 +99,12 @@ JudgesCanonical of limits before after contents old new verdict = (v : Transmiss
 
 -- what is written of the items
 abbrev pub lines_in : Report → ItemLines
-lines_in reports.Verdict = no_lines
+lines_in reports.Findings = lines_of_findings
 lines_in reports.Records = lines_of_records
 
 -- the lines of one item more, after items with these numbers
 abbrev pub lines_at : Report → Totals → Item → List ℕ
-lines_at reports.Verdict counts item = []
+lines_at reports.Findings counts item = finding_lines_in counts.groups counts.in_group item
 lines_at reports.Records counts item = numbered_records (counts.records + 1) (item_records item)
 
 -- The lines of an item are put, or the writer fails in them. Where memory for them is refused none of them is put.

@@ -18,10 +18,14 @@ use Rattle.cwr_levels.specs.Lines.{refusal_line, truncated_line, good_line, find
 use Rattle.cwr_tools.specs.declared.verdicts.Verdict.{Verdict}
 use Rattle.cwr_tools.specs.declared.verdicts.Verdict.TheVariants.{Good, Refused, Truncated}
 
+-- the lines of an item's findings, where it is the transaction of that sequence in the group of that ID
+abbrev pub finding_lines_in : ℕ → ℕ → Item → List ℕ
+finding_lines_in group sequence (Transaction t) = flat_map (finding_line group sequence) (findings t)
+finding_lines_in group sequence item = []
+
 -- the finding lines of an item, by the items before it: its group's ID, and its sequence in the group
 abbrev pub finding_lines : List Item → Item → List ℕ
-finding_lines before (Transaction t) = flat_map (finding_line (count_by opens_group before) (count_by is_transaction (after_last opens_group before))) (findings t)
-finding_lines before item = []
+finding_lines before item = finding_lines_in (count_by opens_group before) (count_by is_transaction (after_last opens_group before)) item
 
 -- the line that says how a text ended
 abbrev pub verdict_line : Verdict → List ℕ

@@ -1,5 +1,5 @@
 -- The verdict on the bytes that a reader has, and the items that were handed out before it.
-use Rattle.std.specs.Prelude.{◌≡◌, ℕ, ◌+◌, List, [], ◌∷◌, count_by, length, Option, Result, Ok, Err}
+use Rattle.std.specs.Prelude.{◌≡◌, ℕ, ◌+◌, List, [], ◌∷◌, count_by, length, Option, Result, Ok, Err, if◌then◌else◌}
 use Rattle.cwr_shape.specs.declared.limits.Limits.{Limits}
 use Rattle.cwr_values.specs.declared.items.Item.{Item}
 use Rattle.cwr_values.specs.Values.{TransmissionValue}
@@ -19,6 +19,7 @@ abbrev pub totals_with : Totals → Item → Totals
 totals_with c item = record {
   groups = c.groups + count_by opens_group (item ∷ []);
   transactions = c.transactions + count_by is_transaction (item ∷ []);
+  in_group = if opens_group item then 0 else c.in_group + count_by is_transaction (item ∷ []);
   records = c.records + length (item_records item);
 }
 

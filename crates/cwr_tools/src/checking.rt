@@ -1,7 +1,7 @@
 //! Checking a transmission.
 
 ghost use Rattle.std.specs.Prelude.{IfOk};
-ghost use Rattle.cwr_tools.specs.Reports.{CountsReaderFault, CountsWriterFault, JudgesAccepted, JudgesCanonical, Reports, no_lines};
+ghost use Rattle.cwr_tools.specs.Reports.{CountsReaderFault, CountsWriterFault, JudgesAccepted, JudgesCanonical, Reports, lines_of_findings};
 
 use crate::item_lines::Report;
 use crate::reporting::write_report;
@@ -10,24 +10,25 @@ use cwr_fields::{Source, Target};
 use cwr_shape::Limits;
 use std::alloc::Global;
 
-/// Checks a transmission: reads it up to its end or to where it is refused, and writes the line of the verdict. The
-/// writer comes back.
+/// Checks a transmission: reads it up to its end or to where it is refused, writes a line for each finding in each
+/// transaction that is handed out, and at the end the line of the verdict. The writer comes back.
 ///
 /// It is good exactly where the reader's bytes begin with a spelling of a transmission within the limits. Then just that
 /// front is consumed, and the verdict has the transmission's numbers. It answers `ToolFault::Reader` or
-/// `ToolFault::Writer` where that device failed, and `ToolFault::Memory` where memory for a transaction was refused.
+/// `ToolFault::Writer` where that device failed, and `ToolFault::Memory` where memory for a transaction or for its findings
+/// was refused.
 pub fn check<R: Source, W: Target + Drop>(
     alloc: Global,
     limits: Limits,
     reader: &mut R,
     writer: W,
 ) -> (W, Result<Verdict, ToolFault>)
-    ensures reported { Reports no_lines limits (R.remaining reader.old) (R.remaining reader.new) W.contents writer result.0 result.1 }
-    ensures accepted { IfOk result.1 (JudgesAccepted no_lines limits (R.remaining reader.old) (R.remaining reader.new) W.contents writer result.0) }
-    ensures canonical { IfOk result.1 (JudgesCanonical no_lines limits (R.remaining reader.old) (R.remaining reader.new) W.contents writer result.0) }
+    ensures reported { Reports lines_of_findings limits (R.remaining reader.old) (R.remaining reader.new) W.contents writer result.0 result.1 }
+    ensures accepted { IfOk result.1 (JudgesAccepted lines_of_findings limits (R.remaining reader.old) (R.remaining reader.new) W.contents writer result.0) }
+    ensures canonical { IfOk result.1 (JudgesCanonical lines_of_findings limits (R.remaining reader.old) (R.remaining reader.new) W.contents writer result.0) }
     // No failure is passed over: a device failed only where that is the answer.
     ensures reader_failures { CountsReaderFault result.1 (R.failures reader.old) (R.failures reader.new) }
     ensures writer_failures { CountsWriterFault result.1 (W.failures writer) (W.failures result.0) }
 {
-    write_report(Report::Verdict, alloc, limits, reader, writer)
+    write_report(Report::Findings, alloc, limits, reader, writer)
 }

@@ -4,8 +4,10 @@ ghost use Rattle.std.specs.Prelude.{◌≡◌, ◌+◌, ◌≤◌, length, false
 ghost use Rattle.cwr_encode.specs.Sinks.{Puts, has_failed, written_of};
 ghost use Rattle.cwr_judge.specs.Items.{item_records};
 ghost use Rattle.cwr_values.specs.Rows.{trailer};
-ghost use Rattle.cwr_tools.specs.Texts.{numbered_records, record_lines};
-ghost use Rattle.cwr_tools.specs.Reports.{ItemLines, PutsLines, lines_at, lines_in};
+ghost use Rattle.std.specs.List.{flat_map};
+ghost use Rattle.cwr_levels.specs.Lines.{finding_line};
+ghost use Rattle.cwr_tools.specs.Texts.{finding_lines_in, numbered_records, record_lines};
+ghost use Rattle.cwr_tools.specs.Reports.{ItemLines, PutsLines, has_findings, lines_at, lines_in};
 
 use crate::record_lines::RecordLines;
 use crate::totals::Totals;
@@ -13,13 +15,15 @@ use crate::verdicts::ToolFault;
 use cwr_encode::{Sink, SinkFault};
 use cwr_fields::Target;
 use cwr_layouts::{Kind, RecordRef};
+use cwr_levels::{Finding, finding_line, findings};
 use cwr_values::{Item, Transaction};
+use std::alloc::Global;
 
 /// What a run writes of items.
 #[derive(Clone, Copy, Debug)]
 pub(crate) enum Report {
-    /// Nothing: the verdict alone is written.
-    Verdict,
+    /// The findings in each transaction.
+    Findings,
     /// Each record with its cells.
     Records,
 }
@@ -103,9 +107,52 @@ pub(crate) fn writer_fault(fault: SinkFault) -> ToolFault
     }
 }
 
+/// Puts the lines of findings in the transaction of that sequence in the group of that ID.
+fn put_found<W: Target>(
+    group: u32,
+    sequence: u32,
+    found: &[Finding],
+    sink: &mut Sink<W>,
+) -> Result<(), SinkFault>
+    requires { has_failed sink.old ≡ false }
+    ensures puts { Puts W.contents W.failures (flat_map (finding_line group sequence) found.now) result sink.old sink.new }
+    ensures fault { IfErr result (λ f. f.written ≡ written_of sink.new) }
+{
+    let mut i = 0;
+    while let Some(finding) = found.get(i) {
+        finding_line(group, sequence, finding, sink)?;
+        i += 1;
+    }
+    Ok(())
+}
+
+/// Puts the lines of an item's findings, where it is the transaction of that sequence in the group of that ID.
+fn put_findings<W: Target>(
+    alloc: Global,
+    group: u32,
+    sequence: u32,
+    item: &Item,
+    sink: &mut Sink<W>,
+) -> Result<(), ToolFault>
+    requires { has_failed sink.old ≡ false }
+    ensures { PutsLines W.contents W.failures (has_findings item.now) (finding_lines_in group sequence item.now) result sink.old sink.new }
+{
+    let Item::Transaction(transaction) = item else {
+        return Ok(());
+    };
+    let Ok(found) = findings(alloc, transaction) else {
+        return Err(ToolFault::Memory);
+    };
+    match put_found(group, sequence, found.as_slice(), sink) {
+        Ok(()) => Ok(()),
+        Err(fault) => Err(writer_fault(fault)),
+    }
+}
+
 /// Puts the lines of an item that comes after items with these numbers. Those of a record are made in the buffer.
 pub(crate) fn put_item<W: Target>(
     report: Report,
+    alloc: Global,
     counts: &Totals,
     item: &Item,
     lines: &mut RecordLines,
@@ -116,7 +163,7 @@ pub(crate) fn put_item<W: Target>(
     ensures { PutsLines W.contents W.failures ((lines_in report).take_memory item.now) (lines_at report counts.now item.now) result sink.old sink.new }
 {
     match report {
-        Report::Verdict => Ok(()),
+        Report::Findings => put_findings(alloc, counts.groups, counts.in_group, item, sink),
         Report::Records => {
             match put_records(u64::from(counts.records) + 1, item, lines, sink) {
                 Ok(()) => Ok(()),

@@ -51,7 +51,7 @@ fn put_items<R: Source, W: Target>(
     'items: loop {
         match reading.next_item() {
             Ok(Some(item)) => {
-                put_item(report, &counts, &item, &mut lines, sink)?;
+                put_item(report, alloc, &counts, &item, &mut lines, sink)?;
                 counts.count(&item);
             }
             Ok(None) => return Ok(counts.good()),

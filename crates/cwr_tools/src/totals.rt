@@ -12,17 +12,20 @@ use cwr_values::Item;
 pub(crate) struct Totals {
     pub(crate) groups: u32,
     pub(crate) transactions: u32,
+    /// The transactions since the last GRH.
+    pub(crate) in_group: u32,
     pub(crate) records: u32,
 }
 
 impl Totals {
     /// Nothing was handed out.
     pub(crate) fn new() -> Self
-        ensures { result ≡ record { groups = 0; transactions = 0; records = 0 } }
+        ensures { result ≡ record { groups = 0; transactions = 0; in_group = 0; records = 0 } }
     {
         Totals {
             groups: 0,
             transactions: 0,
+            in_group: 0,
             records: 0,
         }
     }
@@ -31,6 +34,7 @@ impl Totals {
     pub(crate) fn count(&mut self, item: &Item)
         requires groups { self.old.groups ≤ 199999998 }
         requires transactions { self.old.transactions ≤ 199999998 }
+        requires in_group { self.old.in_group ≤ 199999998 }
         requires records { self.old.records + length (item_records item.now) ≤ 99999999 }
         ensures { self.new ≡ totals_with self.old item.now }
     {
@@ -38,10 +42,12 @@ impl Totals {
             Item::Opened(_) | Item::GroupClosed(_) | Item::Ended => self.records += 1,
             Item::GroupOpened(_) => {
                 self.groups += 1;
+                self.in_group = 0;
                 self.records += 1;
             }
             Item::Transaction(transaction) => {
                 self.transactions += 1;
+                self.in_group += 1;
                 self.records += transaction.len() as u32;
             }
         }

@@ -37,6 +37,9 @@ count-requires-clause-groups g c = (room_in c.args.report c.args.limits _ _ _ g.
 pub count-requires-clause-transactions : goal.count-requires-clause-transactions
 count-requires-clause-transactions g c = (room_in c.args.report c.args.limits _ _ _ g.W.Target.contents g.W.Target.failures c.items.counts c.args.sink.now c.items.sink c.items.invariant.reporting).transactions
 
+pub count-requires-clause-in_group : goal.count-requires-clause-in_group
+count-requires-clause-in_group g c = (room_in c.args.report c.args.limits _ _ _ g.W.Target.contents g.W.Target.failures c.items.counts c.args.sink.now c.items.sink c.items.invariant.reporting).in_group
+
 pub count-requires-clause-records : goal.count-requires-clause-records
 count-requires-clause-records g c =
     let reading = reads_item c.args.report c.args.limits c.items.reading.decoder c.next_item.new.self.decoder (g.R.Source.remaining c.args.reader.now) _ _ g.W.Target.contents g.W.Target.failures c.items.counts c.args.sink.now c.items.sink
