@@ -101,7 +101,11 @@ fn command<'a>(alloc: Global) -> Result<Command<'a>, AllocError> {
         .about("Reads CWR 2.1 transmissions; without words it is `cwr check`")
         .after_help(OUTCOMES)
         .subcommand(over_one(alloc, CHECK, "Judges a transmission")?)?
-        .subcommand(over_one(alloc, SHOW, "Shows the records of a transmission, and judges it")?)
+        .subcommand(over_one(
+            alloc,
+            SHOW,
+            "Shows the records of a transmission, and judges it",
+        )?)
 }
 
 /// The largest limits.
@@ -130,7 +134,11 @@ fn limits_of(matches: &ArgMatches<'_>) -> Option<Limits>
 fn work_of(name: &str) -> Work
     ensures { result ≡ (if bytes_eq name.now (codes "show") then Work.Show else Work.Check) }
 {
-    if name == SHOW { Work::Show } else { Work::Check }
+    if name == SHOW {
+        Work::Show
+    } else {
+        Work::Check
+    }
 }
 
 /// What is asked for. `None` where a limit is missing or out of its range.

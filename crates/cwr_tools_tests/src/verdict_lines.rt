@@ -143,3 +143,22 @@ fn lines_on_long_lines(rt: HostRuntime) -> Result<(), Fail> {
     }
     Ok(())
 }
+
+/// Puts the text in the place of as many bytes from there on.
+fn replace(text: &mut [u8], at: usize, new: &[u8]) {
+    for (byte, other) in text.iter_mut().skip(at).zip(new) {
+        *byte = *other;
+    }
+}
+
+#[test]
+fn lines_on_a_work_of_a_wrong_code(rt: HostRuntime) -> Result<(), Fail> {
+    let mut text = canonical(rt.alloc(), TWO_GROUPS)?;
+    let found =
+        b"FINDING group 1 transaction 0 record 0 field 7 level F rule V1\nGOOD groups 2 transactions 3 records 12\n";
+    replace(text.as_mut_slice(), 228, b"T0345246802");
+    check_line(&rt, LARGEST, text.as_slice(), found)?;
+    let good = b"GOOD groups 2 transactions 3 records 12\n";
+    replace(text.as_mut_slice(), 228, b"T0345246801");
+    check_line(&rt, LARGEST, text.as_slice(), good)
+}
