@@ -8,6 +8,7 @@ pub mod laws;
 mod layouts;
 mod lines;
 mod lookups;
+mod record_lists;
 mod records;
 
 pub use canonical_lines::CanonicalLine;
@@ -16,4 +17,5 @@ pub use kinds::{Kind, letters};
 pub use layouts::Field;
 pub use lines::{CutLine, LONGEST_LINE, LineBuf, LineEnd, Taken};
 pub use lookups::{field, fields, width};
+pub use record_lists::RecordList;
 pub use records::{Record, RecordRef};

@@ -132,6 +132,15 @@ impl<'a> RecordRef<'a> {
         }
     }
 
+    /// The record that a whole line of the kind carries.
+    pub(crate) fn kept(kind: Kind, line: &'a [u8]) -> Self
+        requires whole { length line.now ≡ line_width kind }
+        requires fits { IsRecord (record_in kind line.now) }
+        ensures { result ≡ record_in kind line.now }
+    {
+        RecordRef { kind, line }
+    }
+
     /// The record's kind.
     pub fn kind(&self) -> Kind
         ensures value { result ≡ self.now.kind }

@@ -114,15 +114,15 @@ longer [] r = omega arith
 longer (x ∷ records) r = omega arith
 
 -- and is kept with the step after it
-pub keeps_more : (ty : TransactionType) (step to : TransactionStep) (kept items : List RecordValue) (s : Symbol) (r kept_as : RecordValue) → KeepsTransaction ty step kept → IsRecord r → kept_as ≡ r → s ≡ symbol_of r
-    → StandsAtStep ty (map symbol_of kept ++ s ∷ []) to → items ≡ kept ++ kept_as ∷ [] → KeepsTransaction ty to items
-keeps_more ty step to kept items s r kept_as k h same f st e =
+pub keeps_more : (ty : TransactionType) (step to : TransactionStep) (kept items : List RecordValue) (s : Symbol) (r : RecordValue) → KeepsTransaction ty step kept → IsRecord r → s ≡ symbol_of r
+    → StandsAtStep ty (map symbol_of kept ++ s ∷ []) to → items ≡ kept ++ r ∷ [] → KeepsTransaction ty to items
+keeps_more ty step to kept items s r k h f st e =
     let whole : KeepsTransaction ty to (kept ++ r ∷ []) = record {
       some = longer kept r;
       each = all_more kept r k.each h;
       stands = subst (λ (xs : List Symbol). StandsAtStep ty xs to) (ap (λ (u : Symbol). map symbol_of kept ++ u ∷ []) f ∙ sym (map_more kept r)) st;
     } in
-    subst (λ (rs : List RecordValue). KeepsTransaction ty to rs) (sym (e ∙ ap (λ (x : RecordValue). kept ++ x ∷ []) same)) whole
+    subst (λ (rs : List RecordValue). KeepsTransaction ty to rs) (sym e) whole
 
 -- a test of the step is one of the records
 pub complete_exact : (ty : TransactionType) (step : TransactionStep) (kept records : List RecordValue) (b : Bool) → KeepsTransaction ty step kept → kept ≡ records

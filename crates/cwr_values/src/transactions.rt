@@ -9,7 +9,7 @@ ghost use Rattle.cwr_values.specs.Begun.{HasHeaderOf, IsBegun, IsWholeTransactio
 
 use crate::symbols::symbol_of;
 use cwr_fields::TransactionType;
-use cwr_layouts::{Kind, Record, RecordRef};
+use cwr_layouts::{Kind, RecordList, RecordRef};
 use cwr_shape::{Symbol, TransactionStep};
 use std::alloc::Global;
 use std::error::Error;
@@ -75,7 +75,7 @@ pub struct Transaction {
     ty: TransactionType,
     /// The step after its records.
     step: TransactionStep,
-    records: Vec<Record>,
+    records: RecordList,
 }
 
 impl Model for Transaction {
@@ -85,9 +85,9 @@ impl Model for Transaction {
 
     ghost Value = { List RecordValue };
 
-    ghost view = { λ t. t.records.items };
+    ghost view = { λ t. t.records };
 
-    ghost invariant = { λ t. KeepsTransaction t.ty t.step t.records.items };
+    ghost invariant = { λ t. KeepsTransaction t.ty t.step t.records };
 }
 
 impl Transaction {
@@ -99,8 +99,8 @@ impl Transaction {
         let Some((ty, step)) = begin(symbol_of(&head)) else {
             return Err(PushFault::Misplaced);
         };
-        let mut records = Vec::new(alloc);
-        match records.push(head.to_record()) {
+        let mut records = RecordList::new(alloc);
+        match records.push(&head) {
             Ok(()) => Ok(Transaction { ty, step, records }),
             Err(_) => Err(PushFault::Memory),
         }
@@ -114,15 +114,12 @@ impl Transaction {
         self.records.len()
     }
 
-    /// Record `i`, from 0. `None` where it has no such record.
+    /// Record `i`, from 0: it is borrowed, nothing is copied. `None` where it has no such record.
     pub fn record(&self, i: usize) -> Option<RecordRef<'_>>
         ensures value { result ≡ slice_get self.now i }
         ensures begun { IsBegun self.now }
     {
-        match self.records.get(i) {
-            Some(kept) => Some(kept.view()),
-            None => None,
-        }
+        self.records.record(i)
     }
 
     /// Adds a record at the end. It is refused as misplaced exactly where no transaction continues so, and a refused one
@@ -135,7 +132,7 @@ impl Transaction {
         let Some(step) = self.step.next(symbol_of(&next)) else {
             return Err(PushFault::Misplaced);
         };
-        match self.records.push(next.to_record()) {
+        match self.records.push(&next) {
             Ok(()) => {
                 self.step = step;
                 Ok(())
@@ -149,7 +146,10 @@ impl Transaction {
         ensures value { Some result ≡ option_map (λ r. r.kind) (slice_get self.now 0) }
         ensures begun { IsBegun self.now }
     {
-        self.records.as_slice()[0].view().kind()
+        match self.records.record(0) {
+            Some(header) => header.kind(),
+            None => unreachable!(),
+        }
     }
 
     /// Whether its header is of the type.
