@@ -1,26 +1,23 @@
 -- The items that were handed out from a text that is accepted are the first of its transmission's items.
 use Rattle.std.proofs.Common.{◌≡◌, ℕ, ◌<◌, ◌≤◌, ◌^◌, Bool, true, false, List, [], ◌∷◌, ◌++◌, length, map, refl, sym, ap, subst, ◌∙◌, arith, append_assoc, append-nil, inl, inr}
 use Rattle.std.specs.Prelude.{◌⊎◌}
-use Rattle.std.specs.List.{AllZip, AllByRecursion}
 use Rattle.std.proofs.lemmas.List.{length-append}
-use Rattle.cwr_layouts.specs.Records.{RecordValue, IsRow, record_of}
-use Rattle.cwr_layouts.specs.Lines.{IsLineOf, closed}
+use Rattle.cwr_layouts.specs.Records.{RecordValue}
+use Rattle.cwr_layouts.specs.Lines.{closed}
 use Rattle.cwr_layouts.specs.Held.{held_text}
-use Rattle.cwr_layouts.proofs.LineLaws.{lines_agree}
 use Rattle.cwr_shape.specs.Ranges.{LimitValues, AreInRange}
 use Rattle.cwr_shape.specs.Left.{Any}
 use Rattle.cwr_shape.specs.Outlines.{Continues}
 use Rattle.cwr_shape.specs.Tallies.{TallyValue}
 use Rattle.cwr_values.specs.declared.items.Item.{Item}
 use Rattle.cwr_values.specs.Values.{TransmissionValue, IsTransmission, FitsIn, symbol_of}
-use Rattle.cwr_values.specs.Rows.{records_of, rows}
+use Rattle.cwr_values.specs.Rows.{records_of}
 use Rattle.cwr_values.specs.Begins.{rows_after, rows_so_far}
-use Rattle.cwr_values.proofs.OneSpelling.{records-rows, rows_are_rows, lines_without_lf, rows_of_front}
 use Rattle.cwr_values.proofs.RowAt.{rows_split}
 use Rattle.cwr_judge.specs.Ends.{IsAccepted}
 use Rattle.cwr_judge.specs.Items.{items, items_after, value_items}
 use Rattle.cwr_judge.specs.Open.{items_so_far, item_of, Closes}
-use Rattle.cwr_judge.proofs.EndingRecord.{ends_closes, records_back}
+use Rattle.cwr_judge.proofs.EndingRecord.{ends_closes}
 use Rattle.cwr_judge.proofs.ItemLaws.{items_of_parts}
 use Rattle.cwr_judge.proofs.ItemsOfTransactions.{items-append}
 use Rattle.cwr_decode.specs.declared.machine.State.{State}
@@ -29,7 +26,7 @@ use Rattle.cwr_decode.specs.Machines.{Standing}
 use Rattle.cwr_decode.specs.Represents.{AreAccepted, IsInput, IsPending, IsThrough, Represents, RepresentsIn, text_of}
 use Rattle.cwr_decode.proofs.BoundedInputs.{accepted_few}
 use Rattle.cwr_decode.proofs.ClosedTexts.{closed_more}
-use Rattle.cwr_decode.proofs.NoneAcceptedAfter.{nothing_longer, records_begin, rows_well}
+use Rattle.cwr_decode.proofs.NoneAcceptedAfter.{first_records}
 
 -- ---- the text
 
@@ -45,34 +42,13 @@ closed_front false input more lines tail e none =
 lines_alone : (ended : Bool) (input : List ℕ) (lines : List (List ℕ)) → IsInput ended input (text_of lines) → IsInput ended input (text_of lines ++ [])
 lines_alone ended input lines e = subst (IsInput ended input) (sym (append-nil (text_of lines))) e
 
--- ---- the records
-
--- the records of lines with which the text of a transmission begins are the first of its records
-first_records : (tally : TallyValue) (lines : List (List ℕ)) (records : List RecordValue) (v : TransmissionValue) (others : List (List ℕ)) (u w : List ℕ) → AreAccepted tally lines records
-    → IsTransmission v → AllZip IsLineOf (rows v) others → text_of lines ++ u ≡ text_of others ++ w → (rest : List RecordValue) × (records_of v ≡ records ++ rest)
-first_records tally lines records v others u w read h z e =
-    by_lines (lines_agree lines others u w (lines_without_lf (rows_so_far records) lines read.rows) (lines_without_lf (rows v) others z) e)
-  where
-    well : AllByRecursion IsRow (rows_so_far records)
-    well = rows_well [] records read.in_order
-
-    back : map record_of (rows_so_far records) ≡ records
-    back = records_back [] records read.in_order
-
-    by_lines : ((more : List (List ℕ)) × (others ≡ lines ++ more) × (u ≡ text_of more ++ w)) ⊎ ((more : List (List ℕ)) × (lines ≡ others ++ more) × (w ≡ text_of more ++ u))
-        → (rest : List RecordValue) × (records_of v ≡ records ++ rest)
-    by_lines (inl a) =
-        let b = rows_of_front (rows_so_far records) (rows v) lines a.0 well (rows_are_rows v h) read.rows (subst (λ (ks : List (List ℕ)). AllZip IsLineOf (rows v) ks) a.1 z) in
-        (map record_of b.0, records_begin (rows_so_far records) (rows v) b.0 records (records_of v) back (records-rows v h) b.1)
-    by_lines (inr a) =
-        let b = rows_of_front (rows v) (rows_so_far records) others a.0 (rows_are_rows v h) well z (subst (λ (ks : List (List ℕ)). AllZip IsLineOf (rows_so_far records) ks) a.1 read.rows) in
-        let split : records ≡ records_of v ++ map record_of b.0 = records_begin (rows v) (rows_so_far records) b.0 (records_of v) records (records-rows v h) back b.1 in (
-          [],
-          sym (split ∙ ap (λ (l : List RecordValue). records_of v ++ l) (nothing_longer tally lines records (map record_of b.0) v read h split)
-              ∙ append-nil (records_of v)) ∙ sym (append-nil records),
-        )
-
 -- ---- the items
+
+-- the first records of a transmission, or all of them
+some_first : (v : TransmissionValue) (records : List RecordValue) (others lines : List (List ℕ))
+    → ((rest : List RecordValue) × (more : List (List ℕ)) × (records_of v ≡ records ++ rest) × (others ≡ lines ++ more)) ⊎ (records_of v ≡ records) → (rest : List RecordValue) × (records_of v ≡ records ++ rest)
+some_first v records others lines (inl (rest, more, split, d)) = (rest, split)
+some_first v records others lines (inr same) = ([], same ∙ sym (append-nil records))
 
 -- the items of its first records are the first of its items
 items_begin : (limits : LimitValues) (v : TransmissionValue) (records rest : List RecordValue) → limits.records < 10 ^ 8 → IsTransmission v → FitsIn limits v → records_of v ≡ records ++ rest
@@ -88,7 +64,7 @@ first_of : (tally : TallyValue) (lines : List (List ℕ)) (records : List Record
 first_of tally lines records text left v n range read e a =
     let others : List (List ℕ) = a.spelled.0 in
     let both : text_of lines ++ left ≡ text_of others ++ a.rest = sym e ∙ a.split ∙ ap (λ (t : List ℕ). t ++ a.rest) a.spelled.2 in
-    let r = first_records tally lines records v others left a.rest read a.whole a.spelled.1 both in
+    let r = some_first v records others lines (first_records tally lines records v others left a.rest read a.whole a.spelled.1 both) in
     items_begin tally.limits v records r.0 (omega (arith, range.most_records)) a.whole a.within r.1
 
 -- what was handed out are these items

@@ -43,7 +43,7 @@ pub record GoesFurther (limits : LimitValues) (lines : List (List ℕ)) (records
 -- ---- rows and lines
 
 -- records in order have rows
-pub rows_well : (before rs : List RecordValue) → AllByRecursion IsRecord rs → AllByRecursion IsRow (rows_after before rs)
+rows_well : (before rs : List RecordValue) → AllByRecursion IsRecord rs → AllByRecursion IsRow (rows_after before rs)
 unfolding rows_after
 rows_well before [] h = tt
 rows_well before (r ∷ rs) h = (IsRow-row_of _ r h.0, rows_well (before ++ r ∷ []) rs h.1)
@@ -56,7 +56,7 @@ lines_after (r ∷ rs) ss [] more p q = absurd p
 lines_after (r ∷ rs) ss (k ∷ ks) more p q = lines_after rs ss ks more p.1 q.1
 
 -- the records of rows that begin with others
-pub records_begin : (rs ss back : List Row) (xs ys : List RecordValue) → map record_of rs ≡ xs → map record_of ss ≡ ys → ss ≡ rs ++ back → ys ≡ xs ++ map record_of back
+records_begin : (rs ss back : List Row) (xs ys : List RecordValue) → map record_of rs ≡ xs → map record_of ss ≡ ys → ss ≡ rs ++ back → ys ≡ xs ++ map record_of back
 records_begin rs ss back xs ys h k e = sym k ∙ ap (map record_of) e ∙ map-append record_of rs back ∙ ap (λ (l : List RecordValue). l ++ map record_of back) h
 
 at_front : (P : RecordValue → Type 0) (xs : List RecordValue) (y : RecordValue) (ys : List RecordValue) → AllByRecursion P (xs ++ y ∷ ys) → P y
@@ -78,7 +78,7 @@ no_symbols [] e = refl
 no_symbols (r ∷ rs) e = absurd (cc e)
 
 -- records that begin some transmission are no more than a whole one's
-pub nothing_longer : (tally : TallyValue) (lines : List (List ℕ)) (records rest : List RecordValue) (v : TransmissionValue) → AreAccepted tally lines records → IsTransmission v → records ≡ records_of v ++ rest → rest ≡ []
+nothing_longer : (tally : TallyValue) (lines : List (List ℕ)) (records rest : List RecordValue) (v : TransmissionValue) → AreAccepted tally lines records → IsTransmission v → records ≡ records_of v ++ rest → rest ≡ []
 nothing_longer tally lines records rest v read h e =
     let begins = read.counted.stands.begins in
     let more : List Symbol = begins.3.0 in
@@ -110,11 +110,12 @@ one_further tally lines records v others (r ∷ rest) (k ∷ more) left h fits e
       is_line = z.0;
     }
 
--- A text begins with the lines of records that aren't a whole transmission's. Where it begins with those of a
--- transmission too, that one has a record after these.
-pub goes_further : (tally : TallyValue) (lines : List (List ℕ)) (records : List RecordValue) (v : TransmissionValue) (others : List (List ℕ)) (u w : List ℕ) → AreAccepted tally lines records
-    → ¬ IsWhole (map symbol_of records) → IsTransmission v → FitsIn tally.limits v → AllZip IsLineOf (rows v) others → text_of lines ++ u ≡ text_of others ++ w → GoesFurther tally.limits lines records others
-goes_further tally lines records v others u w read left h fits z e =
+-- The text of a transmission begins with the lines of records: these are the first of its records, and others come after their
+-- lines, or they are all of them.
+pub first_records : (tally : TallyValue) (lines : List (List ℕ)) (records : List RecordValue) (v : TransmissionValue) (others : List (List ℕ)) (u w : List ℕ) → AreAccepted tally lines records
+    → IsTransmission v → AllZip IsLineOf (rows v) others → text_of lines ++ u ≡ text_of others ++ w
+    → ((rest : List RecordValue) × (more : List (List ℕ)) × (records_of v ≡ records ++ rest) × (others ≡ lines ++ more)) ⊎ (records_of v ≡ records)
+first_records tally lines records v others u w read h z e =
     by_lines (lines_agree lines others u w (lines_without_lf (rows_so_far records) lines read.rows) (lines_without_lf (rows v) others z) e)
   where
     well : AllByRecursion IsRow (rows_so_far records)
@@ -124,19 +125,28 @@ goes_further tally lines records v others u w read left h fits z e =
     back = records_back [] records read.in_order
 
     by_lines : ((more : List (List ℕ)) × (others ≡ lines ++ more) × (u ≡ text_of more ++ w)) ⊎ ((more : List (List ℕ)) × (lines ≡ others ++ more) × (w ≡ text_of more ++ u))
-        → GoesFurther tally.limits lines records others
+        → ((rest : List RecordValue) × (more : List (List ℕ)) × (records_of v ≡ records ++ rest) × (others ≡ lines ++ more)) ⊎ (records_of v ≡ records)
     by_lines (inl a) =
-        let all : AllZip IsLineOf (rows v) (lines ++ a.0) = subst (λ (ks : List (List ℕ)). AllZip IsLineOf (rows v) ks) a.1 z in
-        let b = rows_of_front (rows_so_far records) (rows v) lines a.0 well (rows_are_rows v h) read.rows all in
-        let rest : List RecordValue = map record_of b.0 in
-        let split : records_of v ≡ records ++ rest = records_begin (rows_so_far records) (rows v) b.0 records (records_of v) back (records-rows v h) b.1 in
-        let tail : AllZip IsLineOf (rows_after records rest) a.0 =
-        lines_after (rows_so_far records) (rows_after records rest) lines a.0 read.rows (subst (λ (rs : List Row). AllZip IsLineOf rs (lines ++ a.0)) (rows_split v records rest h split) all) in
-        one_further tally lines records v others rest a.0 left h fits split a.1 tail
+        let b = rows_of_front (rows_so_far records) (rows v) lines a.0 well (rows_are_rows v h) read.rows (subst (λ (ks : List (List ℕ)). AllZip IsLineOf (rows v) ks) a.1 z) in
+        inl (map record_of b.0, a.0, records_begin (rows_so_far records) (rows v) b.0 records (records_of v) back (records-rows v h) b.1, a.1)
     by_lines (inr a) =
         let b = rows_of_front (rows v) (rows_so_far records) others a.0 (rows_are_rows v h) well z (subst (λ (ks : List (List ℕ)). AllZip IsLineOf (rows_so_far records) ks) a.1 read.rows) in
         let split : records ≡ records_of v ++ map record_of b.0 = records_begin (rows v) (rows_so_far records) b.0 (records_of v) records (records-rows v h) back b.1 in
-        absurd (left (same_whole v records h (sym (split ∙ ap (λ (l : List RecordValue). records_of v ++ l) (nothing_longer tally lines records (map record_of b.0) v read h split) ∙ append-nil (records_of v)))))
+        inr (sym (split ∙ ap (λ (l : List RecordValue). records_of v ++ l) (nothing_longer tally lines records (map record_of b.0) v read h split) ∙ append-nil (records_of v)))
+
+-- A text begins with the lines of records that aren't a whole transmission's. Where it begins with those of a
+-- transmission too, that one has a record after these.
+pub goes_further : (tally : TallyValue) (lines : List (List ℕ)) (records : List RecordValue) (v : TransmissionValue) (others : List (List ℕ)) (u w : List ℕ) → AreAccepted tally lines records
+    → ¬ IsWhole (map symbol_of records) → IsTransmission v → FitsIn tally.limits v → AllZip IsLineOf (rows v) others → text_of lines ++ u ≡ text_of others ++ w → GoesFurther tally.limits lines records others
+goes_further tally lines records v others u w read left h fits z e = from (first_records tally lines records v others u w read h z e)
+  where
+    from : ((rest : List RecordValue) × (more : List (List ℕ)) × (records_of v ≡ records ++ rest) × (others ≡ lines ++ more)) ⊎ (records_of v ≡ records) → GoesFurther tally.limits lines records others
+    from (inl (rest, more, split, d)) =
+        let all : AllZip IsLineOf (rows v) (lines ++ more) = subst (λ (ks : List (List ℕ)). AllZip IsLineOf (rows v) ks) d z in
+        let tail : AllZip IsLineOf (rows_after records rest) more =
+        lines_after (rows_so_far records) (rows_after records rest) lines more read.rows (subst (λ (rs : List Row). AllZip IsLineOf rs (lines ++ more)) (rows_split v records rest h split) all) in
+        one_further tally lines records v others rest more left h fits split d tail
+    from (inr same) = absurd (left (same_whole v records h same))
 
 -- ---- what no text continues with
 

@@ -6,6 +6,7 @@ ghost use Rattle.cwr_layouts.specs.declared.lines.LineEnd.TheVariants.{Open};
 use cwr_layouts::{LineBuf, LineEnd, Record};
 use cwr_values::{Group, Transaction, Transmission};
 use cwr_worked::lines::*;
+use cwr_worked::texts::ELEVEN_RECORDS;
 use std::process::Abort;
 
 /// A group of the worked texts: its GRH, and the lines of its transactions.
@@ -21,22 +22,7 @@ pub(crate) const NEW_AND_REVISED: &[WorkedGroup<'static>] = &[
 ];
 
 /// The group of the work of eleven records.
-pub(crate) const OF_ELEVEN: &[WorkedGroup<'static>] = &[(
-    GRH_NWR,
-    &[&[
-        NWR_0,
-        SPU_0_1,
-        SPT_0_2,
-        OPU_0_3,
-        SWR_0_4_WITH_SHARE,
-        SWT_0_5,
-        PWR_0_6,
-        OWR_0_7,
-        ALT_0_8,
-        PER_0_9,
-        REC_0_10,
-    ]],
-)];
+pub(crate) const OF_ELEVEN: &[WorkedGroup<'static>] = &[(GRH_NWR, &[ELEVEN_RECORDS])];
 
 /// The record of a line that ended.
 fn held(rt: &impl Abort, buffer: &LineBuf) -> Record

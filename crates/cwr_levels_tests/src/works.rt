@@ -4,21 +4,10 @@ use crate::edited_records::{Case, check_findings};
 use cwr_levels::Rule;
 use cwr_shape::Level;
 use cwr_worked::lines::*;
+use cwr_worked::texts::ELEVEN_RECORDS;
 
 /// The work of eleven records.
-const LONG: &[&[u8]] = &[
-    NWR_0,
-    SPU_0_1,
-    SPT_0_2,
-    OPU_0_3,
-    SWR_0_4_WITH_SHARE,
-    SWT_0_5,
-    PWR_0_6,
-    OWR_0_7,
-    ALT_0_8,
-    PER_0_9,
-    REC_0_10,
-];
+const LONG: &[&[u8]] = ELEVEN_RECORDS;
 
 /// A work of one writer.
 const SHORT: &[&[u8]] = &[NWR_0, SWR_0_1];

@@ -39,7 +39,22 @@ pub const TWO_GROUPS: &[&[u8]] = &[
     b"TRL000020000000300000012",
 ];
 
-/// One new work of eleven records: 1,893 bytes.
+/// The eleven records of a new work.
+pub const ELEVEN_RECORDS: &[&[u8]] = &[
+    NWR_0,
+    SPU_0_1,
+    SPT_0_2,
+    OPU_0_3,
+    SWR_0_4_WITH_SHARE,
+    SWT_0_5,
+    PWR_0_6,
+    OWR_0_7,
+    ALT_0_8,
+    PER_0_9,
+    REC_0_10,
+];
+
+/// The transmission of that work: 1,893 bytes.
 pub const WORK_OF_ELEVEN: &[&[u8]] = &[
     HDR,
     GRH_NWR,
