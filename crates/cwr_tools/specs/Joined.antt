@@ -1,5 +1,5 @@
 -- What was joined so far: an encoder and numbers, and what one item and one input more do to them.
-use Rattle.std.specs.Prelude.{◌≡◌, ℕ, ◌<◌, Bool, true, false, count_by, length, filter, map, List, [], ◌∷◌, ◌++◌, Option, Result, Ok, Err, MatchResult}
+use Rattle.std.specs.Prelude.{◌≡◌, ℕ, ◌+◌, ◌<◌, Bool, true, false, count_by, length, filter, map, List, [], ◌∷◌, ◌++◌, Option, Result, Ok, Err, MatchResult}
 use Rattle.std.specs.List.{AllByRecursion, after_last}
 use Rattle.std.specs.Io.KnownBytes.{Appends}
 use Rattle.cwr_fields.specs.Failures.{one_more_failure}
@@ -165,6 +165,11 @@ pub record HasJoinedAll {W : Type 0} (contents : W → Option (List ℕ)) (count
   pub some : 0 < count
   pub each : AllByRecursion IsTransmission inputs
   pub joined : HasJoined contents start (joined_inputs inputs) j
+
+-- what a join answers whose encoder finished so, where all but TRL is counted
+abbrev pub IsAnswerOf : Result ℕ EncodeFault → Totals → ℕ → Result JoinReport JoinFault → Type 0
+IsAnswerOf (Ok n) counts inputs result = result ≡ Ok (record { inputs = inputs; groups = counts.groups; transactions = counts.transactions; records = counts.records + 1 })
+IsAnswerOf (Err other) counts inputs result = (fault : ToolFault) × is_fault_of other fault × (result ≡ Err (record { input = inputs; fault = fault }))
 
 -- After all inputs the canonical text of the transmission is written to which they are joined, and the report has its numbers;
 -- where the writer fails, so many of the text's first bytes are.

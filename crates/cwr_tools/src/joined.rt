@@ -1,6 +1,6 @@
 //! What was joined so far: the encoder of the result, and the numbers of what it wrote.
 
-ghost use Rattle.std.specs.Prelude.{◌≡◌, ◌≢◌, ◌+◌, ◌<◌, ◌∷◌, ℕ, Bool, List, Option, [], map, length, true, false, filter, Result, Ok, Err};
+ghost use Rattle.std.specs.Prelude.{◌≡◌, ◌≢◌, ◌+◌, ◌≤◌, ◌∷◌, ℕ, Bool, List, Option, [], map, length, true, false, filter, Result, Ok, Err};
 ghost use Rattle.std.specs.List.{AllByRecursion};
 ghost use Rattle.cwr_layouts.specs.Records.{RecordValue};
 ghost use Rattle.cwr_shape.specs.Ranges.{AreInRange};
@@ -9,7 +9,7 @@ ghost use Rattle.cwr_values.specs.declared.items.Item.{Item};
 ghost use Rattle.cwr_judge.specs.Items.{item_records};
 ghost use Rattle.cwr_encode.specs.Encoders.{Adds, Encodes, IsNoMistake, is_stopped, limits_of, target_of};
 ghost use Rattle.cwr_tools.specs.Joins.{is_joined, joined_inputs};
-ghost use Rattle.cwr_tools.specs.Joined.{AddsItems, EndsJoin, HasJoined, HasJoinedAll, JudgesItem, MayAdd, is_fault_of, writer_of};
+ghost use Rattle.cwr_tools.specs.Joined.{AddsItems, EndsJoin, HasJoined, HasJoinedAll, IsAnswerOf, JudgesItem, MayAdd, is_fault_of, writer_of};
 
 use crate::totals::Totals;
 use crate::verdicts::{JoinFault, JoinReport, ToolFault};
@@ -61,16 +61,27 @@ fn is_joined(first: bool, item: &Item) -> bool
     }
 }
 
-/// The numbers of a join of so many inputs, of which all but TRL is counted.
-fn report_of(counts: Totals, inputs: usize) -> JoinReport
-    requires { counts.records ≤ 99999999 }
-    ensures { result ≡ record { inputs = inputs; groups = counts.groups; transactions = counts.transactions; records = counts.records + 1 } }
+/// The answer of a join of so many inputs whose encoder finished so. Of what it wrote all but TRL is counted.
+fn answer_of(
+    outcome: Result<u64, EncodeFault>,
+    counts: Totals,
+    inputs: usize,
+) -> Result<JoinReport, JoinFault>
+    requires few { counts.records ≤ 99999999 }
+    requires no_mistake { IsNoMistake outcome }
+    ensures { IsAnswerOf outcome counts inputs result }
 {
-    JoinReport {
-        inputs,
-        groups: counts.groups,
-        transactions: counts.transactions,
-        records: counts.records + 1,
+    match outcome {
+        Ok(_) => Ok(JoinReport {
+            inputs,
+            groups: counts.groups,
+            transactions: counts.transactions,
+            records: counts.records + 1,
+        }),
+        Err(fault) => Err(JoinFault {
+            input: inputs,
+            fault: fault_of(fault),
+        }),
     }
 }
 
@@ -126,20 +137,9 @@ impl<W: Target> Joined<W> {
         requires all { HasJoinedAll W.contents inputs self }
         ensures { EndsJoin W.contents W.failures inputs self result.0 result.1 }
     {
-        let Joined { encoder, counts } = self;
-        match encoder.finish() {
-            (writer, Ok(_)) => (writer, Ok(report_of(counts, inputs))),
-            (writer, Err(fault)) => {
-                let fault = fault_of(fault);
-                (
-                    writer,
-                    Err(JoinFault {
-                        input: inputs,
-                        fault,
-                    }),
-                )
-            }
-        }
+        let counts = self.counts;
+        let (writer, outcome) = self.encoder.finish();
+        (writer, answer_of(outcome, counts, inputs))
     }
 
     /// Gives the writer back, with what was written.
