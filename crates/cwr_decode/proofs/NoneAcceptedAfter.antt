@@ -43,7 +43,7 @@ pub record GoesFurther (limits : LimitValues) (lines : List (List ℕ)) (records
 -- ---- rows and lines
 
 -- records in order have rows
-rows_well : (before rs : List RecordValue) → AllByRecursion IsRecord rs → AllByRecursion IsRow (rows_after before rs)
+pub rows_well : (before rs : List RecordValue) → AllByRecursion IsRecord rs → AllByRecursion IsRow (rows_after before rs)
 unfolding rows_after
 rows_well before [] h = tt
 rows_well before (r ∷ rs) h = (IsRow-row_of _ r h.0, rows_well (before ++ r ∷ []) rs h.1)
@@ -56,7 +56,7 @@ lines_after (r ∷ rs) ss [] more p q = absurd p
 lines_after (r ∷ rs) ss (k ∷ ks) more p q = lines_after rs ss ks more p.1 q.1
 
 -- the records of rows that begin with others
-records_begin : (rs ss back : List Row) (xs ys : List RecordValue) → map record_of rs ≡ xs → map record_of ss ≡ ys → ss ≡ rs ++ back → ys ≡ xs ++ map record_of back
+pub records_begin : (rs ss back : List Row) (xs ys : List RecordValue) → map record_of rs ≡ xs → map record_of ss ≡ ys → ss ≡ rs ++ back → ys ≡ xs ++ map record_of back
 records_begin rs ss back xs ys h k e = sym k ∙ ap (map record_of) e ∙ map-append record_of rs back ∙ ap (λ (l : List RecordValue). l ++ map record_of back) h
 
 at_front : (P : RecordValue → Type 0) (xs : List RecordValue) (y : RecordValue) (ys : List RecordValue) → AllByRecursion P (xs ++ y ∷ ys) → P y
@@ -73,10 +73,13 @@ nothing_in_front (x ∷ xs) ys e = absurd (cc e)
 same_whole : (v : TransmissionValue) (records : List RecordValue) → IsTransmission v → records_of v ≡ records → IsWhole (map symbol_of records)
 same_whole v records h e = (outline_of v, outline_whole v h, sym (ap (map symbol_of) e) ∙ sym (symbols-outline v h))
 
--- the records of which a transmission is the first part, and that begin some transmission, are all in it
-longer_whole : (tally : TallyValue) (lines : List (List ℕ)) (records rest : List RecordValue) (v : TransmissionValue) → AreAccepted tally lines records → IsTransmission v → records ≡ records_of v ++ rest
-    → IsWhole (map symbol_of records)
-longer_whole tally lines records rest v read h e =
+no_symbols : (rs : List RecordValue) → map symbol_of rs ≡ [] → rs ≡ []
+no_symbols [] e = refl
+no_symbols (r ∷ rs) e = absurd (cc e)
+
+-- records that begin some transmission are no more than a whole one's
+pub nothing_longer : (tally : TallyValue) (lines : List (List ℕ)) (records rest : List RecordValue) (v : TransmissionValue) → AreAccepted tally lines records → IsTransmission v → records ≡ records_of v ++ rest → rest ≡ []
+nothing_longer tally lines records rest v read h e =
     let begins = read.counted.stands.begins in
     let more : List Symbol = begins.3.0 in
     let xs : List Symbol = map symbol_of rest in
@@ -84,8 +87,7 @@ longer_whole tally lines records rest v read h e =
     ap (map symbol_of) e ∙ map-append symbol_of (records_of v) rest ∙ ap (λ (l : List Symbol). l ++ xs) (sym (symbols-outline v h)) in
     let whole : symbols_of (outline_of v) ++ (xs ++ more) ≡ symbols_of begins.0 =
     sym (append_assoc (symbols_of (outline_of v)) xs more) ∙ ap (λ (l : List Symbol). l ++ more) (sym symbols) ∙ sym begins.3.1 in
-    let none : xs ≡ [] = nothing_in_front xs more (prefix_free (outline_of v) begins.0 (xs ++ more) (outline_whole v h) begins.1 whole) in
-    (outline_of v, outline_whole v h, symbols ∙ ap (λ (l : List Symbol). symbols_of (outline_of v) ++ l) none ∙ append-nil (symbols_of (outline_of v)))
+    no_symbols rest (nothing_in_front xs more (prefix_free (outline_of v) begins.0 (xs ++ more) (outline_whole v h) begins.1 whole))
 
 one_further : (tally : TallyValue) (lines : List (List ℕ)) (records : List RecordValue) (v : TransmissionValue) (others : List (List ℕ)) (rest : List RecordValue) (more : List (List ℕ))
     → ¬ IsWhole (map symbol_of records) → IsTransmission v → FitsIn tally.limits v → records_of v ≡ records ++ rest → others ≡ lines ++ more → AllZip IsLineOf (rows_after records rest) more
@@ -134,7 +136,7 @@ goes_further tally lines records v others u w read left h fits z e =
     by_lines (inr a) =
         let b = rows_of_front (rows v) (rows_so_far records) others a.0 (rows_are_rows v h) well z (subst (λ (ks : List (List ℕ)). AllZip IsLineOf (rows_so_far records) ks) a.1 read.rows) in
         let split : records ≡ records_of v ++ map record_of b.0 = records_begin (rows v) (rows_so_far records) b.0 (records_of v) records (records-rows v h) back b.1 in
-        absurd (left (longer_whole tally lines records (map record_of b.0) v read h split))
+        absurd (left (same_whole v records h (sym (split ∙ ap (λ (l : List RecordValue). records_of v ++ l) (nothing_longer tally lines records (map record_of b.0) v read h split) ∙ append-nil (records_of v)))))
 
 -- ---- what no text continues with
 

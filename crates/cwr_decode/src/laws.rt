@@ -1,6 +1,6 @@
 //! Laws over the ends of texts, and those over transmissions that they stand on.
 
-ghost use Rattle.std.specs.Prelude.{List, length, ℕ, ◌++◌, ◌*◌, ◌≡◌, ◌≤◌};
+ghost use Rattle.std.specs.Prelude.{List, [], length, true, ℕ, ◌++◌, ◌*◌, ◌≡◌, ◌≤◌};
 ghost use Rattle.std.specs.Prelude.{suc, ◌↔◌};
 ghost use Rattle.cwr_shape.specs.Ranges.{LimitValues};
 ghost use Rattle.cwr_judge.specs.GoodFronts.{ContinuesFrom};
@@ -87,4 +87,11 @@ pub fn used_bytes_are_bounded()
 /// whole one of its group's type, and each comes in its place.
 pub fn items_are_the_first()
     ensures { (d : Standing) (input : List ℕ) (given : List Item) → Represents d input given → AreFirstItems d.tally.limits given }
+{}
+
+/// The items that a decoder handed out from the front of a text that is accepted are the first of that transmission's,
+/// however much of the text it has had.
+pub fn items_begin_the_accepted()
+    ensures { (d : Standing) (input more : List ℕ) (given : List Item) (v : TransmissionValue) (n : ℕ) → Represents d input given → (d.finished ≡ true → more ≡ [])
+        → IsAccepted d.tally.limits (input ++ more) v n → (rest : List Item) × (value_items v ≡ given ++ rest) }
 {}

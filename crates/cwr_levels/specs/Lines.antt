@@ -1,6 +1,7 @@
 -- The lines of reports.
 use Rattle.std.specs.Prelude.{ℕ, List, [], ◌∷◌, ◌++◌, codes, decimal}
-use Rattle.cwr_shape.specs.ReasonTexts.{level_text}
+use Rattle.cwr_shape.specs.declared.limits.LimitKind.{LimitKind}
+use Rattle.cwr_shape.specs.ReasonTexts.{level_text, limit_text}
 use Rattle.cwr_judge.specs.declared.refusals.Refusal.{Refusal}
 use Rattle.cwr_judge.specs.RefusalTexts.{refusal_text}
 use Rattle.cwr_levels.specs.declared.rules.Rule.{Rule}
@@ -29,10 +30,30 @@ refusal_line r = codes "REFUSED " ++ refusal_text r ++ 10 ∷ []
 abbrev pub truncated_line : ℕ → List ℕ
 truncated_line records = codes "TRUNCATED records " ++ decimal records ++ 10 ∷ []
 
+-- a line that ends with the numbers of a transmission
+abbrev pub with_numbers : List ℕ → ℕ → ℕ → ℕ → List ℕ
+with_numbers text groups transactions records = text ++ codes " groups " ++ decimal groups ++ codes " transactions " ++ decimal transactions
+    ++ codes " records " ++ decimal records ++ 10 ∷ []
+
 -- the line on an accepted text
 abbrev pub good_line : ℕ → ℕ → ℕ → List ℕ
-good_line groups transactions records = codes "GOOD groups " ++ decimal groups ++ codes " transactions " ++ decimal transactions
-    ++ codes " records " ++ decimal records ++ 10 ∷ []
+good_line groups transactions records = with_numbers (codes "GOOD") groups transactions records
+
+-- the line on transmissions that were joined into one with these numbers
+abbrev pub joined_line : ℕ → ℕ → ℕ → ℕ → List ℕ
+joined_line inputs groups transactions records = with_numbers (codes "JOINED inputs " ++ decimal inputs) groups transactions records
+
+-- the line on a transmission that was split
+abbrev pub split_line : ℕ → ℕ → List ℕ
+split_line outputs transactions = codes "SPLIT outputs " ++ decimal outputs ++ codes " transactions " ++ decimal transactions ++ 10 ∷ []
+
+-- the line on a result that would pass a limit
+abbrev pub limit_line : LimitKind → List ℕ
+limit_line limit = codes "LIMIT " ++ limit_text limit ++ 10 ∷ []
+
+-- what stands before a line on one of several inputs
+abbrev pub input_mark : ℕ → List ℕ
+input_mark input = codes "input " ++ decimal input ++ codes ": "
 
 -- the group's number is its ID, from 1, and the transaction's its sequence, from 0
 abbrev pub finding_line : ℕ → ℕ → Finding → List ℕ

@@ -10,6 +10,9 @@ mod shares;
 mod totals;
 mod walk;
 
-pub use lines::{LONGEST_LINE, finding_line, good_line, refusal_line, truncated_line};
+pub use lines::{
+    LONGEST_REPORT_LINE, finding_line, good_line, input_mark, joined_line, limit_line,
+    refusal_line, split_line, truncated_line,
+};
 pub use rules::{Finding, Rule};
 pub use walk::findings;

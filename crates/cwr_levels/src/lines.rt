@@ -2,7 +2,7 @@
 
 ghost use Rattle.std.specs.Prelude.{◌≡◌, ◌+◌, ◌≤◌, ◌++◌, [], ◌∷◌, length, codes, decimal};
 ghost use Rattle.cwr_shape.specs.ReasonTexts.{reason_text};
-ghost use Rattle.cwr_levels.specs.Lines.{finding_line, good_line, refusal_line, truncated_line};
+ghost use Rattle.cwr_levels.specs.Lines.{finding_line, good_line, input_mark, joined_line, limit_line, refusal_line, split_line, truncated_line, with_numbers};
 ghost use Rattle.cwr_levels.specs.Putting.{PutsText};
 
 use crate::rules::Finding;
@@ -10,22 +10,22 @@ use arrayvec::ArrayVec;
 use cwr_encode::{Sink, SinkFault};
 use cwr_fields::Target;
 use cwr_judge::Refusal;
-use cwr_shape::Reason;
+use cwr_shape::{LimitKind, Reason};
 use itoa::Buffer;
 
 /// The most bytes that a line of a report may have; none comes near.
-pub const LONGEST_LINE: usize = 200;
+pub const LONGEST_REPORT_LINE: usize = 200;
 
 /// A line, while it is put together.
 #[derive(Clone, Drop)]
 struct Line {
-    text: ArrayVec<u8, LONGEST_LINE>,
+    text: ArrayVec<u8, LONGEST_REPORT_LINE>,
 }
 
 impl Line {
     /// The line that begins with these words.
     fn of(words: &[u8]) -> Line
-        requires { length words.now ≤ LONGEST_LINE }
+        requires { length words.now ≤ LONGEST_REPORT_LINE }
         ensures { result.text.items ≡ words.now }
     {
         let mut line = Line {
@@ -37,7 +37,7 @@ impl Line {
 
     /// Adds words at its end.
     fn add(&mut self, words: &[u8])
-        requires { length self.old.text.items + length words.now ≤ LONGEST_LINE }
+        requires { length self.old.text.items + length words.now ≤ LONGEST_REPORT_LINE }
         ensures { self.new.text.items ≡ self.old.text.items ++ words.now }
     {
         let _fits = self.text.try_extend_from_slice(words);
@@ -45,7 +45,7 @@ impl Line {
 
     /// Adds a number at its end, in plain decimals.
     fn add_number(&mut self, number: u64)
-        requires { length self.old.text.items + 20 ≤ LONGEST_LINE }
+        requires { length self.old.text.items + 20 ≤ LONGEST_REPORT_LINE }
         ensures text { self.new.text.items ≡ self.old.text.items ++ decimal number }
         ensures length { length self.new.text.items ≤ length self.old.text.items + 20 }
     {
@@ -54,7 +54,7 @@ impl Line {
 
     /// Adds the words for a reason at its end.
     fn add_reason(&mut self, reason: &Reason)
-        requires { length self.old.text.items + 36 ≤ LONGEST_LINE }
+        requires { length self.old.text.items + 36 ≤ LONGEST_REPORT_LINE }
         ensures text { self.new.text.items ≡ self.old.text.items ++ reason_text reason.now }
         ensures length { length self.new.text.items ≤ length self.old.text.items + 36 }
     {
@@ -74,10 +74,24 @@ impl Line {
         }
     }
 
+    /// Adds the numbers of a transmission, and ends the line.
+    fn add_numbers(&mut self, groups: u32, transactions: u32, records: u32)
+        requires { length self.old.text.items + 100 ≤ LONGEST_REPORT_LINE }
+        ensures { self.new.text.items ≡ with_numbers self.old.text.items groups transactions records }
+    {
+        self.add(b" groups ");
+        self.add_number(groups.into());
+        self.add(b" transactions ");
+        self.add_number(transactions.into());
+        self.add(b" records ");
+        self.add_number(records.into());
+        self.add(b"\n");
+    }
+
     /// Puts it to the sink.
     fn put<W: Target>(&self, sink: &mut Sink<W>) -> Result<(), SinkFault>
         ensures puts { PutsText W.contents W.failures self.now.text.items result sink.old sink.new }
-        ensures short { length self.now.text.items ≤ LONGEST_LINE }
+        ensures short { length self.now.text.items ≤ LONGEST_REPORT_LINE }
     {
         sink.put(self.text.as_slice())
     }
@@ -86,13 +100,50 @@ impl Line {
     fn good(groups: u32, transactions: u32, records: u32) -> Line
         ensures { result.text.items ≡ good_line groups transactions records }
     {
-        let mut line = Line::of(b"GOOD groups ");
-        line.add_number(groups.into());
+        let mut line = Line::of(b"GOOD");
+        line.add_numbers(groups, transactions, records);
+        line
+    }
+
+    /// The line on transmissions that were joined: how many, and the numbers of the result.
+    fn joined(inputs: usize, groups: u32, transactions: u32, records: u32) -> Line
+        ensures { result.text.items ≡ joined_line inputs groups transactions records }
+    {
+        let mut line = Line::of(b"JOINED inputs ");
+        line.add_number(inputs as u64);
+        line.add_numbers(groups, transactions, records);
+        line
+    }
+
+    /// The line on a transmission that was split.
+    fn split(outputs: u32, transactions: u32) -> Line
+        ensures { result.text.items ≡ split_line outputs transactions }
+    {
+        let mut line = Line::of(b"SPLIT outputs ");
+        line.add_number(outputs.into());
         line.add(b" transactions ");
         line.add_number(transactions.into());
-        line.add(b" records ");
-        line.add_number(records.into());
         line.add(b"\n");
+        line
+    }
+
+    /// The line on a result that would pass a limit.
+    fn limit(limit: LimitKind) -> Line
+        ensures { result.text.items ≡ limit_line limit }
+    {
+        let mut line = Line::of(b"LIMIT ");
+        line.add(limit.word().as_bytes());
+        line.add(b"\n");
+        line
+    }
+
+    /// What stands before a line on one of several inputs.
+    fn mark(input: usize) -> Line
+        ensures { result.text.items ≡ input_mark input }
+    {
+        let mut line = Line::of(b"input ");
+        line.add_number(input as u64);
+        line.add(b": ");
         line
     }
 
@@ -151,7 +202,7 @@ pub fn good_line<W: Target>(
     sink: &mut Sink<W>,
 ) -> Result<(), SinkFault>
     ensures puts { PutsText W.contents W.failures (good_line groups transactions records) result sink.old sink.new }
-    ensures short { length (good_line groups transactions records) ≤ LONGEST_LINE }
+    ensures short { length (good_line groups transactions records) ≤ LONGEST_REPORT_LINE }
 {
     Line::good(groups, transactions, records).put(sink)
 }
@@ -159,7 +210,7 @@ pub fn good_line<W: Target>(
 /// Puts the line on an input that ended too early, after so many records.
 pub fn truncated_line<W: Target>(records: u32, sink: &mut Sink<W>) -> Result<(), SinkFault>
     ensures puts { PutsText W.contents W.failures (truncated_line records) result sink.old sink.new }
-    ensures short { length (truncated_line records) ≤ LONGEST_LINE }
+    ensures short { length (truncated_line records) ≤ LONGEST_REPORT_LINE }
 {
     Line::truncated(records).put(sink)
 }
@@ -167,7 +218,7 @@ pub fn truncated_line<W: Target>(records: u32, sink: &mut Sink<W>) -> Result<(),
 /// Puts the line on an input that is refused.
 pub fn refusal_line<W: Target>(refusal: &Refusal, sink: &mut Sink<W>) -> Result<(), SinkFault>
     ensures puts { PutsText W.contents W.failures (refusal_line refusal.now) result sink.old sink.new }
-    ensures short { length (refusal_line refusal.now) ≤ LONGEST_LINE }
+    ensures short { length (refusal_line refusal.now) ≤ LONGEST_REPORT_LINE }
 {
     Line::refused(refusal).put(sink)
 }
@@ -180,7 +231,49 @@ pub fn finding_line<W: Target>(
     sink: &mut Sink<W>,
 ) -> Result<(), SinkFault>
     ensures puts { PutsText W.contents W.failures (finding_line group transaction finding.now) result sink.old sink.new }
-    ensures short { length (finding_line group transaction finding.now) ≤ LONGEST_LINE }
+    ensures short { length (finding_line group transaction finding.now) ≤ LONGEST_REPORT_LINE }
 {
     Line::finding(group, transaction, finding).put(sink)
+}
+
+/// Puts the line on transmissions that were joined: how many, and the numbers of the result.
+pub fn joined_line<W: Target>(
+    inputs: usize,
+    groups: u32,
+    transactions: u32,
+    records: u32,
+    sink: &mut Sink<W>,
+) -> Result<(), SinkFault>
+    ensures puts { PutsText W.contents W.failures (joined_line inputs groups transactions records) result sink.old sink.new }
+    ensures short { length (joined_line inputs groups transactions records) ≤ LONGEST_REPORT_LINE }
+{
+    Line::joined(inputs, groups, transactions, records).put(sink)
+}
+
+/// Puts the line on a transmission that was split.
+pub fn split_line<W: Target>(
+    outputs: u32,
+    transactions: u32,
+    sink: &mut Sink<W>,
+) -> Result<(), SinkFault>
+    ensures puts { PutsText W.contents W.failures (split_line outputs transactions) result sink.old sink.new }
+    ensures short { length (split_line outputs transactions) ≤ LONGEST_REPORT_LINE }
+{
+    Line::split(outputs, transactions).put(sink)
+}
+
+/// Puts the line on a result that would pass a limit.
+pub fn limit_line<W: Target>(limit: LimitKind, sink: &mut Sink<W>) -> Result<(), SinkFault>
+    ensures puts { PutsText W.contents W.failures (limit_line limit) result sink.old sink.new }
+    ensures short { length (limit_line limit) ≤ LONGEST_REPORT_LINE }
+{
+    Line::limit(limit).put(sink)
+}
+
+/// Puts what stands before a line on one of several inputs, which are counted from 1.
+pub fn input_mark<W: Target>(input: usize, sink: &mut Sink<W>) -> Result<(), SinkFault>
+    ensures puts { PutsText W.contents W.failures (input_mark input) result sink.old sink.new }
+    ensures short { length (input_mark input) ≤ LONGEST_REPORT_LINE }
+{
+    Line::mark(input).put(sink)
 }

@@ -2,7 +2,7 @@
 
 ghost use Rattle.std.specs.Prelude.{◌≡◌, ◌≤◌, [], false, length};
 ghost use Rattle.cwr_encode.specs.Sinks.{HasWritten, has_failed, writer_of};
-ghost use Rattle.cwr_levels.specs.declared.lines.TheConstants.{LONGEST_LINE};
+ghost use Rattle.cwr_levels.specs.declared.lines.TheConstants.{LONGEST_REPORT_LINE};
 ghost use Rattle.cwr_levels.specs.Putting.{PutsText};
 ghost use Rattle.cwr_tools.specs.Texts.{verdict_line};
 ghost use Rattle.cwr_tools.specs.Verdicts.{IsVerdictOf};
