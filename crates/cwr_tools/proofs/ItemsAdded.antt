@@ -1,10 +1,11 @@
 -- The items of a transmission, added one by one: each is right, its call of the encoder is no mistake, and its numbers stay small.
-use Rattle.std.proofs.Common.{◌≡◌, ◌≢◌, ◌+◌, ◌≤◌, ◌<◌, ℕ, Bool, true, false, not, cond, List, [], ◌∷◌, ◌++◌, length, map, drop, take, Option, refl, sym, ap, ap₂, subst, ◌∙◌, append_assoc, append-nil, arith}
-use Rattle.std.specs.Prelude.{Result, Ok, Err, count_by}
+use Rattle.std.proofs.Common.{◌≡◌, ◌-◌, ◌≤◌, ℕ, Bool, true, false, not, cond, List, [], ◌∷◌, ◌++◌, length, map, refl, ap, ap₂, ◌∙◌, arith}
+use Rattle.std.specs.Prelude.{Result, count_by}
 use Rattle.std.specs.List.{AllByRecursion, after_last, flat_map, suffix_len}
-use Rattle.std.proofs.lemmas.Grind.{flat_map-append, flat_map-map}
-use Rattle.std.proofs.lemmas.List.{length-append, map-append, take-append_drop}
-use Rattle.std.proofs.lemmas.List.Sums.{sum_by-append}
+use Rattle.std.proofs.lemmas.Grind.{flat_map-append}
+use Rattle.std.proofs.lemmas.List.{length-append}
+use Rattle.std.proofs.lemmas.List.Folds.{flat_map-map}
+use Rattle.std.proofs.lemmas.List.Sums.{sum_by-append, sum_by-take-drop}
 use Rattle.cwr_fields.specs.declared.codes.TransactionType.{TransactionType}
 use Rattle.cwr_layouts.specs.declared.kinds.Kind.TheVariants as kinds
 use Rattle.cwr_layouts.specs.Records.{RecordValue}
@@ -14,7 +15,6 @@ use Rattle.cwr_shape.specs.Left.{Any}
 use Rattle.cwr_shape.specs.Tallies.{IsTallyOf, TallyValue}
 use Rattle.cwr_values.specs.declared.items.Item.{Item}
 use Rattle.cwr_values.specs.declared.items.Item.TheVariants.{Opened, GroupOpened, Transaction, GroupClosed, Ended}
-use Rattle.cwr_values.specs.Begun.{IsWholeTransaction}
 use Rattle.cwr_values.specs.Values.{GroupValue, TransmissionValue, IsGroup, IsTransaction, IsTransmission, symbol_of, type_of}
 use Rattle.cwr_values.specs.Rows.{records_of, records_of_group, trailer}
 use Rattle.cwr_judge.specs.Items.{group_items, is_transaction, item_records, opens_group, records_in, value_items}
@@ -120,5 +120,5 @@ few_items test (item ∷ items) h =
 -- nor are there after the last GRH
 pub few_after : (items : List Item) → AllByRecursion IsRight items → count_by is_transaction (after_last opens_group items) ≤ length (records_in items)
 few_after items h =
-    let n = length items in
-    ?
+    let n : ℕ = length items - suffix_len (λ (item : Item). not (opens_group item)) items in
+    omega (arith, few_items is_transaction items h, sum_by-take-drop (λ (x : Item). cond (is_transaction x) 1 0) items n)
