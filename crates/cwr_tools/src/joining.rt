@@ -39,9 +39,13 @@ fn add_input<R: Source, W: Target>(
     ensures failures { CountsAddFault result (R.failures reader.old) (R.failures reader.new) }
 {
     let mut reading = Reading::new(alloc, limits, reader);
+    let mut handed_out: u64 = 0;
     'items: loop {
         match reading.next_item() {
-            Ok(Some(item)) => joined.add(first, &item)?,
+            Ok(Some(item)) => {
+                joined.add(first, &item)?;
+                handed_out += 1;
+            }
             Ok(None) => return Ok(()),
             Err(fault) => return Err(reading_fault(fault)),
         }
