@@ -99,7 +99,11 @@ impl<W: Target> Joined<W> {
         ensures limits { limits_of result.encoder ≡ limits }
         ensures unfailed { is_stopped result.encoder ≡ false }
         ensures writer { writer_of result ≡ writer }
+        ensures range { AreInRange limits }
     {
+        // Each limit is in its range.
+        let most = limits.records();
+        prove!(most <= 99_999_999);
         Joined {
             encoder: Encoder::new(writer, limits),
             counts: Totals::new(),
