@@ -147,6 +147,6 @@ joins_end {R = R} {W = W} limits remaining failures contents counts before after
           number = omega (arith, e.ends.0, left, ap length t.olds_are, length-append t.earlier (t.hand ∷ []));
           inputs = t.inputs;
           taken = t.taken;
-          stops = subst (λ (f : ToolFault). StopsBy limits f contents t.inputs (remaining t.hand) (remaining t.left) [] writer new) (sym e.ends.2) fails;
+          stops = subst (λ (f : ToolFault). StopsBy {R = R} limits f contents t.inputs (remaining t.hand) (remaining t.left) [] writer new) (sym e.ends.2) fails;
           counts = subst (λ (f : ToolFault). CountsInputFault f (failures t.hand) (failures t.left)) (sym e.ends.2) t.last_taken.quiet;
         }
