@@ -1,11 +1,10 @@
 -- Where all inputs are accepted, and joined to a transmission within the limits, a join stops only where a device or memory failed.
-use Rattle.std.proofs.Common.{◌≡◌, ℕ, true, Bool, List, [], ◌∷◌, ◌++◌, length, drop, map, Option, Some, None, refl, sym, ap, subst, ◌∙◌, append_assoc}
+use Rattle.std.proofs.Common.{◌≡◌, ℕ, Bool, List, [], ◌∷◌, ◌++◌, length, drop, map, Option, Some, None, refl, sym, ap, subst, ◌∙◌, append_assoc}
 use Rattle.std.specs.Prelude.{Result, Ok, Err, IfSome, filter}
 use Rattle.std.specs.List.{AllByRecursion, AllZip, flat_map}
 use Rattle.std.specs.Io.KnownBytes.{Appends, Consumes}
 use Rattle.std.proofs.lemmas.Grind.{flat_map-append}
 use Rattle.std.proofs.lemmas.List.Elements.{filter-append}
-use Rattle.cwr_layouts.specs.Records.{RecordValue}
 use Rattle.cwr_shape.specs.declared.limits.Limits.{Limits}
 use Rattle.cwr_shape.specs.declared.limits.LimitKind.{LimitKind}
 use Rattle.cwr_shape.specs.declared.limits.LimitKind.TheVariants as limit_kinds
@@ -17,13 +16,12 @@ use Rattle.cwr_shape.specs.Tallies.{IsBarredFirst}
 use Rattle.cwr_values.specs.declared.items.Item.{Item}
 use Rattle.cwr_values.specs.declared.items.Item.TheVariants.{Opened, Ended}
 use Rattle.cwr_values.specs.Values.{GroupValue, TransmissionValue, FitsIn, IsTransmission, symbol_of}
-use Rattle.cwr_values.specs.Rows.{canonical_text, records_of}
+use Rattle.cwr_values.specs.Rows.{canonical_text}
 use Rattle.cwr_judge.specs.Ends.{IsAccepted}
 use Rattle.cwr_judge.specs.Items.{group_items, records_in, value_items}
 use Rattle.cwr_judge.proofs.Accepted.{accepted_once}
 use Rattle.cwr_decode.specs.declared.readings.ReadFault.TheVariants as read_faults
 use Rattle.cwr_decode.specs.Machines.{Standing}
-use Rattle.cwr_decode.specs.Represents.{Represents}
 use Rattle.cwr_decode.specs.Readings.{IsRightOf, IsSpent}
 use Rattle.cwr_decode.specs.Runs.{HasRead, TakesFront}
 use Rattle.cwr_decode.proofs.ItemsOfAccepted.{items_of_accepted}

@@ -1,6 +1,6 @@
 -- Inputs are joined one after another, up to the last or a fault.
-use Rattle.std.proofs.Common.{◌≡◌, ◌+◌, ◌<◌, ◌≤◌, ℕ, Bool, false, List, [], ◌∷◌, ◌++◌, length, get_or, Option, inl, refl, sym, ap, subst, ◌∙◌, append_assoc, append-nil, arith}
-use Rattle.std.specs.Prelude.{Result, Ok, Err, filter, nat_eq, slice_set}
+use Rattle.std.proofs.Common.{◌≡◌, ◌+◌, ◌<◌, ℕ, Bool, false, List, [], ◌∷◌, ◌++◌, length, map, get_or, Option, inl, refl, sym, ap, subst, ◌∙◌, append_assoc, append-nil, arith}
+use Rattle.std.specs.Prelude.{Ok, Err, filter, nat_eq, slice_set}
 use Rattle.std.specs.List.{AllByRecursion}
 use Rattle.std.specs.Io.KnownBytes.{Appends}
 use Rattle.std.proofs.Math.Dec.{eqb-suc-zero}
@@ -8,20 +8,23 @@ use Rattle.std.proofs.Math.Seq.{get_or-append_seam, set-append_seam}
 use Rattle.std.proofs.lemmas.List.{length-append}
 use Rattle.cwr_layouts.specs.Records.{RecordValue}
 use Rattle.cwr_shape.specs.declared.limits.Limits.{Limits}
+use Rattle.cwr_shape.specs.Outlines.{Continues, IsWithin}
+use Rattle.cwr_shape.specs.Ranges.{LimitValues}
 use Rattle.cwr_values.specs.declared.items.Item.{Item}
-use Rattle.cwr_values.specs.Values.{TransmissionValue, IsTransmission}
+use Rattle.cwr_values.specs.Values.{TransmissionValue, IsTransmission, symbol_of}
 use Rattle.cwr_judge.specs.Items.{records_in}
 use Rattle.cwr_encode.specs.declared.sinks.Sink.{Sink}
 use Rattle.cwr_encode.specs.Sinks as sinks
 use Rattle.cwr_encode.specs.Sinks.{HasWritten, has_failed}
-use Rattle.cwr_encode.specs.Finishing.{HasFront}
-use Rattle.cwr_encode.specs.Encoders.{is_stopped, limits_of, part_of}
+use Rattle.cwr_encode.specs.Written.{IsPart}
+use Rattle.cwr_encode.specs.declared.encoders.Encoder.{Encoder}
+use Rattle.cwr_encode.specs.Encoders.{Encodes, is_stopped, limits_of, part_of}
+use Rattle.cwr_encode.proofs.PartLaws.{has_part}
 use Rattle.cwr_tools.specs.declared.joined.Joined.{Joined}
-use Rattle.cwr_tools.specs.declared.verdicts.JoinFault.{JoinFault}
 use Rattle.cwr_tools.specs.declared.verdicts.ToolFault.{ToolFault}
 use Rattle.cwr_tools.specs.declared.verdicts.ToolFault.TheVariants.{Reader, Writer, Memory, Refused, Truncated, Limit, Output}
-use Rattle.cwr_tools.specs.Joins.{CountsInputFault, FailsToWrite, StopsBy, StopsJoin, TakesInput, TakeInputs, is_first, is_joined, joined_inputs, joined_items, joined_records}
-use Rattle.cwr_tools.specs.Joined.{AddsAll, AddsInput, HasJoined, IsBetweenInputs, JoinsOn, writer_of}
+use Rattle.cwr_tools.specs.Joins.{CountsInputFault, StopsBy, StopsJoin, TakesInput, TakeInputs, is_first, is_joined, joined_inputs, joined_records, WritesPart}
+use Rattle.cwr_tools.specs.Joined.{AddsInput, HasJoined, IsBetweenInputs, JoinsOn, writer_of}
 use Rattle.cwr_tools.proofs.JoinedItems.{next_joined}
 
 -- so many inputs were accepted and joined, and the others are as they were
@@ -141,35 +144,47 @@ written_whole : {W : Type 0} (contents : W → Option (List ℕ)) (start : Optio
 written_whole contents start text sink unfailed h =
     subst (Appends start (contents (sinks.writer_of sink))) (sym (h.split ∙ ap (λ (l : List ℕ). h.bytes ++ l) (h.whole unfailed) ∙ append-nil h.bytes)) h.appended
 
--- what is written is the part of what is joined
-part_written : {W : Type 0} (contents : W → Option (List ℕ)) (counts : W → ℕ) (start : Option (List ℕ)) (items added : List Item) (j next : Joined W) → HasJoined contents start items j → JoinsOn contents counts added j next
-    → Appends start (contents (writer_of next)) (part_of (records_in (items ++ added)))
-part_written contents counts start items added j next h on =
-    written_whole contents start (part_of (records_in (items ++ added))) next.encoder.sink on.unfailed (on.more start items h).encodes.written
+-- records that were accepted have a part
+has_part_of : {W : Type 0} (limits : Limits) (contents : W → Option (List ℕ)) (start : Option (List ℕ)) (records : List RecordValue) (e : Encoder W) → limits_of e ≡ limits → Encodes contents start records e → IsPart limits records (part_of records)
+has_part_of limits contents start records e same h = has_part limits records h.in_order (subst (λ (l : LimitValues). Continues (IsWithin l) (map symbol_of records)) same h.counted.within)
 
-stops_by : {R W : Type 0} (limits : Limits) (contents : W → Option (List ℕ)) (counts : W → ℕ) (inputs : List TransmissionValue) (before after : Option (List ℕ)) (later : List R) (old j next : Joined W) (fault : ToolFault)
+-- which is written where the writer didn't fail
+part_written : {W : Type 0} (limits : Limits) (contents : W → Option (List ℕ)) (counts : W → ℕ) (items added : List Item) (old j next : Joined W) → limits_of j.encoder ≡ limits → HasJoined contents (contents (writer_of old)) items j
+    → JoinsOn contents counts added j next → WritesPart limits contents (records_in (items ++ added)) (writer_of old) (writer_of next)
+part_written limits contents counts items added old j next same h on =
+    let start = contents (writer_of old) in
+    let records : List RecordValue = records_in (items ++ added) in
+    let encodes = (on.more start items h).encodes in
+    record {
+      text = part_of records;
+      part = has_part_of limits contents start records next.encoder (on.limits ∙ same) encodes;
+      written = written_whole contents start (part_of records) next.encoder.sink on.unfailed encodes.written;
+    }
+
+stops_by : {R W : Type 0} (limits : Limits) (contents : W → Option (List ℕ)) (counts : W → ℕ) (inputs : List TransmissionValue) (before after : Option (List ℕ)) (later : List R) (old j next : Joined W) (fault : ToolFault) → limits_of j.encoder ≡ limits
     → HasJoined contents (contents (writer_of old)) (joined_inputs inputs) j → AddsInput limits contents counts (is_first inputs) before after (Err fault) j next
     → StopsBy limits fault contents inputs before after later (writer_of old) (writer_of next)
-stops_by limits contents counts inputs before after later old j next Reader h a = record { given = a.0; stops = a.1; written = part_written contents counts (contents (writer_of old)) (joined_inputs inputs) (filter (is_joined (is_first inputs)) a.0) j next h a.2 }
-stops_by limits contents counts inputs before after later old j next Memory h a = record { given = a.0; stops = a.1; written = part_written contents counts (contents (writer_of old)) (joined_inputs inputs) (filter (is_joined (is_first inputs)) a.0) j next h a.2 }
-stops_by limits contents counts inputs before after later old j next (Refused r) h a = record { given = a.0; stops = a.1; written = part_written contents counts (contents (writer_of old)) (joined_inputs inputs) (filter (is_joined (is_first inputs)) a.0) j next h a.2 }
-stops_by limits contents counts inputs before after later old j next (Truncated r) h a = record { given = a.0; stops = a.1; written = part_written contents counts (contents (writer_of old)) (joined_inputs inputs) (filter (is_joined (is_first inputs)) a.0) j next h a.2 }
-stops_by limits contents counts inputs before after later old j next (Limit limit) h a = record {
+stops_by limits contents counts inputs before after later old j next Reader same h a = record { given = a.0; stops = a.1; written = part_written limits contents counts (joined_inputs inputs) (filter (is_joined (is_first inputs)) a.0) old j next same h a.2 }
+stops_by limits contents counts inputs before after later old j next Memory same h a = record { given = a.0; stops = a.1; written = part_written limits contents counts (joined_inputs inputs) (filter (is_joined (is_first inputs)) a.0) old j next same h a.2 }
+stops_by limits contents counts inputs before after later old j next (Refused r) same h a = record { given = a.0; stops = a.1; written = part_written limits contents counts (joined_inputs inputs) (filter (is_joined (is_first inputs)) a.0) old j next same h a.2 }
+stops_by limits contents counts inputs before after later old j next (Truncated r) same h a = record { given = a.0; stops = a.1; written = part_written limits contents counts (joined_inputs inputs) (filter (is_joined (is_first inputs)) a.0) old j next same h a.2 }
+stops_by limits contents counts inputs before after later old j next (Limit limit) same h a = record {
   given = a.0;
   item = a.1;
   handed_out = a.2;
   barred = a.4 (contents (writer_of old)) (joined_inputs inputs) h;
-  written = part_written contents counts (contents (writer_of old)) (joined_inputs inputs) (filter (is_joined (is_first inputs)) a.0) j next h a.3;
+  written = part_written limits contents counts (joined_inputs inputs) (filter (is_joined (is_first inputs)) a.0) old j next same h a.3;
 }
-stops_by limits contents counts inputs before after later old j next (Writer n) h a =
-    let w = a.2.front (contents (writer_of old)) (joined_inputs inputs) h in
-    let text : List ℕ = part_of (joined_records inputs a.0) in
+stops_by limits contents counts inputs before after later old j next (Writer n) same h a =
+    let start = contents (writer_of old) in
+    let encodes = a.2.more start (joined_inputs inputs) h in
+    let w = encodes.written in
     record {
-      text = text;
-      text_is = inl (record { given = a.0; handed_out = a.1; text_is = refl });
+      text = part_of (joined_records inputs a.0);
+      text_is = inl (record { given = a.0; handed_out = a.1; part = has_part_of limits contents start (joined_records inputs a.0) next.encoder (a.2.limits ∙ same) encodes });
       front = record { bytes = w.bytes; rest = w.rest; split = w.split; has = record { appended = w.appended; counted = a.2.counted ∙ w.counted } };
     }
-stops_by limits contents counts inputs before after later old j next Output h a = absurd a
+stops_by limits contents counts inputs before after later old j next Output same h a = absurd a
 
 pub stopped_in_hand : {R W : Type 0} (limits : Limits) (remaining : R → Option (List ℕ)) (failures : R → ℕ) (contents : W → Option (List ℕ)) (counts : W → ℕ) (count : ℕ) (before now : List R) (old j next : Joined W) (hand left : R) (fault : ToolFault)
     → AreJoinedSoFar limits remaining failures contents counts count before now old j → count < length now → hand ≡ get_or now count hand
@@ -189,26 +204,7 @@ stopped_in_hand {R = R} limits remaining failures contents counts count before n
       number = ap (λ (n : ℕ). n + 1) h.counted;
       inputs = h.inputs;
       taken = h.taken;
-      stops = stops_by limits contents counts h.inputs (remaining hand) (remaining left) at.later old j next fault h.joined
+      stops = stops_by limits contents counts h.inputs (remaining hand) (remaining left) at.later old j next fault h.limits_are h.joined
           (subst (λ (first : Bool). AddsInput limits contents counts first (remaining hand) (remaining left) (Err fault) j next) same a);
       counts = quiet;
     }
-
--- all were joined
-pub all_joined : {R W : Type 0} (limits : Limits) (remaining : R → Option (List ℕ)) (failures : R → ℕ) (contents : W → Option (List ℕ)) (counts : W → ℕ) (count : ℕ) (before now : List R) (old j : Joined W)
-    → AreJoinedSoFar limits remaining failures contents counts count before now old j → length now ≤ count → AddsAll limits remaining failures contents before now old j
-all_joined {R = R} limits remaining failures contents counts count before now old j h le =
-    let none : h.others ≡ [] = nothing h.others (omega (arith, le, h.finished_too, ap length h.now_are, length-append h.finished h.others)) in
-    let before_are : h.earlier ≡ before = sym (h.before_are ∙ ap (λ (l : List R). h.earlier ++ l) none ∙ append-nil h.earlier) in
-    let now_are : h.finished ≡ now = sym (h.now_are ∙ ap (λ (l : List R). h.finished ++ l) none ∙ append-nil h.finished) in
-    record {
-      inputs = h.inputs;
-      taken = subst (λ (l : List R). TakeInputs limits remaining failures l h.inputs now) before_are (subst (TakeInputs limits remaining failures h.earlier h.inputs) now_are h.taken);
-      joined = h.joined;
-      unfailed = h.unfailed;
-      limits_are = h.limits_are;
-    }
-  where
-    nothing : (others : List R) → length others ≤ 0 → others ≡ []
-    nothing [] le = refl
-    nothing (o ∷ others) le = absurd (omega (arith, le))

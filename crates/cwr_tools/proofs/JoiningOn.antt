@@ -1,6 +1,6 @@
 -- What was joined so far goes on with an item: there is room to count it, its call is no mistake, and it is joined or refused.
-use Rattle.std.proofs.Common.{◌≡◌, ◌+◌, ◌≤◌, ℕ, Bool, true, false, List, [], ◌∷◌, ◌++◌, length, map, Option, refl, sym, ap, subst, ◌∙◌, append-nil, arith}
-use Rattle.std.specs.Prelude.{Result, Ok, Err, filter}
+use Rattle.std.proofs.Common.{◌≡◌, ◌+◌, ◌≤◌, ℕ, false, List, [], ◌∷◌, ◌++◌, length, map, Option, refl, sym, ap, subst, ◌∙◌, append-nil, arith}
+use Rattle.std.specs.Prelude.{Result, Ok, Err}
 use Rattle.std.specs.List.{AllByRecursion}
 use Rattle.std.proofs.lemmas.List.{length-append, length-map, map-append}
 use Rattle.cwr_layouts.specs.Records.{RecordValue}
@@ -9,7 +9,7 @@ use Rattle.cwr_shape.specs.declared.limits.LimitKind.{LimitKind}
 use Rattle.cwr_shape.specs.declared.tallies.Bar.TheVariants as bars
 use Rattle.cwr_shape.specs.Ranges.{LimitValues}
 use Rattle.cwr_shape.specs.Left.{Any}
-use Rattle.cwr_shape.specs.Outlines.{Continues, symbols_of}
+use Rattle.cwr_shape.specs.Outlines.{Continues}
 use Rattle.cwr_shape.specs.Tallies.{IsBarredFirst, IsTallyOf, TallyValue}
 use Rattle.cwr_values.specs.declared.items.Item.{Item}
 use Rattle.cwr_values.specs.declared.items.Item.TheVariants.{Opened, GroupOpened, Transaction, GroupClosed, Ended}
@@ -19,12 +19,10 @@ use Rattle.cwr_judge.specs.Items.{item_records, records_in, value_items}
 use Rattle.cwr_encode.specs.declared.encoders.Encoder.{Encoder}
 use Rattle.cwr_encode.specs.declared.encoders.EncodeFault.{EncodeFault}
 use Rattle.cwr_encode.specs.declared.encoders.EncodeFault.TheVariants as encode_faults
-use Rattle.cwr_encode.specs.Sinks.{HasWritten}
-use Rattle.cwr_encode.specs.Encoders.{Adds, Encodes, IsNoMistake, is_stopped, limits_of, part_of}
+use Rattle.cwr_encode.specs.Encoders.{Adds, Encodes, IsNoMistake, is_stopped, limits_of}
 use Rattle.cwr_tools.specs.declared.joined.Joined.{Joined}
 use Rattle.cwr_tools.specs.declared.totals.Totals.{Totals}
 use Rattle.cwr_tools.specs.declared.verdicts.ToolFault.{ToolFault}
-use Rattle.cwr_tools.specs.declared.verdicts.ToolFault.TheVariants as tool_faults
 use Rattle.cwr_tools.specs.Verdicts.{totals_with}
 use Rattle.cwr_tools.specs.Joined.{AddsItems, AreCounted, FailsOn, HasJoined, IsBarredAfter, JoinsOn, JudgesItem, MayAdd, is_fault_of}
 use Rattle.cwr_tools.proofs.BegunTransmissions.{begins_more}
@@ -115,23 +113,25 @@ item_barred limits Ended xs limit h = absurd h
 -- it was refused, or the writer failed
 pub put_fault : {W : Type 0} (contents : W → Option (List ℕ)) (failures : W → ℕ) (item : Item) (old new : Joined W) (other : EncodeFault) (fault : ToolFault)
     → ((start : Option (List ℕ)) (records : List RecordValue) → Encodes contents start records old.encoder → JudgesItem (limits_of old.encoder) item (map symbol_of records) (Err other))
-    → Adds contents failures (item_records item) (Err other) old.encoder new.encoder → new.counts ≡ old.counts → is_fault_of other fault → AddsItems contents failures (item ∷ []) (Err fault) old new
-put_fault {W = W} contents failures item old new (encode_faults.Limit limit) fault judged adds counts e =
+    → Adds contents failures (item_records item) (Err other) old.encoder new.encoder → limits_of new.encoder ≡ limits_of old.encoder → new.counts ≡ old.counts → is_fault_of other fault
+    → AddsItems contents failures (item ∷ []) (Err fault) old new
+put_fault {W = W} contents failures item old new (encode_faults.Limit limit) fault judged adds kept counts e =
     let same : new ≡ old = λ i. record { encoder = adds i; counts = counts i } in
     let barred : IsBarredAfter contents (limits_of old.encoder) (item ∷ []) limit old = λ start items h.
     subst (λ (ys : List Symbol). IsBarredFirst (limits_of old.encoder) (λ P. Continues P ys) (bars.Limit limit)) (symbols_more items item)
     (item_barred (limits_of old.encoder) item (map symbol_of (records_in items)) limit (judged start (records_in items) h.encodes)) in
     subst (λ (f : ToolFault). AddsItems contents failures (item ∷ []) (Err f) old new) (sym e) (barred, same)
-put_fault {W = W} contents failures item old new (encode_faults.Writer n) fault judged adds counts e =
+put_fault {W = W} contents failures item old new (encode_faults.Writer n) fault judged adds kept counts e =
     let fails : FailsOn contents failures (item ∷ []) n old new = record {
-      front = λ start items h. subst (λ (l : List RecordValue). HasWritten contents start (part_of l) new.encoder.sink) (sym (records_more items item)) (adds.0 start (records_in items) h.encodes).written;
+      more = λ start items h. subst (λ (l : List RecordValue). Encodes contents start l new.encoder) (sym (records_more items item)) (adds.0 start (records_in items) h.encodes);
       counted = adds.2;
       failed = adds.3;
+      limits = kept;
     } in
     subst (λ (f : ToolFault). AddsItems contents failures (item ∷ []) (Err f) old new) (sym e) fails
-put_fault {W = W} contents failures item old new encode_faults.OutOfOrder fault judged adds counts e = absurd e
-put_fault {W = W} contents failures item old new encode_faults.WrongKind fault judged adds counts e = absurd e
-put_fault {W = W} contents failures item old new encode_faults.Incomplete fault judged adds counts e = absurd e
+put_fault {W = W} contents failures item old new encode_faults.OutOfOrder fault judged adds kept counts e = absurd e
+put_fault {W = W} contents failures item old new encode_faults.WrongKind fault judged adds kept counts e = absurd e
+put_fault {W = W} contents failures item old new encode_faults.Incomplete fault judged adds kept counts e = absurd e
 
 -- ---- no item
 

@@ -1,6 +1,6 @@
 -- After the last input TRL is written, which is no mistake, and what is written is the transmission to which the inputs are joined.
 use Rattle.std.proofs.Common.{◌≡◌, ◌+◌, ◌<◌, ◌≤◌, ℕ, List, [], ◌∷◌, ◌++◌, length, map, Option, Some, refl, sym, ap, subst, ◌∙◌, append_assoc, append-nil, arith}
-use Rattle.std.specs.Prelude.{Result, Ok, Err, MatchResult, count_by, sum_by}
+use Rattle.std.specs.Prelude.{Result, Ok, Err, count_by, sum_by}
 use Rattle.std.specs.List.{AllByRecursion, flat_map}
 use Rattle.std.specs.Io.KnownBytes.{Appends}
 use Rattle.std.proofs.lemmas.List.{map-append}
@@ -12,14 +12,14 @@ use Rattle.cwr_shape.specs.Ranges.{LimitValues}
 use Rattle.cwr_values.specs.declared.items.Item.{Item}
 use Rattle.cwr_values.specs.declared.items.Item.TheVariants.{Opened, GroupOpened, Transaction, GroupClosed, Ended}
 use Rattle.cwr_values.specs.Values.{GroupValue, TransmissionValue, FitsIn, IsGroup, IsTransmission, symbol_of}
-use Rattle.cwr_values.specs.Rows.{canonical_text, records_of, rows, trailer}
+use Rattle.cwr_values.specs.Rows.{canonical_text, rows}
 use Rattle.cwr_values.proofs.OneSpelling.{one_value}
-use Rattle.cwr_judge.specs.Items.{group_items, is_transaction, opens_group, records_in, value_items}
+use Rattle.cwr_judge.specs.Items.{group_items, is_transaction, opens_group, records_in}
 use Rattle.cwr_decode.proofs.CountedItems.{all_given, groups_given, transactions_given}
 use Rattle.cwr_encode.specs.declared.encoders.EncodeFault.{EncodeFault}
 use Rattle.cwr_encode.specs.declared.encoders.EncodeFault.TheVariants as encode_faults
 use Rattle.cwr_encode.specs.Encoders.{IsNoMistake, IsUnlimited, limits_of, reached, reached_by}
-use Rattle.cwr_encode.specs.Finishing.{Completes, FinishesWriting, HasAll, HasFront, JudgesEnd, MayEnd}
+use Rattle.cwr_encode.specs.Finishing.{Completes, FinishesWriting, HasFront, JudgesEnd, MayEnd}
 use Rattle.cwr_encode.proofs.Adding.{plain_symbol, reached-snoc}
 use Rattle.cwr_tools.specs.declared.joined.Joined.{Joined}
 use Rattle.cwr_tools.specs.declared.totals.Totals.{Totals}
@@ -27,7 +27,7 @@ use Rattle.cwr_tools.specs.declared.verdicts.JoinFault.{JoinFault}
 use Rattle.cwr_tools.specs.declared.verdicts.JoinReport.{JoinReport}
 use Rattle.cwr_tools.specs.declared.verdicts.ToolFault.{ToolFault}
 use Rattle.cwr_tools.specs.declared.verdicts.ToolFault.TheVariants.{Writer}
-use Rattle.cwr_tools.specs.Joins.{AreJoined, CountsJoinWriter, CountsOutputFault, join_report, joined_inputs}
+use Rattle.cwr_tools.specs.Joins.{AreJoined, CountsOutputFault, join_report, joined_inputs}
 use Rattle.cwr_tools.specs.Joined.{EndsJoin, EndsWithAll, HasJoined, HasJoinedAll, IsAnswerOf, writer_of}
 use Rattle.cwr_tools.specs.Splits.{join_of}
 use Rattle.cwr_tools.proofs.CountedTotals.{count_more}

@@ -1,5 +1,5 @@
 -- A join that added all inputs and wrote TRL has written the transmission to which they are joined, or its writer failed.
-use Rattle.std.proofs.Common.{◌≡◌, ◌+◌, ◌<◌, ℕ, List, [], ◌∷◌, ◌++◌, length, Option, inr, refl, sym, ap, subst, ◌∙◌, arith}
+use Rattle.std.proofs.Common.{◌≡◌, ◌<◌, ℕ, List, [], ◌∷◌, ◌++◌, length, Option, inr, refl, sym, ap, subst, ◌∙◌, arith}
 use Rattle.std.specs.Prelude.{Result, Ok, Err}
 use Rattle.std.specs.Io.KnownBytes.{Appends}
 use Rattle.std.proofs.lemmas.List.{length-append}
@@ -7,13 +7,11 @@ use Rattle.cwr_shape.specs.declared.limits.Limits.{Limits}
 use Rattle.cwr_shape.specs.Ranges.{AreInRange, LimitValues}
 use Rattle.cwr_values.specs.Values.{TransmissionValue, FitsIn}
 use Rattle.cwr_values.specs.Rows.{canonical_text}
-use Rattle.cwr_encode.specs.Encoders.{limits_of}
 use Rattle.cwr_encode.specs.Finishing.{HasFront}
 use Rattle.cwr_tools.specs.declared.joined.Joined.{Joined}
 use Rattle.cwr_tools.specs.declared.verdicts.JoinFault.{JoinFault}
 use Rattle.cwr_tools.specs.declared.verdicts.JoinReport.{JoinReport}
 use Rattle.cwr_tools.specs.declared.verdicts.ToolFault.{ToolFault}
-use Rattle.cwr_tools.specs.declared.verdicts.ToolFault.TheVariants.{Writer}
 use Rattle.cwr_tools.specs.Joins.{AreJoined, CountsInputFault, FailsToWrite, Joins, StopsBy, TakesInput, TakeInputs, join_report}
 use Rattle.cwr_tools.specs.Joined.{AddsAll, EndsJoin, EndsWithAll, HasJoinedAll, writer_of}
 use Rattle.cwr_tools.proofs.InputsJoined.{taken_many, taken_whole}

@@ -1,34 +1,31 @@
 -- What was joined of one input goes on with each item, up to its end or a fault.
 use Rattle.std.proofs.Common.{◌≡◌, ◌+◌, ◌≤◌, ℕ, Bool, List, [], ◌∷◌, ◌++◌, length, map, Option, false, refl, sym, ap, subst, ◌∙◌, append_assoc, arith}
 use Rattle.std.specs.Prelude.{Ok, Err, IfSome, Some, filter}
-use Rattle.std.specs.List.{AllByRecursion}
 use Rattle.std.proofs.lemmas.List.{length-append}
 use Rattle.std.proofs.lemmas.List.Elements.{filter-append}
 use Rattle.cwr_fields.specs.Failures.{one_more_failure}
 use Rattle.cwr_shape.specs.declared.limits.Limits.{Limits}
-use Rattle.cwr_shape.specs.declared.limits.LimitKind.{LimitKind}
 use Rattle.cwr_shape.specs.declared.tallies.Bar.TheVariants as bars
 use Rattle.cwr_shape.specs.Outlines.{Continues}
 use Rattle.cwr_shape.specs.Ranges.{AreInRange, LimitValues}
 use Rattle.cwr_shape.specs.Tallies.{IsBarredFirst}
 use Rattle.cwr_values.specs.declared.items.Item.{Item}
-use Rattle.cwr_values.specs.Values.{TransmissionValue, IsTransmission, symbol_of}
-use Rattle.cwr_judge.specs.Items.{records_in, value_items}
+use Rattle.cwr_values.specs.Values.{symbol_of}
+use Rattle.cwr_judge.specs.Items.{records_in}
 use Rattle.cwr_decode.specs.declared.readings.ReadFault.{ReadFault}
 use Rattle.cwr_decode.specs.declared.readings.ReadFault.TheVariants as faults
 use Rattle.cwr_decode.specs.Machines.{Standing, again}
 use Rattle.cwr_decode.specs.Readings.{answer_of, Reads}
-use Rattle.cwr_decode.specs.Runs.{HasReadAll, IsReadingOn, TakesFront}
+use Rattle.cwr_decode.specs.Runs.{HasReadAll, IsReadingOn}
 use Rattle.cwr_decode.proofs.FirstItems.{first_items}
 use Rattle.cwr_decode.proofs.ItemsMakeOneTransmission.{items_once}
 use Rattle.cwr_decode.proofs.ItemsReadSoFar.{all_items, all_taken, fewer_left, some_read}
-use Rattle.cwr_encode.specs.Sinks.{HasWritten}
-use Rattle.cwr_encode.specs.Encoders.{is_stopped, limits_of, part_of}
+use Rattle.cwr_encode.specs.Encoders.{Encodes, is_stopped, limits_of}
 use Rattle.cwr_tools.specs.declared.joined.Joined.{Joined}
 use Rattle.cwr_tools.specs.declared.verdicts.ToolFault.{ToolFault}
 use Rattle.cwr_tools.specs.declared.verdicts.ToolFault.TheVariants as tool_faults
 use Rattle.cwr_tools.specs.Verdicts.{StopsAfter}
-use Rattle.cwr_tools.specs.Joins.{is_first, is_joined, joined_inputs, joined_items}
+use Rattle.cwr_tools.specs.Joins.{is_joined, joined_inputs, joined_items}
 use Rattle.cwr_tools.specs.Joined.{AddsInput, AddsItems, FailsOn, HasJoined, IsBarredAfter, IsBetweenInputs, JoinsOn, MayAdd, reading_fault}
 use Rattle.cwr_tools.proofs.JoinedItems.{AreBegun, item_joined, joined_begin}
 use Rattle.cwr_tools.proofs.JoiningOn.{joins_none}
@@ -127,10 +124,11 @@ item_refused limits first d new before left after contents failures count old j 
     let kept = filter (is_joined first) h.given in
     let own = filter (is_joined first) (item ∷ []) in
     let fails : FailsOn contents failures (filter (is_joined first) (h.given ++ item ∷ [])) n old next = record {
-      front = λ start items k. subst (λ (l : List Item). HasWritten contents start (part_of (records_in l)) next.encoder.sink) (append_assoc items kept own ∙ ap (λ (l : List Item). items ++ l) (split_filter first h.given item))
-          (a.front start (items ++ kept) (h.on.more start items k));
+      more = λ start items k. subst (λ (l : List Item). Encodes contents start (records_in l) next.encoder) (append_assoc items kept own ∙ ap (λ (l : List Item). items ++ l) (split_filter first h.given item))
+          (a.more start (items ++ kept) (h.on.more start items k));
       counted = a.counted;
       failed = a.failed ∙ ap one_more_failure h.on.quiet;
+      limits = a.limits ∙ h.on.limits;
     } in
     (h.given ++ item ∷ [], (new, reading.read), fails)
 item_refused limits first d new before left after contents failures count old j next item tool_faults.Reader same h reading a = absurd a

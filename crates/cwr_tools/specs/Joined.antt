@@ -1,5 +1,5 @@
 -- What was joined so far: an encoder and numbers, and what one item and one input more do to them.
-use Rattle.std.specs.Prelude.{◌≡◌, ℕ, ◌+◌, ◌<◌, Bool, true, false, count_by, length, filter, map, List, [], ◌∷◌, ◌++◌, Option, Result, Ok, Err, MatchResult}
+use Rattle.std.specs.Prelude.{◌≡◌, ℕ, ◌+◌, ◌<◌, Bool, false, count_by, length, filter, map, List, [], ◌∷◌, ◌++◌, Option, Result, Ok, Err, MatchResult}
 use Rattle.std.specs.List.{AllByRecursion, after_last}
 use Rattle.std.specs.Io.KnownBytes.{Appends}
 use Rattle.cwr_fields.specs.Failures.{one_more_failure}
@@ -20,8 +20,7 @@ use Rattle.cwr_decode.specs.declared.readings.ReadFault.TheVariants as read_faul
 use Rattle.cwr_decode.specs.Runs.{TakesFront}
 use Rattle.cwr_encode.specs.declared.encoders.EncodeFault.{EncodeFault}
 use Rattle.cwr_encode.specs.declared.encoders.EncodeFault.TheVariants as encode_faults
-use Rattle.cwr_encode.specs.Sinks.{HasWritten}
-use Rattle.cwr_encode.specs.Encoders.{Encodes, JudgesOpening, JudgesGroup, JudgesTransaction, JudgesFoot, bytes_written, is_stopped, limits_of, part_of, target_of}
+use Rattle.cwr_encode.specs.Encoders.{Encodes, JudgesOpening, JudgesGroup, JudgesTransaction, JudgesFoot, bytes_written, is_stopped, limits_of, target_of}
 use Rattle.cwr_encode.specs.Finishing.{HasFront}
 use Rattle.cwr_tools.specs.declared.joined.Joined.{Joined}
 use Rattle.cwr_tools.specs.declared.totals.Totals.{Totals}
@@ -56,11 +55,12 @@ pub record JoinsOn {W : Type 0} (contents : W → Option (List ℕ)) (failures :
   pub quiet : failures (writer_of new) ≡ failures (writer_of old)
   pub limits : limits_of new.encoder ≡ limits_of old.encoder
 
--- the writer failed in the text of these items, and so many bytes are written in all
+-- whatever items were joined, the records of these were accepted more, and the writer failed; so many bytes are written in all
 pub record FailsOn {W : Type 0} (contents : W → Option (List ℕ)) (failures : W → ℕ) (added : List Item) (written : ℕ) (old new : Joined W) : Type 0 where
-  pub front : (start : Option (List ℕ)) (items : List Item) → HasJoined contents start items old → HasWritten contents start (part_of (records_in (items ++ added))) new.encoder.sink
+  pub more : (start : Option (List ℕ)) (items : List Item) → HasJoined contents start items old → Encodes contents start (records_in (items ++ added)) new.encoder
   pub counted : written ≡ bytes_written new.encoder
   pub failed : failures (writer_of new) ≡ one_more_failure (failures (writer_of old))
+  pub limits : limits_of new.encoder ≡ limits_of old.encoder
 
 -- whatever items were joined, with the records of these no transmission continues within the limit
 abbrev pub IsBarredAfter : {W : Type 0} → (W → Option (List ℕ)) → LimitValues → List Item → LimitKind → Joined W → Type 0

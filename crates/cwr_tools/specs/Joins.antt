@@ -6,20 +6,19 @@ use Rattle.cwr_fields.specs.Failures.{one_more_failure}
 use Rattle.cwr_layouts.specs.Records.{RecordValue}
 use Rattle.cwr_shape.specs.declared.limits.Limits.{Limits}
 use Rattle.cwr_shape.specs.declared.limits.LimitKind.{LimitKind}
-use Rattle.cwr_shape.specs.declared.symbols.Symbol.{Symbol}
 use Rattle.cwr_shape.specs.declared.tallies.Bar.TheVariants as bars
 use Rattle.cwr_shape.specs.Outlines.{Continues}
 use Rattle.cwr_shape.specs.Tallies.{IsBarredFirst}
 use Rattle.cwr_values.specs.declared.items.Item.{Item}
 use Rattle.cwr_values.specs.declared.items.Item.TheVariants.{Opened, Ended}
-use Rattle.cwr_values.specs.Values.{GroupValue, TransmissionValue, IsTransmission, FitsIn, symbol_of}
+use Rattle.cwr_values.specs.Values.{TransmissionValue, IsTransmission, FitsIn, symbol_of}
 use Rattle.cwr_values.specs.Rows.{rows, canonical_text}
 use Rattle.cwr_judge.specs.Ends.{IsAccepted}
 use Rattle.cwr_judge.specs.Items.{group_items, records_in}
 use Rattle.cwr_decode.specs.declared.readings.ReadFault.{ReadFault}
 use Rattle.cwr_decode.specs.declared.readings.ReadFault.TheVariants as read_faults
 use Rattle.cwr_decode.specs.Runs.{TakesFront}
-use Rattle.cwr_encode.specs.Encoders.{part_of}
+use Rattle.cwr_encode.specs.Written.{IsPart}
 use Rattle.cwr_encode.specs.Finishing.{HasFront}
 use Rattle.cwr_tools.specs.declared.verdicts.JoinReport.{JoinReport}
 use Rattle.cwr_tools.specs.declared.verdicts.JoinFault.{JoinFault}
@@ -91,20 +90,27 @@ pub record JoinsAll {R W : Type 0} (limits : Limits) (remaining : R → Option (
   pub written : Appends (contents old) (contents new) (canonical_text joined)
   pub reported : report ≡ join_report (length before) joined
 
--- the reading of the input in hand stopped with that fault, and what is written is the part of the records before
+-- After what the writer had, the canonical text of these records is written: some transmission within the limits begins with
+-- them, and the text of each such one with that text.
+pub record WritesPart {W : Type 0} (limits : Limits) (contents : W → Option (List ℕ)) (records : List RecordValue) (old new : W) : Type 0 where
+  pub text : List ℕ
+  pub part : IsPart limits records text
+  pub written : Appends (contents old) (contents new) text
+
+-- the reading of the input in hand stopped with that fault, and the records of the items before are written
 pub record StopsInput {W : Type 0} (limits : Limits) (fault : ReadFault) (contents : W → Option (List ℕ)) (inputs : List TransmissionValue) (before after : Option (List ℕ)) (old new : W) : Type 0 where
   pub given : List Item
   pub stops : StopsAfter limits fault before after given
-  pub written : Appends (contents old) (contents new) (part_of (joined_records inputs given))
+  pub written : WritesPart limits contents (joined_records inputs given) old new
 
--- An item was handed out with whose records no transmission continues within the limit. What is written is the part of the
--- records before it.
+-- An item was handed out with whose records no transmission continues within the limit. The records of the items before it
+-- are written.
 pub record PassesLimit {W : Type 0} (limits : Limits) (limit : LimitKind) (contents : W → Option (List ℕ)) (inputs : List TransmissionValue) (before after : Option (List ℕ)) (old new : W) : Type 0 where
   pub given : List Item
   pub item : Item
   pub handed_out : HasHandedOut limits before after (given ++ item ∷ [])
   pub barred : IsBarredFirst limits (λ P. Continues P (map symbol_of (joined_records inputs (given ++ item ∷ [])))) (bars.Limit limit)
-  pub written : Appends (contents old) (contents new) (part_of (joined_records inputs given))
+  pub written : WritesPart limits contents (joined_records inputs given) old new
 
 -- what is written once all inputs are accepted: the canonical text of the transmission to which they are joined
 pub record IsWholeText (limits : Limits) (inputs : List TransmissionValue) (before after : Option (List ℕ)) (text : List ℕ) : Type 0 where
@@ -116,11 +122,11 @@ pub record IsWholeText (limits : Limits) (inputs : List TransmissionValue) (befo
   pub within : FitsIn limits joined
   pub text_is : text ≡ canonical_text joined
 
--- what is written up to an item of the input in hand
+-- the canonical text of the records up to an item of the input in hand
 pub record IsTextSoFar (limits : Limits) (inputs : List TransmissionValue) (before after : Option (List ℕ)) (text : List ℕ) : Type 0 where
   pub given : List Item
   pub handed_out : HasHandedOut limits before after given
-  pub text_is : text ≡ part_of (joined_records inputs given)
+  pub part : IsPart limits (joined_records inputs given) text
 
 -- the writer failed, and so many of the first bytes of such a text are written; the whole text comes after the last input
 pub record FailsToWrite {R W : Type 0} (limits : Limits) (written : ℕ) (contents : W → Option (List ℕ)) (inputs : List TransmissionValue) (before after : Option (List ℕ)) (later : List R) (old new : W) : Type 0 where

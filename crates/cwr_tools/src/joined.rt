@@ -132,7 +132,11 @@ impl<W: Target> Joined<W> {
         requires may { MayAdd W.contents (filter (is_joined first) (item.now ∷ [])) self.old }
         ensures { AddsItems W.contents W.failures (filter (is_joined first) (item.now ∷ [])) result self.old self.new }
     {
-        if is_joined(first, item) { self.put(item) } else { Ok(()) }
+        if is_joined(first, item) {
+            self.put(item)
+        } else {
+            Ok(())
+        }
     }
 
     /// Writes TRL after all inputs, so many, and has the writer hand on what was written. The writer comes back.

@@ -1,4 +1,3 @@
-use Rattle.std.proofs.Common.{ap}
 use Rattle.cwr_tools.proofs.joined.put_item.Goals as goal
 
 pub returns-in-Opened-clause-judged : goal.returns-in-Opened-clause-judged

@@ -37,7 +37,7 @@ overflow_add-handed_out g c =
     omega (
       arith,
       few_handed_out c.args.limits c.args.first c.items.reading.decoder c.next_item.new.self.decoder (g.R.Source.remaining c.args.reader.now) _ _ g.W.Target.contents g.W.Target.failures c.items.handed_out c.args.joined.now c.items.joined
-      c.in-Ok-Some.item c.items.invariant.joining reading,
+          c.in-Ok-Some.item c.items.invariant.joining reading,
     )
 
 pub items-smaller-in_ok-add-in-Ok-Some : goal.items-smaller-in_ok-add-in-Ok-Some
@@ -47,7 +47,7 @@ items-smaller-in_ok-add-in-Ok-Some g c =
     omega (
       arith,
       few_handed_out c.args.limits c.args.first c.items.reading.decoder c.next_item.new.self.decoder (g.R.Source.remaining c.args.reader.now) _ _ g.W.Target.contents g.W.Target.failures c.items.handed_out c.args.joined.now c.items.joined
-      c.in-Ok-Some.item c.items.invariant.joining reading,
+          c.in-Ok-Some.item c.items.invariant.joining reading,
     )
 
 pub items-preserved-in_ok-add-in-Ok-Some : goal.items-preserved-in_ok-add-in-Ok-Some
@@ -68,7 +68,7 @@ items-smaller g c =
     omega (
       arith,
       few_handed_out c.args.limits c.args.first c.items.reading.decoder c.next_item.new.self.decoder (g.R.Source.remaining c.args.reader.now) _ _ g.W.Target.contents g.W.Target.failures c.items.handed_out c.args.joined.now c.items.joined
-      c.in-Ok-Some.item c.items.invariant.joining reading,
+          c.in-Ok-Some.item c.items.invariant.joining reading,
     )
 
 pub items-preserved : goal.items-preserved

@@ -1,4 +1,4 @@
-use Rattle.std.proofs.Common.{◌≡◌, ◌-◌, length}
+use Rattle.std.proofs.Common.{◌-◌, length}
 use Rattle.cwr_tools.proofs.InputsJoined.{AreJoinedSoFar}
 use Rattle.cwr_tools.proofs.joining.add_inputs.Given as goal
 

@@ -21,4 +21,4 @@ pub returns-in-Ok : goal.returns-in-Ok
 returns-in-Ok g c = put_on g.W.Target.contents g.W.Target.failures c.args.item.now c.args.self.now _ tt c.in-Ok.ensures.adds c.in-Ok.ensures.limits c.count.ensures
 
 pub returns-in-Err : goal.returns-in-Err
-returns-in-Err g c = put_fault g.W.Target.contents g.W.Target.failures c.args.item.now c.args.self.now _ c.in-Err.fault c.fault_of.result c.in-Err.ensures.judged c.in-Err.ensures.adds refl c.fault_of.ensures
+returns-in-Err g c = put_fault g.W.Target.contents g.W.Target.failures c.args.item.now c.args.self.now _ c.in-Err.fault c.fault_of.result c.in-Err.ensures.judged c.in-Err.ensures.adds c.in-Err.ensures.limits refl c.fault_of.ensures
