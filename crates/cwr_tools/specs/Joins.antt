@@ -91,7 +91,7 @@ pub record JoinsAll {R W : Type 0} (limits : Limits) (remaining : R → Option (
   pub reported : report ≡ join_report (length before) joined
 
 -- After what the writer had, the canonical text of these records is written: some transmission within the limits begins with
--- them, and the text of each such one with that text.
+-- them, and its canonical text with that one.
 pub record WritesPart {W : Type 0} (limits : Limits) (contents : W → Option (List ℕ)) (records : List RecordValue) (old new : W) : Type 0 where
   pub text : List ℕ
   pub part : IsPart limits records text
