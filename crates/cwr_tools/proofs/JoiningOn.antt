@@ -15,7 +15,7 @@ use Rattle.cwr_values.specs.declared.items.Item.{Item}
 use Rattle.cwr_values.specs.declared.items.Item.TheVariants.{Opened, GroupOpened, Transaction, GroupClosed, Ended}
 use Rattle.cwr_values.specs.Values.{symbol_of}
 use Rattle.cwr_values.specs.Rows.{records_of}
-use Rattle.cwr_judge.specs.Items.{item_records, records_in, value_items}
+use Rattle.cwr_judge.specs.Items.{is_transaction, item_records, opens_group, records_in}
 use Rattle.cwr_encode.specs.declared.encoders.Encoder.{Encoder}
 use Rattle.cwr_encode.specs.declared.encoders.EncodeFault.{EncodeFault}
 use Rattle.cwr_encode.specs.declared.encoders.EncodeFault.TheVariants as encode_faults
@@ -67,8 +67,8 @@ room_for contents failures item j new u may adds same =
     let few : length (records_in may.items ++ item_records item) ≤ 99999999 = omega (arith, few_records new.tally (records_in may.items ++ item_records item) next.counted, ap (λ (l : LimitValues). l.records) same, may.range.most_records) in
     let both = length-append (records_in may.items) (item_records item) in
     record {
-      groups = omega (arith, counted.groups, few_items Rattle.cwr_judge.specs.Items.opens_group may.items right, few, both);
-      transactions = omega (arith, counted.transactions, few_items Rattle.cwr_judge.specs.Items.is_transaction may.items right, few, both);
+      groups = omega (arith, counted.groups, few_items opens_group may.items right, few, both);
+      transactions = omega (arith, counted.transactions, few_items is_transaction may.items right, few, both);
       in_group = omega (arith, counted.in_group, few_after may.items right, few, both);
       records = omega (arith, counted.records, few, both);
     }

@@ -28,7 +28,7 @@ use Rattle.cwr_tools.specs.declared.verdicts.JoinReport.{JoinReport}
 use Rattle.cwr_tools.specs.declared.verdicts.ToolFault.{ToolFault}
 use Rattle.cwr_tools.specs.declared.verdicts.ToolFault.TheVariants.{Writer}
 use Rattle.cwr_tools.specs.Joins.{AreJoined, CountsOutputFault, join_report, joined_inputs}
-use Rattle.cwr_tools.specs.Joined.{EndsJoin, EndsWithAll, HasJoined, HasJoinedAll, IsAnswerOf, writer_of}
+use Rattle.cwr_tools.specs.Joined.{AreCounted, EndsJoin, EndsWithAll, HasJoined, HasJoinedAll, IsAnswerOf, writer_of}
 use Rattle.cwr_tools.specs.Splits.{join_of}
 use Rattle.cwr_tools.proofs.CountedTotals.{count_more}
 use Rattle.cwr_tools.proofs.ItemsAdded.{records_in-append, records_in_value}
@@ -107,7 +107,7 @@ completes limits inputs joined v whole e c =
 
 -- the numbers with TRL
 reported : (c : Totals) (count : ℕ) (inputs : List TransmissionValue) (joined : TransmissionValue) → AreJoined inputs joined
-    → Rattle.cwr_tools.specs.Joined.AreCounted c (joined_inputs inputs)
+    → AreCounted c (joined_inputs inputs)
     → (let r : JoinReport = record { inputs = count; groups = c.groups; transactions = c.transactions; records = c.records + 1 } in r ≡ join_report count joined)
 reported c count inputs joined e h =
     let k = count_more c (joined_inputs inputs) Ended (is_count c (joined_inputs inputs) h) in
