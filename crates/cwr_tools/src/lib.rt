@@ -3,6 +3,8 @@
 
 mod checking;
 mod item_lines;
+mod joined;
+mod joining;
 mod record_lines;
 mod reporting;
 mod showing;
@@ -10,5 +12,6 @@ mod totals;
 mod verdicts;
 
 pub use checking::check;
+pub use joining::join;
 pub use showing::show;
-pub use verdicts::{ToolFault, Verdict};
+pub use verdicts::{JoinFault, JoinReport, ToolFault, Verdict};

@@ -48,3 +48,25 @@ pub enum ToolFault {
     /// The result doesn't keep to a limit.
     Limit(LimitKind),
 }
+
+/// What a join wrote.
+#[derive(Clone, Copy, Debug, PartialEq, Eq)]
+pub struct JoinReport {
+    /// The inputs.
+    pub inputs: usize,
+    /// The groups of the result.
+    pub groups: u32,
+    /// Its transactions.
+    pub transactions: u32,
+    /// Its records, HDR and TRL counted.
+    pub records: u32,
+}
+
+/// Why a join stopped before its end.
+#[derive(Clone, Copy, Debug, PartialEq, Eq)]
+pub struct JoinFault {
+    /// The number of the input in hand, from 1. At the end that is the last one.
+    pub input: usize,
+    /// What came.
+    pub fault: ToolFault,
+}

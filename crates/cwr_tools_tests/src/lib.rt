@@ -4,6 +4,10 @@
 #[cfg(test)]
 mod devices;
 #[cfg(test)]
+mod join_devices;
+#[cfg(test)]
+mod join_texts;
+#[cfg(test)]
 mod shown_texts;
 #[cfg(test)]
 mod verdict_lines;
