@@ -1,6 +1,6 @@
 //! The words of the command line.
 
-ghost use Rattle.std.specs.Prelude.{◌≡◌, ℕ, List, None, Some, IfSome, codes, false, if◌then◌else◌};
+ghost use Rattle.std.specs.Prelude.{◌≡◌, ◌≤◌, ℕ, List, None, Some, Ok, IfSome, codes, false, if◌then◌else◌};
 ghost use Rattle.std.specs.Str.{bytes_eq};
 ghost use Rattle.std.specs.Str.Parse.{digits_value, without_leading_plus};
 ghost use Rattle.clap.specs.Words.{found_of, has_subcommand, one_text};
@@ -12,23 +12,71 @@ use cwr_shape::Limits;
 use std::alloc::{AllocError, Global};
 use std::convert::AsStr;
 
-/// What is done with a transmission.
+/// How a transmission is cut into parts.
 #[derive(Clone, Copy, Debug, PartialEq, Eq)]
-pub enum Work {
-    /// It is checked.
-    Check,
+pub struct Cut<'a> {
+    transactions: u32,
+    file: &'a str,
+    prefix: &'a str,
+    ghost some: { 1 ≤ transactions },
+}
+
+impl<'a> Cut<'a> {
+    /// Cuts the transmission of a file into parts of so many transactions, the last perhaps of fewer. The names of their
+    /// files begin with the prefix. `None` where a part would have none.
+    pub fn new(transactions: u32, file: &'a str, prefix: &'a str) -> Option<Cut<'a>> {
+        if transactions == 0 {
+            return None;
+        }
+        Some(Cut {
+            transactions,
+            file,
+            prefix,
+        })
+    }
+
+    /// The transactions of a part, at least 1.
+    pub fn transactions(&self) -> u32
+        ensures { 1 ≤ result }
+    {
+        self.transactions
+    }
+
+    /// The name of the transmission's file.
+    pub fn file(&self) -> &'a str {
+        self.file
+    }
+
+    /// What the names of the parts' files begin with.
+    pub fn prefix(&self) -> &'a str {
+        self.prefix
+    }
+}
+
+/// What is done.
+#[derive(Debug, PartialEq, Eq, Drop)]
+pub enum Work<'a> {
+    /// A transmission is checked, that of the file, or without one that on standard input.
+    Check(Option<&'a str>),
     /// Its records are shown.
-    Show,
+    Show(Option<&'a str>),
+    /// A transmission is cut into parts.
+    Split(Cut<'a>),
+    /// Transmissions are joined to one.
+    Join {
+        /// The name of the file that is written.
+        out: &'a str,
+        /// The names of the transmissions' files, in their order.
+        files: Vec<&'a str>,
+    },
 }
 
 /// What the words ask for.
-#[derive(Clone, Copy, Debug, PartialEq, Eq)]
+#[derive(Debug, PartialEq, Eq, Drop)]
 pub struct Task<'a> {
-    /// What is done with the transmission.
-    pub work: Work,
-    /// The name of its file. Without one it is read from standard input.
-    pub file: Option<&'a str>,
-    /// The limits that it is read within.
+    /// What is done.
+    pub work: Work<'a>,
+    /// The limits that transmissions are read and joined within.
     pub limits: Limits,
 }
 
@@ -38,8 +86,23 @@ const CHECK: &str = "check";
 /// The name of the subcommand that shows.
 const SHOW: &str = "show";
 
-/// The id of the one file of a subcommand.
+/// The name of the subcommand that splits.
+const SPLIT: &str = "split";
+
+/// The name of the subcommand that joins.
+const JOIN: &str = "join";
+
+/// The id of the one file of a subcommand, or of its files.
 const FILE: &str = "FILE";
+
+/// The id of the number of transactions of a part.
+const NUMBER: &str = "N";
+
+/// The id of what the names of the parts' files begin with.
+const PREFIX: &str = "PREFIX";
+
+/// The id of the file that is written.
+const OUT: &str = "OUT";
 
 /// The id of the most records of a transmission.
 const RECORDS: &str = "records";
@@ -77,6 +140,35 @@ fn over_one<'a>(alloc: Global, name: &'a str, about: &'a str) -> Result<Command<
     with_limits(alloc, command)?.arg(file)
 }
 
+/// The subcommand that splits.
+fn splitting<'a>(alloc: Global) -> Result<Command<'a>, AllocError> {
+    let number = Arg::new(alloc, NUMBER)
+        .short('n')
+        .value_name(NUMBER)
+        .required(true)
+        .value_parser(value_parser!(u32).range(1..=99_999_999))
+        .help("The transactions of a part, 1 to 99999999; the last part may have fewer");
+    let file = Arg::new(alloc, FILE).required(true).help("The transmission");
+    let prefix = Arg::new(alloc, PREFIX)
+        .required(true)
+        .help("The parts are written to PREFIX00000001, PREFIX00000002 and so on");
+    let command = Command::new(alloc, SPLIT).about("Cuts a transmission into parts");
+    with_limits(alloc, command)?.arg(number)?.arg(file)?.arg(prefix)
+}
+
+/// The subcommand that joins.
+fn joining<'a>(alloc: Global) -> Result<Command<'a>, AllocError> {
+    let out = Arg::new(alloc, OUT)
+        .required(true)
+        .help("The file that the result is written to; it is none of the inputs");
+    let files = Arg::new(alloc, FILE)
+        .required(true)
+        .num_args(1..)
+        .help("The transmissions, in their order");
+    let command = Command::new(alloc, JOIN).about("Joins transmissions to one");
+    with_limits(alloc, command)?.arg(out)?.arg(files)
+}
+
 /// The version of the program.
 const VERSION: &str = "0.1.0";
 
@@ -86,13 +178,22 @@ The last line on standard output:
   GOOD groups G transactions T records R     the input begins with a transmission
   REFUSED record R field F level L REASON    no transmission continues from that field of line R
   TRUNCATED records R                        the input ended too early, after R records
+  SPLIT outputs O transactions T             the parts are written
+  JOINED inputs I groups G transactions T records R
+                                             the result is written
+  input I: LIMIT records, groups or transaction
+                                             the result would pass that limit with input I
 
 Before it `cwr check` writes a line for each finding in a transaction, and `cwr show` each record with its cells:
   FINDING group G transaction T record S field F level L rule V
 
-Exit status: 0 good, 1 refused or truncated, 2 a wrong command line (or help), 3 a file, a device or memory failed
+Before REFUSED and TRUNCATED `cwr join` writes the number of the input.
 
-Example: cwr check works.cwr";
+Exit status: 0 good, 1 refused, truncated or a limit, 2 a wrong command line (or help), 3 a file, a device or memory failed
+
+Examples: cwr check works.cwr
+          cwr split -n 1000 works.cwr part-
+          cwr join whole.cwr part-00000001 part-00000002";
 
 /// The program's words.
 fn command<'a>(alloc: Global) -> Result<Command<'a>, AllocError> {
@@ -105,7 +206,9 @@ fn command<'a>(alloc: Global) -> Result<Command<'a>, AllocError> {
             alloc,
             SHOW,
             "Shows the records of a transmission, and judges it",
-        )?)
+        )?)?
+        .subcommand(splitting(alloc)?)?
+        .subcommand(joining(alloc)?)
 }
 
 /// The largest limits.
@@ -130,34 +233,67 @@ fn limits_of(matches: &ArgMatches<'_>) -> Option<Limits>
     Limits::new(records, groups, transaction).ok()
 }
 
-/// The work that a subcommand is named for.
-fn work_of(name: &str) -> Work
-    ensures { result ≡ (if bytes_eq name.now (codes "show") then Work.Show else Work.Check) }
+/// The work of a subcommand over one transmission.
+fn work_over<'a>(name: &str, file: Option<&'a str>) -> Work<'a>
+    ensures { result ≡ (if bytes_eq name.now (codes "show") then Work.Show file else Work.Check file) }
 {
     if name == SHOW {
-        Work::Show
+        Work::Show(file)
     } else {
-        Work::Check
+        Work::Check(file)
     }
 }
 
-/// What is asked for. `None` where a limit is missing or out of its range.
-fn task_in<'a>(matches: &ArgMatches<'a>) -> Option<Task<'a>>
+/// How a transmission is to be cut. `None` where a word is missing or out of its range.
+fn cut_in<'a>(given: &ArgMatches<'a>) -> Option<Cut<'a>> {
+    Cut::new(
+        given.get_one::<u32>(NUMBER)?,
+        given.get_str(FILE)?,
+        given.get_str(PREFIX)?,
+    )
+}
+
+/// The work of a join. `None` where a word is missing.
+fn join_in<'a>(alloc: Global, given: &ArgMatches<'a>) -> Result<Option<Work<'a>>, AllocError> {
+    match (given.get_str(OUT), given.get_strs(FILE)) {
+        (Some(out), Some(names)) => Ok(Some(Work::Join {
+            out,
+            files: names.to_vec(alloc)?,
+        })),
+        _ => Ok(None),
+    }
+}
+
+/// The work that a subcommand asks for. `None` where a word is missing or out of its range.
+fn work_in<'a>(
+    alloc: Global,
+    name: &str,
+    given: &ArgMatches<'a>,
+) -> Result<Option<Work<'a>>, AllocError> {
+    if name == SPLIT {
+        Ok(cut_in(given).map(Work::Split))
+    } else if name == JOIN {
+        join_in(alloc, given)
+    } else {
+        Ok(Some(work_over(name, given.get_str(FILE))))
+    }
+}
+
+/// What is asked for. `None` where a word is missing or out of its range.
+fn task_in<'a>(alloc: Global, matches: &ArgMatches<'a>) -> Result<Option<Task<'a>>, AllocError>
     // Without a subcommand it is a check of standard input within the largest limits.
     ensures { has_subcommand matches.now ≡ false
-        → result ≡ Some (record { work = Work.Check; file = None; limits = limit_values 99999999 99999 999999 }) }
+        → result ≡ Ok (Some (record { work = Work.Check None; limits = limit_values 99999999 99999 999999 })) }
 {
-    match matches.subcommand() {
-        Some((name, given)) => Some(Task {
-            work: work_of(name),
-            file: given.get_str(FILE),
-            limits: limits_of(given)?,
-        }),
-        None => Some(Task {
-            work: Work::Check,
-            file: None,
+    let Some((name, given)) = matches.subcommand() else {
+        return Ok(Some(Task {
+            work: Work::Check(None),
             limits: largest(),
-        }),
+        }));
+    };
+    match (work_in(alloc, name, given)?, limits_of(given)) {
+        (Some(work), Some(limits)) => Ok(Some(Task { work, limits })),
+        _ => Ok(None),
     }
 }
 
@@ -165,9 +301,12 @@ fn task_in<'a>(matches: &ArgMatches<'a>) -> Option<Task<'a>>
 pub fn task_of<'a, S: AsStr>(alloc: Global, words: &'a [S]) -> Result<Task<'a>, Error> {
     let mut command = command(alloc)?;
     let matches = command.try_get_matches_from_mut(words)?;
-    match task_in(&matches) {
+    match task_in(alloc, &matches)? {
         Some(task) => Ok(task),
         // `clap` has judged the numbers already, but its clauses don't say so of a subcommand's.
-        None => Err(command.error(ErrorKind::ValueValidation, "a limit is out of its range")?),
+        None => Err(command.error(
+            ErrorKind::ValueValidation,
+            "a word is missing, or a number is out of its range",
+        )?),
     }
 }

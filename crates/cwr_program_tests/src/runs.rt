@@ -87,8 +87,11 @@ fn version_and_help(rt: HostRuntime) {
         "REFUSED record R field F level L REASON",
         "TRUNCATED records R",
         "FINDING group G transaction T record S field F level L rule V",
-        "Exit status: 0 good, 1 refused or truncated",
-        "Example: cwr check works.cwr",
+        "SPLIT outputs O transactions T",
+        "JOINED inputs I groups G transactions T records R",
+        "input I: LIMIT records, groups or transaction",
+        "Exit status: 0 good, 1 refused, truncated or a limit",
+        "Examples: cwr check works.cwr",
     ] {
         assert!(rt; has(help.error.as_slice(), part.as_bytes()), "at {part}");
     }
@@ -334,4 +337,52 @@ fn transmission_that_passes_a_limit(rt: HostRuntime) -> Result<(), Fail> {
         b"GOOD groups 1 transactions 2 records 6\n".as_slice()
     );
     Ok(())
+}
+
+#[test]
+fn split_of_an_input_without_transactions(rt: HostRuntime) {
+    let words = ["cwr", "split", "-n", "3", "/dev/null", "no/such/part-"];
+    let ran = run_over(&rt, words.as_slice(), Failing);
+    assert_eq!(rt; ran.status, 1);
+    assert_eq!(rt; ran.output.as_slice(), b"TRUNCATED records 0\n".as_slice());
+    assert_eq!(rt; ran.error.as_slice(), b"".as_slice());
+    let words = ["cwr", "split", "-n", "3", "no/such/file.cwr", "part-"];
+    let ran = run_over(&rt, words.as_slice(), Failing);
+    assert_eq!(rt; ran.status, 3);
+    assert_eq!(rt; ran.output.as_slice(), b"".as_slice());
+    assert_eq!(rt; ran.error.as_slice(), b"cwr: cannot open no/such/file.cwr\n".as_slice());
+}
+
+#[test]
+fn join_of_inputs_that_are_not_there_or_empty(rt: HostRuntime) {
+    let words = ["cwr", "join", "/dev/null", "/dev/null", "/dev/null"];
+    let ran = run_over(&rt, words.as_slice(), Failing);
+    assert_eq!(rt; ran.status, 1);
+    assert_eq!(rt; ran.output.as_slice(), b"input 1: TRUNCATED records 0\n".as_slice());
+    assert_eq!(rt; ran.error.as_slice(), b"".as_slice());
+    // Inputs are opened in their order, and OUT after them.
+    let words = ["cwr", "join", "no/such/out", "/dev/null", "no/such/file"];
+    let ran = run_over(&rt, words.as_slice(), Failing);
+    assert_eq!(rt; ran.status, 3);
+    assert_eq!(rt; ran.output.as_slice(), b"".as_slice());
+    assert_eq!(rt; ran.error.as_slice(), b"cwr: cannot open no/such/file\n".as_slice());
+    let words = ["cwr", "join", "no/such/out", "/dev/null"];
+    let ran = run_over(&rt, words.as_slice(), Failing);
+    assert_eq!(rt; ran.status, 3);
+    assert_eq!(rt; ran.output.as_slice(), b"".as_slice());
+    assert_eq!(rt; ran.error.as_slice(), b"cwr: cannot open no/such/out\n".as_slice());
+}
+
+#[test]
+fn split_and_join_without_their_words(rt: HostRuntime) {
+    for words in [
+        ["cwr", "split", "/dev/null"].as_slice(),
+        ["cwr", "join", "/dev/null"].as_slice(),
+        ["cwr", "split", "-n", "0", "/dev/null", "part-"].as_slice(),
+    ] {
+        let ran = run_over(&rt, words, Failing);
+        assert_eq!(rt; ran.status, 2);
+        assert!(rt; ran.output.is_empty());
+        assert!(rt; !ran.error.is_empty());
+    }
 }

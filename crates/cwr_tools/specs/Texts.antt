@@ -12,8 +12,6 @@ use Rattle.cwr_values.specs.declared.items.Item.{Item}
 use Rattle.cwr_values.specs.declared.items.Item.TheVariants.{Transaction}
 use Rattle.cwr_judge.specs.Items.{records_in, opens_group, is_transaction}
 use Rattle.cwr_levels.specs.Findings.{findings}
-use Rattle.cwr_shape.specs.declared.limits.LimitKind.{LimitKind}
-use Rattle.cwr_shape.specs.ReasonTexts.{limit_text}
 use Rattle.cwr_levels.specs.Lines.{refusal_line, truncated_line, good_line, finding_line}
 use Rattle.cwr_tools.specs.declared.verdicts.Verdict.{Verdict}
 use Rattle.cwr_tools.specs.declared.verdicts.Verdict.TheVariants.{Good, Refused, Truncated}
@@ -72,22 +70,3 @@ show_lines items = numbered_records 1 (records_in items)
 -- what `show` writes
 abbrev pub show_text : List Item → Verdict → List ℕ
 show_text items verdict = show_lines items ++ verdict_line verdict
-
--- ---- the lines of split and join
-
--- the line of a split: how many outputs and transactions
-abbrev pub split_line : ℕ → ℕ → List ℕ
-split_line outputs transactions = codes "SPLIT outputs " ++ decimal outputs ++ codes " transactions " ++ decimal transactions ++ 10 ∷ []
-
--- the line of a join: how many inputs, groups, transactions and records
-abbrev pub joined_line : ℕ → ℕ → ℕ → ℕ → List ℕ
-joined_line inputs groups transactions records = codes "JOINED inputs " ++ decimal inputs ++ codes " groups " ++ decimal groups
-    ++ codes " transactions " ++ decimal transactions ++ codes " records " ++ decimal records ++ 10 ∷ []
-
--- the line of a join that doesn't keep to a limit
-abbrev pub limit_line : LimitKind → List ℕ
-limit_line limit = codes "LIMIT " ++ limit_text limit ++ 10 ∷ []
-
--- a join puts the number of the input before what it says of it
-abbrev pub of_input : ℕ → List ℕ → List ℕ
-of_input input line = codes "input " ++ decimal input ++ codes ": " ++ line

@@ -1,0 +1,185 @@
+//! What each subcommand does, between its files and its lines.
+
+ghost use Rattle.cwr_program.specs.Endings.{EndsAs, EndsBy};
+
+use crate::faults::Fault;
+use crate::new_files::{NumberedFiles, Place, gathered};
+use crate::words::Cut;
+use cwr_encode::{Sink, SinkFault};
+use cwr_fields::{Counted, Target};
+use cwr_shape::Limits;
+use cwr_tools::{
+    JoinFault, JoinReport, ToolFault, Verdict, check, join, put_join_outcome, put_split_outcome, show,
+    split,
+};
+use std::alloc::Global;
+use std::fs::File;
+use std::io::{BufReader, BufWriter, Read, Write};
+use std::rt::Files;
+
+/// How a run ended, as its exit status.
+#[derive(Clone, Copy, Debug, PartialEq, Eq)]
+pub enum Status {
+    /// The input is good.
+    Good = 0,
+    /// The input is refused, or ends too early, or the result would pass a limit.
+    Refused = 1,
+    /// The words don't ask for what the program does, or they ask for help.
+    CommandLine = 2,
+    /// A file, a device or memory failed.
+    Fault = 3,
+}
+
+/// The file of that name, to be read.
+pub(crate) fn opened<'a, R: Files>(rt: &R, name: &'a str) -> Result<R::File, Fault<'a>> {
+    File::open(rt, name).map_err(|_| Fault::Open(name))
+}
+
+/// The output, with lines gathered before they are written. What is left is written when it is dropped.
+fn lines_to<'a, O: Write + Drop>(
+    alloc: Global,
+    output: O,
+) -> Result<Counted<BufWriter<O>>, Fault<'a>> {
+    gathered(alloc, output).map_err(|_| Fault::Memory)
+}
+
+/// The bytes of the input. `Counted` has the one buffer: a `BufReader` of none hands each read on, and takes no memory.
+fn bytes_of<I: Read + Drop>(alloc: Global, input: I) -> Counted<BufReader<I>> {
+    Counted::new(BufReader::with_capacity(alloc, 0, input).unwrap())
+}
+
+/// Checks a transmission, and writes the lines to the output.
+pub(crate) fn check_input<'a, I: Read + Drop, O: Write + Drop>(
+    alloc: Global,
+    limits: Limits,
+    input: I,
+    output: O,
+) -> Result<Status, Fault<'a>> {
+    let lines = lines_to(alloc, output)?;
+    ending(check(alloc, limits, &mut bytes_of(alloc, input), lines).1)
+}
+
+/// Shows the records of a transmission, and writes the lines to the output.
+pub(crate) fn show_input<'a, I: Read + Drop, O: Write + Drop>(
+    alloc: Global,
+    limits: Limits,
+    input: I,
+    output: O,
+) -> Result<Status, Fault<'a>> {
+    let lines = lines_to(alloc, output)?;
+    ending(show(alloc, limits, &mut bytes_of(alloc, input), lines).1)
+}
+
+/// Hands on the lines that were put, where they could be.
+fn hand_on<'a, W: Target + Drop>(put: Result<(), SinkFault>, sink: Sink<W>) -> Result<(), Fault<'a>> {
+    let mut writer = sink.into_inner();
+    match (put, writer.flush()) {
+        (Ok(()), Ok(())) => Ok(()),
+        _ => Err(Fault::Write),
+    }
+}
+
+/// Cuts the transmission of a file into files of so many transactions, and writes the line that says how that ended.
+pub(crate) fn split_file<'a, R: Files + AllocGlobal, O: Write + Drop>(
+    rt: &R,
+    limits: Limits,
+    cut: Cut<'a>,
+    output: O,
+) -> Result<Status, Fault<'a>> {
+    let alloc = rt.alloc();
+    let mut reader = bytes_of(alloc, opened(rt, cut.file())?);
+    let mut sink = Sink::new(lines_to(alloc, output)?);
+    let mut files = NumberedFiles::new(rt, alloc, cut.prefix());
+    let outcome = split(alloc, limits, &mut reader, cut.transactions(), &mut files);
+    let put = put_split_outcome(&outcome, &mut sink);
+    hand_on(put, sink)?;
+    ended_by(outcome.err())
+}
+
+/// The files of these names, to be read, in their order.
+fn opened_all<'a, R: Files>(
+    rt: &R,
+    alloc: Global,
+    names: &[&'a str],
+) -> Result<Vec<Counted<BufReader<R::File>>>, Fault<'a>> {
+    let mut readers = Vec::new(alloc);
+    for name in names {
+        let file = opened(rt, name)?;
+        readers.push(bytes_of(alloc, file)).map_err(|_| Fault::Memory)?;
+    }
+    Ok(readers)
+}
+
+/// Writes the join of some inputs to the file of that place, which gets its name where the result is whole.
+fn join_to<'a, R: Files>(
+    rt: &R,
+    alloc: Global,
+    limits: Limits,
+    readers: &mut [Counted<BufReader<R::File>>],
+    place: Place,
+    out: &'a str,
+) -> Result<Result<JoinReport, JoinFault>, Fault<'a>> {
+    let file = place.create(rt).map_err(|_| Fault::Open(out))?;
+    let outcome = match gathered(alloc, file) {
+        Ok(writer) => join(alloc, limits, readers, writer).1,
+        Err(_) => {
+            place.discard(rt);
+            return Err(Fault::Memory);
+        }
+    };
+    if outcome.is_ok() {
+        place.keep(rt).map_err(|_| Fault::Output)?;
+    } else {
+        place.discard(rt);
+    }
+    Ok(outcome)
+}
+
+/// Joins the transmissions of files to one, and writes the line that says how that ended.
+pub(crate) fn join_files<'a, R: Files + AllocGlobal, O: Write + Drop>(
+    rt: &R,
+    limits: Limits,
+    out: &'a str,
+    names: &[&'a str],
+    output: O,
+) -> Result<Status, Fault<'a>> {
+    let alloc = rt.alloc();
+    let mut sink = Sink::new(lines_to(alloc, output)?);
+    let mut readers = opened_all(rt, alloc, names)?;
+    if readers.is_empty() {
+        return Ok(Status::CommandLine);
+    }
+    let name = out.to_string(alloc).map_err(|_| Fault::Memory)?;
+    let place = Place::of(rt, alloc, name).map_err(|_| Fault::Memory)?;
+    let outcome = join_to(rt, alloc, limits, readers.as_mut_slice(), place, out)?;
+    let put = put_join_outcome(&outcome, &mut sink);
+    hand_on(put, sink)?;
+    ended_by(outcome.err().map(|stopped| stopped.fault))
+}
+
+/// What the verdict on a transmission means for the program.
+fn ending<'a>(outcome: Result<Verdict, ToolFault>) -> Result<Status, Fault<'a>>
+    ensures { EndsAs outcome result }
+{
+    match outcome {
+        Ok(Verdict::Good { .. }) => Ok(Status::Good),
+        Ok(Verdict::Refused(_) | Verdict::Truncated { .. }) => Ok(Status::Refused),
+        Err(fault) => ended_by(Some(fault)),
+    }
+}
+
+/// What the end of a run means for the program, by the fault at which it stopped.
+fn ended_by<'a>(fault: Option<ToolFault>) -> Result<Status, Fault<'a>>
+    ensures { EndsBy fault result }
+{
+    match fault {
+        None => Ok(Status::Good),
+        Some(ToolFault::Reader) => Err(Fault::Read),
+        Some(ToolFault::Writer { .. }) => Err(Fault::Write),
+        Some(ToolFault::Memory) => Err(Fault::Memory),
+        Some(ToolFault::Output) => Err(Fault::Output),
+        Some(ToolFault::Refused(_) | ToolFault::Truncated { .. } | ToolFault::Limit(_)) => {
+            Ok(Status::Refused)
+        }
+    }
+}
