@@ -1,6 +1,6 @@
 //! The words of the command line.
 
-ghost use Rattle.std.specs.Prelude.{◌≡◌, ◌≤◌, ℕ, List, None, Some, Ok, IfSome, codes, false, if◌then◌else◌};
+ghost use Rattle.std.specs.Prelude.{◌≡◌, ◌<◌, ℕ, List, None, Some, Ok, IfSome, codes, false, if◌then◌else◌};
 ghost use Rattle.std.specs.Str.{bytes_eq};
 ghost use Rattle.std.specs.Str.Parse.{digits_value, without_leading_plus};
 ghost use Rattle.clap.specs.Words.{found_of, has_subcommand, one_text};
@@ -18,7 +18,7 @@ pub struct Cut<'a> {
     transactions: u32,
     file: &'a str,
     prefix: &'a str,
-    ghost some: { 1 ≤ transactions },
+    ghost some: { 0 < transactions },
 }
 
 impl<'a> Cut<'a> {
@@ -37,7 +37,7 @@ impl<'a> Cut<'a> {
 
     /// The transactions of a part, at least 1.
     pub fn transactions(&self) -> u32
-        ensures { 1 ≤ result }
+        ensures { 0 < result }
     {
         self.transactions
     }

@@ -1,5 +1,5 @@
 //! Stub.
-ghost use Rattle.std.specs.Prelude.{◌≤◌};
+ghost use Rattle.std.specs.Prelude.{◌<◌};
 
 use crate::outputs::Outputs;
 use crate::verdicts::{SplitReport, ToolFault};
@@ -14,7 +14,7 @@ pub fn split<R: Source, O: Outputs>(
     n: u32,
     outputs: &mut O,
 ) -> Result<SplitReport, ToolFault>
-    requires { 1 ≤ n }
+    requires { 0 < n }
 {
     Err(ToolFault::Memory)
 }
