@@ -1,5 +1,6 @@
 //! What each subcommand does, between its files and its lines.
 
+ghost use Rattle.std.specs.Prelude.{◌<◌, length};
 ghost use Rattle.cwr_program.specs.Endings.{EndsAs, EndsBy};
 
 use crate::faults::Fault;
@@ -118,7 +119,9 @@ fn join_to<'a, R: Files>(
     readers: &mut [Counted<BufReader<R::File>>],
     place: Place,
     out: &'a str,
-) -> Result<Result<JoinReport, JoinFault>, Fault<'a>> {
+) -> Result<Result<JoinReport, JoinFault>, Fault<'a>>
+    requires { 0 < length readers.old }
+{
     let file = place.create(rt).map_err(|_| Fault::Open(out))?;
     let outcome = match gathered(alloc, file) {
         Ok(writer) => join(alloc, limits, readers, writer).1,

@@ -20,7 +20,9 @@ const GATHERED: usize = 65_536;
 pub(crate) fn gathered<O: Write + Drop>(
     alloc: Global,
     output: O,
-) -> Result<Counted<BufWriter<O>>, AllocError> {
+) -> Result<Counted<BufWriter<O>>, AllocError>
+    ensures { IfOk result (λ writer. failures_of writer ≡ 0) }
+{
     match BufWriter::with_capacity(alloc, GATHERED, output) {
         Ok(writer) => Ok(Counted::new(writer)),
         Err(_) => Err(AllocError),

@@ -235,7 +235,7 @@ fn limits_of(matches: &ArgMatches<'_>) -> Option<Limits>
 
 /// The work of a subcommand over one transmission.
 fn work_over<'a>(name: &str, file: Option<&'a str>) -> Work<'a>
-    ensures { result ≡ (if bytes_eq name.now (codes "show") then Work.Show file else Work.Check file) }
+    ensures { result ≡ (if bytes_eq name.now (codes "show") then Work.Show file.entry else Work.Check file.entry) }
 {
     if name == SHOW {
         Work::Show(file)
