@@ -4,14 +4,12 @@ ghost use Rattle.std.specs.Prelude.{◌<◌, length};
 ghost use Rattle.cwr_program.specs.Endings.{EndsAs, EndsBy};
 
 use crate::faults::Fault;
-use crate::new_files::{NumberedFiles, Place, gathered};
-use crate::words::Cut;
+use crate::new_files::{Place, gathered};
 use cwr_encode::{Sink, SinkFault};
 use cwr_fields::{Counted, Target};
 use cwr_shape::Limits;
 use cwr_tools::{
-    JoinFault, JoinReport, ToolFault, Verdict, check, join, put_join_outcome, put_split_outcome, show,
-    split,
+    JoinFault, JoinReport, ToolFault, Verdict, check, join, put_join_outcome, show,
 };
 use std::alloc::Global;
 use std::fs::File;
@@ -78,23 +76,6 @@ fn hand_on<'a, W: Target + Drop>(put: Result<(), SinkFault>, sink: Sink<W>) -> R
         (Ok(()), Ok(())) => Ok(()),
         _ => Err(Fault::Write),
     }
-}
-
-/// Cuts the transmission of a file into files of so many transactions, and writes the line that says how that ended.
-pub(crate) fn split_file<'a, R: Files + AllocGlobal, O: Write + Drop>(
-    rt: &R,
-    limits: Limits,
-    cut: Cut<'a>,
-    output: O,
-) -> Result<Status, Fault<'a>> {
-    let alloc = rt.alloc();
-    let mut reader = bytes_of(alloc, opened(rt, cut.file())?);
-    let mut sink = Sink::new(lines_to(alloc, output)?);
-    let mut files = NumberedFiles::new(rt, alloc, cut.prefix());
-    let outcome = split(alloc, limits, &mut reader, cut.transactions(), &mut files);
-    let put = put_split_outcome(&outcome, &mut sink);
-    hand_on(put, sink)?;
-    ended_by(outcome.err())
 }
 
 /// The files of these names, to be read, in their order.

@@ -8,4 +8,4 @@ mod program;
 mod words;
 
 pub use program::{refuse_words, run};
-pub use words::{Cut, Task, Work, task_of};
+pub use words::{Task, Work, task_of};

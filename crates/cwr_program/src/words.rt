@@ -1,6 +1,6 @@
 //! The words of the command line.
 
-ghost use Rattle.std.specs.Prelude.{◌≡◌, ◌<◌, ℕ, List, None, Some, Ok, IfSome, codes, false, if◌then◌else◌};
+ghost use Rattle.std.specs.Prelude.{◌≡◌, ℕ, List, None, Some, Ok, IfSome, codes, false, if◌then◌else◌};
 ghost use Rattle.std.specs.Str.{bytes_eq};
 ghost use Rattle.std.specs.Str.Parse.{digits_value, without_leading_plus};
 ghost use Rattle.clap.specs.Words.{found_of, has_subcommand, one_text};
@@ -12,47 +12,6 @@ use cwr_shape::Limits;
 use std::alloc::{AllocError, Global};
 use std::convert::AsStr;
 
-/// How a transmission is cut into parts.
-#[derive(Clone, Copy, Debug, PartialEq, Eq)]
-pub struct Cut<'a> {
-    transactions: u32,
-    file: &'a str,
-    prefix: &'a str,
-    ghost some: { 0 < transactions },
-}
-
-impl<'a> Cut<'a> {
-    /// Cuts the transmission of a file into parts of so many transactions, the last perhaps of fewer. The names of their
-    /// files begin with the prefix. `None` where a part would have none.
-    pub fn new(transactions: u32, file: &'a str, prefix: &'a str) -> Option<Cut<'a>> {
-        if transactions == 0 {
-            return None;
-        }
-        Some(Cut {
-            transactions,
-            file,
-            prefix,
-        })
-    }
-
-    /// The transactions of a part, at least 1.
-    pub fn transactions(&self) -> u32
-        ensures { 0 < result }
-    {
-        self.transactions
-    }
-
-    /// The name of the transmission's file.
-    pub fn file(&self) -> &'a str {
-        self.file
-    }
-
-    /// What the names of the parts' files begin with.
-    pub fn prefix(&self) -> &'a str {
-        self.prefix
-    }
-}
-
 /// What is done.
 #[derive(Debug, PartialEq, Eq, Drop)]
 pub enum Work<'a> {
@@ -60,8 +19,6 @@ pub enum Work<'a> {
     Check(Option<&'a str>),
     /// Its records are shown.
     Show(Option<&'a str>),
-    /// A transmission is cut into parts.
-    Split(Cut<'a>),
     /// Transmissions are joined to one.
     Join {
         /// The name of the file that is written.
@@ -86,20 +43,11 @@ const CHECK: &str = "check";
 /// The name of the subcommand that shows.
 const SHOW: &str = "show";
 
-/// The name of the subcommand that splits.
-const SPLIT: &str = "split";
-
 /// The name of the subcommand that joins.
 const JOIN: &str = "join";
 
 /// The id of the one file of a subcommand, or of its files.
 const FILE: &str = "FILE";
-
-/// The id of the number of transactions of a part.
-const NUMBER: &str = "N";
-
-/// The id of what the names of the parts' files begin with.
-const PREFIX: &str = "PREFIX";
 
 /// The id of the file that is written.
 const OUT: &str = "OUT";
@@ -140,22 +88,6 @@ fn over_one<'a>(alloc: Global, name: &'a str, about: &'a str) -> Result<Command<
     with_limits(alloc, command)?.arg(file)
 }
 
-/// The subcommand that splits.
-fn splitting<'a>(alloc: Global) -> Result<Command<'a>, AllocError> {
-    let number = Arg::new(alloc, NUMBER)
-        .short('n')
-        .value_name(NUMBER)
-        .required(true)
-        .value_parser(value_parser!(u32).range(1..=99_999_999))
-        .help("The transactions of a part, 1 to 99999999; the last part may have fewer");
-    let file = Arg::new(alloc, FILE).required(true).help("The transmission");
-    let prefix = Arg::new(alloc, PREFIX)
-        .required(true)
-        .help("The parts are written to PREFIX00000001, PREFIX00000002 and so on");
-    let command = Command::new(alloc, SPLIT).about("Cuts a transmission into parts");
-    with_limits(alloc, command)?.arg(number)?.arg(file)?.arg(prefix)
-}
-
 /// The subcommand that joins.
 fn joining<'a>(alloc: Global) -> Result<Command<'a>, AllocError> {
     let out = Arg::new(alloc, OUT)
@@ -178,7 +110,6 @@ The last line on standard output:
   GOOD groups G transactions T records R     the input begins with a transmission
   REFUSED record R field F level L REASON    no transmission continues from that field of line R
   TRUNCATED records R                        the input ended too early, after R records
-  SPLIT outputs O transactions T             the parts are written
   JOINED inputs I groups G transactions T records R
                                              the result is written
   input I: LIMIT records, groups or transaction
@@ -192,8 +123,7 @@ Before REFUSED and TRUNCATED `cwr join` writes the number of the input.
 Exit status: 0 good, 1 refused, truncated or a limit, 2 a wrong command line (or help), 3 a file, a device or memory failed
 
 Examples: cwr check works.cwr
-          cwr split -n 1000 works.cwr part-
-          cwr join whole.cwr part-00000001 part-00000002";
+          cwr join whole.cwr part-1.cwr part-2.cwr";
 
 /// The program's words.
 fn command<'a>(alloc: Global) -> Result<Command<'a>, AllocError> {
@@ -207,7 +137,6 @@ fn command<'a>(alloc: Global) -> Result<Command<'a>, AllocError> {
             SHOW,
             "Shows the records of a transmission, and judges it",
         )?)?
-        .subcommand(splitting(alloc)?)?
         .subcommand(joining(alloc)?)
 }
 
@@ -244,15 +173,6 @@ fn work_over<'a>(name: &str, file: Option<&'a str>) -> Work<'a>
     }
 }
 
-/// How a transmission is to be cut. `None` where a word is missing or out of its range.
-fn cut_in<'a>(given: &ArgMatches<'a>) -> Option<Cut<'a>> {
-    Cut::new(
-        given.get_one::<u32>(NUMBER)?,
-        given.get_str(FILE)?,
-        given.get_str(PREFIX)?,
-    )
-}
-
 /// The work of a join. `None` where a word is missing.
 fn join_in<'a>(alloc: Global, given: &ArgMatches<'a>) -> Result<Option<Work<'a>>, AllocError> {
     match (given.get_str(OUT), given.get_strs(FILE)) {
@@ -270,9 +190,7 @@ fn work_in<'a>(
     name: &str,
     given: &ArgMatches<'a>,
 ) -> Result<Option<Work<'a>>, AllocError> {
-    if name == SPLIT {
-        Ok(cut_in(given).map(Work::Split))
-    } else if name == JOIN {
+    if name == JOIN {
         join_in(alloc, given)
     } else {
         Ok(Some(work_over(name, given.get_str(FILE))))

@@ -1,6 +1,6 @@
 //! What the program's words ask for. The limits are those of this profile.
 
-use cwr_program::{Cut, Task, Work, task_of};
+use cwr_program::{Task, Work, task_of};
 use cwr_shape::Limits;
 use std::process::Abort;
 use std::test::Fail;
@@ -57,30 +57,6 @@ fn limits_are_those_of_the_options(rt: HostRuntime) -> Result<(), Fail> {
 }
 
 #[test]
-fn parts_of_a_split(rt: HostRuntime) -> Result<(), Fail> {
-    let Some(cut) = Cut::new(250, "a.cwr", "part-") else {
-        assert!(rt; false, "250 is a number of transactions");
-        return Ok(());
-    };
-    assert_eq!(rt; cut.transactions(), 250);
-    assert_eq!(rt; (cut.file(), cut.prefix()), ("a.cwr", "part-"));
-    let words = ["cwr", "split", "-n", "250", "a.cwr", "part-"];
-    check_task(&rt, &words, Work::Split(cut), LARGEST)?;
-    let words = [
-        "cwr",
-        "split",
-        "--groups",
-        "9",
-        "-n250",
-        "a.cwr",
-        "part-",
-    ];
-    check_task(&rt, &words, Work::Split(cut), (99_999_999, 9, 999_999))?;
-    assert!(rt; Cut::new(0, "a.cwr", "part-").is_none());
-    Ok(())
-}
-
-#[test]
 fn inputs_of_a_join(rt: HostRuntime) -> Result<(), Fail> {
     let all = ["a.cwr", "b.cwr", "a.cwr"];
     for count in 1..=3 {
@@ -96,17 +72,7 @@ fn inputs_of_a_join(rt: HostRuntime) -> Result<(), Fail> {
 
 #[test]
 fn words_that_are_missing_or_out_of_range(rt: HostRuntime) {
-    let wrong: [&[&str]; 9] = [
-        &["cwr", "split"],
-        &["cwr", "split", "a.cwr", "part-"],
-        &["cwr", "split", "-n", "1", "a.cwr"],
-        &["cwr", "split", "-n", "0", "a.cwr", "part-"],
-        &["cwr", "split", "-n", "100000000", "a.cwr", "part-"],
-        &["cwr", "split", "-n", "two", "a.cwr", "part-"],
-        &["cwr", "split", "-n", "1", "a.cwr", "part-", "more"],
-        &["cwr", "join"],
-        &["cwr", "join", "out.cwr"],
-    ];
+    let wrong: [&[&str]; 2] = [&["cwr", "join"], &["cwr", "join", "out.cwr"]];
     for words in wrong {
         assert!(rt; task_of(rt.alloc(), words).is_err());
     }

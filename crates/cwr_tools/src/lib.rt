@@ -1,4 +1,4 @@
-//! Whole runs over CWR 2.1 transmissions: check, show, split and join.
+//! Whole runs over CWR 2.1 transmissions: check, show and join.
 #![tactic(auto)]
 
 mod checking;
@@ -6,18 +6,14 @@ mod item_lines;
 mod joined;
 mod joining;
 mod outcomes;
-mod outputs;
 mod record_lines;
 mod reporting;
 mod showing;
-mod splitting;
 mod totals;
 mod verdicts;
 
 pub use checking::check;
 pub use joining::join;
-pub use outcomes::{put_join_outcome, put_split_outcome};
-pub use outputs::{OutputFault, Outputs};
+pub use outcomes::put_join_outcome;
 pub use showing::show;
-pub use splitting::split;
-pub use verdicts::{JoinFault, JoinReport, SplitReport, ToolFault, Verdict};
+pub use verdicts::{JoinFault, JoinReport, ToolFault, Verdict};
