@@ -15,7 +15,7 @@ use crate::lines::{fill_up, part};
 use crate::lookups::{carried_field, field, fields};
 use crate::records::{LineText, Record, WIDEST_LINE, copy_bytes, show_cells};
 use arrayvec::ArrayVec;
-use cwr_fields::{CellFault, CellType, fits, fits_plain, is_plain};
+use cwr_fields::{CellFault, CellType, fits, fits_plain, is_plain, surely_fits};
 use std::error::Error;
 use std::fmt::{self, Debug, Display};
 use std::marker::Model;
@@ -106,13 +106,35 @@ fn judge_cell(kind: Kind, line: &[u8], plain: bool, j: u8) -> Result<(), CellFau
     }
 }
 
-/// Judges the cells that a whole line carries, in order.
+/// Whether quick tests find each cell that a whole line carries to be one of its field's type. The line has no control
+/// byte. A no says nothing.
+fn surely_carries(kind: Kind, line: &[u8]) -> bool
+    requires whole { length line.now ≡ line_width kind }
+    requires plain { IsTrue (is_plain line.now) }
+    ensures { IsTrue result → IsRecord (record_in kind line.now) }
+{
+    for place in layout(kind) {
+        if place.derived {
+            continue;
+        }
+        if !surely_fits(place.ty, part(line, *place)) {
+            return false;
+        }
+    }
+    true
+}
+
+/// Judges the cells that a whole line carries, in order: by quick tests, and where these don't find them all good one by
+/// one for the first fault.
 pub(crate) fn judge(kind: Kind, line: &[u8]) -> Result<(), DraftFault>
     requires { length line.now ≡ line_width kind }
     ensures variant { IsOk result ↔ IsRecord (record_in kind line.now) }
     ensures err { IfErr result (IsFirstUnfit (record_in kind line.now)) }
 {
     let plain = is_plain(line);
+    if plain && surely_carries(kind, line) {
+        return Ok(());
+    }
     for before in 0..fields(kind) {
         let field = before + 1;
         if let Err(fault) = judge_cell(kind, line, plain, field) {

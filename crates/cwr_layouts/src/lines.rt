@@ -2,14 +2,15 @@
 //! one carriage return directly before that belongs to the line end. The most bytes of a line, and that spaces may be
 //! left out or added at its end, are rules of this profile.
 
-ghost use Rattle.std.specs.Prelude.{◌≡◌, ◌≢◌, ◌≤◌, ◌<◌, ◌+◌, ◌++◌, length, take, drop, slice_index, ◌↔◌, IsFalse, IsSome, IsSomeAnd, IfSome, Some, MatchOption, option_map};
+ghost use Rattle.std.specs.Prelude.{◌≡◌, ◌≢◌, ◌≤◌, ◌<◌, ◌+◌, ◌++◌, length, take, drop, slice_index, ◌↔◌, IsFalse, IsSome, IsSomeAnd, IsTrue, IfSome, Some, MatchOption, option_map};
 ghost use Rattle.std.specs.List.{list_any};
 ghost use Rattle.cwr_fields.specs.Bytes.{filled};
 ghost use Rattle.cwr_layouts.specs.Lines.{is_lf, without_cr, body_kind};
+ghost use Rattle.cwr_layouts.specs.Kinds.{is_in_transaction};
 ghost use Rattle.cwr_layouts.specs.Records.{IsRecord};
 ghost use Rattle.cwr_layouts.specs.Held.{held_record, HeldLine, Takes, IsHeld, empty_line, held_kind, held_cell, held_excess, filled_as, return_if};
 
-use crate::kinds::Kind;
+use crate::kinds::{Kind, is_in_transaction};
 use crate::layouts::Field;
 use crate::lookups::{field, width};
 use crate::records::RecordRef;
@@ -88,6 +89,7 @@ fn fill_by_kind(text: &mut ArrayVec<u8, LONGEST_LINE>) -> Option<Kind>
 }
 
 /// The part of a text that a field takes.
+#[inline(always)]
 pub(crate) fn part(text: &[u8], place: Field) -> &[u8]
     requires { place.start + place.width ≤ length text.now }
     ensures { result.now ≡ take place.width (drop place.start text.now) }
@@ -269,6 +271,24 @@ impl<'a> CutLine<'a> {
         let line = self.line;
         let place = field(line.kind?, j)?;
         Some(part(line.text.as_slice(), place))
+    }
+
+    /// The transaction sequence and the record sequence of a line whose kind stands in transactions: its second and its
+    /// third cell. `None` of any other line.
+    #[inline(always)]
+    pub fn sequences(&self) -> Option<(&'a [u8], &'a [u8])>
+        ensures some { IsSome result ↔ IsSomeAnd (held_kind self.now) (λ kind. IsTrue (is_in_transaction kind)) }
+        ensures transaction { IfSome result (λ cells. held_cell self.now 2 ≡ Some cells.0.now) }
+        ensures record { IfSome result (λ cells. held_cell self.now 3 ≡ Some cells.1.now) }
+        ensures wide { IfSome result (λ cells. (length cells.0.now ≡ 8) × (length cells.1.now ≡ 8)) }
+    {
+        let line = self.line;
+        let kind = line.kind?;
+        if !is_in_transaction(kind) {
+            return None;
+        }
+        let text = line.text.as_slice();
+        Some((&text[3..11], &text[11..19]))
     }
 
     /// The record that the line's cells carry, borrowed from the line: nothing is copied. `None` where the kind is unknown,
