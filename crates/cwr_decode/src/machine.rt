@@ -231,15 +231,13 @@ impl Machine {
         }
     }
 
-    /// Enters the record that waits.
+    /// Enters the record that waits, which was judged when its line came.
     fn enter(&mut self) -> Option<Outcome>
         requires carries { HasRecord self.old.line }
         requires fits { IfSome (held_record self.old.line) (λ r. FitsHeld r self.old.held) }
         ensures { EntersHeld (held_record self.old.line) self.old result self.new }
     {
-        let Some(accepted) = self.line.cut().record() else {
-            unreachable!();
-        };
+        let accepted = self.line.cut().known_record();
         let outcome = add_accepted(self.alloc, &mut self.held, accepted);
         self.finish_record(outcome)
     }

@@ -9,13 +9,14 @@ ghost use Rattle.cwr_layouts.specs.Layouts.{line_width};
 ghost use Rattle.cwr_layouts.specs.Records.{IsRecord, blank_cell, blank_record, carried_fields};
 ghost use Rattle.cwr_layouts.specs.Carried.{Sets, IsSetFault, FitsAt, HasCellFault, IsFirstUnfit, record_in};
 
+use crate::kind_cells::surely_carries;
 use crate::kinds::Kind;
 use crate::layouts::{Field, layout};
 use crate::lines::{fill_up, part};
 use crate::lookups::{carried_field, field, fields};
 use crate::records::{LineText, Record, WIDEST_LINE, copy_bytes, show_cells};
 use arrayvec::ArrayVec;
-use cwr_fields::{CellFault, CellType, fits, fits_plain, is_plain, surely_fits};
+use cwr_fields::{CellFault, CellType, fits, fits_plain, is_plain};
 use std::error::Error;
 use std::fmt::{self, Debug, Display};
 use std::marker::Model;
@@ -104,24 +105,6 @@ fn judge_cell(kind: Kind, line: &[u8], plain: bool, j: u8) -> Result<(), CellFau
         Some(place) => fits_known(place.ty, part(line, place), plain),
         None => Ok(()),
     }
-}
-
-/// Whether quick tests find each cell that a whole line carries to be one of its field's type. The line has no control
-/// byte. A no says nothing.
-fn surely_carries(kind: Kind, line: &[u8]) -> bool
-    requires whole { length line.now ≡ line_width kind }
-    requires plain { IsTrue (is_plain line.now) }
-    ensures { IsTrue result → IsRecord (record_in kind line.now) }
-{
-    for place in layout(kind) {
-        if place.derived {
-            continue;
-        }
-        if !surely_fits(place.ty, part(line, *place)) {
-            return false;
-        }
-    }
-    true
 }
 
 /// Judges the cells that a whole line carries, in order: by quick tests, and where these don't find them all good one by

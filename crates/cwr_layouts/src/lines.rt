@@ -73,6 +73,9 @@ pub(crate) fn fill_up<const N: usize>(text: &mut ArrayVec<u8, N>, width: usize)
     requires most { N ≤ LONGEST_LINE }
     ensures { text.new.items ≡ filled width text.old.items }
 {
+    if width <= text.len() {
+        return;
+    }
     let missing = width.saturating_sub(text.len());
     let _fits = text.try_extend_from_slice(&SPACES[..missing]);
 }
@@ -300,6 +303,18 @@ impl<'a> CutLine<'a> {
         let line = self.line;
         let kind = line.kind?;
         RecordRef::from_line(kind, &line.text.as_slice()[..width(kind)])
+    }
+
+    /// The record that the line's cells carry, where they are known to carry one: nothing is judged.
+    pub fn known_record(&self) -> RecordRef<'a>
+        requires { IsSomeAnd (held_record self.now) IsRecord }
+        ensures { held_record self.now ≡ Some result }
+    {
+        let line = self.line;
+        let Some(kind) = line.kind else {
+            unreachable!()
+        };
+        RecordRef::kept(kind, &line.text.as_slice()[..width(kind)])
     }
 
     /// Whether what stands after the last field is bad: it isn't all spaces, or the line is too long. A line of
