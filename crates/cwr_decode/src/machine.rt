@@ -60,6 +60,7 @@ impl Model for Machine {
 }
 
 /// Counts an accepted record, and answers whether it continues the open transaction.
+#[inline(always)]
 fn step_continues_open(tally: &mut Tally, symbol: Symbol) -> bool
     requires { IsAdmitted tally.old symbol }
     ensures limits { tally.new.limits ≡ tally.old.limits }

@@ -1,8 +1,7 @@
 //! Searches that look at many bytes at a time, and quick tests of cells, by example.
 
 use cwr_fields::{
-    CellType, Table, Word, first_control, fits, is_plain, spells, surely_fits, surely_spells,
-    width_of,
+    CellType, Table, Word, first_control, fits, is_plain, surely_fits, surely_spell_both, width_of,
 };
 
 #[test]
@@ -102,12 +101,18 @@ fn quick_tests_of_each_type(rt: HostRuntime) {
 
 #[test]
 fn quick_tests_of_numbers(rt: HostRuntime) {
-    assert!(rt; surely_spells(b"00000012", 12));
-    assert!(rt; surely_spells(b"99999999", 99999999));
-    for cell in [b"00000011", b"00000013", b"0000001A", b"      12"] {
-        assert!(rt; !surely_spells(cell, 12));
-        assert!(rt; !spells(cell, 12));
+    assert!(rt; surely_spell_both(b"0000001299999999", 12, 99999999));
+    assert!(rt; !surely_spell_both(b"0000001200000012", 12, 100000012));
+    let others = [
+        b"0000001100000007",
+        b"0000001200000008",
+        b"0000001A00000007",
+        b"      1200000007",
+        b"000000120000000/",
+        b"00000012:0000007",
+    ];
+    assert!(rt; surely_spell_both(b"0000001200000007", 12, 7));
+    for text in others {
+        assert!(rt; !surely_spell_both(text, 12, 7));
     }
-    assert!(rt; spells(b"12", 112));
-    assert!(rt; !surely_spells(b"12", 112));
 }

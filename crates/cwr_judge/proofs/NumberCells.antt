@@ -1,8 +1,9 @@
 -- The derived cells of a line that was cut, and the record that it carries.
-use Rattle.std.proofs.Common.{◌≡◌, ℕ, zero, suc, true, false, List, [], ◌∷◌, ◌++◌, length, drop, option_map, slice_get, refl, sym, ap, ap₂, subst, ◌∙◌, arith, append_assoc, true≢false}
+use Rattle.std.proofs.Common.{◌≡◌, ℕ, zero, suc, true, false, List, [], ◌∷◌, ◌++◌, length, take, drop, option_map, slice_get, refl, sym, ap, ap₂, subst, ◌∙◌, arith, append_assoc, true≢false}
 use Rattle.std.specs.Prelude.{Option, Some, None, IsTrue, IsSomeAnd}
 use Rattle.std.specs.List.{list_any}
 use Rattle.std.proofs.lemmas.Bool.{or_parts}
+use Rattle.std.proofs.lemmas.List.{length-drop, length-take-le}
 use Rattle.cwr_fields.specs.Bytes.{digits}
 use Rattle.cwr_fields.specs.Cells.{type_width}
 use Rattle.cwr_layouts.specs.declared.kinds.Kind.{Kind}
@@ -148,12 +149,15 @@ sequence_cell xs h kind j number cell known there n spelled f e d = record {
   spelled = there ∙ ap Some (spelled ∙ ap (λ (w : ℕ). digits w number) (length-held_cell h kind j f cell known e there));
 }
 
-pub both_sequences : (xs : List Symbol) (h : HeldLine) (kind : Kind) (m n : ℕ) (before own : List ℕ) → held_kind h ≡ Some kind → IsSomeAnd (held_kind h) (λ k. IsTrue (is_in_transaction k))
-    → held_cell h 2 ≡ Some before → held_cell h 3 ≡ Some own → IsNumberAt xs kind 2 (Some m) → IsNumberAt xs kind 3 (Some n) → before ≡ digits (length before) m → own ≡ digits (length own) n
-    → HasNumbers xs h kind
-both_sequences xs h kind m n before own known inside second third a b p q =
+pub both_sequences : (xs : List Symbol) (h : HeldLine) (kind : Kind) (m n : ℕ) (cells : List ℕ) → held_kind h ≡ Some kind → IsSomeAnd (held_kind h) (λ k. IsTrue (is_in_transaction k))
+    → held_cell h 2 ≡ Some (take 8 cells) → held_cell h 3 ≡ Some (drop 8 cells) → length cells ≡ 16 → IsNumberAt xs kind 2 (Some m) → IsNumberAt xs kind 3 (Some n)
+    → (take 8 cells ≡ digits 8 m) × (drop 8 cells ≡ digits 8 n) → HasNumbers xs h kind
+both_sequences xs h kind m n cells known inside second third wide a b p =
     let stands : is_in_transaction kind ≡ true = subst (λ (o : Option Kind). IsSomeAnd o (λ k. IsTrue (is_in_transaction k))) known inside in
-    all_numbers xs h kind (sequence_cell xs h kind 2 m before known second a p) (sequence_cell xs h kind 3 n own known third b q)
+    let front : length (take 8 cells) ≡ 8 = length-take-le 8 cells (omega (arith, wide)) in
+    let back : length (drop 8 cells) ≡ 8 = omega (arith, length-drop 8 cells, wide) in
+    all_numbers xs h kind (sequence_cell xs h kind 2 m (take 8 cells) known second a (p.0 ∙ ap (λ (w : ℕ). digits w m) (sym front)))
+    (sequence_cell xs h kind 3 n (drop 8 cells) known third b (p.1 ∙ ap (λ (w : ℕ). digits w n) (sym back)))
     (λ f e d. absurd (true≢false (sym d ∙ none_from_fourth (layout kind) 0 f (three_first kind stands) e)))
 
 -- ---- the record of a line

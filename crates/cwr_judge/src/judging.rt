@@ -11,7 +11,7 @@ ghost use Rattle.cwr_shape.specs.declared.symbols.Symbol.{Symbol};
 ghost use Rattle.cwr_shape.specs.Tallies.{IsAdmitted, IsTallyOf};
 ghost use Rattle.cwr_judge.specs.Judged.{HasNumberAt, HasNumbers, IsNext, IsOfNone, Lacks, named_symbol, bar_reason, IsGoodText, IsTextFault, IsNumberFault, IsGoodAt, HasReasonAt, MayComeOf, IsFirstFault};
 
-use cwr_fields::{Cell, CellType, Role, TransactionType, fits, spells, surely_spells};
+use cwr_fields::{Cell, CellType, Role, TransactionType, fits, spells, surely_spell_both};
 use cwr_layouts::{CutLine, Kind, RecordRef, field, fields};
 use cwr_shape::{Bar, Reason, Symbol, Tally};
 use cwr_values::symbol_of;
@@ -54,7 +54,7 @@ fn surely_has_numbers(tally: &Tally, line: &CutLine<'_>, kind: Kind) -> bool
     requires { held_kind line.now ≡ Some kind }
     ensures { (xs : List Symbol) → IsTallyOf tally.now xs → IsTrue result → HasNumbers xs line.now kind }
 {
-    let Some((transaction_sequence, record_sequence)) = line.sequences() else {
+    let Some(sequences) = line.sequences() else {
         return false;
     };
     let Some(transaction) = tally.expects(kind, 2) else {
@@ -63,7 +63,7 @@ fn surely_has_numbers(tally: &Tally, line: &CutLine<'_>, kind: Kind) -> bool
     let Some(record) = tally.expects(kind, 3) else {
         return false;
     };
-    surely_spells(transaction_sequence, transaction) && surely_spells(record_sequence, record)
+    surely_spell_both(sequences, transaction, record)
 }
 
 /// Whether each derived cell of the line is the number that belongs there. No kind has one after its fourth field.

@@ -81,6 +81,7 @@ pub(crate) fn fill_up<const N: usize>(text: &mut ArrayVec<u8, N>, width: usize)
 }
 
 /// Fills the text up with spaces to the width of its kind, or to three bytes where they name none.
+#[inline(always)]
 fn fill_by_kind(text: &mut ArrayVec<u8, LONGEST_LINE>) -> Option<Kind>
     ensures kind { result ≡ body_kind text.old.items }
     ensures filled { text.new.items ≡ filled_as result text.old.items }
@@ -276,26 +277,26 @@ impl<'a> CutLine<'a> {
         Some(part(line.text.as_slice(), place))
     }
 
-    /// The transaction sequence and the record sequence of a line whose kind stands in transactions: its second and its
-    /// third cell. `None` of any other line.
+    /// The transaction sequence and the record sequence of a line whose kind stands in transactions, one after the other:
+    /// its second and its third cell. `None` of any other line.
     #[inline(always)]
-    pub fn sequences(&self) -> Option<(&'a [u8], &'a [u8])>
+    pub fn sequences(&self) -> Option<&'a [u8]>
         ensures some { IsSome result ↔ IsSomeAnd (held_kind self.now) (λ kind. IsTrue (is_in_transaction kind)) }
-        ensures transaction { IfSome result (λ cells. held_cell self.now 2 ≡ Some cells.0.now) }
-        ensures record { IfSome result (λ cells. held_cell self.now 3 ≡ Some cells.1.now) }
-        ensures wide { IfSome result (λ cells. (length cells.0.now ≡ 8) × (length cells.1.now ≡ 8)) }
+        ensures transaction { IfSome result (λ cells. held_cell self.now 2 ≡ Some (take 8 cells.now)) }
+        ensures record { IfSome result (λ cells. held_cell self.now 3 ≡ Some (drop 8 cells.now)) }
+        ensures wide { IfSome result (λ cells. length cells.now ≡ 16) }
     {
         let line = self.line;
         let kind = line.kind?;
         if !is_in_transaction(kind) {
             return None;
         }
-        let text = line.text.as_slice();
-        Some((&text[3..11], &text[11..19]))
+        Some(&line.text.as_slice()[3..19])
     }
 
     /// The record that the line's cells carry, borrowed from the line: nothing is copied. `None` where the kind is unknown,
     /// or one of these cells isn't one of its field's type. Derived cells and the excess aren't judged.
+    #[inline(always)]
     pub fn record(&self) -> Option<RecordRef<'a>>
         ensures some { IsSome result ↔ IsSomeAnd (held_record self.now) IsRecord }
         ensures value { IfSome result (λ found. held_record self.now ≡ Some found) }

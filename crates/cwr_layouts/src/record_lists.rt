@@ -92,6 +92,7 @@ impl RecordList {
     }
 
     /// Adds a record at the end. It fails where memory for its line or for its place was refused, and then nothing is changed.
+    #[inline(always)]
     pub fn push(&mut self, next: &RecordRef<'_>) -> Result<(), AllocError>
         ensures ok { OnOk result (self.new ≡ self.old ++ next.now ∷ []) }
         ensures err { OnErr result (self.new ≡ self.old) }

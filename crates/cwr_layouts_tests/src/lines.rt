@@ -143,13 +143,7 @@ fn records_of_lines(rt: HostRuntime) {
 #[test]
 fn sequences_of_lines_inside_transactions(rt: HostRuntime) {
     let line = line_of(b"SPT0000000100000002P1\r\n");
-    match line.cut().sequences() {
-        Some((transaction, record)) => {
-            assert_eq!(rt; transaction, b"00000001".as_slice());
-            assert_eq!(rt; record, b"00000002".as_slice());
-        }
-        None => assert!(rt; false),
-    }
+    assert_eq!(rt; line.cut().sequences(), Some(b"0000000100000002".as_slice()));
     let texts: [&[u8]; 3] = [b"TRL000010000000100000005\n", b"GRH", b"XYZ0000000100000002"];
     for text in texts {
         assert!(rt; line_of(text).cut().sequences().is_none());
