@@ -60,6 +60,7 @@ impl Model for Machine {
 }
 
 /// Counts an accepted record, and answers whether it continues the open transaction.
+#[inline(always)]
 fn step_continues_open(tally: &mut Tally, symbol: Symbol) -> bool
     requires { IsAdmitted tally.old symbol }
     ensures limits { tally.new.limits ≡ tally.old.limits }
@@ -231,15 +232,13 @@ impl Machine {
         }
     }
 
-    /// Enters the record that waits.
+    /// Enters the record that waits, which was judged when its line came.
     fn enter(&mut self) -> Option<Outcome>
         requires carries { HasRecord self.old.line }
         requires fits { IfSome (held_record self.old.line) (λ r. FitsHeld r self.old.held) }
         ensures { EntersHeld (held_record self.old.line) self.old result self.new }
     {
-        let Some(accepted) = self.line.cut().record() else {
-            unreachable!();
-        };
+        let accepted = self.line.cut().known_record();
         let outcome = add_accepted(self.alloc, &mut self.held, accepted);
         self.finish_record(outcome)
     }

@@ -3,6 +3,8 @@
 ghost use Rattle.std.specs.Prelude.{◌≡◌, ◌↔◌, ◌≤◌, ◌<◌, ◌^◌, IsSome, IfSome, IsTrue, length, position, take, drop, ◌+◌, ◌++◌};
 ghost use Rattle.cwr_fields.specs.Bytes.{is_spaces, is_control, has_control, are_digits, number_of, trimmed, digits};
 
+use crate::lanes::{LANES, are_sixteen_digits, has_control_in_lanes};
+
 /// Whether every byte is a space.
 #[inline(always)]
 pub fn is_spaces(cell: &[u8]) -> bool
@@ -11,17 +13,45 @@ pub fn is_spaces(cell: &[u8]) -> bool
     cell.iter().all(|b| *b == b' ')
 }
 
-/// Whether some byte is a control byte: one of 0 to 31, or 127. It goes over all bytes without a branch, so that the
-/// compiler takes many at a time.
+/// Whether some byte of a short text is a control byte.
 #[inline(always)]
-pub(crate) fn has_control(cell: &[u8]) -> bool
-    ensures { result ≡ has_control cell.now }
+fn has_control_one_by_one(text: &[u8]) -> bool
+    ensures { result ≡ has_control text.now }
 {
     let mut found = false;
-    for byte in cell {
+    for byte in text {
         found |= (*byte < 32) | (*byte == 127);
     }
     found
+}
+
+/// Whether some byte of a text that fills the lanes is a control byte. It goes over all bytes without a branch; its last
+/// step overlaps the one before it.
+#[inline(always)]
+fn has_control_by_lanes(text: &[u8]) -> bool
+    requires { 32 ≤ length text.now }
+    ensures { result ≡ has_control text.now }
+{
+    let last = text.len() - LANES;
+    let mut found = false;
+    let mut at = 0;
+    while at < last {
+        found |= has_control_in_lanes(text, at);
+        at += LANES;
+    }
+    found | has_control_in_lanes(text, last)
+}
+
+/// Whether some byte is a control byte: one of 0 to 31, or 127.
+#[inline(always)]
+pub(crate) fn has_control(text: &[u8]) -> bool
+    ensures { result ≡ has_control text.now }
+{
+    if text.len() < LANES {
+        has_control_one_by_one(text)
+    } else {
+        has_control_by_lanes(text)
+    }
 }
 
 /// Whether every byte is a digit.
@@ -47,6 +77,20 @@ pub(crate) fn number_in(cell: &[u8]) -> Option<u64>
         number = 10 * number + u64::from(*byte - b'0');
     }
     Some(number)
+}
+
+/// The number that at most ten digits write.
+#[inline(always)]
+fn number_of_digits(cell: &[u8]) -> u64
+    requires few { length cell.now ≤ 10 }
+    requires digits { IsTrue (are_digits cell.now) }
+    ensures { result ≡ number_of cell.now }
+{
+    let mut number = 0;
+    for byte in cell {
+        number = 10 * number + u64::from(*byte - b'0');
+    }
+    number
 }
 
 /// The three numbers that digits write, the first in so many digits and the others in two each. `None` where some byte
@@ -90,11 +134,28 @@ pub(crate) fn write_three(cell: &mut [u8], first: usize, numbers: (u64, u64, u64
     write_digits(last, numbers.2);
 }
 
+/// Where the first control byte of a short text stands, from 0. `None` where there is none.
+fn first_control_one_by_one(text: &[u8]) -> Option<usize>
+    ensures { result ≡ position is_control text.now }
+{
+    text.iter().position(|b| *b < 32 || *b == 127)
+}
+
 /// Where the first control byte stands, from 0: one of 0 to 31, or 127. `None` where there is none.
 pub fn first_control(text: &[u8]) -> Option<usize>
     ensures { result ≡ position is_control text.now }
 {
-    text.iter().position(|b| *b < 32 || *b == 127)
+    let mut at = 0;
+    while text.len() - at >= LANES {
+        if has_control_in_lanes(text, at) {
+            break;
+        }
+        at += LANES;
+    }
+    match first_control_one_by_one(&text[at..]) {
+        Some(place) => Some(at + place),
+        None => None,
+    }
 }
 
 /// The text without its trailing spaces.
@@ -126,4 +187,18 @@ pub fn spells(cell: &[u8], number: u64) -> bool
         text = front;
     }
     true
+}
+
+/// Whether sixteen bytes are digits, the first eight of which write one number and the others another. A no says nothing
+/// of a number that eight digits can't write.
+#[inline(always)]
+pub fn surely_spell_both(text: &[u8], first: u64, second: u64) -> bool
+    requires { length text.now ≡ 16 }
+    ensures { IsTrue result → (take 8 text.now ≡ digits 8 first) × (drop 8 text.now ≡ digits 8 second) }
+{
+    if !are_sixteen_digits(text) {
+        return false;
+    }
+    let (front, back) = text.split_at(8);
+    (number_of_digits(front) == first) & (number_of_digits(back) == second)
 }

@@ -26,14 +26,14 @@ pub fn is_plain(cell: &[u8]) -> bool
 
 /// Whether the cell is digits, at least one.
 #[inline(always)]
-fn is_number(cell: &[u8]) -> bool
+pub(crate) fn is_number(cell: &[u8]) -> bool
     ensures { IsTrue result ↔ SpellsNumber cell.now }
 {
     !cell.is_empty() && are_digits(cell)
 }
 
 #[inline(always)]
-fn is_opt_number(cell: &[u8]) -> bool
+pub(crate) fn is_opt_number(cell: &[u8]) -> bool
     ensures { IsTrue result ↔ Holds CellType.OptNumber cell.now }
 {
     is_spaces(cell) || is_number(cell)
@@ -47,7 +47,7 @@ fn is_opt_time(cell: &[u8]) -> bool
 }
 
 #[inline(always)]
-fn is_opt_code(table: Table, cell: &[u8]) -> bool
+pub(crate) fn is_opt_code(table: Table, cell: &[u8]) -> bool
     requires { length cell.now ≡ code_width table }
     ensures { IsTrue result ↔ Holds (CellType.OptCode table) cell.now }
 {

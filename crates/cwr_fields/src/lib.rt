@@ -17,9 +17,11 @@ mod durations;
 mod faults;
 mod flags;
 mod iswc;
+mod lanes;
 mod message_codes;
 mod numbers;
 mod party_codes;
+mod quick_cells;
 mod sender_types;
 mod tables;
 mod times;
@@ -30,7 +32,7 @@ pub use agreement_codes::{
     AgreementType, InclusionExclusion, PostTermCollectionStatus, PriorRoyaltyStatus,
     SalesManufactureClause,
 };
-pub use byte_runs::{first_control, is_spaces, spells, trimmed};
+pub use byte_runs::{first_control, is_spaces, spells, surely_spell_both, trimmed};
 pub use cell_types::{CellFault, CellType, Word};
 pub use cells::{fits, fits_plain, is_plain, width_of};
 pub use coded::Coded;
@@ -45,6 +47,7 @@ pub use iswc::iswc_ok;
 pub use message_codes::{MessageLevel, TransactionStatus};
 pub use numbers::{Number, Share};
 pub use party_codes::{PublisherType, WriterDesignation};
+pub use quick_cells::surely_fits;
 pub use sender_types::SenderType;
 pub use tables::Table;
 pub use times::TimeOfDay;

@@ -1,4 +1,4 @@
-//! Tests of the cells of records, of codes, of typed cells and of devices.
+//! Tests of the cells of records, of codes, of typed cells, of quick tests and of devices.
 #![tactic(auto)]
 
 #[cfg(test)]
@@ -7,5 +7,7 @@ mod cells;
 mod codes;
 #[cfg(test)]
 mod devices;
+#[cfg(test)]
+mod quick_tests;
 #[cfg(test)]
 mod typed_cells;

@@ -1,13 +1,15 @@
 -- The derived cells of a line that was cut, and the record that it carries.
-use Rattle.std.proofs.Common.{◌≡◌, ℕ, zero, suc, true, false, List, [], ◌∷◌, ◌++◌, length, drop, option_map, slice_get, refl, sym, ap, ap₂, subst, ◌∙◌, arith, append_assoc, true≢false}
-use Rattle.std.specs.Prelude.{Option, Some, None}
+use Rattle.std.proofs.Common.{◌≡◌, ℕ, zero, suc, true, false, List, [], ◌∷◌, ◌++◌, length, take, drop, option_map, slice_get, refl, sym, ap, ap₂, subst, ◌∙◌, arith, append_assoc, true≢false}
+use Rattle.std.specs.Prelude.{Option, Some, None, IsTrue, IsSomeAnd}
 use Rattle.std.specs.List.{list_any}
 use Rattle.std.proofs.lemmas.Bool.{or_parts}
+use Rattle.std.proofs.lemmas.List.{length-drop, length-take-le}
 use Rattle.cwr_fields.specs.Bytes.{digits}
 use Rattle.cwr_fields.specs.Cells.{type_width}
 use Rattle.cwr_layouts.specs.declared.kinds.Kind.{Kind}
 use Rattle.cwr_layouts.specs.declared.kinds.Kind.TheVariants as kinds
 use Rattle.cwr_layouts.specs.declared.layouts.Field.{Field}
+use Rattle.cwr_layouts.specs.Kinds.{is_in_transaction}
 use Rattle.cwr_layouts.specs.Layouts.{FieldLayout, layout, field_at, field_placed}
 use Rattle.cwr_layouts.specs.Views.{field_view}
 use Rattle.cwr_layouts.specs.Records.{RecordValue}
@@ -121,6 +123,42 @@ all_numbers xs h kind two three four (suc (suc zero)) from = two
 all_numbers xs h kind two three four (suc (suc (suc zero))) from = three
 all_numbers xs h kind two three four (suc (suc (suc (suc zero)))) from = four
 all_numbers xs h kind two three four (suc (suc (suc (suc (suc i))))) from = λ f e d. absurd (true≢false (sym d ∙ none_after (layout kind) i f (four_first kind) e))
+
+-- ---- the sequences of a line inside a transaction
+
+none_from_fourth : (fields : List FieldLayout) (i : ℕ) (f : FieldLayout) → list_any (λ g. g.derived) (drop 3 fields) ≡ false → slice_get fields (suc (suc (suc i))) ≡ Some f → f.derived ≡ false
+none_from_fourth [] i f h e = absurd (cc e)
+none_from_fourth (a ∷ []) i f h e = absurd (cc e)
+none_from_fourth (a ∷ b ∷ []) i f h e = absurd (cc e)
+none_from_fourth (a ∷ b ∷ c ∷ fields) i f h e = none_in fields i f h e
+
+-- no field of such a line after them is derived
+three_first : (kind : Kind) → is_in_transaction kind ≡ true → list_any (λ g. g.derived) (drop 3 (layout kind)) ≡ false
+three_first kinds.Hdr h = refl
+three_first kinds.Grh h = absurd (true≢false (sym h))
+three_first kinds.Grt h = absurd (true≢false (sym h))
+three_first kinds.Trl h = absurd (true≢false (sym h))
+three_first kind h = refl
+
+-- a cell of eight digits is its number
+sequence_cell : (xs : List Symbol) (h : HeldLine) (kind : Kind) (j number : ℕ) (cell : List ℕ) → held_kind h ≡ Some kind → held_cell h j ≡ Some cell → IsNumberAt xs kind j (Some number)
+    → cell ≡ digits (length cell) number → HasNumberAt xs h kind j
+sequence_cell xs h kind j number cell known there n spelled f e d = record {
+  number = number;
+  belongs = n;
+  spelled = there ∙ ap Some (spelled ∙ ap (λ (w : ℕ). digits w number) (length-held_cell h kind j f cell known e there));
+}
+
+pub both_sequences : (xs : List Symbol) (h : HeldLine) (kind : Kind) (m n : ℕ) (cells : List ℕ) → held_kind h ≡ Some kind → IsSomeAnd (held_kind h) (λ k. IsTrue (is_in_transaction k))
+    → held_cell h 2 ≡ Some (take 8 cells) → held_cell h 3 ≡ Some (drop 8 cells) → length cells ≡ 16 → IsNumberAt xs kind 2 (Some m) → IsNumberAt xs kind 3 (Some n)
+    → (take 8 cells ≡ digits 8 m) × (drop 8 cells ≡ digits 8 n) → HasNumbers xs h kind
+both_sequences xs h kind m n cells known inside second third wide a b p =
+    let stands : is_in_transaction kind ≡ true = subst (λ (o : Option Kind). IsSomeAnd o (λ k. IsTrue (is_in_transaction k))) known inside in
+    let front : length (take 8 cells) ≡ 8 = length-take-le 8 cells (omega (arith, wide)) in
+    let back : length (drop 8 cells) ≡ 8 = omega (arith, length-drop 8 cells, wide) in
+    all_numbers xs h kind (sequence_cell xs h kind 2 m (take 8 cells) known second a (p.0 ∙ ap (λ (w : ℕ). digits w m) (sym front)))
+    (sequence_cell xs h kind 3 n (drop 8 cells) known third b (p.1 ∙ ap (λ (w : ℕ). digits w n) (sym back)))
+    (λ f e d. absurd (true≢false (sym d ∙ none_from_fourth (layout kind) 0 f (three_first kind stands) e)))
 
 -- ---- the record of a line
 

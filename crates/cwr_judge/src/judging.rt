@@ -11,7 +11,7 @@ ghost use Rattle.cwr_shape.specs.declared.symbols.Symbol.{Symbol};
 ghost use Rattle.cwr_shape.specs.Tallies.{IsAdmitted, IsTallyOf};
 ghost use Rattle.cwr_judge.specs.Judged.{HasNumberAt, HasNumbers, IsNext, IsOfNone, Lacks, named_symbol, bar_reason, IsGoodText, IsTextFault, IsNumberFault, IsGoodAt, HasReasonAt, MayComeOf, IsFirstFault};
 
-use cwr_fields::{Cell, CellType, Role, TransactionType, fits, spells};
+use cwr_fields::{Cell, CellType, Role, TransactionType, fits, spells, surely_spell_both};
 use cwr_layouts::{CutLine, Kind, RecordRef, field, fields};
 use cwr_shape::{Bar, Reason, Symbol, Tally};
 use cwr_values::symbol_of;
@@ -47,12 +47,34 @@ fn has_number(tally: &Tally, line: &CutLine<'_>, kind: Kind, j: u8) -> bool
     }
 }
 
+/// Whether a quick test finds the two sequences of a line inside a transaction to be the numbers that belong there. A no
+/// says nothing.
+#[inline(always)]
+fn surely_has_numbers(tally: &Tally, line: &CutLine<'_>, kind: Kind) -> bool
+    requires { held_kind line.now ≡ Some kind }
+    ensures { (xs : List Symbol) → IsTallyOf tally.now xs → IsTrue result → HasNumbers xs line.now kind }
+{
+    let Some(sequences) = line.sequences() else {
+        return false;
+    };
+    let Some(transaction) = tally.expects(kind, 2) else {
+        return false;
+    };
+    let Some(record) = tally.expects(kind, 3) else {
+        return false;
+    };
+    surely_spell_both(sequences, transaction, record)
+}
+
 /// Whether each derived cell of the line is the number that belongs there. No kind has one after its fourth field.
 fn has_numbers(tally: &Tally, line: &CutLine<'_>, kind: Kind) -> bool
     requires { held_kind line.now ≡ Some kind }
     ensures yes { (xs : List Symbol) → IsTallyOf tally.now xs → IsTrue result → HasNumbers xs line.now kind }
     ensures no { (xs : List Symbol) → IsTallyOf tally.now xs → IsFalse result → Lacks xs kind (HasNumbers xs line.now kind) }
 {
+    if surely_has_numbers(tally, line, kind) {
+        return true;
+    }
     if !has_number(tally, line, kind, 2) {
         return false;
     }

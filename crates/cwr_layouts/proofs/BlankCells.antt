@@ -137,7 +137,7 @@ pub blank_more : (kind : Kind) (k : ℕ) (place : Field) (old new : List ℕ) �
 blank_more kind k place old new h e n =
     rw add-one (n ∙ ap (λ (x : List ℕ). x ++ blank_cell place.ty place.width) e ∙ sym (blank_next (layout kind) k (field_view place).1 h.field))
 
-length-placed : (at : ℕ) (fields : List FieldLayout) → length (placed_fields at fields) ≡ length fields
+pub length-placed : (at : ℕ) (fields : List FieldLayout) → length (placed_fields at fields) ≡ length fields
 length-placed at [] = refl
 length-placed at (f ∷ fields) = ap suc (length-placed (at + f.width) fields)
 

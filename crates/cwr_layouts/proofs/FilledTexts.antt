@@ -1,5 +1,5 @@
 -- Texts that are filled up with spaces.
-use Rattle.std.proofs.Common.{◌≡◌, ℕ, ◌+◌, ◌-◌, ◌≤◌, List, ◌++◌, length, take, replicate, ap, ◌∙◌, append_assoc, arith}
+use Rattle.std.proofs.Common.{◌≡◌, ℕ, ◌+◌, ◌-◌, ◌≤◌, List, ◌++◌, length, take, replicate, sym, ap, ◌∙◌, append_assoc, append-nil, arith}
 use Rattle.std.specs.Prelude.{Result, Ok, Err}
 use Rattle.std.specs.Result.{IsOk, OnOk}
 use Rattle.std.proofs.lemmas.Bool.{false≢true}
@@ -19,6 +19,12 @@ filled-filled m n text h =
     let count : (m - length text) + more ≡ n - length text = omega (arith, length-filled m text) in
     let joined : replicate (m - length text) 32 ++ replicate more 32 ≡ replicate (n - length text) 32 = replicate-append-replicate (m - length text) more 32 ∙ ap (λ (k : ℕ). replicate k 32) count in
     rw append_assoc (ap (λ (x : List ℕ). text ++ x) joined)
+
+-- a text that is as wide already is filled up
+pub filled_already : (width : ℕ) (text : List ℕ) → width ≤ length text → text ≡ filled width text
+filled_already width text h =
+    let none : width - length text ≡ 0 = omega arith in
+    sym (append-nil text) ∙ ap (λ (n : ℕ). text ++ replicate n 32) (sym none)
 
 -- each line has the three bytes of its record type
 pub line_width_least : (kind : Kind) → 3 ≤ line_width kind

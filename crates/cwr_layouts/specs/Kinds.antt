@@ -1,5 +1,5 @@
 -- The kinds of records, and the three bytes that name each.
-use Rattle.std.specs.Prelude.{ℕ, List, [], ◌∷◌, codes, Option, find}
+use Rattle.std.specs.Prelude.{ℕ, Bool, true, false, List, [], ◌∷◌, codes, Option, find}
 use Rattle.std.specs.Str.{bytes_eq}
 use Rattle.cwr_layouts.specs.declared.kinds.Kind.{Kind}
 use Rattle.cwr_layouts.specs.declared.kinds.Kind.TheVariants.{Hdr, Grh, Grt, Trl, Agr, Ter, Ipa, Nwr, Rev, Spu, Opu, Spt, Swr, Owr, Swt, Pwr, Alt, Ewt, Ver, Per, Rec, Orn, Com, Ack, Msg}
@@ -39,3 +39,11 @@ letters Msg = codes "MSG"
 -- the kind that three bytes name
 abbrev pub kind_of : List ℕ → Option Kind
 kind_of text = find (λ kind. bytes_eq (letters kind) text) all_kinds
+
+-- records of the kind stand in transactions
+abbrev pub is_in_transaction : Kind → Bool
+is_in_transaction Hdr = false
+is_in_transaction Grh = false
+is_in_transaction Grt = false
+is_in_transaction Trl = false
+is_in_transaction kind = true

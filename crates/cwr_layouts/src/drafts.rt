@@ -9,6 +9,7 @@ ghost use Rattle.cwr_layouts.specs.Layouts.{line_width};
 ghost use Rattle.cwr_layouts.specs.Records.{IsRecord, blank_cell, blank_record, carried_fields};
 ghost use Rattle.cwr_layouts.specs.Carried.{Sets, IsSetFault, FitsAt, HasCellFault, IsFirstUnfit, record_in};
 
+use crate::kind_cells::surely_carries;
 use crate::kinds::Kind;
 use crate::layouts::{Field, layout};
 use crate::lines::{fill_up, part};
@@ -106,13 +107,17 @@ fn judge_cell(kind: Kind, line: &[u8], plain: bool, j: u8) -> Result<(), CellFau
     }
 }
 
-/// Judges the cells that a whole line carries, in order.
+/// Judges the cells that a whole line carries, in order: by quick tests, and where these don't find them all good one by
+/// one for the first fault.
 pub(crate) fn judge(kind: Kind, line: &[u8]) -> Result<(), DraftFault>
     requires { length line.now ≡ line_width kind }
     ensures variant { IsOk result ↔ IsRecord (record_in kind line.now) }
     ensures err { IfErr result (IsFirstUnfit (record_in kind line.now)) }
 {
     let plain = is_plain(line);
+    if plain && surely_carries(kind, line) {
+        return Ok(());
+    }
     for before in 0..fields(kind) {
         let field = before + 1;
         if let Err(fault) = judge_cell(kind, line, plain, field) {

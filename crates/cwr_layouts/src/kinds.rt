@@ -1,7 +1,7 @@
 //! The kinds of records.
 
 ghost use Rattle.std.specs.Prelude.{◌≡◌};
-ghost use Rattle.cwr_layouts.specs.Kinds.{kind_of, letters as letters_of};
+ghost use Rattle.cwr_layouts.specs.Kinds.{is_in_transaction, kind_of, letters as letters_of};
 
 /// The kind of a record, by the three bytes that its line begins with.
 #[derive(Clone, Copy, Debug, PartialEq, Eq)]
@@ -125,5 +125,16 @@ pub fn letters(kind: Kind) -> &'static [u8]
         Kind::Com => b"COM",
         Kind::Ack => b"ACK",
         Kind::Msg => b"MSG",
+    }
+}
+
+/// Whether records of the kind stand in transactions.
+#[inline(always)]
+pub(crate) fn is_in_transaction(kind: Kind) -> bool
+    ensures { result ≡ is_in_transaction kind }
+{
+    match kind {
+        Kind::Hdr | Kind::Grh | Kind::Grt | Kind::Trl => false,
+        _ => true,
     }
 }

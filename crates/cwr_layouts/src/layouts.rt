@@ -514,6 +514,7 @@ static MSG: [Field; 9] = [
 ];
 
 /// The fields of a kind, in order.
+#[inline(always)]
 pub(crate) fn layout(kind: Kind) -> &'static [Field]
     ensures { map field_view result.now ≡ placed_fields 0 (layout_of kind) }
 {

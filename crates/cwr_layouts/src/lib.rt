@@ -3,6 +3,7 @@
 
 mod canonical_lines;
 mod drafts;
+mod kind_cells;
 mod kinds;
 pub mod laws;
 mod layouts;

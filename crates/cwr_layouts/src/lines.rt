@@ -2,14 +2,15 @@
 //! one carriage return directly before that belongs to the line end. The most bytes of a line, and that spaces may be
 //! left out or added at its end, are rules of this profile.
 
-ghost use Rattle.std.specs.Prelude.{◌≡◌, ◌≢◌, ◌≤◌, ◌<◌, ◌+◌, ◌++◌, length, take, drop, slice_index, ◌↔◌, IsFalse, IsSome, IsSomeAnd, IfSome, Some, MatchOption, option_map};
+ghost use Rattle.std.specs.Prelude.{◌≡◌, ◌≢◌, ◌≤◌, ◌<◌, ◌+◌, ◌++◌, length, take, drop, slice_index, ◌↔◌, IsFalse, IsSome, IsSomeAnd, IsTrue, IfSome, Some, MatchOption, option_map};
 ghost use Rattle.std.specs.List.{list_any};
 ghost use Rattle.cwr_fields.specs.Bytes.{filled};
 ghost use Rattle.cwr_layouts.specs.Lines.{is_lf, without_cr, body_kind};
+ghost use Rattle.cwr_layouts.specs.Kinds.{is_in_transaction};
 ghost use Rattle.cwr_layouts.specs.Records.{IsRecord};
 ghost use Rattle.cwr_layouts.specs.Held.{held_record, HeldLine, Takes, IsHeld, empty_line, held_kind, held_cell, held_excess, filled_as, return_if};
 
-use crate::kinds::Kind;
+use crate::kinds::{Kind, is_in_transaction};
 use crate::layouts::Field;
 use crate::lookups::{field, width};
 use crate::records::RecordRef;
@@ -72,11 +73,15 @@ pub(crate) fn fill_up<const N: usize>(text: &mut ArrayVec<u8, N>, width: usize)
     requires most { N ≤ LONGEST_LINE }
     ensures { text.new.items ≡ filled width text.old.items }
 {
+    if width <= text.len() {
+        return;
+    }
     let missing = width.saturating_sub(text.len());
     let _fits = text.try_extend_from_slice(&SPACES[..missing]);
 }
 
 /// Fills the text up with spaces to the width of its kind, or to three bytes where they name none.
+#[inline(always)]
 fn fill_by_kind(text: &mut ArrayVec<u8, LONGEST_LINE>) -> Option<Kind>
     ensures kind { result ≡ body_kind text.old.items }
     ensures filled { text.new.items ≡ filled_as result text.old.items }
@@ -88,6 +93,7 @@ fn fill_by_kind(text: &mut ArrayVec<u8, LONGEST_LINE>) -> Option<Kind>
 }
 
 /// The part of a text that a field takes.
+#[inline(always)]
 pub(crate) fn part(text: &[u8], place: Field) -> &[u8]
     requires { place.start + place.width ≤ length text.now }
     ensures { result.now ≡ take place.width (drop place.start text.now) }
@@ -271,8 +277,26 @@ impl<'a> CutLine<'a> {
         Some(part(line.text.as_slice(), place))
     }
 
+    /// The transaction sequence and the record sequence of a line whose kind stands in transactions, one after the other:
+    /// its second and its third cell. `None` of any other line.
+    #[inline(always)]
+    pub fn sequences(&self) -> Option<&'a [u8]>
+        ensures some { IsSome result ↔ IsSomeAnd (held_kind self.now) (λ kind. IsTrue (is_in_transaction kind)) }
+        ensures transaction { IfSome result (λ cells. held_cell self.now 2 ≡ Some (take 8 cells.now)) }
+        ensures record { IfSome result (λ cells. held_cell self.now 3 ≡ Some (drop 8 cells.now)) }
+        ensures wide { IfSome result (λ cells. length cells.now ≡ 16) }
+    {
+        let line = self.line;
+        let kind = line.kind?;
+        if !is_in_transaction(kind) {
+            return None;
+        }
+        Some(&line.text.as_slice()[3..19])
+    }
+
     /// The record that the line's cells carry, borrowed from the line: nothing is copied. `None` where the kind is unknown,
     /// or one of these cells isn't one of its field's type. Derived cells and the excess aren't judged.
+    #[inline(always)]
     pub fn record(&self) -> Option<RecordRef<'a>>
         ensures some { IsSome result ↔ IsSomeAnd (held_record self.now) IsRecord }
         ensures value { IfSome result (λ found. held_record self.now ≡ Some found) }
@@ -280,6 +304,18 @@ impl<'a> CutLine<'a> {
         let line = self.line;
         let kind = line.kind?;
         RecordRef::from_line(kind, &line.text.as_slice()[..width(kind)])
+    }
+
+    /// The record that the line's cells carry, where they are known to carry one: nothing is judged.
+    pub fn known_record(&self) -> RecordRef<'a>
+        requires { IsSomeAnd (held_record self.now) IsRecord }
+        ensures { held_record self.now ≡ Some result }
+    {
+        let line = self.line;
+        let Some(kind) = line.kind else {
+            unreachable!()
+        };
+        RecordRef::kept(kind, &line.text.as_slice()[..width(kind)])
     }
 
     /// Whether what stands after the last field is bad: it isn't all spaces, or the line is too long. A line of

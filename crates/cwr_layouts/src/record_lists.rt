@@ -28,6 +28,19 @@ fn line_at(text: &[u8], place: Place) -> &[u8]
     &text[place.start..][..width(place.kind)]
 }
 
+/// How many bytes there is room for from the first record on: a transaction seldom has more than a few lines.
+const FIRST_ROOM: usize = 1024;
+
+/// Makes room for the first lines at once, so that a buffer that grows line by line seldom moves.
+fn make_first_room(text: &mut Vec<u8>) -> Result<(), AllocError>
+    ensures { text.new.items ≡ text.old.items }
+{
+    if text.is_empty() {
+        text.reserve(FIRST_ROOM)?;
+    }
+    Ok(())
+}
+
 /// Records in order, in one buffer of bytes: the whole line of each, and a list of where they begin.
 #[derive(Drop)]
 pub struct RecordList {
@@ -79,6 +92,7 @@ impl RecordList {
     }
 
     /// Adds a record at the end. It fails where memory for its line or for its place was refused, and then nothing is changed.
+    #[inline(always)]
     pub fn push(&mut self, next: &RecordRef<'_>) -> Result<(), AllocError>
         ensures ok { OnOk result (self.new ≡ self.old ++ next.now ∷ []) }
         ensures err { OnErr result (self.new ≡ self.old) }
@@ -90,6 +104,7 @@ impl RecordList {
             start: self.text.as_slice().len(),
         };
         self.places.reserve(1)?;
+        make_first_room(&mut self.text)?;
         self.text.extend_from_slice(line)?;
         self.places.push_reserved(place);
         Ok(())

@@ -139,3 +139,20 @@ fn records_of_lines(rt: HostRuntime) {
     assert!(rt; longer.cut().record().is_some());
     assert!(rt; line_of(b"XYZ").cut().record().is_none());
 }
+
+#[test]
+fn sequences_of_lines_inside_transactions(rt: HostRuntime) {
+    let line = line_of(b"SPT0000000100000002P1\r\n");
+    assert_eq!(rt;
+        line.cut().sequences(),
+        Some(b"0000000100000002".as_slice())
+    );
+    let texts: [&[u8]; 3] = [
+        b"TRL000010000000100000005\n",
+        b"GRH",
+        b"XYZ0000000100000002",
+    ];
+    for text in texts {
+        assert!(rt; line_of(text).cut().sequences().is_none());
+    }
+}

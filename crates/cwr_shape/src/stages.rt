@@ -132,6 +132,7 @@ impl TransactionStep {
     }
 
     /// The step after one more record of the transaction.
+    #[inline(always)]
     fn on(self, symbol: Symbol) -> Option<TransactionStep>
         ensures { result ≡ step_on self symbol }
     {
@@ -198,6 +199,7 @@ fn next_within(ty: TransactionType, step: TransactionStep, symbol: Symbol) -> Op
 }
 
 /// The stage after one more record; `None` where the table of stages has none.
+#[inline(always)]
 fn next(stage: Stage, symbol: Symbol) -> Option<Stage>
     ensures { result ≡ next_stage stage symbol }
 {
@@ -264,6 +266,7 @@ impl TransactionStep {
 
     /// The step after one more record of the transaction, the one that its records name. `None` where no transaction
     /// continues so, for all records that stand at this step in a transaction of some type, and where none has begun.
+    #[inline(always)]
     pub fn next(self, symbol: Symbol) -> Option<TransactionStep>
         ensures some { (ty : TransactionType) (xs : List Symbol) → StandsAtStep ty xs self → IsSome result ↔ ContinuesIn ty (xs ++ symbol ∷ []) }
         ensures value { (ty : TransactionType) (xs : List Symbol) → StandsAtStep ty xs self → IfSome result (StandsAtStep ty (xs ++ symbol ∷ [])) }
@@ -292,6 +295,7 @@ impl Stage {
 
     /// The stage after one more record. `None` where no transmission continues so: for all records that stand at this
     /// stage, and whatever came before them.
+    #[inline(always)]
     pub fn next(self, symbol: Symbol) -> Option<Stage>
         ensures some { (xs : List Symbol) → StandsAt xs self → IsSome result ↔ Continues Any (xs ++ symbol ∷ []) }
         ensures value { (xs : List Symbol) → StandsAt xs self → IfSome result (StandsAt (xs ++ symbol ∷ [])) }

@@ -8,6 +8,7 @@ use cwr_layouts::{Kind, RecordRef};
 use cwr_shape::Symbol;
 
 /// What the order of records sees of a record: its kind, and of IPA and GRH the role or the type too.
+#[inline(always)]
 pub fn symbol_of(borrowed: &RecordRef<'_>) -> Symbol
     ensures { result ≡ symbol_of borrowed.now }
 {

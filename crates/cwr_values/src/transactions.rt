@@ -124,6 +124,7 @@ impl Transaction {
 
     /// Adds a record at the end. It is refused as misplaced exactly where no transaction continues so, and a refused one
     /// changes nothing.
+    #[inline(always)]
     pub fn push(&mut self, next: RecordRef<'_>) -> Result<(), PushFault>
         ensures ok { OnOk result (self.new ≡ self.old ++ next.entry ∷ []) }
         ensures err { OnErr result (self.new ≡ self.old) }

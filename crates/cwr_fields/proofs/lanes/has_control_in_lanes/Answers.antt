@@ -1,0 +1,10 @@
+use Rattle.std.proofs.Common.{◌+◌, ◌-◌, ◌≡◌, ◌↔◌, All, take, drop, ◌||◌, false, eqb, arith, subst, List, ℕ}
+use Rattle.std.proofs.Math.Dec.{ltb}
+use Rattle.cwr_fields.proofs.ClearLanes.{both}
+use Rattle.cwr_fields.proofs.Covers.{is_found}
+use Rattle.cwr_fields.proofs.lanes.has_control_in_lanes.Goals as goal
+
+pub returns : goal.returns
+returns c =
+    is_found (λ b. ltb b 32 || eqb b 127) (take 32 (drop c.args.at c.args.text.now)) (c.has_low.result || c.has_deleted.result)
+    (both (λ b. ltb b 32) (λ b. eqb b 127) _ _ _ c.has_low.ensures c.has_deleted.ensures)

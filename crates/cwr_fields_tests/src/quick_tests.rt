@@ -1,0 +1,118 @@
+//! Searches that look at many bytes at a time, and quick tests of cells, by example.
+
+use cwr_fields::{
+    CellType, Table, Word, first_control, fits, is_plain, surely_fits, surely_spell_both, width_of,
+};
+
+#[test]
+fn control_bytes_at_each_place(rt: HostRuntime) {
+    let mut text = [b'A'; 130];
+    for len in 0..131 {
+        assert_eq!(rt; first_control(&text[..len]), None);
+        assert!(rt; is_plain(&text[..len]));
+        for at in 0..len {
+            text[at] = 31;
+            assert_eq!(rt; first_control(&text[..len]), Some(at));
+            assert!(rt; !is_plain(&text[..len]));
+            text[at] = b'A';
+        }
+    }
+}
+
+#[test]
+fn bytes_beside_control_bytes(rt: HostRuntime) {
+    for byte in [0, 31, 127] {
+        assert_eq!(rt; first_control(&[byte; 40]), Some(0));
+        assert!(rt; !is_plain(&[byte; 40]));
+    }
+    for byte in [32, 126, 128, 255] {
+        assert_eq!(rt; first_control(&[byte; 40]), None);
+        assert!(rt; is_plain(&[byte; 40]));
+    }
+}
+
+/// What the quick test and the exact one say of the cell. `None` where it isn't as wide as its type.
+fn told_of(ty: CellType, cell: &[u8]) -> Option<(bool, bool)> {
+    match width_of(ty) {
+        Some(width) if width != cell.len() => None,
+        _ if !is_plain(cell) => None,
+        _ => Some((surely_fits(ty, cell), fits(ty, cell).is_ok())),
+    }
+}
+
+static GOOD: [(CellType, &[u8]); 21] = [
+    (CellType::Text, b"   "),
+    (CellType::Required, b"  A"),
+    (CellType::Number, b"0190"),
+    (CellType::OptNumber, b"    "),
+    (CellType::OptNumber, b"0190"),
+    (CellType::Date, b"20240229"),
+    (CellType::OptDate, b"        "),
+    (CellType::OptDate, b"00000000"),
+    (CellType::OptDate, b"20240229"),
+    (CellType::Time, b"235959"),
+    (CellType::OptTime, b"      "),
+    (CellType::OptDuration, b"      "),
+    (CellType::OptDuration, b"995959"),
+    (CellType::Share, b"     "),
+    (CellType::Share, b"10000"),
+    (CellType::Share, b"09999"),
+    (CellType::Flag, b"U"),
+    (CellType::Flag, b" "),
+    (CellType::Code(Table::Sign), b"E"),
+    (CellType::OptCode(Table::Sign), b" "),
+    (CellType::Constant(Word::Edi), b"01.10"),
+];
+
+static BAD: [(CellType, &[u8]); 22] = [
+    (CellType::Required, b"   "),
+    (CellType::Number, b"    "),
+    (CellType::Number, b"019/"),
+    (CellType::Number, b"019:"),
+    (CellType::OptNumber, b"019 "),
+    (CellType::OptNumber, b" 190"),
+    (CellType::Date, b"20230229"),
+    (CellType::OptDate, b"2024 229"),
+    (CellType::OptDate, b"       0"),
+    (CellType::Time, b"240000"),
+    (CellType::OptTime, b"     0"),
+    (CellType::OptDuration, b"996000"),
+    (CellType::Share, b"10001"),
+    (CellType::Share, b"20000"),
+    (CellType::Share, b"0000 "),
+    (CellType::Share, b" 0000"),
+    (CellType::Flag, b"Z"),
+    (CellType::Flag, b"y"),
+    (CellType::Code(Table::Sign), b" "),
+    (CellType::Code(Table::Version), b"OR "),
+    (CellType::OptCode(Table::Sign), b"X"),
+    (CellType::Constant(Word::Edi), b"02.10"),
+];
+
+#[test]
+fn quick_tests_of_each_type(rt: HostRuntime) {
+    for (ty, cell) in &GOOD {
+        assert_eq!(rt; told_of(*ty, cell), Some((true, true)), "{ty:?}");
+    }
+    for (ty, cell) in &BAD {
+        assert_eq!(rt; told_of(*ty, cell), Some((false, false)), "{ty:?}");
+    }
+}
+
+#[test]
+fn quick_tests_of_numbers(rt: HostRuntime) {
+    assert!(rt; surely_spell_both(b"0000001299999999", 12, 99999999));
+    assert!(rt; !surely_spell_both(b"0000001200000012", 12, 100000012));
+    let others = [
+        b"0000001100000007",
+        b"0000001200000008",
+        b"0000001A00000007",
+        b"      1200000007",
+        b"000000120000000/",
+        b"00000012:0000007",
+    ];
+    assert!(rt; surely_spell_both(b"0000001200000007", 12, 7));
+    for text in others {
+        assert!(rt; !surely_spell_both(text, 12, 7));
+    }
+}
