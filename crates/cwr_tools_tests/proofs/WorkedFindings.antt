@@ -15,8 +15,8 @@ use Rattle.cwr_levels.specs.declared.rules.Rule.{Rule}
 use Rattle.cwr_levels.specs.declared.rules.Rule.TheVariants.{V1, V2, V3, V4, V5, V6, V7, V8, V9, V10, V11}
 use Rattle.cwr_levels.specs.declared.rules.Finding.{Finding}
 use Rattle.cwr_levels.specs.Findings.{findings}
-use Rattle.cwr_levels.specs.Lines.{refusal_line, truncated_line}
-use Rattle.cwr_tools.specs.Texts.{check_text, check_lines, good_verdict, split_line, joined_line, limit_line, of_input}
+use Rattle.cwr_levels.specs.Lines.{input_mark, joined_line, limit_line, refusal_line, split_line, truncated_line}
+use Rattle.cwr_tools.specs.Texts.{check_text, check_lines, good_verdict}
 use Rattle.cwr_fields.specs.declared.cell_types.CellFault.TheVariants as cell_faults
 use Rattle.cwr_shape.specs.declared.limits.LimitKind.TheVariants as limit_kinds
 use Rattle.cwr_shape.specs.declared.reasons.Reason.{Reason}
@@ -123,7 +123,7 @@ joined_from_two : joined_line 2 3 3 14 ≡ codes "JOINED inputs 2 groups 3 trans
 unfolding plain_digits
 joined_from_two = refl
 
-second_input : of_input 2 (limit_line limit_kinds.Records) ≡ codes "input 2: LIMIT records\n"
+second_input : input_mark 2 ++ limit_line limit_kinds.Records ≡ codes "input 2: LIMIT records\n"
 unfolding plain_digits
 second_input = refl
 
