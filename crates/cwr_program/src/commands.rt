@@ -8,9 +8,7 @@ use crate::new_files::{Place, gathered};
 use cwr_encode::{Sink, SinkFault};
 use cwr_fields::{Counted, Target};
 use cwr_shape::Limits;
-use cwr_tools::{
-    JoinFault, JoinReport, ToolFault, Verdict, check, join, put_join_outcome, show,
-};
+use cwr_tools::{JoinFault, JoinReport, ToolFault, Verdict, check, join, put_join_outcome, show};
 use std::alloc::Global;
 use std::fs::File;
 use std::io::{BufReader, BufWriter, Read, Write};
@@ -70,7 +68,10 @@ pub(crate) fn show_input<'a, I: Read + Drop, O: Write + Drop>(
 }
 
 /// Hands on the lines that were put, where they could be.
-fn hand_on<'a, W: Target + Drop>(put: Result<(), SinkFault>, sink: Sink<W>) -> Result<(), Fault<'a>> {
+fn hand_on<'a, W: Target + Drop>(
+    put: Result<(), SinkFault>,
+    sink: Sink<W>,
+) -> Result<(), Fault<'a>> {
     let mut writer = sink.into_inner();
     match (put, writer.flush()) {
         (Ok(()), Ok(())) => Ok(()),
@@ -87,7 +88,9 @@ fn opened_all<'a, R: Files>(
     let mut readers = Vec::new(alloc);
     for name in names {
         let file = opened(rt, name)?;
-        readers.push(bytes_of(alloc, file)).map_err(|_| Fault::Memory)?;
+        readers
+            .push(bytes_of(alloc, file))
+            .map_err(|_| Fault::Memory)?;
     }
     Ok(readers)
 }

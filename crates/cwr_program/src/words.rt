@@ -90,9 +90,9 @@ fn over_one<'a>(alloc: Global, name: &'a str, about: &'a str) -> Result<Command<
 
 /// The subcommand that joins.
 fn joining<'a>(alloc: Global) -> Result<Command<'a>, AllocError> {
-    let out = Arg::new(alloc, OUT)
-        .required(true)
-        .help("The file that the result is written to; it is none of the inputs");
+    let out = Arg::new(alloc, OUT).required(true).help(
+        "The file that the result is written to; it is none of the inputs",
+    );
     let files = Arg::new(alloc, FILE)
         .required(true)
         .num_args(1..)

@@ -343,19 +343,28 @@ fn join_of_inputs_that_are_not_there_or_empty(rt: HostRuntime) {
     let words = ["cwr", "join", "/dev/null", "/dev/null", "/dev/null"];
     let ran = run_over(&rt, words.as_slice(), Failing);
     assert_eq!(rt; ran.status, 1);
-    assert_eq!(rt; ran.output.as_slice(), b"input 1: TRUNCATED records 0\n".as_slice());
+    assert_eq!(rt;
+        ran.output.as_slice(),
+        b"input 1: TRUNCATED records 0\n".as_slice()
+    );
     assert_eq!(rt; ran.error.as_slice(), b"".as_slice());
     // Inputs are opened in their order, and OUT after them.
     let words = ["cwr", "join", "no/such/out", "/dev/null", "no/such/file"];
     let ran = run_over(&rt, words.as_slice(), Failing);
     assert_eq!(rt; ran.status, 3);
     assert_eq!(rt; ran.output.as_slice(), b"".as_slice());
-    assert_eq!(rt; ran.error.as_slice(), b"cwr: cannot open no/such/file\n".as_slice());
+    assert_eq!(rt;
+        ran.error.as_slice(),
+        b"cwr: cannot open no/such/file\n".as_slice()
+    );
     let words = ["cwr", "join", "no/such/out", "/dev/null"];
     let ran = run_over(&rt, words.as_slice(), Failing);
     assert_eq!(rt; ran.status, 3);
     assert_eq!(rt; ran.output.as_slice(), b"".as_slice());
-    assert_eq!(rt; ran.error.as_slice(), b"cwr: cannot open no/such/out\n".as_slice());
+    assert_eq!(rt;
+        ran.error.as_slice(),
+        b"cwr: cannot open no/such/out\n".as_slice()
+    );
 }
 
 #[test]
