@@ -30,7 +30,7 @@ use Rattle.cwr_tools.specs.declared.verdicts.JoinReport.{JoinReport}
 use Rattle.cwr_tools.specs.declared.verdicts.ToolFault.{ToolFault}
 use Rattle.cwr_tools.specs.declared.verdicts.ToolFault.TheVariants.{Reader, Writer, Memory, Refused, Truncated, Limit, Output}
 use Rattle.cwr_tools.specs.Joins.{AreJoined, HasInput, IsOfDevice, Joins, JoinsAccepted, PassesLimit, StopsBy, TakeInputs, is_first, is_joined, join_report, joined_inputs, joined_items, joined_records}
-use Rattle.cwr_tools.proofs.BegunTransmissions.{begins_within}
+use Rattle.cwr_tools.proofs.BegunTransmissions.{begins_within, never_barred}
 use Rattle.cwr_tools.proofs.ItemsAdded.{records_in-append, records_in_value}
 use Rattle.cwr_tools.proofs.JoinedItems.{joined_all, joined_whole, next_joined}
 
@@ -139,11 +139,6 @@ within_joined limits before own after joined given rest whole fits e own_is =
     ∙ ap (λ (l : List Item). l ++ Ended ∷ []) (f.1 ∙ ap (λ (l : List Item). l ++ f.0) parts ∙ append_assoc (joined_items before given) (filter test rest) f.0)
     ∙ append_assoc (joined_items before given) (filter test rest ++ f.0) (Ended ∷ []) in
     begins_within limits joined (joined_records before given) (records_in more) whole fits (sym (records_in_value joined) ∙ ap records_in split ∙ records_in-append (joined_items before given) more)
-
-never_barred : (limits : Limits) (xs : List Symbol) (limit : LimitKind) → Continues (IsWithin limits) xs → IsBarredFirst limits (λ P. Continues P xs) (bars.Limit limit) → ⊥
-never_barred limits xs limit_kinds.Records g h = h.1 (g.0, g.1, g.2.0, g.3)
-never_barred limits xs limit_kinds.Groups g h = h.1 (g.0, g.1, g.2.1, g.3)
-never_barred limits xs limit_kinds.Transaction g h = h.2 (g.0, g.1, g.2.2, g.3)
 
 not_limited : {P R W : Type 0} (limits : Limits) (limit : LimitKind) (contents : W → Option (List ℕ)) (remaining : R → Option (List ℕ)) (earlier : List R) (hand : R) (after : Option (List ℕ)) (old new : W) (ws : List TransmissionValue)
     (joined : TransmissionValue) (p : AreParted limits remaining earlier hand ws) → IsTransmission joined → AreJoined ws joined → FitsIn limits joined → PassesLimit limits limit contents p.before (remaining hand) after old new → P

@@ -7,9 +7,11 @@ use Rattle.cwr_layouts.specs.Records.{RecordValue}
 use Rattle.cwr_shape.specs.declared.symbols.Symbol.{Symbol}
 use Rattle.cwr_shape.specs.declared.limits.LimitKind.{LimitKind}
 use Rattle.cwr_shape.specs.declared.limits.LimitKind.TheVariants as limits
+use Rattle.cwr_shape.specs.declared.tallies.Bar.TheVariants as bars
 use Rattle.cwr_shape.specs.Ranges.{LimitValues}
 use Rattle.cwr_shape.specs.Left.{Any}
 use Rattle.cwr_shape.specs.Outlines.{Continues, IsWithin}
+use Rattle.cwr_shape.specs.Tallies.{IsBarredFirst}
 use Rattle.cwr_values.specs.Values.{TransmissionValue, IsTransmission, FitsIn, symbol_of, outline_of}
 use Rattle.cwr_values.specs.Rows.{records_of}
 use Rattle.cwr_values.proofs.OneSpelling.{symbols-outline, outline_whole}
@@ -39,3 +41,9 @@ pub never_limited : (allowed : LimitValues) (comes right whole : Type 0) (xs add
 never_limited allowed comes right whole xs added limits.Records g h = h.3.1 (g.0, g.1, g.2.0, g.3)
 never_limited allowed comes right whole xs added limits.Groups g h = h.3.1 (g.0, g.1, g.2.1, g.3)
 never_limited allowed comes right whole xs added limits.Transaction g h = h.3.2 (g.0, g.1, g.2.2, g.3)
+
+-- nor is it barred
+pub never_barred : (allowed : LimitValues) (xs : List Symbol) (limit : LimitKind) → Continues (IsWithin allowed) xs → IsBarredFirst allowed (λ P. Continues P xs) (bars.Limit limit) → ⊥
+never_barred allowed xs limits.Records g h = h.1 (g.0, g.1, g.2.0, g.3)
+never_barred allowed xs limits.Groups g h = h.1 (g.0, g.1, g.2.1, g.3)
+never_barred allowed xs limits.Transaction g h = h.2 (g.0, g.1, g.2.2, g.3)

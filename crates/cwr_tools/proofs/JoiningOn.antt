@@ -34,7 +34,7 @@ use Rattle.cwr_tools.proofs.ItemsAdded.{IsRight, all_first, all_second, few_afte
 pub records_more : (items : List Item) (item : Item) → records_in (items ++ item ∷ []) ≡ records_in items ++ item_records item
 records_more items item = records_in-append items (item ∷ []) ∙ ap (λ (l : List RecordValue). records_in items ++ l) (append-nil (item_records item))
 
-symbols_more : (items : List Item) (item : Item) → map symbol_of (records_in items) ++ map symbol_of (item_records item) ≡ map symbol_of (records_in (items ++ item ∷ []))
+pub symbols_more : (items : List Item) (item : Item) → map symbol_of (records_in items) ++ map symbol_of (item_records item) ≡ map symbol_of (records_in (items ++ item ∷ []))
 symbols_more items item = sym (map-append symbol_of (records_in items) (item_records item)) ∙ ap (map symbol_of) (sym (records_more items item))
 
 -- ---- counts
@@ -102,7 +102,7 @@ put_on contents failures item old new u adds same counts = record {
   limits = same;
 }
 
-item_barred : (limits : LimitValues) (item : Item) (xs : List Symbol) (limit : LimitKind) → JudgesItem limits item xs (Err (encode_faults.Limit limit))
+pub item_barred : (limits : LimitValues) (item : Item) (xs : List Symbol) (limit : LimitKind) → JudgesItem limits item xs (Err (encode_faults.Limit limit))
     → IsBarredFirst limits (λ P. Continues P (xs ++ map symbol_of (item_records item))) (bars.Limit limit)
 item_barred limits (Opened r) xs limit h = h.3
 item_barred limits (GroupOpened r) xs limit h = h.3

@@ -38,11 +38,11 @@ use Rattle.cwr_tools.proofs.JoiningOn.{few_records, is_count, records_more}
 -- ---- the last record is GRT
 
 -- groups end with one that closes
-record AreClosed (items : List Item) : Type 0 where
-  front : List Item
-  foot : RecordValue
-  foot_is : foot.kind ≡ kinds.Grt
-  split : items ≡ front ++ GroupClosed foot ∷ []
+pub record AreClosed (items : List Item) : Type 0 where
+  pub front : List Item
+  pub foot : RecordValue
+  pub foot_is : foot.kind ≡ kinds.Grt
+  pub split : items ≡ front ++ GroupClosed foot ∷ []
 
 groups_closed : (g : GroupValue) (gs : List GroupValue) → AllByRecursion IsGroup (g ∷ gs) → AreClosed (flat_map group_items (g ∷ gs))
 groups_closed g [] h = record { front = GroupOpened g.head ∷ map Transaction g.transactions; foot = g.foot; foot_is = h.0.foot.0; split = append-nil (group_items g) }
@@ -55,11 +55,11 @@ groups_closed g (f ∷ gs) h =
       split = ap (λ (l : List Item). group_items g ++ l) c.split ∙ sym (append_assoc (group_items g) c.front (GroupClosed c.foot ∷ []));
     }
 
-closed_end : (gs : List GroupValue) → AllByRecursion IsGroup gs → 0 < length gs → AreClosed (flat_map group_items gs)
+pub closed_end : (gs : List GroupValue) → AllByRecursion IsGroup gs → 0 < length gs → AreClosed (flat_map group_items gs)
 closed_end [] h some = absurd (omega (arith, some))
 closed_end (g ∷ gs) h some = groups_closed g gs h
 
-reached_foot : (items : List Item) → AreClosed items → (first : Item) → reached (map symbol_of (records_in (first ∷ items))) ≡ reached_by (Some (Plain kinds.Grt))
+pub reached_foot : (items : List Item) → AreClosed items → (first : Item) → reached (map symbol_of (records_in (first ∷ items))) ≡ reached_by (Some (Plain kinds.Grt))
 reached_foot items c first =
     let before : List RecordValue = records_in (first ∷ c.front) in
     let records : records_in (first ∷ items) ≡ before ++ c.foot ∷ [] = ap (λ (l : List Item). records_in (first ∷ l)) c.split ∙ records_more (first ∷ c.front) (GroupClosed c.foot) in
@@ -75,7 +75,7 @@ reached_end (v ∷ others) each some =
 
 -- ---- so TRL is no mistake
 
-right_end : (limits : LimitValues) (xs : List Symbol) (answer : Result ℕ EncodeFault) → reached xs ≡ reached_by (Some (Plain kinds.Grt)) → JudgesEnd limits xs answer → IsNoMistake answer
+pub right_end : (limits : LimitValues) (xs : List Symbol) (answer : Result ℕ EncodeFault) → reached xs ≡ reached_by (Some (Plain kinds.Grt)) → JudgesEnd limits xs answer → IsNoMistake answer
 right_end limits xs (Ok n) e h = tt
 right_end limits xs (Err encode_faults.OutOfOrder) e h = absurd (h (subst MayEnd (sym e) tt))
 right_end limits xs (Err encode_faults.WrongKind) e h = absurd (h.1 tt)

@@ -19,7 +19,7 @@ use cwr_shape::Limits;
 use cwr_values::Item;
 
 /// Writes the record or the transaction of an item.
-fn put_item<W: Target>(encoder: &mut Encoder<W>, item: &Item) -> Result<(), EncodeFault>
+pub(crate) fn put_item<W: Target>(encoder: &mut Encoder<W>, item: &Item) -> Result<(), EncodeFault>
     requires unfailed { is_stopped encoder.old ≡ false }
     requires not_ended { item.now ≢ Item.Ended }
     ensures judged { (start : Option (List ℕ)) (records : List RecordValue) → Encodes W.contents start records encoder.old
@@ -37,7 +37,7 @@ fn put_item<W: Target>(encoder: &mut Encoder<W>, item: &Item) -> Result<(), Enco
 }
 
 /// What the fault of an encoder is reported as.
-fn fault_of(fault: EncodeFault) -> ToolFault
+pub(crate) fn fault_of(fault: EncodeFault) -> ToolFault
     requires { IsNoMistake {A = ℕ} (Err fault) }
     ensures { is_fault_of fault result }
 {

@@ -13,7 +13,7 @@ use cwr_shape::Limits;
 use std::alloc::Global;
 
 /// What the fault of a reading is reported as.
-fn reading_fault(fault: ReadFault) -> ToolFault
+pub(crate) fn reading_fault(fault: ReadFault) -> ToolFault
     ensures { result ≡ reading_fault fault }
 {
     match fault {

@@ -70,3 +70,12 @@ pub struct JoinFault {
     /// What came.
     pub fault: ToolFault,
 }
+
+/// What a split wrote.
+#[derive(Clone, Copy, Debug, PartialEq, Eq)]
+pub struct SplitReport {
+    /// The outputs.
+    pub outputs: u32,
+    /// The transactions in them.
+    pub transactions: u32,
+}

@@ -1,0 +1,17 @@
+-- What the outputs of a split have had.
+use Rattle.std.specs.Prelude.{◌≡◌, ℕ, ◌==◌, List, [], ◌∷◌, ◌++◌, Option, Some, None, if◌then◌else◌}
+use Rattle.cwr_fields.specs.Failures.{one_more_failure}
+
+-- texts that were known stay at the front, and these come after them
+abbrev pub AddsTexts : Option (List (List ℕ)) → Option (List (List ℕ)) → List (List ℕ) → Type 0
+AddsTexts None new added = Unit {0}
+AddsTexts (Some texts) None added = ⊥
+AddsTexts (Some texts) (Some now) added = now ≡ texts ++ added
+
+-- one text does
+abbrev pub AddsText : Option (List (List ℕ)) → Option (List (List ℕ)) → List ℕ → Type 0
+AddsText old new text = AddsTexts old new (text ∷ [])
+
+-- how many failed writers were given up, with one more that has so many failures
+abbrev pub given_up_with : ℕ → ℕ → ℕ
+given_up_with failures before = if failures == 0 then before else one_more_failure before
