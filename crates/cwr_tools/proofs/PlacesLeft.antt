@@ -207,7 +207,7 @@ ended limits n v whole o closed item rest p e some =
 no_more : (limits : Limits) (n : ℕ) (v : TransmissionValue) (whole : List TransmissionValue) (p : Place) (rest : List Item) → Remains limits n v whole p rest → Remains limits n v (whole ++ []) p rest
 no_more limits n v whole p rest h = subst (λ (l : List TransmissionValue). Remains limits n v l p rest) (sym (append-nil whole)) h
 
-after_foot : (limits : Limits) (n : ℕ) (v : TransmissionValue) (whole : List TransmissionValue) (o : RecordValue) (closed : List GroupValue) (h : RecordValue) (cur : List (List RecordValue)) (item : Item) (rest : List Item)
+pub after_foot : (limits : Limits) (n : ℕ) (v : TransmissionValue) (whole : List TransmissionValue) (o : RecordValue) (closed : List GroupValue) (h : RecordValue) (cur : List (List RecordValue)) (item : Item) (rest : List Item)
     → (p : RemainsInside limits n v whole o closed h cur (item ∷ rest)) → p.todo ≡ [] → rest ≡ flat_map group_items p.after ++ Ended ∷ [] → RemainsBetween limits n v whole o (with_group closed h cur) rest
 after_foot limits n v whole o closed h [] item rest p e f = by p.some
   where

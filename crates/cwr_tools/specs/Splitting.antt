@@ -3,7 +3,7 @@ use Rattle.std.specs.Prelude.{◌≡◌, ℕ, ◌/◌, List, [], ◌∷◌, ◌+
 use Rattle.cwr_fields.specs.Failures.{one_more_failure}
 use Rattle.cwr_shape.specs.declared.limits.Limits.{Limits}
 use Rattle.cwr_values.specs.declared.items.Item.{Item}
-use Rattle.cwr_values.specs.Values.{TransmissionValue, IsTransmission}
+use Rattle.cwr_values.specs.Values.{TransmissionValue, IsTransmission, FitsIn}
 use Rattle.cwr_values.specs.Rows.{canonical_text}
 use Rattle.cwr_judge.specs.Ends.{IsAccepted}
 use Rattle.cwr_judge.specs.Items.{AreFirstItems, is_transaction, value_items}
@@ -28,10 +28,10 @@ abbrev pub first_texts : ℕ → ℕ → TransmissionValue → List (List ℕ)
 first_texts n count v = map canonical_text (take count (split_of n v))
 
 -- The items begin a transmission within the limits. The outputs have had the texts of the runs that the transactions of the items
--- fill, whatever transmission they begin.
+-- fill, whatever transmission within the limits they begin.
 pub record HasFullRuns (limits : Limits) (n : ℕ) (given : List Item) (old new : Option (List (List ℕ))) : Type 0 where
   pub begun : AreFirstItems limits given
-  pub texts : (v : TransmissionValue) (rest : List Item) → IsTransmission v → value_items v ≡ given ++ rest → AddsTexts old new (first_texts n (count_by is_transaction given / n) v)
+  pub texts : (v : TransmissionValue) (rest : List Item) → IsTransmission v → FitsIn limits v → value_items v ≡ given ++ rest → AddsTexts old new (first_texts n (count_by is_transaction given / n) v)
 
 -- all outputs were handed over
 pub record SplitsAll (limits : Limits) (n : ℕ) (before after : Option (List ℕ)) (old new : Option (List (List ℕ))) (report : SplitReport) : Type 0 where

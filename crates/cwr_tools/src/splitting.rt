@@ -2,7 +2,10 @@
 
 ghost use Rattle.std.specs.Prelude.{◌≡◌, ◌≢◌, ◌<◌, None};
 ghost use Rattle.cwr_values.specs.declared.items.Item.{Item};
-ghost use Rattle.cwr_tools.specs.SplitOutputs.{told_by};
+ghost use Rattle.cwr_tools.specs.Outputs.{given_up_with};
+ghost use Rattle.cwr_tools.specs.SplitOutputs.{open_failures, told_by};
+ghost use Rattle.cwr_tools.specs.SplitItems.{MayTake, SplitsItems, Takes};
+ghost use Rattle.cwr_tools.specs.Splitting.{CountsSplitOutput, CountsSplitReader, CountsSplitWriter, Splits, SplitsAccepted};
 ghost use Rattle.cwr_tools.specs.SplitSteps.{AddsTransaction, EndsGroup, Finishes, GivesUp, MayAddTransaction, MayEndGroup, MayFinish, MayWrite, OpensOutput, Writes, has_all, is_new};
 
 use crate::joining::reading_fault;
@@ -154,7 +157,10 @@ fn take_item<O: Outputs>(
     splitting: &mut Splitting<O::W>,
     item: Item,
     outputs: &mut O,
-) -> Result<(), ToolFault> {
+) -> Result<(), ToolFault>
+    requires { MayTake (told_by O.texts O.failures O.given_up) O.W.contents O.W.failures item splitting.old outputs.old }
+    ensures { Takes (told_by O.texts O.failures O.given_up) O.W.contents O.W.failures item result splitting.old splitting.new outputs.old outputs.new }
+{
     match &item {
         Item::Opened(_) => {
             splitting.opening = Some(item);
@@ -186,7 +192,14 @@ fn split_items<R: Source, O: Outputs>(
     reader: &mut R,
     splitting: &mut Splitting<O::W>,
     outputs: &mut O,
-) -> Result<(), ToolFault> {
+) -> Result<(), ToolFault>
+    requires some { 0 < splitting.old.size }
+    requires fresh { splitting.old ≡ is_new limits splitting.old.size }
+    ensures splits { SplitsItems limits splitting.old.size (R.remaining reader.old) (R.remaining reader.new) (O.texts outputs.old) (O.texts outputs.new) splitting.new.report result }
+    ensures reader_failures { CountsSplitReader result (R.failures reader.old) (R.failures reader.new) }
+    ensures failures { CountsSplitOutput result (O.failures outputs.old) (O.failures outputs.new) }
+    ensures given_up { CountsSplitWriter result (O.given_up outputs.old) (given_up_with (open_failures O.W.failures splitting.new.output) (O.given_up outputs.new)) }
+{
     let mut reading = Reading::new(alloc, limits, reader);
     let mut handed_out: u64 = 0;
     'items: loop {
@@ -223,6 +236,12 @@ pub fn split<R: Source, O: Outputs>(
     outputs: &mut O,
 ) -> Result<SplitReport, ToolFault>
     requires { 0 < n }
+    ensures splits { Splits limits n (R.remaining reader.old) (R.remaining reader.new) (O.texts outputs.old) (O.texts outputs.new) result }
+    // No failure is passed over: a reader, an output or a writer failed only where that is the answer.
+    ensures reader_failures { CountsSplitReader result (R.failures reader.old) (R.failures reader.new) }
+    ensures failures { CountsSplitOutput result (O.failures outputs.old) (O.failures outputs.new) }
+    ensures given_up { CountsSplitWriter result (O.given_up outputs.old) (O.given_up outputs.new) }
+    ensures accepted { SplitsAccepted limits n (R.remaining reader.old) (R.remaining reader.new) (O.texts outputs.old) (O.texts outputs.new) result }
 {
     let mut splitting = Splitting::new(limits, n);
     match split_items(alloc, limits, reader, &mut splitting, outputs) {
