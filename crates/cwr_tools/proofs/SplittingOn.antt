@@ -241,6 +241,9 @@ item_taken limits n d new before left after told contents failures count begin s
           subst (λ (i : Item). LeavesRead (Ok (Some i)) new.state) is leaves;
     }
 
+pub leaves_item : (reported : Option Item) (item : Item) (state : State) → reported ≡ Some item → LeavesRead (Ok reported) state → LeavesRead (Ok (Some item)) state
+leaves_item reported item state e h = subst (λ (r : Option Item). LeavesRead (Ok r) state) e h
+
 -- ---- the full runs
 
 -- before the end the parts that are whole are the runs that are filled
