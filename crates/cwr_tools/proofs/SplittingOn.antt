@@ -101,20 +101,24 @@ counted_at n (Between o closed) report other h = h
 counted_at n (Inside o closed head cur) report other h = h
 counted_at n Over report other h = absurd (other refl)
 
--- at the end all parts are whole
-at_end : (limits : Limits) (n : ℕ) (v : TransmissionValue) (whole : List TransmissionValue) (place : Place) → Remains limits n v whole place [] → split_of n v ≡ whole
-at_end limits n v whole Start h = absurd (let none : [] ≡ Opened v.opening ∷ (flat_map group_items v.groups ++ Ended ∷ []) = h.0 in cc none)
-at_end limits n v whole (Between o closed) h = by h.after h.rest_is
+-- nothing is left only at the end
+is_over : (limits : Limits) (n : ℕ) (v : TransmissionValue) (whole : List TransmissionValue) (place : Place) → Remains limits n v whole place [] → place ≡ Over
+is_over limits n v whole Start h = absurd (let none : [] ≡ Opened v.opening ∷ (flat_map group_items v.groups ++ Ended ∷ []) = h.0 in cc none)
+is_over limits n v whole (Between o closed) h = by h.after h.rest_is
   where
-    by : (after : List GroupValue) → [] ≡ flat_map group_items after ++ Ended ∷ [] → split_of n v ≡ whole
+    by : (after : List GroupValue) → [] ≡ flat_map group_items after ++ Ended ∷ [] → Between o closed ≡ Over
     by [] e = absurd (cc e)
     by (g ∷ gs) e = absurd (let f : [] ≡ GroupOpened g.head ∷ (((map Transaction g.transactions ++ GroupClosed g.foot ∷ []) ++ flat_map group_items gs) ++ Ended ∷ []) = e in cc f)
-at_end limits n v whole (Inside o closed head cur) h = by h.todo h.rest_is
+is_over limits n v whole (Inside o closed head cur) h = by h.todo h.rest_is
   where
-    by : (todo : List (List RecordValue)) → [] ≡ map Transaction todo ++ GroupClosed h.foot ∷ (flat_map group_items h.after ++ Ended ∷ []) → split_of n v ≡ whole
+    by : (todo : List (List RecordValue)) → [] ≡ map Transaction todo ++ GroupClosed h.foot ∷ (flat_map group_items h.after ++ Ended ∷ []) → Inside o closed head cur ≡ Over
     by [] e = absurd (cc e)
     by (t ∷ ts) e = absurd (let f : [] ≡ Transaction t ∷ (map Transaction ts ++ GroupClosed h.foot ∷ (flat_map group_items h.after ++ Ended ∷ [])) = e in cc f)
-at_end limits n v whole Over h = h.1
+is_over limits n v whole Over h = refl
+
+-- and then all parts are whole
+at_end : (limits : Limits) (n : ℕ) (v : TransmissionValue) (whole : List TransmissionValue) (place : Place) → Remains limits n v whole place [] → split_of n v ≡ whole
+at_end limits n v whole place h = (subst (λ (p : Place). Remains limits n v whole p []) (is_over limits n v whole place h) h).1
 
 -- ---- texts
 
@@ -358,3 +362,14 @@ reader_quiet tool_faults.Memory old new k e = absurd k
 reader_quiet (tool_faults.Refused refusal) old new k e = absurd k
 reader_quiet (tool_faults.Truncated records) old new k e = absurd k
 reader_quiet (tool_faults.Limit limit) old new k e = absurd k
+
+-- once all is read no output is open
+pub no_output_left : {O W : Type 0} (limits : Limits) (n : ℕ) (d : Standing) (before left after : Option (List ℕ)) (told : Told O) (contents : W → Option (List ℕ)) (failures : W → ℕ) (count : ℕ) (begin : O) (s : Splitting W) (o : O) → 0 < n
+    → (h : IsSplitting limits n d before left told contents failures count begin s o) → HasReadAll limits before after h.given → s.output ≡ None
+no_output_left limits n d before left after told contents failures count begin s o some h read =
+    let all = all_items limits before after h.given read in
+    let taken = all_taken limits before after h.given all.value read (λ w whole are. items_once all.value w (sym all.given_are ∙ are)) in
+    let place : Place = place_in n Start h.given in
+    let remains = remains_after limits n all.value h.given [] some all.whole taken.accepted.within (sym all.given_are ∙ sym (append-nil h.given)) in
+    let over : place ≡ Over = is_over limits n all.value (parts_in n Start h.given) place remains in
+    h.holds.none (ap open_total over)

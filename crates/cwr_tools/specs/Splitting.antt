@@ -79,7 +79,12 @@ CountsSplitWriter (Err fault) old new = CountsOutputFault fault old new
 
 -- ---- what is answered where the input is accepted
 
+-- the fault is one of making and finishing outputs, of another device, or of memory
+abbrev pub IsOfSplitDevice : ToolFault → Type 0
+IsOfSplitDevice Output = Unit {0}
+IsOfSplitDevice fault = IsOfDevice fault
+
 -- where the input is accepted its transmission is split, unless a device or memory failed
 abbrev pub SplitsAccepted : Limits → ℕ → Option (List ℕ) → Option (List ℕ) → Option (List (List ℕ)) → Option (List (List ℕ)) → Result SplitReport ToolFault → Type 0
 SplitsAccepted limits n before after old new result = IfSome before (λ text. (v : TransmissionValue) (count : ℕ) → IsAccepted limits text v count
-    → MatchResult result (λ report. (report ≡ split_report n v) × (after ≡ Some (drop count text)) × AddsTexts old new (map canonical_text (split_of n v))) IsOfDevice)
+    → MatchResult result (λ report. (report ≡ split_report n v) × (after ≡ Some (drop count text)) × AddsTexts old new (map canonical_text (split_of n v))) IsOfSplitDevice)

@@ -1,6 +1,6 @@
 //! Splitting a transmission.
 
-ghost use Rattle.std.specs.Prelude.{◌≡◌, ◌≢◌, ◌<◌, None};
+ghost use Rattle.std.specs.Prelude.{◌≡◌, ◌≢◌, ◌<◌, None, OnOk};
 ghost use Rattle.cwr_values.specs.declared.items.Item.{Item};
 ghost use Rattle.cwr_tools.specs.Outputs.{given_up_with};
 ghost use Rattle.cwr_tools.specs.SplitOutputs.{open_failures, told_by};
@@ -196,6 +196,7 @@ fn split_items<R: Source, O: Outputs>(
     requires some { 0 < splitting.old.size }
     requires fresh { splitting.old ≡ is_new limits splitting.old.size }
     ensures splits { SplitsItems limits splitting.old.size (R.remaining reader.old) (R.remaining reader.new) (O.texts outputs.old) (O.texts outputs.new) splitting.new.report result }
+    ensures ended { OnOk result (splitting.new.output ≡ None) }
     ensures reader_failures { CountsSplitReader result (R.failures reader.old) (R.failures reader.new) }
     ensures failures { CountsSplitOutput result (O.failures outputs.old) (O.failures outputs.new) }
     ensures given_up { CountsSplitWriter result (O.given_up outputs.old) (given_up_with (open_failures O.W.failures splitting.new.output) (O.given_up outputs.new)) }

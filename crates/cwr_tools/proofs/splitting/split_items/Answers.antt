@@ -8,7 +8,7 @@ use Rattle.cwr_tools.specs.SplitOutputs.{told_by}
 use Rattle.cwr_tools.specs.Splitting.{Splits}
 use Rattle.cwr_tools.specs.Verdicts.{StopsAfter}
 use Rattle.cwr_tools.proofs.ReportsOn.{same_fault, stops_after}
-use Rattle.cwr_tools.proofs.SplittingOn.{all_split, few_handed_out, item_taken, leaves_item, may_take, next_item, none_given_up, none_split, output_stopped, reader_quiet, reading_counts, reading_stopped}
+use Rattle.cwr_tools.proofs.SplittingOn.{all_split, few_handed_out, item_taken, leaves_item, may_take, next_item, no_output_left, none_split, output_stopped, reader_quiet, reading_counts, reading_stopped}
 use Rattle.cwr_tools.proofs.splitting.split_items.Goals as goal
 
 pub items-init : goal.items-init
@@ -87,3 +87,10 @@ returns-in-Err-clause-splits g c =
     (sym c.reading_fault.ensures) (reading_stopped c.args.limits c.args.splitting.now.size c.items.reading.decoder (g.R.Source.remaining c.args.reader.now) _ (g.R.Source.remaining c.next_item.new.self.reader.now) (told_by g.O.Outputs.texts g.O.Outputs.failures g.O.Outputs.given_up) g.O.W.Target.contents g.O.W.Target.failures c.items.handed_out c.args.outputs.now c.items.splitting c.items.outputs c.in-Err.fault _ _ c.requires.some c.items.invariant.splitting
     c.in-Err.ensures.again stop) in
     search rules
+
+pub returns-in-Ok-None-clause-ended : goal.returns-in-Ok-None-clause-ended
+returns-in-Ok-None-clause-ended g c =
+    let all : HasReadAll c.args.limits (g.R.Source.remaining c.args.reader.now) (g.R.Source.remaining c.next_item.new.self.reader.now) c.items.invariant.splitting.given
+    = none_read c.args.limits c.items.reading.decoder c.next_item.new.self.decoder (g.R.Source.remaining c.args.reader.now) _ _ c.items.invariant.splitting.given c.in-Ok-None.field-0 _ c.in-Ok-None.field-0-is
+    c.items.invariant.splitting.reading c.in-Ok-None.ensures.reads c.in-Ok-None.ensures.again (λ e. ap g.R.Source.remaining e) in
+    no_output_left c.args.limits c.args.splitting.now.size c.items.reading.decoder (g.R.Source.remaining c.args.reader.now) _ (g.R.Source.remaining c.next_item.new.self.reader.now) (told_by g.O.Outputs.texts g.O.Outputs.failures g.O.Outputs.given_up) g.O.W.Target.contents g.O.W.Target.failures c.items.handed_out c.args.outputs.now c.items.splitting c.items.outputs c.requires.some c.items.invariant.splitting all
