@@ -7,12 +7,8 @@ use Rattle.std.proofs.lemmas.Grind.{flat_map-append}
 use Rattle.std.proofs.lemmas.List.Elements.{filter-append}
 use Rattle.cwr_shape.specs.declared.limits.Limits.{Limits}
 use Rattle.cwr_shape.specs.declared.limits.LimitKind.{LimitKind}
-use Rattle.cwr_shape.specs.declared.limits.LimitKind.TheVariants as limit_kinds
-use Rattle.cwr_shape.specs.declared.symbols.Symbol.{Symbol}
-use Rattle.cwr_shape.specs.declared.tallies.Bar.TheVariants as bars
 use Rattle.cwr_shape.specs.Outlines.{Continues, IsWithin}
 use Rattle.cwr_shape.specs.Ranges.{LimitValues}
-use Rattle.cwr_shape.specs.Tallies.{IsBarredFirst}
 use Rattle.cwr_values.specs.declared.items.Item.{Item}
 use Rattle.cwr_values.specs.declared.items.Item.TheVariants.{Opened, Ended}
 use Rattle.cwr_values.specs.Values.{GroupValue, TransmissionValue, FitsIn, IsTransmission, symbol_of}

@@ -1,7 +1,7 @@
 -- Where records begin those of a transmission, a call of an encoder that adds more of them may come: it is no mistake, and it
 -- isn't refused by a limit to which the transmission keeps.
-use Rattle.std.proofs.Common.{◌≡◌, List, ◌++◌, map, sym, ap, subst, ◌∙◌}
-use Rattle.std.specs.Prelude.{Result, Err}
+use Rattle.std.proofs.Common.{◌≡◌, List, ◌++◌, map, ap, subst, ◌∙◌}
+use Rattle.std.specs.Prelude.{Err}
 use Rattle.std.proofs.lemmas.List.{map-append}
 use Rattle.cwr_layouts.specs.Records.{RecordValue}
 use Rattle.cwr_shape.specs.declared.symbols.Symbol.{Symbol}

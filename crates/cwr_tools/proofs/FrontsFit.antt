@@ -101,7 +101,7 @@ fits_changed limits o A B h ts us f e fits fewer each =
 pub fits_front : (limits : Limits) (o : RecordValue) (A B : List GroupValue) (h : RecordValue) (xs ys : List (List RecordValue)) (f e : RecordValue) → FitsIn limits (of_groups o (A ++ group h (xs ++ ys) f ∷ B)) → FitsIn limits (of_groups o (A ++ group h xs e ∷ []))
 fits_front limits o A B h xs ys f e fits =
     let changed : FitsIn limits (of_groups o (A ++ group h xs e ∷ B)) =
-        fits_changed limits o A B h (xs ++ ys) xs f e fits (omega (arith, transactions_append xs ys)) (mapped_front (λ t. length t ≤ limits.transaction) (map symbol_of) xs ys) in
+    fits_changed limits o A B h (xs ++ ys) xs f e fits (omega (arith, transactions_append xs ys)) (mapped_front (λ t. length t ≤ limits.transaction) (map symbol_of) xs ys) in
     fits_groups limits o (A ++ group h xs e ∷ []) B (subst (λ (gs : List GroupValue). FitsIn limits (of_groups o gs)) (sym (append_assoc A (group h xs e ∷ []) B)) changed)
 
 -- the groups from a transaction on

@@ -1,14 +1,12 @@
 -- A split takes an item: what it holds goes on to the next place, and a part that is whole was handed over.
-use Rattle.std.proofs.Common.{◌≡◌, ◌≢◌, ℕ, ◌+◌, ◌*◌, ◌<◌, ◌≤◌, zero, suc, Bool, true, false, inl, inr, List, [], ◌∷◌, ◌++◌, length, map, Option, Some, None, refl, sym, ap, ap₂, subst, ◌∙◌, append_assoc, append-nil, arith}
+use Rattle.std.proofs.Common.{◌≡◌, ◌≢◌, ℕ, ◌+◌, ◌*◌, ◌<◌, ◌≤◌, zero, suc, Bool, true, false, inl, inr, List, [], ◌∷◌, ◌++◌, length, map, Option, Some, None, refl, sym, ap, subst, ◌∙◌, append_assoc, append-nil, arith}
 use Rattle.std.specs.Prelude.{◌==◌, ◌⊎◌, flat_map, if◌then◌else◌, Result, Ok, Err}
-use Rattle.std.specs.List.{AllByRecursion, sum_by}
 use Rattle.std.proofs.lemmas.Bool.{eq-eqb}
 use Rattle.std.proofs.lemmas.Bool.Decides.{eqb_tells}
 use Rattle.std.proofs.lemmas.List.{length-append}
 use native.Mathlib.Nat.{add-mul}
 use Rattle.cwr_fields.specs.Failures.{one_more_failure}
-use Rattle.cwr_layouts.specs.declared.kinds.Kind.TheVariants as kinds
-use Rattle.cwr_layouts.specs.Records.{RecordValue, blank_record}
+use Rattle.cwr_layouts.specs.Records.{RecordValue}
 use Rattle.cwr_shape.specs.declared.limits.Limits.{Limits}
 use Rattle.cwr_shape.specs.Ranges.{LimitValues}
 use Rattle.cwr_values.specs.declared.items.Item.{Item}
@@ -16,19 +14,18 @@ use Rattle.cwr_values.specs.declared.items.Item.TheVariants.{Opened, GroupOpened
 use Rattle.cwr_values.specs.Values.{GroupValue, TransmissionValue, FitsIn, IsTransmission}
 use Rattle.cwr_values.specs.Rows.{canonical_text}
 use Rattle.cwr_judge.specs.Items.{AreFirstItems, group_items, value_items}
-use Rattle.cwr_encode.specs.Encoders.{limits_of}
 use Rattle.cwr_tools.specs.declared.split_output.SplitOutput.{SplitOutput}
 use Rattle.cwr_tools.specs.declared.splitting.Splitting.{Splitting}
 use Rattle.cwr_tools.specs.declared.verdicts.ToolFault.{ToolFault}
 use Rattle.cwr_tools.specs.declared.verdicts.ToolFault.TheVariants as tool_faults
-use Rattle.cwr_tools.specs.Outputs.{AddsText, AddsTexts}
-use Rattle.cwr_tools.specs.SplitOutputs.{CountsNone, FailsWith, HoldsOutput, IsOutput, IsQuiet, MayEnd, MayPut, Told, blank_end, end_of, open_count, open_end, open_failures}
-use Rattle.cwr_tools.specs.SplitPlaces.{ArePartGroups, Place, Remains, RemainsBetween, RemainsInside, Between, Inside, Over, Start, group_of, last_of, open_items, open_total, part_group, parts_at, place_after, total_in, value_of, with_group}
-use Rattle.cwr_tools.specs.SplitItems.{HasCounted, Holds, IsTaken, KnowsHead, KnowsOpening, MayTake, Takes, is_in_group}
-use Rattle.cwr_tools.specs.SplitSteps.{AddsTransaction, EndsGroup, FailsOpen, Finishes, GoesOn, IsFilled, IsHandedOver, IsOutside, IsOutsideOpen, MayAddTransaction, MayEndGroup, MayEndHeld, MayFinish, holding, items_with, open_group, report_after}
+use Rattle.cwr_tools.specs.Outputs.{AddsTexts}
+use Rattle.cwr_tools.specs.SplitOutputs.{CountsNone, FailsWith, HoldsOutput, IsOutput, Told, blank_end, end_of, open_count, open_end, open_failures}
+use Rattle.cwr_tools.specs.SplitPlaces.{ArePartGroups, Place, Remains, RemainsBetween, RemainsInside, Between, Inside, Over, Start, last_of, open_items, part_group, parts_at, place_after, total_in, value_of, with_group}
+use Rattle.cwr_tools.specs.SplitItems.{Holds, IsTaken, MayTake, Takes, is_in_group}
+use Rattle.cwr_tools.specs.SplitSteps.{AddsTransaction, EndsGroup, FailsOpen, Finishes, GoesOn, IsFilled, IsHandedOver, IsOutsideOpen, MayAddTransaction, MayEndGroup, MayEndHeld, MayFinish, items_with, open_group, report_after}
 use Rattle.cwr_tools.proofs.FrontsFit.{fits_groups}
 use Rattle.cwr_tools.proofs.OutputSteps.{ended_output}
-use Rattle.cwr_tools.proofs.PlacesHeld.{begun, items_begun, items_closed, items_ended, items_of_part, some_in, total_with, with_end, with_transaction}
+use Rattle.cwr_tools.proofs.PlacesHeld.{begun, items_begun, items_closed, items_of_part, some_in, total_with, with_end, with_transaction}
 use Rattle.cwr_tools.proofs.PlacesLeft.{after_foot, next_between, next_inside, part_right}
 
 -- ---- the place of an item
@@ -203,7 +200,7 @@ was_filled {W = W} told contents failures o closed h cur t s new now after part 
     let items : List Item = items_with (open_items (Inside o closed h cur)) (Opened o) (GroupOpened h) (Transaction t) s.output in
     let same : items ≡ begun o closed h (cur ++ t ∷ []) = with_transaction o closed h cur t s.output part had.count had.group had.none in
     let all : value_items whole ≡ items ++ blank_end ∷ [] ++ Ended ∷ [] =
-        items_of_part o closed h (cur ++ t ∷ []) ∙ ap (λ (l : List Item). (l ++ blank_end ∷ []) ++ Ended ∷ []) (sym same) in
+    items_of_part o closed h (cur ++ t ∷ []) ∙ ap (λ (l : List Item). (l ++ blank_end ∷ []) ++ Ended ∷ []) (sym same) in
     subst (λ (m : Splitting W). IsTaken told contents failures (Inside o [] h []) (whole ∷ []) (Transaction t) s m now after) (sym f.now) (record {
       holds = record {
         opening = had.opening;
@@ -239,12 +236,12 @@ transaction_taken {W = W} told contents failures t u s new now after done may =
     let Next = λ (b : Bool). IsTaken told contents failures (if b then Inside o [] h [] else Inside o closed h (cur ++ t ∷ [])) (if b then whole ∷ [] else []) (Transaction t) s new now after in
     subst (λ (q : Place). IsTaken told contents failures (place_after s.size q (Transaction t)) (parts_at s.size q (Transaction t)) (Transaction t) s new now after) (sym at.4)
     (elim (done.4) as (λ _. Next ((total_in closed + length cur + 1) == s.size)) [
-      inl g ↦
-        let on = subst (λ (i : Item). GoesOn told contents failures i (GroupOpened h) (Transaction t) s new now after) opening (subst (λ (i : Item). GoesOn told contents failures done.0 i (Transaction t) s new now after) head g) in
-        subst Next (sym (not_full (total_in closed + length cur + 1) s.size (λ e. on.few (omega (arith, e, had.count))))) (went_on told contents failures o closed h cur t s new now after p.part had on)
+      | inl g ↦
+          let on = subst (λ (i : Item). GoesOn told contents failures i (GroupOpened h) (Transaction t) s new now after) opening (subst (λ (i : Item). GoesOn told contents failures done.0 i (Transaction t) s new now after) head g) in
+          subst Next (sym (not_full (total_in closed + length cur + 1) s.size (λ e. on.few (omega (arith, e, had.count))))) (went_on told contents failures o closed h cur t s new now after p.part had on)
       | inr f ↦
-        let all = subst (λ (i : Item). IsFilled told contents failures i (GroupOpened h) (Transaction t) s new now after) opening (subst (λ (i : Item). IsFilled told contents failures done.0 i (Transaction t) s new now after) head f) in
-        subst Next (sym (eq-eqb (total_in closed + length cur + 1) s.size (omega (arith, all.all, had.count)))) (was_filled told contents failures o closed h cur t s new now after p.part right.0 had all)
+          let all = subst (λ (i : Item). IsFilled told contents failures i (GroupOpened h) (Transaction t) s new now after) opening (subst (λ (i : Item). IsFilled told contents failures done.0 i (Transaction t) s new now after) head f) in
+          subst Next (sym (eq-eqb (total_in closed + length cur + 1) s.size (omega (arith, all.all, had.count)))) (was_filled told contents failures o closed h cur t s new now after p.part right.0 had all)
     ])
   where
     not_full : (n m : ℕ) → n ≢ m → (n == m) ≡ false
@@ -278,7 +275,7 @@ may_end_open {W = W} told contents failures o closed h cur v whole rest s now ha
     let items : List Item = open_items (Inside o closed h cur) in
     let output = subst (λ (x : Option (SplitOutput W)). HoldsOutput contents failures s.limits (told.texts now) items x) e had.output in
     let ended : items ++ end_of out ≡ Opened o ∷ flat_map group_items groups =
-        ap (λ (x : Option (SplitOutput W)). items ++ open_end x) (sym e) ∙ with_end o closed h cur s.output had.group ∙ items_closed o groups there in (
+    ap (λ (x : Option (SplitOutput W)). items ++ open_end x) (sym e) ∙ with_end o closed h cur s.output had.group ∙ items_closed o groups there in (
       output.unfailed,
       record {
         start = output.start;
@@ -347,7 +344,7 @@ may_finish_open told contents failures o closed v whole rest s now had p (Some o
     let right = closed_right s.limits s.size v whole o closed rest p there in
     let items : List Item = open_items (Between o closed) in
     let ended : items ++ end_of out ≡ Opened o ∷ flat_map group_items closed =
-        ap (λ (l : List Item). items ++ l) (no_end out (sym (ap open_group e) ∙ had.group)) ∙ append-nil items ∙ items_closed o closed there in
+    ap (λ (l : List Item). items ++ l) (no_end out (sym (ap open_group e) ∙ had.group)) ∙ append-nil items ∙ items_closed o closed there in
     record { value = value_of o closed; whole = right.0; within = right.1; items_are = ap (λ (l : List Item). l ++ Ended ∷ []) (sym ended) }
 
 pub may_finish : {O W : Type 0} (told : Told O) (contents : W → Option (List ℕ)) (failures : W → ℕ) (s : Splitting W) (now : O) → MayTake told contents failures Ended s now → MayFinish told contents failures s now
@@ -390,7 +387,7 @@ last_handed_over {W = W} told contents failures o closed v whole rest s now afte
     let items : List Item = open_items (Between o closed) in
     let output = subst (λ (x : Option (SplitOutput W)). HoldsOutput contents failures s.limits (told.texts now) items x) e had.output in
     let all : value_items (value_of o closed) ≡ items ++ end_of out ++ Ended ∷ [] =
-        ap (λ (l : List Item). l ++ Ended ∷ []) (sym (items_closed o closed there) ∙ sym (append-nil items) ∙ ap (λ (l : List Item). items ++ l) (sym (no_end out (sym (ap open_group e) ∙ had.group)))) in
+    ap (λ (l : List Item). l ++ Ended ∷ []) (sym (items_closed o closed there) ∙ sym (append-nil items) ∙ ap (λ (l : List Item). items ++ l) (sym (no_end out (sym (ap open_group e) ∙ had.group)))) in
     subst (λ (l : List TransmissionValue). AddsTexts (told.texts now) (told.texts after) (map canonical_text l) × CountsNone told now after × (s.report.outputs + 1 ≡ s.report.outputs + length l) × (s.report.transactions ≡ s.report.transactions)) (sym (some_last o closed there))
     (taken.1 items (value_of o closed) output right.0 all, taken.0, omega arith, refl)
 

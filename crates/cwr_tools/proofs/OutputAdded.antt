@@ -1,12 +1,11 @@
 -- A transaction is added to an output of a split: HDR and GRH come before it where they weren't written.
-use Rattle.std.proofs.Common.{◌≡◌, ◌<◌, ◌≤◌, ℕ, zero, suc, Bool, true, false, List, [], ◌∷◌, ◌++◌, Option, refl, sym, ap, subst, ◌∙◌, append_assoc, arith}
-use Rattle.std.specs.Prelude.{Result, Ok, Err, ◌==◌, if◌then◌else◌}
+use Rattle.std.proofs.Common.{◌≡◌, ◌<◌, ℕ, zero, suc, Bool, true, false, List, [], ◌∷◌, ◌++◌, Option, ap, subst, append_assoc, arith}
+use Rattle.std.specs.Prelude.{◌==◌, if◌then◌else◌}
 use Rattle.std.proofs.Math.Dec.{eqb-suc-zero}
 use Rattle.cwr_values.specs.declared.items.Item.{Item}
 use Rattle.cwr_encode.specs.declared.encoders.Encoder.{Encoder}
 use Rattle.cwr_tools.specs.declared.split_output.SplitOutput.{SplitOutput}
-use Rattle.cwr_tools.specs.declared.verdicts.ToolFault.{ToolFault}
-use Rattle.cwr_tools.specs.SplitOutputs.{MayPut, PutsItems, PutsOn, end_of, front_of, head_of, opening_of}
+use Rattle.cwr_tools.specs.SplitOutputs.{MayPut, PutsOn, head_of, opening_of}
 use Rattle.cwr_tools.proofs.PutItems.{may_first, may_then, puts_more}
 
 -- HDR is written first

@@ -1,23 +1,21 @@
 -- An output of a split is handed over: TRL is no mistake, and the outputs have the text of the transmission that its items are.
-use Rattle.std.proofs.Common.{◌≡◌, ℕ, true, List, [], ◌∷◌, ◌++◌, map, Option, Some, None, refl, sym, ap, subst, ◌∙◌}
-use Rattle.std.specs.Prelude.{IfSome, Result, Ok, Err}
+use Rattle.std.proofs.Common.{◌≡◌, ℕ, List, [], ◌∷◌, ◌++◌, map, Option, Some, None, sym, ap, subst, ◌∙◌}
+use Rattle.std.specs.Prelude.{IfSome, Result, Ok}
 use Rattle.std.specs.Io.KnownBytes.{Appends}
 use Rattle.std.proofs.lemmas.List.{append_cancel_right}
 use Rattle.cwr_values.proofs.OneSpelling.{one_value}
-use Rattle.cwr_layouts.specs.Records.{RecordValue}
-use Rattle.cwr_shape.specs.Ranges.{LimitValues}
 use Rattle.cwr_values.specs.declared.items.Item.{Item}
 use Rattle.cwr_values.specs.declared.items.Item.TheVariants.{Opened, Ended}
-use Rattle.cwr_values.specs.Values.{TransmissionValue, IsTransmission, symbol_of}
+use Rattle.cwr_values.specs.Values.{TransmissionValue, symbol_of}
 use Rattle.cwr_values.specs.Rows.{canonical_text, records_of, trailer}
 use Rattle.cwr_judge.specs.Items.{group_items, records_in, value_items}
 use Rattle.std.specs.List.{flat_map}
 use Rattle.cwr_encode.specs.declared.encoders.EncodeFault.{EncodeFault}
-use Rattle.cwr_encode.specs.Encoders.{Encodes, IsNoMistake, limits_of, reached, target_of}
+use Rattle.cwr_encode.specs.Encoders.{IsNoMistake, limits_of, reached}
 use Rattle.cwr_encode.specs.Finishing.{FinishesWriting, JudgesEnd}
 use Rattle.cwr_tools.specs.declared.split_output.SplitOutput.{SplitOutput}
 use Rattle.cwr_tools.specs.Outputs.{AddsText}
-use Rattle.cwr_tools.specs.SplitOutputs.{MayEnd, MayHandOver, TakesOutput, Told}
+use Rattle.cwr_tools.specs.SplitOutputs.{MayHandOver, TakesOutput, Told}
 use Rattle.cwr_tools.proofs.ItemsAdded.{records_in-append, records_in_value}
 use Rattle.cwr_tools.proofs.JoinsEnded.{closed_end, reached_foot, right_end}
 

@@ -1,5 +1,5 @@
 -- The open output of a split: it is opened, its group ends, and it is handed over.
-use Rattle.std.proofs.Common.{◌≡◌, ◌+◌, ℕ, Bool, true, false, List, [], ◌∷◌, ◌++◌, Option, Some, None, refl, sym, ap, subst, ◌∙◌}
+use Rattle.std.proofs.Common.{◌≡◌, ◌+◌, ℕ, true, false, List, [], ◌∷◌, ◌++◌, Option, Some, None, refl, sym, ap, subst, ◌∙◌}
 use Rattle.std.specs.Prelude.{IfSome, Ok}
 use Rattle.std.specs.Option.{is_some}
 use Rattle.cwr_shape.specs.Ranges.{LimitValues}
@@ -9,7 +9,7 @@ use Rattle.cwr_values.specs.declared.items.Item.TheVariants.{Ended}
 use Rattle.cwr_encode.specs.Encoders.{Encodes, is_stopped, limits_of, target_of}
 use Rattle.cwr_tools.specs.declared.split_output.SplitOutput.{SplitOutput}
 use Rattle.cwr_tools.specs.declared.splitting.Splitting.{Splitting}
-use Rattle.cwr_tools.specs.SplitOutputs.{HoldsOutput, IsOutput, IsQuiet, MayEnd, MayHandOver, MayPut, TakesOutput, Told, end_of, open_count}
+use Rattle.cwr_tools.specs.SplitOutputs.{HoldsOutput, IsOutput, IsQuiet, MayEnd, MayHandOver, TakesOutput, Told, end_of, open_count}
 use Rattle.cwr_tools.specs.SplitSteps.{IsHandedOver, IsOpen, IsOutside, IsOutsideOpen, Finishes, MayEndGroup, MayEndHeld, MayFinish, holding, open_group, report_after}
 
 -- ---- an output is open
@@ -79,15 +79,15 @@ may_end_held : {W : Type 0} (contents : W → Option (List ℕ)) (failures : W �
     → MayEndHeld limits items a → MayEndGroup contents a
 may_end_held contents failures limits had items None h ends = tt
 may_end_held contents failures limits had items (Some out) h ends = (
-      h.unfailed,
-      record {
-        start = h.start;
-        items = items;
-        encodes = h.encodes;
-        first = subst (λ (l : LimitValues). AreFirstItems l (items ++ end_of out)) (sym h.limits_are)
-            (record { value = ends.value; whole = ends.whole; within = ends.within; rest = Ended ∷ []; split = ends.items_are });
-      },
-    )
+  h.unfailed,
+  record {
+    start = h.start;
+    items = items;
+    encodes = h.encodes;
+    first = subst (λ (l : LimitValues). AreFirstItems l (items ++ end_of out)) (sym h.limits_are)
+        (record { value = ends.value; whole = ends.whole; within = ends.within; rest = Ended ∷ []; split = ends.items_are });
+  },
+)
 
 -- its group may end
 pub may_end_group : {O W : Type 0} (told : Told O) (contents : W → Option (List ℕ)) (failures : W → ℕ) (s : Splitting W) (before : O) → MayFinish told contents failures s before → MayEndGroup contents s.output

@@ -1,18 +1,16 @@
 -- The items of the open part of a split: what the next transaction and what its end make of them.
-use Rattle.std.proofs.Common.{◌≡◌, ◌≢◌, ℕ, ◌+◌, ◌<◌, Bool, true, false, List, [], ◌∷◌, ◌++◌, length, map, Option, Some, None, refl, sym, ap, ap₂, subst, ◌∙◌, append_assoc, append-nil, arith}
-use Rattle.std.specs.Prelude.{◌==◌, flat_map, if◌then◌else◌}
-use Rattle.std.specs.List.{AllByRecursion, sum_by}
+use Rattle.std.proofs.Common.{◌≡◌, ◌+◌, ◌<◌, Bool, true, false, List, [], ◌∷◌, ◌++◌, length, map, Option, Some, None, refl, sym, ap, ap₂, ◌∙◌, append_assoc, append-nil, arith}
+use Rattle.std.specs.Prelude.{flat_map, if◌then◌else◌}
 use Rattle.std.proofs.lemmas.Grind.{flat_map-append}
 use Rattle.std.proofs.lemmas.List.{length-append, map-append}
 use Rattle.std.proofs.lemmas.List.Sums.{sum_by-append}
-use Rattle.cwr_layouts.specs.declared.kinds.Kind.TheVariants as kinds
-use Rattle.cwr_layouts.specs.Records.{RecordValue, blank_record}
+use Rattle.cwr_layouts.specs.Records.{RecordValue}
 use Rattle.cwr_values.specs.declared.items.Item.{Item}
-use Rattle.cwr_values.specs.declared.items.Item.TheVariants.{Opened, GroupOpened, Transaction, GroupClosed, Ended}
-use Rattle.cwr_values.specs.Values.{GroupValue, TransmissionValue}
+use Rattle.cwr_values.specs.declared.items.Item.TheVariants.{Opened, GroupOpened, Transaction, Ended}
+use Rattle.cwr_values.specs.Values.{GroupValue}
 use Rattle.cwr_judge.specs.Items.{group_items, value_items}
 use Rattle.cwr_tools.specs.declared.split_output.SplitOutput.{SplitOutput}
-use Rattle.cwr_tools.specs.SplitOutputs.{blank_end, end_of, open_count, open_end, open_front}
+use Rattle.cwr_tools.specs.SplitOutputs.{blank_end, open_count, open_end, open_front}
 use Rattle.cwr_tools.specs.SplitPlaces.{ArePartGroups, Between, Inside, open_items, part_group, total_in, value_of, with_group}
 use Rattle.cwr_tools.specs.SplitItems.{is_in_group}
 use Rattle.cwr_tools.specs.SplitSteps.{items_with, open_group}
@@ -43,9 +41,9 @@ items_ended o closed h cur =
     let front : List Item = flat_map group_items closed in
     let inside : List Item = GroupOpened h ∷ map Transaction cur in
     ap (λ (l : List Item). Opened o ∷ l) (
-      flat_map-append group_items closed (part_group h cur ∷ [])
-      ∙ ap (λ (l : List Item). front ++ l) (append-nil (group_items (part_group h cur)))
-      ∙ sym (append_assoc front inside (blank_end ∷ [])))
+    flat_map-append group_items closed (part_group h cur ∷ [])
+    ∙ ap (λ (l : List Item). front ++ l) (append-nil (group_items (part_group h cur)))
+    ∙ sym (append_assoc front inside (blank_end ∷ [])))
 
 -- with TRL they are the items of a part
 pub items_of_part : (o : RecordValue) (closed : List GroupValue) (h : RecordValue) (cur : List (List RecordValue))

@@ -1,13 +1,12 @@
 -- What is left of a transmission that is split, after one item more.
-use Rattle.std.proofs.Common.{◌≡◌, ℕ, ◌+◌, ◌<◌, ◌≤◌, Bool, true, false, inl, inr, List, [], ◌∷◌, ◌++◌, length, map, refl, sym, ap, ap₂, subst, ◌∙◌, append_assoc, append-nil, arith}
+use Rattle.std.proofs.Common.{◌≡◌, ℕ, ◌+◌, ◌<◌, Bool, inl, inr, List, [], ◌∷◌, ◌++◌, length, map, refl, sym, ap, ap₂, subst, ◌∙◌, append_assoc, append-nil, arith}
 use Rattle.std.specs.Prelude.{◌==◌, ◌⊎◌, ◌≢◌, flat_map, if◌then◌else◌}
-use Rattle.std.specs.List.{AllByRecursion, sum_by}
-use Rattle.std.proofs.lemmas.Bool.{eq-eqb, ne_eqb}
+use Rattle.std.specs.List.{AllByRecursion}
 use Rattle.std.proofs.lemmas.Bool.Decides.{eqb_tells}
 use Rattle.std.proofs.lemmas.List.{length-append, map-append}
 use Rattle.std.proofs.lemmas.List.Sums.{sum_by-append}
 use Rattle.cwr_layouts.specs.declared.kinds.Kind.TheVariants as kinds
-use Rattle.cwr_layouts.specs.Records.{RecordValue, IsRecord, blank_record}
+use Rattle.cwr_layouts.specs.Records.{RecordValue, blank_record}
 use Rattle.cwr_layouts.proofs.RecordTest.{record_sound}
 use Rattle.cwr_fields.proofs.CellTests as tests
 use Rattle.cwr_shape.specs.Outlines.{GroupOutline, IsWithin}
@@ -18,7 +17,7 @@ use Rattle.cwr_values.specs.Values.{GroupValue, TransmissionValue, FitsIn, IsGro
 use Rattle.cwr_judge.specs.Items.{group_items, value_items}
 use Rattle.cwr_tools.specs.Splits.{split_of}
 use Rattle.cwr_tools.specs.SplitPlaces.{ArePartGroups, Place, Remains, RemainsBetween, RemainsInside, Between, Inside, Over, Start, group_of, last_of, part_group, parts_at, parts_in, place_after, place_in, total_in, value_of, with_group}
-use Rattle.cwr_tools.proofs.FrontsFit.{fits_back, fits_front, fits_groups, fits_rest}
+use Rattle.cwr_tools.proofs.FrontsFit.{fits_back, fits_front, fits_rest}
 use Rattle.cwr_tools.proofs.SplitParts.{any_foot, empty_group, first_part, last_part, no_part}
 
 blank_grt : IsRecordOf kinds.Grt (blank_record kinds.Grt)
@@ -222,7 +221,7 @@ after_transaction : (limits : Limits) (n : ℕ) (v : TransmissionValue) (whole :
 after_transaction limits n v whole o closed h cur item rest p t ts e f some =
     let At = λ (b : Bool). Remains limits n v (whole ++ (if b then value_of o (closed ++ part_group h (cur ++ t ∷ []) ∷ []) ∷ [] else [])) (if b then Inside o [] h [] else Inside o closed h (cur ++ t ∷ [])) rest in
     elim (eqb_tells (total_in closed + length cur + 1) n) as (λ _. At ((total_in closed + length cur + 1) == n)) [
-      inl y ↦ subst At (sym y.0) (was_last limits n v whole o closed h cur item rest p t ts e f some y.1)
+      | inl y ↦ subst At (sym y.0) (was_last limits n v whole o closed h cur item rest p t ts e f some y.1)
       | inr k ↦ subst At (sym k.0) (no_more limits n v whole (Inside o closed h (cur ++ t ∷ [])) rest (went_on limits n v whole o closed h cur item rest p t ts e f k.1))
     ]
 

@@ -1,21 +1,19 @@
 -- An item is written to an output of a split: it is no mistake, no limit refuses it, and the output goes on with it.
-use Rattle.std.proofs.Common.{◌≡◌, ◌≢◌, ℕ, Bool, true, false, List, [], ◌∷◌, ◌++◌, map, Option, Some, refl, sym, ap, subst, ◌∙◌, append_assoc, append-nil}
+use Rattle.std.proofs.Common.{◌≡◌, ℕ, false, List, [], ◌∷◌, ◌++◌, map, Option, refl, sym, ap, subst, ◌∙◌, append_assoc, append-nil}
 use Rattle.std.specs.Prelude.{Result, Ok, Err}
 use Rattle.std.specs.List.{AllByRecursion}
 use Rattle.cwr_layouts.specs.Records.{RecordValue}
-use Rattle.cwr_shape.specs.declared.symbols.Symbol.{Symbol}
 use Rattle.cwr_shape.specs.declared.limits.LimitKind.{LimitKind}
 use Rattle.cwr_shape.specs.Outlines.{Continues, IsWithin}
 use Rattle.cwr_shape.specs.Left.{Any}
 use Rattle.cwr_values.specs.declared.items.Item.{Item}
-use Rattle.cwr_values.specs.declared.items.Item.TheVariants.{Opened, GroupOpened, Transaction, GroupClosed, Ended}
-use Rattle.cwr_values.specs.Values.{TransmissionValue, IsTransmission, symbol_of}
+use Rattle.cwr_values.specs.Values.{TransmissionValue, symbol_of}
 use Rattle.cwr_values.specs.Rows.{records_of}
 use Rattle.cwr_judge.specs.Items.{AreFirstItems, item_records, records_in, value_items}
 use Rattle.cwr_encode.specs.declared.encoders.Encoder.{Encoder}
 use Rattle.cwr_encode.specs.declared.encoders.EncodeFault.{EncodeFault}
 use Rattle.cwr_encode.specs.declared.encoders.EncodeFault.TheVariants as encode_faults
-use Rattle.cwr_encode.specs.Encoders.{Adds, Encodes, IsNoMistake, is_stopped, limits_of, target_of}
+use Rattle.cwr_encode.specs.Encoders.{Adds, Encodes, IsNoMistake, is_stopped, limits_of}
 use Rattle.cwr_fields.specs.Failures.{one_more_failure}
 use Rattle.cwr_tools.specs.declared.verdicts.ToolFault.{ToolFault}
 use Rattle.cwr_tools.specs.declared.verdicts.ToolFault.TheVariants as tool_faults

@@ -1,5 +1,5 @@
 -- A list in runs: a first run, and those of the rest.
-use Rattle.std.proofs.Common.{◌≡◌, ℕ, zero, suc, ◌+◌, ◌-◌, ◌*◌, ◌/◌, ◌%◌, ◌<◌, ◌≤◌, List, [], ◌∷◌, ◌++◌, length, map, take, drop, refl, sym, ap, ap₂, subst, ◌∙◌, arith, take_all}
+use Rattle.std.proofs.Common.{◌≡◌, ℕ, zero, suc, ◌+◌, ◌-◌, ◌*◌, ◌/◌, ◌%◌, ◌<◌, ◌≤◌, List, [], ◌∷◌, ◌++◌, length, map, take, drop, refl, sym, ap, ap₂, ◌∙◌, arith, take_all}
 use Rattle.std.specs.List.{range_with_len}
 use Rattle.std.proofs.Math.Seq.{take-append_seam, drop-append-add}
 use Rattle.std.proofs.lemmas.List.{length-append}
@@ -29,8 +29,8 @@ runs_more {X = X} n xs ys some e =
     let count : (length (xs ++ ys) + n - 1) / n ≡ suc ((length ys + n - 1) / n)
     = ap (λ (k : ℕ). (k + n - 1) / n) (length-append xs ys ∙ ap (λ (k : ℕ). k + length ys) e) ∙ one_more n (length ys) some in
     let next : (i : ℕ) → f (i + 1) ≡ g i = λ i.
-        let at : n * (i + 1) ≡ length xs + n * i = omega (arith, e) in
-        ap (take n) (ap (λ (k : ℕ). drop k (xs ++ ys)) at ∙ drop-append-add xs ys (n * i)) in
+    let at : n * (i + 1) ≡ length xs + n * i = omega (arith, e) in
+    ap (take n) (ap (λ (k : ℕ). drop k (xs ++ ys)) at ∙ drop-append-add xs ys (n * i)) in
     let zero_at : n * 0 ≡ 0 = omega arith in
     let first : f 0 ≡ xs = ap (λ (k : ℕ). take n (drop k (xs ++ ys))) zero_at ∙ ap (λ (k : ℕ). take k (xs ++ ys)) (sym e) ∙ take-append_seam xs ys in
     ap (λ (k : ℕ). map f (range_with_len 0 k)) count ∙ ap₂ (λ (x : List X) (l : List (List X)). x ∷ l) first (shifted f g 1 0 ((length ys + n - 1) / n) next refl)

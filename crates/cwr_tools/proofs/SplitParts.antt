@@ -130,7 +130,6 @@ at_shifted c k j (p ∷ run) e =
 
 -- ---- the groups that a run gives
 
-
 -- a first group before those that the others give, if it has transactions
 abbrev with_first : RecordValue → List (List RecordValue) → List GroupValue → List GroupValue
 with_first h ts rest = cond (nat_lt 0 (length ts)) (group h ts blank ∷ rest) rest
@@ -165,10 +164,10 @@ own k (g ∷ gs) h =
     let first : Placed = map (λ t. (k, t)) g.transactions in
     let rest : Placed = transactions_from (k + 1) gs in
     let here : at k (first ++ rest) ≡ g.transactions =
-        at_append k first rest ∙ ap₂ (λ (x y : List (List RecordValue)). x ++ y) (at_here k g.transactions) (at_outside k (k + 1) gs (λ i lt e. omega (arith, e))) ∙ append-nil g.transactions in
+    at_append k first rest ∙ ap₂ (λ (x y : List (List RecordValue)). x ++ y) (at_here k g.transactions) (at_outside k (k + 1) gs (λ i lt e. omega (arith, e))) ∙ append-nil g.transactions in
     let later : groups_from (k + 1) (first ++ rest) gs ≡ gs =
-        groups_same (k + 1) (first ++ rest) rest gs (λ i le lt. at_append i first rest ∙ ap (λ (l : List (List RecordValue)). l ++ at i rest) (at_there i k g.transactions (λ e. omega (arith, e, le))))
-        ∙ own (k + 1) gs h.1 in
+    groups_same (k + 1) (first ++ rest) rest gs (λ i le lt. at_append i first rest ∙ ap (λ (l : List (List RecordValue)). l ++ at i rest) (at_there i k g.transactions (λ e. omega (arith, e, le))))
+    ∙ own (k + 1) gs h.1 in
     ap₂ (with_first g.head) here later
     ∙ ap (λ (b : Bool). cond b (group g.head g.transactions blank ∷ gs) gs) (lt-ltb 0 (length g.transactions) h.0.0)
     ∙ ap (λ (f : RecordValue). group g.head g.transactions f ∷ gs) (sym h.0.1)
@@ -259,8 +258,8 @@ first_transactions A B h f cur todo =
     ∙ ap (λ (l : Placed). before ++ l) (append_assoc (under cur) (under todo) after)
     ∙ sym (append_assoc before (under cur) (under todo ++ after))
     ∙ ap₂ (λ (x y : Placed). x ++ y)
-        (ap (λ (l : Placed). before ++ l) (sym (append-nil (under cur))) ∙ sym (transactions_append 0 A (group h cur blank ∷ [])))
-        (ap (λ (k : ℕ). transactions_from k (group h todo f ∷ B)) (omega arith))
+    (ap (λ (l : Placed). before ++ l) (sym (append-nil (under cur))) ∙ sym (transactions_append 0 A (group h cur blank ∷ [])))
+    (ap (λ (k : ℕ). transactions_from k (group h todo f ∷ B)) (omega arith))
 
 -- a full run is the first part
 pub first_part : (n : ℕ) (o : RecordValue) (A : List GroupValue) (h : RecordValue) (cur todo : List (List RecordValue)) (f : RecordValue) (B : List GroupValue) → 0 < n → ArePart A → 0 < length cur → total A + length cur ≡ n
@@ -274,6 +273,6 @@ first_part n o A h cur todo f B fits are some full =
     ap (λ (r : Placed). map (part o gs) (runs n r)) (first_transactions A B h f cur todo)
     ∙ ap (map (part o gs)) (runs_more n run rest fits as_many)
     ∙ ap₂ (λ (x : TransmissionValue) (l : List TransmissionValue). x ∷ l)
-        (ap (of_groups o) (first_groups A B h f cur todo are some))
-        (map_same (part o gs) (part o (A ++ group h todo f ∷ B)) (runs n rest) (λ r. ap (of_groups o) (groups_of_heads r A B h (cur ++ todo) todo f f))
-        ∙ later_parts n o A (group h todo f ∷ B))
+    (ap (of_groups o) (first_groups A B h f cur todo are some))
+    (map_same (part o gs) (part o (A ++ group h todo f ∷ B)) (runs n rest) (λ r. ap (of_groups o) (groups_of_heads r A B h (cur ++ todo) todo f f))
+    ∙ later_parts n o A (group h todo f ∷ B))

@@ -1,11 +1,9 @@
 -- A split goes on with each item that is handed out, up to the end of its input or a fault.
 use Rattle.std.proofs.Common.{◌≡◌, ◌≢◌, ℕ, ◌+◌, ◌*◌, ◌<◌, ◌≤◌, Bool, true, false, inl, inr, List, [], ◌∷◌, ◌++◌, length, map, Option, Some, None, refl, sym, ap, ap₂, subst, ◌∙◌, append_assoc, append-nil, arith}
-use Rattle.std.specs.Prelude.{◌==◌, ◌/◌, ◌⊎◌, Result, Ok, Err, IfSome, count_by, drop, flat_map, if◌then◌else◌, sum_by, take}
-use Rattle.std.proofs.lemmas.Bool.Decides.{eqb_tells}
+use Rattle.std.specs.Prelude.{◌==◌, ◌/◌, ◌⊎◌, Ok, Err, IfSome, count_by, flat_map, if◌then◌else◌, sum_by, take}
 use Rattle.std.proofs.lemmas.List.{length-append, map-append}
 use Rattle.std.proofs.lemmas.List.Sums.{count_by-le-length, sum_by-append}
 use Rattle.std.proofs.lemmas.Nat.{div-mul-add}
-use Rattle.cwr_fields.specs.Failures.{one_more_failure}
 use Rattle.cwr_layouts.specs.Records.{RecordValue}
 use Rattle.cwr_shape.specs.declared.limits.Limits.{Limits}
 use Rattle.cwr_shape.specs.Ranges.{LimitValues}
@@ -13,16 +11,14 @@ use Rattle.cwr_values.specs.declared.items.Item.{Item}
 use Rattle.cwr_values.specs.declared.items.Item.TheVariants.{Opened, GroupOpened, Transaction, GroupClosed, Ended}
 use Rattle.cwr_values.specs.Values.{GroupValue, TransmissionValue, FitsIn, IsTransmission}
 use Rattle.cwr_values.specs.Rows.{canonical_text}
-use Rattle.cwr_judge.specs.Ends.{IsAccepted}
 use Rattle.cwr_judge.specs.Items.{AreFirstItems, group_items, is_transaction, value_items}
-use Rattle.cwr_judge.proofs.Accepted.{accepted_once}
 use Rattle.cwr_decode.specs.declared.machine.State.{State}
 use Rattle.cwr_decode.specs.declared.machine.State.TheVariants as states
 use Rattle.cwr_decode.specs.declared.readings.ReadFault.{ReadFault}
 use Rattle.cwr_decode.specs.declared.readings.ReadFault.TheVariants as read_faults
 use Rattle.cwr_decode.specs.Machines.{Standing, again}
-use Rattle.cwr_decode.specs.Readings.{IsRightOf, LeavesRead, Reads, answer_of}
-use Rattle.cwr_decode.specs.Runs.{HasReadAll, IsReadingOn, TakesFront}
+use Rattle.cwr_decode.specs.Readings.{LeavesRead, Reads, answer_of}
+use Rattle.cwr_decode.specs.Runs.{HasReadAll, IsReadingOn}
 use Rattle.cwr_decode.proofs.CountedItems.{transactions_given}
 use Rattle.cwr_decode.proofs.FirstItems.{first_items}
 use Rattle.cwr_decode.proofs.ItemsMakeOneTransmission.{items_once}
@@ -34,13 +30,12 @@ use Rattle.cwr_tools.specs.declared.verdicts.ToolFault.{ToolFault}
 use Rattle.cwr_tools.specs.declared.verdicts.ToolFault.TheVariants as tool_faults
 use Rattle.cwr_tools.specs.Joined.{reading_fault}
 use Rattle.cwr_tools.specs.Outputs.{AddsTexts, given_up_with}
-use Rattle.cwr_tools.specs.Reports.{HasHandedOut}
 use Rattle.cwr_tools.specs.Splits.{split_of}
-use Rattle.cwr_tools.specs.SplitItems.{HasCounted, Holds, IsTaken, MayTake, SplitsItems}
+use Rattle.cwr_tools.specs.SplitItems.{HasCounted, Holds, IsTaken, MayTake}
 use Rattle.cwr_tools.specs.SplitOutputs.{CountsNone, FailsWith, HoldsOutput, IsOutputFault, Told, open_failures}
-use Rattle.cwr_tools.specs.SplitPlaces.{Place, Remains, RemainsBetween, RemainsInside, Between, Inside, Over, Start, open_items, open_total, parts_at, parts_in, place_after, place_in, total_in}
+use Rattle.cwr_tools.specs.SplitPlaces.{Place, Remains, Between, Inside, Over, Start, open_items, open_total, parts_at, parts_in, place_after, place_in, total_in}
 use Rattle.cwr_tools.specs.SplitSteps.{is_new}
-use Rattle.cwr_tools.specs.Splitting.{CountsSplitOutput, CountsSplitReader, CountsSplitWriter, HasFullRuns, Splits, SplitsAll, first_texts, split_report}
+use Rattle.cwr_tools.specs.Splitting.{CountsSplitOutput, CountsSplitReader, CountsSplitWriter, HasFullRuns, Splits, SplitsAll}
 use Rattle.cwr_tools.specs.Verdicts.{StopsAfter}
 use Rattle.cwr_tools.proofs.PlacesLeft.{next_between, next_inside, remains_after}
 use lib.Seq.{take-append_seam}
@@ -72,6 +67,7 @@ over_after limits n v whole (Inside o closed head cur) item rest h e = by (next_
     inside : (b : Bool) (t : List RecordValue) → (if b then Inside o [] head [] else Inside o closed head (cur ++ t ∷ [])) ≡ Over → item ≡ Ended
     inside true t f = absurd (cc f)
     inside false t f = absurd (cc f)
+
     by : ((h.todo ≡ []) × (item ≡ GroupClosed h.foot) × (rest ≡ flat_map group_items h.after ++ Ended ∷ [])) ⊎ ((t : List RecordValue) × (ts : List (List RecordValue)) × (h.todo ≡ t ∷ ts) × (item ≡ Transaction t) × (rest ≡ map Transaction ts ++ GroupClosed h.foot ∷ (flat_map group_items h.after ++ Ended ∷ []))) → item ≡ Ended
     by (inl x) = absurd (let f : place_after n (Inside o closed head cur) (GroupClosed h.foot) ≡ Over = sym (ap (place_after n (Inside o closed head cur)) x.1) ∙ e in cc f)
     by (inr t) = inside ((total_in closed + length cur + 1) == n) t.0 (sym (ap (place_after n (Inside o closed head cur)) t.3) ∙ e)
@@ -227,7 +223,7 @@ item_taken limits n d new before left after told contents failures count begin s
     let place_is : place_after s.size place item ≡ place_in n Start (h.given ++ item ∷ []) = ap₂ (λ (k : ℕ) (p : Place). place_after k p item) h.size at ∙ sym (place_more n Start h.given item) in
     let parts_are : parts_at s.size place item ≡ parts_at n here item = ap₂ (λ (k : ℕ) (p : Place). parts_at k p item) h.size at in
     let all : parts_in n Start h.given ++ parts_at s.size place item ≡ parts_in n Start (h.given ++ item ∷ []) =
-        ap (λ (l : List TransmissionValue). parts_in n Start h.given ++ l) parts_are ∙ sym (parts_more n Start h.given item) in
+    ap (λ (l : List TransmissionValue). parts_in n Start h.given ++ l) parts_are ∙ sym (parts_more n Start h.given item) in
     record {
       given = h.given ++ item ∷ [];
       reading = reading;
@@ -259,14 +255,14 @@ full_runs limits n d before now told contents failures count begin s o some h be
     let first = subst (λ (l : LimitValues). AreFirstItems l h.given) h.reading.read.limits_are (first_items d h.reading.read.input h.given h.reading.read.stands) in
     let few : open_total place < n = few_open limits n first.value parts place first.rest some (remains_after limits n first.value h.given first.rest some first.whole first.within first.split) in
     let counted : length parts * n + open_total place ≡ count_by is_transaction h.given =
-        ap (λ (k : ℕ). k * n + open_total place) (sym h.outputs) ∙ counted_at n place s.report before_end (subst (λ (k : ℕ). HasCounted place k s.report) h.size h.holds.counted) ∙ h.transactions in
+    ap (λ (k : ℕ). k * n + open_total place) (sym h.outputs) ∙ counted_at n place s.report before_end (subst (λ (k : ℕ). HasCounted place k s.report) h.size h.holds.counted) ∙ h.transactions in
     let filled : count_by is_transaction h.given / n ≡ length parts = ap (λ (k : ℕ). k / n) (sym counted) ∙ div-mul-add (length parts) n (open_total place) few in
     record {
       begun = first;
       texts = λ v rest right fits e.
           let more = first_parts limits n v parts place rest (remains_after limits n v h.given rest some right fits e) in
           let same : parts ≡ take (count_by is_transaction h.given / n) (split_of n v) =
-              sym (take-append_seam parts more.0) ∙ ap₂ (λ (k : ℕ) (l : List TransmissionValue). take k l) (sym filled) (sym more.1) in
+          sym (take-append_seam parts more.0) ∙ ap₂ (λ (k : ℕ) (l : List TransmissionValue). take k l) (sym filled) (sym more.1) in
           subst (λ (l : List TransmissionValue). AddsTexts (told.texts begin) (told.texts o) (map canonical_text l)) same h.texts;
     }
 
@@ -312,6 +308,7 @@ reading_stopped limits n d before left after told contents failures count begin 
   where
     runs : HasFullRuns limits n h.given (told.texts begin) (told.texts o)
     runs = full_runs limits n d before left told contents failures count begin s o some h (λ e. not_ended d.state fault B C same (h.over e))
+
     by : (f : ReadFault) → StopsAfter limits f before after h.given → Splits limits n before after (told.texts begin) (told.texts o) (Err (reading_fault f))
     by read_faults.Reader k = (h.given, k, runs)
     by (read_faults.Refused refusal) k = (h.given, k, runs)
@@ -340,10 +337,12 @@ output_stopped limits n d new before left after told contents failures count beg
   where
     first : Begun limits h.given (item ∷ [])
     first = begun_so limits new before after h.given (item ∷ []) reading
+
     runs : HasFullRuns limits n h.given (told.texts begin) (told.texts later)
     runs = subst (λ (t : Option (List (List ℕ))). HasFullRuns limits n h.given (told.texts begin) t) (sym f.texts)
         (full_runs limits n d before left told contents failures count begin s o some h
         (more_left limits n first.value (parts_in n Start h.given) (place_in n Start h.given) item first.more (remains_after limits n first.value h.given (item ∷ first.more) some first.whole first.within first.split)))
+
     by : (x : ToolFault) → IsOutputFault x → Splits limits n before after (told.texts begin) (told.texts later) (Err x)
     by (tool_faults.Writer written) k = (h.given, item, (new, reading.read), runs)
     by tool_faults.Output k = (h.given, item, (new, reading.read), runs)

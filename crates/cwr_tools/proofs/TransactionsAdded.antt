@@ -1,5 +1,5 @@
 -- A transaction is added to the open output of a split, which is opened for it or finished with it.
-use Rattle.std.proofs.Common.{◌≡◌, ◌≢◌, ◌+◌, ◌<◌, ℕ, Bool, true, false, inl, inr, List, [], ◌∷◌, ◌++◌, Option, Some, None, refl, sym, ap, ap₂, subst, ◌∙◌, append_assoc}
+use Rattle.std.proofs.Common.{◌≡◌, ◌≢◌, ◌+◌, ◌<◌, ℕ, Bool, true, false, inl, inr, List, [], ◌∷◌, ◌++◌, Option, Some, None, sym, ap, ap₂, subst, ◌∙◌, append_assoc}
 use Rattle.std.specs.Prelude.{Result, Ok, Err, ◌==◌, if◌then◌else◌}
 use Rattle.std.proofs.lemmas.Bool.{eq-eqb}
 use Rattle.std.proofs.lemmas.Bool.Decides.{eqb_tells}
@@ -8,7 +8,6 @@ use Rattle.cwr_shape.specs.Ranges.{LimitValues}
 use Rattle.cwr_values.specs.declared.items.Item.{Item}
 use Rattle.cwr_values.specs.declared.items.Item.TheVariants.{Ended}
 use Rattle.cwr_judge.specs.Items.{AreFirstItems}
-use Rattle.cwr_encode.specs.Encoders.{target_of}
 use Rattle.cwr_tools.specs.declared.split_output.SplitOutput.{SplitOutput}
 use Rattle.cwr_tools.specs.declared.splitting.Splitting.{Splitting}
 use Rattle.cwr_tools.specs.declared.verdicts.ToolFault.{ToolFault}
@@ -17,7 +16,7 @@ use Rattle.cwr_values.specs.Rows.{canonical_text}
 use Rattle.cwr_tools.specs.Outputs.{AddsText, given_up_with}
 use Rattle.cwr_tools.specs.Splitting.{CountsSplitOutput, CountsSplitWriter}
 use Rattle.cwr_tools.specs.SplitOutputs.{FailsWith, HoldsOutput, IsOutput, IsQuiet, MayEnd, PutsOn, Told, blank_end, end_of, front_of, open_count, open_failures, open_front}
-use Rattle.cwr_tools.specs.SplitSteps.{AddsTransaction, FailsOpen, Finishes, GoesOn, IsFilled, IsHandedOver, IsOpen, IsWritten, MayAddTransaction, MayFinish, MayEndHeld, MayWrite, has_all, holding, items_with, open_group, report_after}
+use Rattle.cwr_tools.specs.SplitSteps.{AddsTransaction, FailsOpen, Finishes, GoesOn, IsFilled, IsOpen, IsWritten, MayAddTransaction, MayFinish, MayWrite, has_all, items_with, open_group}
 use Rattle.cwr_tools.proofs.OutputAdded.{head_first, opening_first}
 
 -- what is written before it, as it would be to the one that was open
@@ -70,6 +69,7 @@ write_failed {O = O} {W = W} told contents failures item s mid new before after 
   where
     quiet : open_failures failures mid.output ≡ 0
     quiet = ap (λ (m : Splitting W). open_failures failures m.output) p.now ∙ (p.held may.items may.held).quiet
+
     by : (fault : ToolFault) → FailsOpen failures fault mid.output new.output → FailsWith told fault (open_failures failures new.output) before after
     by (tool_faults.Writer n) h = subst (λ (k : ℕ). FailsWith told (tool_faults.Writer n) k before after) (sym (h ∙ ap one_more_failure quiet)) (record {
       is = tt;

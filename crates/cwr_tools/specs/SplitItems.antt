@@ -1,10 +1,9 @@
 -- What a split holds after the items that were handed out, and what it does with one more.
-use Rattle.std.specs.Prelude.{◌≡◌, ℕ, ◌+◌, ◌*◌, ◌<◌, Bool, true, false, List, [], ◌∷◌, ◌++◌, length, map, count_by, Option, Some, None, Result, Ok, Err}
-use Rattle.cwr_layouts.specs.Records.{RecordValue}
+use Rattle.std.specs.Prelude.{◌≡◌, ℕ, ◌+◌, ◌*◌, ◌<◌, Bool, true, false, List, [], ◌∷◌, length, map, count_by, Option, Some, None, Result, Ok, Err}
 use Rattle.cwr_shape.specs.declared.limits.Limits.{Limits}
 use Rattle.cwr_values.specs.declared.items.Item.{Item}
 use Rattle.cwr_values.specs.declared.items.Item.TheVariants.{Opened, GroupOpened}
-use Rattle.cwr_values.specs.Values.{GroupValue, TransmissionValue, FitsIn, IsTransmission}
+use Rattle.cwr_values.specs.Values.{TransmissionValue, FitsIn, IsTransmission}
 use Rattle.cwr_values.specs.Rows.{canonical_text}
 use Rattle.cwr_judge.specs.Items.{is_transaction}
 use Rattle.cwr_tools.specs.declared.splitting.Splitting.{Splitting}
@@ -12,7 +11,7 @@ use Rattle.cwr_tools.specs.declared.verdicts.SplitReport.{SplitReport}
 use Rattle.cwr_tools.specs.declared.verdicts.ToolFault.{ToolFault}
 use Rattle.cwr_tools.specs.Outputs.{AddsTexts}
 use Rattle.cwr_tools.specs.SplitOutputs.{CountsNone, FailsWith, HoldsOutput, Told, open_count, open_failures}
-use Rattle.cwr_tools.specs.SplitPlaces.{Place, Remains, Between, Inside, Over, Start, open_items, open_total, parts_at, place_after}
+use Rattle.cwr_tools.specs.SplitPlaces.{Place, Remains, Between, Inside, Over, open_items, open_total, parts_at, place_after}
 use Rattle.cwr_tools.specs.Splitting.{Splits, SplitsAll}
 use Rattle.cwr_tools.specs.SplitSteps.{open_group}
 

@@ -1,11 +1,11 @@
 -- The outputs of a split while they are written: what one item does to the open one.
-use Rattle.std.specs.Prelude.{◌≡◌, ℕ, ◌+◌, ◌==◌, ◌<◌, ◌≤◌, Bool, false, true, List, [], ◌∷◌, ◌++◌, Option, Some, None, IfSome, IsSome, Result, Ok, Err, if◌then◌else◌}
+use Rattle.std.specs.Prelude.{◌≡◌, ℕ, ◌==◌, false, List, [], ◌∷◌, ◌++◌, Option, Some, None, IfSome, Result, Ok, Err, if◌then◌else◌}
 use Rattle.cwr_fields.specs.Failures.{one_more_failure}
 use Rattle.cwr_layouts.specs.declared.kinds.Kind.TheVariants as kinds
-use Rattle.cwr_layouts.specs.Records.{RecordValue, blank_record}
+use Rattle.cwr_layouts.specs.Records.{blank_record}
 use Rattle.cwr_shape.specs.Ranges.{LimitValues}
 use Rattle.cwr_values.specs.declared.items.Item.{Item}
-use Rattle.cwr_values.specs.declared.items.Item.TheVariants.{Opened, GroupOpened, Transaction, GroupClosed, Ended}
+use Rattle.cwr_values.specs.declared.items.Item.TheVariants.{GroupClosed, Ended}
 use Rattle.cwr_values.specs.Values.{TransmissionValue, IsTransmission, FitsIn}
 use Rattle.cwr_values.specs.Rows.{canonical_text}
 use Rattle.cwr_judge.specs.Items.{AreFirstItems, records_in, value_items}

@@ -7,12 +7,12 @@ use Rattle.cwr_values.specs.declared.items.Item.TheVariants.{Ended}
 use Rattle.cwr_values.specs.Values.{TransmissionValue, IsTransmission}
 use Rattle.cwr_values.specs.Rows.{canonical_text}
 use Rattle.cwr_judge.specs.Items.{AreFirstItems, value_items}
-use Rattle.cwr_encode.specs.Encoders.{is_stopped, limits_of, target_of}
+use Rattle.cwr_encode.specs.Encoders.{is_stopped}
 use Rattle.cwr_tools.specs.declared.split_output.SplitOutput.{SplitOutput}
 use Rattle.cwr_tools.specs.declared.splitting.Splitting.{Splitting}
 use Rattle.cwr_tools.specs.declared.verdicts.SplitReport.{SplitReport}
 use Rattle.cwr_tools.specs.declared.verdicts.ToolFault.{ToolFault}
-use Rattle.cwr_tools.specs.declared.verdicts.ToolFault.TheVariants.{Writer, Output}
+use Rattle.cwr_tools.specs.declared.verdicts.ToolFault.TheVariants.{Writer}
 use Rattle.cwr_tools.specs.Outputs.{AddsText, given_up_with}
 use Rattle.cwr_tools.specs.SplitOutputs.{CountsNone, FailsWith, HoldsOutput, IsOutput, IsQuiet, MayEnd, MayPut, PutsOn, Told, blank_end, end_of, front_of, open_count, open_failures, open_front}
 

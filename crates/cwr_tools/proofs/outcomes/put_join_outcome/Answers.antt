@@ -1,5 +1,4 @@
 use Rattle.std.proofs.Common.{rules, ◌≡◌, true, subst, sym}
-use Rattle.std.specs.Prelude.{Err}
 use Rattle.cwr_encode.specs.Sinks.{Puts}
 use Rattle.cwr_tools.specs.Outcomes.{is_of_input, join_outcome}
 use Rattle.cwr_tools.proofs.OutcomesPut.{mark_refused}

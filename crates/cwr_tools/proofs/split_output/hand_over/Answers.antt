@@ -7,7 +7,6 @@ use Rattle.cwr_encode.specs.Encoders.{limits_of}
 use Rattle.cwr_encode.specs.Finishing.{FinishesWriting, JudgesEnd}
 use Rattle.cwr_tools.specs.SplitOutputs.{told_by}
 use Rattle.cwr_tools.proofs.OutputHandedOver.{handed_over, right_last}
-use Rattle.cwr_tools.proofs.RunsOfLists.{runs_more}
 use Rattle.cwr_tools.proofs.split_output.hand_over.Goals as goal
 
 pub fault_of-requires : goal.fault_of-requires

@@ -8,7 +8,7 @@ use Rattle.cwr_tools.specs.SplitOutputs.{told_by}
 use Rattle.cwr_tools.specs.Splitting.{Splits}
 use Rattle.cwr_tools.specs.Verdicts.{StopsAfter}
 use Rattle.cwr_tools.proofs.ReportsOn.{same_fault, stops_after}
-use Rattle.cwr_tools.proofs.SplittingOn.{all_split, few_handed_out, item_taken, leaves_item, may_take, next_item, no_output_left, none_split, output_stopped, reader_quiet, reading_counts, reading_stopped}
+use Rattle.cwr_tools.proofs.SplittingOn.{all_split, few_handed_out, item_taken, leaves_item, may_take, next_item, no_output_left, none_split, output_stopped, reading_stopped}
 use Rattle.cwr_tools.proofs.splitting.split_items.Goals as goal
 
 pub items-init : goal.items-init
@@ -27,28 +27,34 @@ take_item-requires g c =
     let reading = next_item c.args.limits c.args.splitting.now.size c.items.reading.decoder c.next_item.new.self.decoder (g.R.Source.remaining c.args.reader.now) _ _ (told_by g.O.Outputs.texts g.O.Outputs.failures g.O.Outputs.given_up) g.O.W.Target.contents g.O.W.Target.failures c.items.handed_out c.args.outputs.now c.items.splitting c.items.outputs
     c.in-Ok-Some.field-0 c.in-Ok-Some.item _ _ c.in-Ok-Some.field-0-is c.items.invariant.splitting c.in-Ok-Some.ensures.reads c.in-Ok-Some.ensures.again in
     (may_take c.args.limits c.args.splitting.now.size c.items.reading.decoder c.next_item.new.self.decoder (g.R.Source.remaining c.args.reader.now) _ _ (told_by g.O.Outputs.texts g.O.Outputs.failures g.O.Outputs.given_up) g.O.W.Target.contents g.O.W.Target.failures c.items.handed_out c.args.outputs.now c.items.splitting c.items.outputs c.in-Ok-Some.item
-        c.requires.some c.items.invariant.splitting reading).0
+    c.requires.some c.items.invariant.splitting reading).0
 
 pub overflow_add-handed_out : goal.overflow_add-handed_out
 overflow_add-handed_out g c =
     let reading = next_item c.args.limits c.args.splitting.now.size c.items.reading.decoder c.next_item.new.self.decoder (g.R.Source.remaining c.args.reader.now) _ _ (told_by g.O.Outputs.texts g.O.Outputs.failures g.O.Outputs.given_up) g.O.W.Target.contents g.O.W.Target.failures c.items.handed_out c.args.outputs.now c.items.splitting c.items.outputs
     c.in-Ok-Some.field-0 c.in-Ok-Some.item _ _ c.in-Ok-Some.field-0-is c.items.invariant.splitting c.in-Ok-Some.ensures.reads c.in-Ok-Some.ensures.again in
-    omega (arith, few_handed_out c.args.limits c.args.splitting.now.size c.items.reading.decoder c.next_item.new.self.decoder (g.R.Source.remaining c.args.reader.now) _ _ (told_by g.O.Outputs.texts g.O.Outputs.failures g.O.Outputs.given_up) g.O.W.Target.contents g.O.W.Target.failures c.items.handed_out c.args.outputs.now c.items.splitting c.items.outputs
-        c.in-Ok-Some.item c.items.invariant.splitting reading)
+    omega (
+      arith,
+      few_handed_out c.args.limits c.args.splitting.now.size c.items.reading.decoder c.next_item.new.self.decoder (g.R.Source.remaining c.args.reader.now) _ _ (told_by g.O.Outputs.texts g.O.Outputs.failures g.O.Outputs.given_up) g.O.W.Target.contents g.O.W.Target.failures c.items.handed_out c.args.outputs.now c.items.splitting c.items.outputs
+          c.in-Ok-Some.item c.items.invariant.splitting reading,
+    )
 
 pub items-smaller : goal.items-smaller
 items-smaller g c =
     let reading = next_item c.args.limits c.args.splitting.now.size c.items.reading.decoder c.next_item.new.self.decoder (g.R.Source.remaining c.args.reader.now) _ _ (told_by g.O.Outputs.texts g.O.Outputs.failures g.O.Outputs.given_up) g.O.W.Target.contents g.O.W.Target.failures c.items.handed_out c.args.outputs.now c.items.splitting c.items.outputs
     c.in-Ok-Some.field-0 c.in-Ok-Some.item _ _ c.in-Ok-Some.field-0-is c.items.invariant.splitting c.in-Ok-Some.ensures.reads c.in-Ok-Some.ensures.again in
-    omega (arith, few_handed_out c.args.limits c.args.splitting.now.size c.items.reading.decoder c.next_item.new.self.decoder (g.R.Source.remaining c.args.reader.now) _ _ (told_by g.O.Outputs.texts g.O.Outputs.failures g.O.Outputs.given_up) g.O.W.Target.contents g.O.W.Target.failures c.items.handed_out c.args.outputs.now c.items.splitting c.items.outputs
-        c.in-Ok-Some.item c.items.invariant.splitting reading)
+    omega (
+      arith,
+      few_handed_out c.args.limits c.args.splitting.now.size c.items.reading.decoder c.next_item.new.self.decoder (g.R.Source.remaining c.args.reader.now) _ _ (told_by g.O.Outputs.texts g.O.Outputs.failures g.O.Outputs.given_up) g.O.W.Target.contents g.O.W.Target.failures c.items.handed_out c.args.outputs.now c.items.splitting c.items.outputs
+          c.in-Ok-Some.item c.items.invariant.splitting reading,
+    )
 
 pub items-preserved : goal.items-preserved
 items-preserved g c =
     let reading = next_item c.args.limits c.args.splitting.now.size c.items.reading.decoder c.next_item.new.self.decoder (g.R.Source.remaining c.args.reader.now) _ _ (told_by g.O.Outputs.texts g.O.Outputs.failures g.O.Outputs.given_up) g.O.W.Target.contents g.O.W.Target.failures c.items.handed_out c.args.outputs.now c.items.splitting c.items.outputs
     c.in-Ok-Some.field-0 c.in-Ok-Some.item _ _ c.in-Ok-Some.field-0-is c.items.invariant.splitting c.in-Ok-Some.ensures.reads c.in-Ok-Some.ensures.again in
     let may = may_take c.args.limits c.args.splitting.now.size c.items.reading.decoder c.next_item.new.self.decoder (g.R.Source.remaining c.args.reader.now) _ _ (told_by g.O.Outputs.texts g.O.Outputs.failures g.O.Outputs.given_up) g.O.W.Target.contents g.O.W.Target.failures c.items.handed_out c.args.outputs.now c.items.splitting c.items.outputs c.in-Ok-Some.item
-        c.requires.some c.items.invariant.splitting reading in
+    c.requires.some c.items.invariant.splitting reading in
     record {
       splitting = item_taken c.args.limits c.args.splitting.now.size c.items.reading.decoder c.next_item.new.self.decoder (g.R.Source.remaining c.args.reader.now) _ _ (told_by g.O.Outputs.texts g.O.Outputs.failures g.O.Outputs.given_up) g.O.W.Target.contents g.O.W.Target.failures c.items.handed_out c.args.outputs.now c.items.splitting c.take_item.new.splitting c.items.outputs
           c.take_item.new.outputs c.in-Ok-Some.item c.requires.some c.items.invariant.splitting reading (leaves_item c.in-Ok-Some.field-0 c.in-Ok-Some.item c.next_item.new.self.decoder.state c.in-Ok-Some.field-0-is c.in-Ok-Some.ensures.reads.leaves) may.0.place may.1 (c.in_ok-take_item-in-Ok-Some.ensures may.0);
