@@ -8,7 +8,8 @@ use Rattle.cwr_tools.specs.SplitOutputs.{told_by}
 use Rattle.cwr_tools.specs.Splitting.{Splits}
 use Rattle.cwr_tools.specs.Verdicts.{StopsAfter}
 use Rattle.cwr_tools.proofs.ReportsOn.{same_fault, stops_after}
-use Rattle.cwr_tools.proofs.SplittingOn.{all_split, few_handed_out, item_taken, leaves_item, may_take, next_item, no_output_left, none_split, output_stopped, reading_stopped}
+use Rattle.cwr_tools.proofs.SplittingOn.{few_handed_out, item_taken, leaves_item, may_take, next_item, none_split}
+use Rattle.cwr_tools.proofs.SplitsEnded.{all_split, no_output_left, output_stopped, reading_stopped}
 use Rattle.cwr_tools.proofs.splitting.split_items.Goals as goal
 
 pub items-init : goal.items-init
