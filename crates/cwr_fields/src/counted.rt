@@ -54,6 +54,13 @@ impl<T> Counted<T> {
         &self.ahead[self.start..self.end]
     }
 
+    /// How many of its calls failed. The count stays at `u64::MAX`, and each of these calls then fails.
+    pub fn failures(&self) -> u64
+        ensures { result ≡ failures_of self.now }
+    {
+        self.failures
+    }
+
     /// The reader or the writer itself. What was read ahead is lost, unless it was copied from `ahead` before.
     pub fn into_inner(self) -> T
         ensures { result ≡ inner_of self }
