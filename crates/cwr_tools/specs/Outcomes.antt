@@ -1,8 +1,9 @@
--- The lines that say how a join ended.
+-- The lines that say how a split or a join ended.
 use Rattle.std.specs.Prelude.{ℕ, Bool, true, false, List, [], ◌++◌, Result, Ok, Err, if◌then◌else◌}
-use Rattle.cwr_levels.specs.Lines.{input_mark, joined_line, limit_line, refusal_line, truncated_line}
+use Rattle.cwr_levels.specs.Lines.{input_mark, joined_line, limit_line, refusal_line, split_line, truncated_line}
 use Rattle.cwr_tools.specs.declared.verdicts.JoinFault.{JoinFault}
 use Rattle.cwr_tools.specs.declared.verdicts.JoinReport.{JoinReport}
+use Rattle.cwr_tools.specs.declared.verdicts.SplitReport.{SplitReport}
 use Rattle.cwr_tools.specs.declared.verdicts.ToolFault.{ToolFault}
 use Rattle.cwr_tools.specs.declared.verdicts.ToolFault.TheVariants.{Refused, Truncated, Limit}
 
@@ -19,6 +20,11 @@ is_of_input (Refused refusal) = true
 is_of_input (Truncated records) = true
 is_of_input (Limit limit) = true
 is_of_input fault = false
+
+-- the line on a split
+abbrev pub split_outcome : Result SplitReport ToolFault → List ℕ
+split_outcome (Ok report) = split_line report.outputs report.transactions
+split_outcome (Err fault) = input_line fault
 
 -- the line on a join; before what it says of an input stands the number of that one
 abbrev pub join_outcome : Result JoinReport JoinFault → List ℕ

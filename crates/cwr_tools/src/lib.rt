@@ -17,7 +17,7 @@ mod verdicts;
 
 pub use checking::check;
 pub use joining::join;
-pub use outcomes::put_join_outcome;
+pub use outcomes::{put_join_outcome, put_split_outcome};
 pub use outputs::{OutputFault, Outputs};
 pub use showing::show;
 pub use splitting::split;

@@ -1,13 +1,13 @@
-//! The line that says how a join ended.
+//! The lines that say how a split or a join ended.
 
 ghost use Rattle.std.specs.Prelude.{◌≡◌, false, IfErr};
 ghost use Rattle.cwr_encode.specs.Sinks.{Puts, has_failed, written_of};
-ghost use Rattle.cwr_tools.specs.Outcomes.{input_line, is_of_input, join_outcome};
+ghost use Rattle.cwr_tools.specs.Outcomes.{input_line, is_of_input, join_outcome, split_outcome};
 
-use crate::verdicts::{JoinFault, JoinReport, ToolFault};
+use crate::verdicts::{JoinFault, JoinReport, SplitReport, ToolFault};
 use cwr_encode::{Sink, SinkFault};
 use cwr_fields::Target;
-use cwr_levels::{input_mark, joined_line, limit_line, refusal_line, truncated_line};
+use cwr_levels::{input_mark, joined_line, limit_line, refusal_line, split_line, truncated_line};
 
 /// Puts the line on an input that is refused, that ended too early, or with which the result would pass a limit. Where a
 /// device or memory failed there is none.
@@ -23,6 +23,22 @@ fn put_input_line<W: Target>(fault: &ToolFault, sink: &mut Sink<W>) -> Result<()
         ToolFault::Reader | ToolFault::Writer { .. } | ToolFault::Memory | ToolFault::Output => {
             Ok(())
         }
+    }
+}
+
+/// Puts the line that says how a split ended, to a sink that hasn't failed: `SPLIT` with its numbers, or what became of its
+/// input. Where a device or memory failed it puts nothing.
+pub fn put_split_outcome<W: Target>(
+    outcome: &Result<SplitReport, ToolFault>,
+    sink: &mut Sink<W>,
+) -> Result<(), SinkFault>
+    requires unfailed { has_failed sink.old ≡ false }
+    ensures puts { Puts W.contents W.failures (split_outcome outcome.now) result sink.old sink.new }
+    ensures fault { IfErr result (λ f. f.written ≡ written_of sink.new) }
+{
+    match outcome {
+        Ok(report) => split_line(report.outputs, report.transactions, sink),
+        Err(fault) => put_input_line(fault, sink),
     }
 }
 
