@@ -1,1 +1,3 @@
 pub mod Endings
+pub mod NumberedFiles
+pub mod Words

@@ -4,14 +4,18 @@ ghost use Rattle.std.specs.Prelude.{◌<◌, length};
 ghost use Rattle.cwr_program.specs.Endings.{EndsAs, EndsBy};
 
 use crate::faults::Fault;
-use crate::new_files::{Place, gathered};
+use crate::new_files::{NumberedFiles, Place, gathered};
 use cwr_encode::{Sink, SinkFault};
 use cwr_fields::{Counted, Target};
 use cwr_shape::Limits;
-use cwr_tools::{JoinFault, JoinReport, ToolFault, Verdict, check, join, put_join_outcome, show};
+use cwr_tools::{
+    JoinFault, JoinReport, ToolFault, Verdict, check, join, put_join_outcome, put_split_outcome,
+    show, split,
+};
 use std::alloc::Global;
 use std::fs::File;
 use std::io::{BufReader, BufWriter, Read, Write};
+use std::num::NonZeroU32;
 use std::rt::Files;
 
 /// How a run ended, as its exit status.
@@ -77,6 +81,25 @@ fn hand_on<'a, W: Target + Drop>(
         (Ok(()), Ok(())) => Ok(()),
         _ => Err(Fault::Write),
     }
+}
+
+/// Cuts the transmission of a file into files of so many transactions, and writes the line that says how that ended.
+pub(crate) fn split_file<'a, R: Files + AllocGlobal, O: Write + Drop>(
+    rt: &R,
+    limits: Limits,
+    transactions: NonZeroU32,
+    file: &'a str,
+    prefix: &'a str,
+    output: O,
+) -> Result<Status, Fault<'a>> {
+    let alloc = rt.alloc();
+    let mut reader = bytes_of(alloc, opened(rt, file)?);
+    let mut sink = Sink::new(lines_to(alloc, output)?);
+    let mut files = NumberedFiles::new(rt, alloc, prefix);
+    let outcome = split(alloc, limits, &mut reader, transactions.get(), &mut files);
+    let put = put_split_outcome(&outcome, &mut sink);
+    hand_on(put, sink)?;
+    ended_by(outcome.err())
 }
 
 /// The files of these names, to be read, in their order.

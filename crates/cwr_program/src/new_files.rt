@@ -1,9 +1,12 @@
 //! Files that are written, and that have their names only once they are whole.
 
-ghost use Rattle.std.specs.Prelude.{◌≡◌, IfOk};
+ghost use Rattle.std.specs.Prelude.{◌≡◌, ℕ, None, Some, IfOk, IfSome};
 ghost use Rattle.cwr_fields.specs.Counted.{failures_of};
+ghost use Rattle.cwr_fields.specs.Failures.{CountsFailure};
+ghost use Rattle.cwr_program.specs.NumberedFiles.{failed_calls_of, given_up_of};
 
 use cwr_fields::Counted;
+use cwr_tools::{OutputFault, Outputs};
 use std::alloc::{AllocError, Global};
 use std::fs::File;
 use std::io;
@@ -74,5 +77,117 @@ impl Place {
         if let Some(part) = &self.part {
             let _ = rt.remove_file(part.as_str());
         }
+    }
+}
+
+/// The files of a split, whose names are a prefix and eight digits, from `00000001` on.
+#[derive(Drop)]
+pub(crate) struct NumberedFiles<'a, R: Files> {
+    rt: &'a R,
+    alloc: Global,
+    prefix: &'a str,
+    /// How many were asked for.
+    asked: u32,
+    /// Where the one is that is being written.
+    place: Option<Place>,
+    failed_calls: u64,
+    given_up: u64,
+}
+
+impl<'a, R: Files> NumberedFiles<'a, R> {
+    /// The files whose names begin with the prefix. None was asked for.
+    pub(crate) fn new(rt: &'a R, alloc: Global, prefix: &'a str) -> NumberedFiles<'a, R> {
+        NumberedFiles {
+            rt,
+            alloc,
+            prefix,
+            asked: 0,
+            place: None,
+            failed_calls: 0,
+            given_up: 0,
+        }
+    }
+
+    /// Makes the next file. `None` where that fails.
+    fn make(&mut self) -> Option<Counted<BufWriter<R::File>>>
+        ensures failed_calls { failed_calls_of self.new ≡ failed_calls_of self.old }
+        ensures given_up { given_up_of self.new ≡ given_up_of self.old }
+        ensures unfailed { IfSome result (λ writer. failures_of writer ≡ 0) }
+    {
+        self.asked = self.asked.checked_add(1)?;
+        let prefix = self.prefix;
+        let number = self.asked;
+        let name = format!(in self.alloc; "{prefix}{number:08}").ok()?;
+        let place = Place::of(self.rt, self.alloc, name).ok()?;
+        let file = place.create(self.rt).ok()?;
+        self.place = Some(place);
+        gathered(self.alloc, file).ok()
+    }
+
+    /// Gives the file that was written its name. `None` where that fails.
+    fn keep(&mut self) -> Option<()>
+        ensures failed_calls { failed_calls_of self.new ≡ failed_calls_of self.old }
+        ensures given_up { given_up_of self.new ≡ given_up_of self.old }
+    {
+        let place = self.place.take()?;
+        place.keep(self.rt).ok()
+    }
+
+    /// Removes the file that was being written, if there is one.
+    fn discard(&mut self)
+        ensures failed_calls { failed_calls_of self.new ≡ failed_calls_of self.old }
+        ensures given_up { given_up_of self.new ≡ given_up_of self.old }
+    {
+        if let Some(place) = self.place.take() {
+            place.discard(self.rt);
+        }
+    }
+
+    /// The answer of a call that did what was asked for, or didn't; a failure is counted.
+    fn answer<T: Drop>(&mut self, made: Option<T>) -> Result<T, OutputFault>
+        ensures made { IfOk result (λ it. made ≡ Some it) }
+        ensures failed_calls { CountsFailure result (failed_calls_of self.old) (failed_calls_of self.new) }
+        ensures given_up { given_up_of self.new ≡ given_up_of self.old }
+    {
+        match made {
+            Some(it) if self.failed_calls < u64::MAX => Ok(it),
+            _ => {
+                self.failed_calls = self.failed_calls.saturating_add(1);
+                Err(OutputFault)
+            }
+        }
+    }
+}
+
+impl<R: Files> Outputs for NumberedFiles<'_, R> {
+    type W = Counted<BufWriter<R::File>>;
+
+    // What a file holds isn't known.
+    ghost texts = { λ files. None };
+
+    ghost failures = { failed_calls_of };
+
+    ghost given_up = { given_up_of };
+
+    fn next(&mut self) -> Result<Counted<BufWriter<R::File>>, OutputFault> {
+        let made = self.make();
+        if made.is_none() {
+            self.discard();
+        }
+        self.answer(made)
+    }
+
+    fn done(&mut self, writer: Counted<BufWriter<R::File>>) -> Result<(), OutputFault> {
+        drop(writer);
+        let kept = self.keep();
+        self.answer(kept)
+    }
+
+    fn give_up(&mut self, writer: Counted<BufWriter<R::File>>) {
+        if writer.failures() > 0 {
+            self.given_up = self.given_up.saturating_add(1);
+        }
+        drop(writer);
+        self.discard();
     }
 }

@@ -3,7 +3,7 @@
 ghost use Rattle.std.specs.Prelude.{◌≡◌, ◌≢◌, ◌≤◌};
 ghost use Rattle.clap.specs.Values.{kind_of};
 
-use crate::commands::{Status, check_input, join_files, opened, show_input};
+use crate::commands::{Status, check_input, join_files, opened, show_input, split_file};
 use crate::faults::Fault;
 use crate::words::{Task, Work, task_of};
 use clap::error::ErrorKind;
@@ -102,6 +102,11 @@ fn perform<'a, R: Files + AllocGlobal, I: Read + Drop, O: Write + Drop>(
         Work::Check(Some(name)) => check_input(rt.alloc(), limits, opened(rt, name)?, output),
         Work::Show(None) => show_input(rt.alloc(), limits, input, output),
         Work::Show(Some(name)) => show_input(rt.alloc(), limits, opened(rt, name)?, output),
+        Work::Split {
+            transactions,
+            file,
+            prefix,
+        } => split_file(rt, limits, transactions, file, prefix, output),
         Work::Join { out, files } => join_files(rt, limits, out, files.as_slice(), output),
     }
 }

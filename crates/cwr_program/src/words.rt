@@ -1,16 +1,18 @@
 //! The words of the command line.
 
-ghost use Rattle.std.specs.Prelude.{◌≡◌, ℕ, List, None, Some, Ok, IfSome, codes, false, if◌then◌else◌};
+ghost use Rattle.std.specs.Prelude.{◌≡◌, ℕ, List, None, Some, Ok, IfOk, IfSome, codes, false, true, if◌then◌else◌};
 ghost use Rattle.std.specs.Str.{bytes_eq};
 ghost use Rattle.std.specs.Str.Parse.{digits_value, without_leading_plus};
 ghost use Rattle.clap.specs.Words.{found_of, has_subcommand, one_text};
 ghost use Rattle.cwr_shape.specs.Ranges.{limit_values};
+ghost use Rattle.cwr_program.specs.Words.{IsSplitOf};
 
 use clap::error::ErrorKind;
 use clap::{Arg, ArgMatches, Command, Error, value_parser};
 use cwr_shape::Limits;
 use std::alloc::{AllocError, Global};
 use std::convert::AsStr;
+use std::num::NonZeroU32;
 
 /// What is done.
 #[derive(Debug, PartialEq, Eq, Drop)]
@@ -19,6 +21,15 @@ pub enum Work<'a> {
     Check(Option<&'a str>),
     /// Its records are shown.
     Show(Option<&'a str>),
+    /// A transmission is cut into parts.
+    Split {
+        /// The transactions of a part; the last may have fewer.
+        transactions: NonZeroU32,
+        /// The name of the transmission's file.
+        file: &'a str,
+        /// What the names of the parts' files begin with.
+        prefix: &'a str,
+    },
     /// Transmissions are joined to one.
     Join {
         /// The name of the file that is written.
@@ -43,11 +54,20 @@ const CHECK: &str = "check";
 /// The name of the subcommand that shows.
 const SHOW: &str = "show";
 
+/// The name of the subcommand that splits.
+const SPLIT: &str = "split";
+
 /// The name of the subcommand that joins.
 const JOIN: &str = "join";
 
 /// The id of the one file of a subcommand, or of its files.
 const FILE: &str = "FILE";
+
+/// The id of the number of transactions of a part.
+const NUMBER: &str = "N";
+
+/// The id of what the names of the parts' files begin with.
+const PREFIX: &str = "PREFIX";
 
 /// The id of the file that is written.
 const OUT: &str = "OUT";
@@ -88,6 +108,27 @@ fn over_one<'a>(alloc: Global, name: &'a str, about: &'a str) -> Result<Command<
     with_limits(alloc, command)?.arg(file)
 }
 
+/// The subcommand that splits.
+fn splitting<'a>(alloc: Global) -> Result<Command<'a>, AllocError> {
+    let number = Arg::new(alloc, NUMBER)
+        .short('n')
+        .value_name(NUMBER)
+        .required(true)
+        .value_parser(value_parser!(u32).range(1..=99_999_999))
+        .help("The transactions of a part, 1 to 99999999; the last part may have fewer");
+    let file = Arg::new(alloc, FILE)
+        .required(true)
+        .help("The transmission");
+    let prefix = Arg::new(alloc, PREFIX).required(true).help(
+        "The parts are written to PREFIX00000001, PREFIX00000002 and so on",
+    );
+    let command = Command::new(alloc, SPLIT).about("Cuts a transmission into parts");
+    with_limits(alloc, command)?
+        .arg(number)?
+        .arg(file)?
+        .arg(prefix)
+}
+
 /// The subcommand that joins.
 fn joining<'a>(alloc: Global) -> Result<Command<'a>, AllocError> {
     let out = Arg::new(alloc, OUT).required(true).help(
@@ -110,6 +151,7 @@ The last line on standard output:
   GOOD groups G transactions T records R     the input begins with a transmission
   REFUSED record R field F level L REASON    no transmission continues from that field of line R
   TRUNCATED records R                        the input ended too early, after R records
+  SPLIT outputs O transactions T             the parts are written
   JOINED inputs I groups G transactions T records R
                                              the result is written
   input I: LIMIT records, groups or transaction
@@ -123,7 +165,8 @@ Before REFUSED and TRUNCATED `cwr join` writes the number of the input.
 Exit status: 0 good, 1 refused, truncated or a limit, 2 a wrong command line (or help), 3 a file, a device or memory failed
 
 Examples: cwr check works.cwr
-          cwr join whole.cwr part-1.cwr part-2.cwr";
+          cwr split -n 1000 works.cwr part-
+          cwr join whole.cwr part-00000001 part-00000002";
 
 /// The program's words.
 fn command<'a>(alloc: Global) -> Result<Command<'a>, AllocError> {
@@ -137,6 +180,7 @@ fn command<'a>(alloc: Global) -> Result<Command<'a>, AllocError> {
             SHOW,
             "Shows the records of a transmission, and judges it",
         )?)?
+        .subcommand(splitting(alloc)?)?
         .subcommand(joining(alloc)?)
 }
 
@@ -173,6 +217,18 @@ fn work_over<'a>(name: &str, file: Option<&'a str>) -> Work<'a>
     }
 }
 
+/// The work of a split. `None` where a word is missing or out of its range.
+fn split_in<'a>(given: &ArgMatches<'a>) -> Option<Work<'a>>
+    ensures { IfSome result (λ work. IsSplitOf (found_of given.now) work) }
+{
+    let number = given.get_one::<u32>(NUMBER)?;
+    Some(Work::Split {
+        transactions: NonZeroU32::new(number)?,
+        file: given.get_str(FILE)?,
+        prefix: given.get_str(PREFIX)?,
+    })
+}
+
 /// The work of a join. `None` where a word is missing.
 fn join_in<'a>(alloc: Global, given: &ArgMatches<'a>) -> Result<Option<Work<'a>>, AllocError> {
     match (given.get_str(OUT), given.get_strs(FILE)) {
@@ -189,8 +245,12 @@ fn work_in<'a>(
     alloc: Global,
     name: &str,
     given: &ArgMatches<'a>,
-) -> Result<Option<Work<'a>>, AllocError> {
-    if name == JOIN {
+) -> Result<Option<Work<'a>>, AllocError>
+    ensures { bytes_eq name.now (codes "split") ≡ true → IfOk result (λ found. IfSome found (λ work. IsSplitOf (found_of given.now) work)) }
+{
+    if name == SPLIT {
+        Ok(split_in(given))
+    } else if name == JOIN {
         join_in(alloc, given)
     } else {
         Ok(Some(work_over(name, given.get_str(FILE))))
