@@ -87,6 +87,7 @@ fn version_and_help(rt: HostRuntime) {
         "REFUSED record R field F level L REASON",
         "TRUNCATED records R",
         "FINDING group G transaction T record S field F level L rule V",
+        "SPLIT outputs O transactions T",
         "JOINED inputs I groups G transactions T records R",
         "input I: LIMIT records, groups or transaction",
         "Exit status: 0 good, 1 refused, truncated or a limit",
@@ -339,6 +340,23 @@ fn transmission_that_passes_a_limit(rt: HostRuntime) -> Result<(), Fail> {
 }
 
 #[test]
+fn split_of_an_input_without_transactions(rt: HostRuntime) {
+    let words = ["cwr", "split", "-n", "3", "/dev/null", "no/such/part-"];
+    let ran = run_over(&rt, words.as_slice(), Failing);
+    assert_eq!(rt; ran.status, 1);
+    assert_eq!(rt; ran.output.as_slice(), b"TRUNCATED records 0\n".as_slice());
+    assert_eq!(rt; ran.error.as_slice(), b"".as_slice());
+    let words = ["cwr", "split", "-n", "3", "no/such/file.cwr", "part-"];
+    let ran = run_over(&rt, words.as_slice(), Failing);
+    assert_eq!(rt; ran.status, 3);
+    assert_eq!(rt; ran.output.as_slice(), b"".as_slice());
+    assert_eq!(rt;
+        ran.error.as_slice(),
+        b"cwr: cannot open no/such/file.cwr\n".as_slice()
+    );
+}
+
+#[test]
 fn join_of_inputs_that_are_not_there_or_empty(rt: HostRuntime) {
     let words = ["cwr", "join", "/dev/null", "/dev/null", "/dev/null"];
     let ran = run_over(&rt, words.as_slice(), Failing);
@@ -368,10 +386,11 @@ fn join_of_inputs_that_are_not_there_or_empty(rt: HostRuntime) {
 }
 
 #[test]
-fn join_without_its_words(rt: HostRuntime) {
+fn split_and_join_without_their_words(rt: HostRuntime) {
     for words in [
+        ["cwr", "split", "/dev/null"].as_slice(),
         ["cwr", "join", "/dev/null"].as_slice(),
-        ["cwr", "join"].as_slice(),
+        ["cwr", "split", "-n", "0", "/dev/null", "part-"].as_slice(),
     ] {
         let ran = run_over(&rt, words, Failing);
         assert_eq!(rt; ran.status, 2);

@@ -2,6 +2,7 @@
 
 use cwr_program::{Task, Work, task_of};
 use cwr_shape::Limits;
+use std::num::NonZeroU32;
 use std::process::Abort;
 use std::test::Fail;
 
@@ -57,6 +58,30 @@ fn limits_are_those_of_the_options(rt: HostRuntime) -> Result<(), Fail> {
 }
 
 #[test]
+fn parts_of_a_split(rt: HostRuntime) -> Result<(), Fail> {
+    let table: [(&[&str], u32, (u32, u32, u32)); 3] = [
+        (&["-n", "1", "a.cwr", "part-"], 1, LARGEST),
+        (&["a.cwr", "-n99999999", "part-"], 99_999_999, LARGEST),
+        (
+            &["--groups", "9", "a.cwr", "part-", "-n", "250"],
+            250,
+            (99_999_999, 9, 999_999),
+        ),
+    ];
+    for (given, number, limits) in table {
+        let mut words = ["cwr", "split"].as_slice().to_vec(rt.alloc())?;
+        words.extend_from_slice(given)?;
+        let work = Work::Split {
+            transactions: NonZeroU32::new(number).ok_or("no transactions")?,
+            file: "a.cwr",
+            prefix: "part-",
+        };
+        check_task(&rt, words.as_slice(), work, limits)?;
+    }
+    Ok(())
+}
+
+#[test]
 fn inputs_of_a_join(rt: HostRuntime) -> Result<(), Fail> {
     let all = ["a.cwr", "b.cwr", "a.cwr"];
     for count in 1..=3 {
@@ -72,7 +97,17 @@ fn inputs_of_a_join(rt: HostRuntime) -> Result<(), Fail> {
 
 #[test]
 fn words_that_are_missing_or_out_of_range(rt: HostRuntime) {
-    let wrong: [&[&str]; 2] = [&["cwr", "join"], &["cwr", "join", "out.cwr"]];
+    let wrong: [&[&str]; 9] = [
+        &["cwr", "split"],
+        &["cwr", "split", "a.cwr", "part-"],
+        &["cwr", "split", "-n", "1", "a.cwr"],
+        &["cwr", "split", "-n", "0", "a.cwr", "part-"],
+        &["cwr", "split", "-n", "100000000", "a.cwr", "part-"],
+        &["cwr", "split", "-n", "two", "a.cwr", "part-"],
+        &["cwr", "split", "-n", "1", "a.cwr", "part-", "more"],
+        &["cwr", "join"],
+        &["cwr", "join", "out.cwr"],
+    ];
     for words in wrong {
         assert!(rt; task_of(rt.alloc(), words).is_err());
     }
