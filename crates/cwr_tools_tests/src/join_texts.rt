@@ -1,5 +1,6 @@
 //! Tests of the texts that joins of worked texts write, and of their answers.
 
+use crate::works::{NEW_AND_REVISED, REV_0_OF_GREEN_SEA, REVISED};
 use cwr_fields::Counted;
 use cwr_shape::{LimitKind, Limits};
 use cwr_tools::{JoinFault, JoinReport, ToolFault, join};
@@ -8,39 +9,8 @@ use cwr_worked::texts::{ONE_ACKNOWLEDGEMENT, canonical, trimmed_text};
 use std::process::Abort;
 use std::test::Fail;
 
-/// GRH of type REV, the first group.
-const GRH_REV: &[u8] = b"GRHREV0000102.100000000001";
-
 /// GRH of type REV, the third group.
 const GRH_REV_3: &[u8] = b"GRHREV0000302.100000000001";
-
-/// REV, which opens transaction 0, of the second revised work.
-const REV_0_OF_GREEN_SEA: &[u8] =
-    b"REV0000000000000000GREEN SEA                                                     W0003                                                        ORI";
-
-/// A new work in one group, and a revised work in another: 1,155 bytes.
-const NEW_AND_REVISED: &[&[u8]] = &[
-    HDR,
-    GRH_NWR,
-    NWR_0,
-    SWR_0_1,
-    b"GRT000010000000100000004",
-    GRH_REV_2,
-    REV_0,
-    SWR_0_1,
-    b"GRT000020000000100000004",
-    b"TRL000020000000200000010",
-];
-
-/// Another revised work: 642 bytes.
-const REVISED: &[&[u8]] = &[
-    HDR,
-    GRH_REV,
-    REV_0_OF_GREEN_SEA,
-    SWR_0_1,
-    b"GRT000010000000100000004",
-    b"TRL000010000000100000006",
-];
 
 /// Both joined: the groups of revised works stay apart.
 const BOTH: &[&[u8]] = &[

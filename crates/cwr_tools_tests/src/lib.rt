@@ -8,6 +8,14 @@ mod join_devices;
 #[cfg(test)]
 mod join_texts;
 #[cfg(test)]
+mod outputs;
+#[cfg(test)]
 mod shown_texts;
 #[cfg(test)]
+mod split_devices;
+#[cfg(test)]
+mod split_texts;
+#[cfg(test)]
 mod verdict_lines;
+#[cfg(test)]
+mod works;

@@ -1,0 +1,156 @@
+//! Outputs of a split over memory, which fail where a test wants them to.
+
+ghost use Rattle.std.specs.Prelude.{◌≡◌, Some, map};
+ghost use Rattle.cwr_fields.specs.Failures.{one_more_failure};
+
+use cwr_fields::Counted;
+use cwr_tools::{OutputFault, Outputs};
+use std::alloc::Global;
+use std::io::{self, Write};
+
+/// A writer to memory that takes so many bytes, and then no more.
+#[derive(Drop)]
+pub(crate) struct Bounded {
+    text: Vec<u8>,
+    room: usize,
+}
+
+impl Write for Bounded {
+    ghost contents = { λ bounded. Some bounded.text.items };
+
+    fn write(&mut self, text: &[u8]) -> io::Result<usize> {
+        let taken = self.room.min(text.len());
+        self.text.extend_from_slice(&text[..taken])?;
+        self.room -= taken;
+        Ok(taken)
+    }
+
+    fn flush(&mut self) -> io::Result<()> {
+        Ok(())
+    }
+}
+
+/// What fails of some outputs, by its number from 1.
+#[derive(Clone, Copy, Debug, PartialEq, Eq)]
+pub(crate) enum Mishap {
+    /// Nothing does.
+    Nothing,
+    /// That call of `next`.
+    Next(u32),
+    /// That call of `done`.
+    Done(u32),
+    /// The writer that the call of `next` gave, after so many bytes.
+    Writer(u32, usize),
+}
+
+/// Where the outputs of a split go.
+#[derive(Drop)]
+pub(crate) struct Shelf {
+    alloc: Global,
+    mishap: Mishap,
+    /// How often `next` and `done` were called.
+    asked: u32,
+    handed_over: u32,
+    /// The texts of the outputs that are done.
+    texts: Vec<Vec<u8>>,
+    /// What stood in the writer that was given up, if one was.
+    given_up: Option<Vec<u8>>,
+    failures: u64,
+    failed_writers: u64,
+}
+
+impl Shelf {
+    /// Nothing was asked for.
+    pub(crate) fn new(alloc: Global, mishap: Mishap) -> Shelf {
+        Shelf {
+            alloc,
+            mishap,
+            asked: 0,
+            handed_over: 0,
+            texts: Vec::new(alloc),
+            given_up: None,
+            failures: 0,
+            failed_writers: 0,
+        }
+    }
+
+    /// How often `next` was called.
+    pub(crate) fn asked(&self) -> u32 {
+        self.asked
+    }
+
+    /// How many calls of `next` and `done` failed, and how many failed writers were given up.
+    pub(crate) fn counts(&self) -> (u64, u64) {
+        (self.failures, self.failed_writers)
+    }
+
+    /// The texts of the outputs that are done.
+    pub(crate) fn texts(&self) -> &[Vec<u8>] {
+        self.texts.as_slice()
+    }
+
+    /// What stood in the writer that was given up, if one was.
+    pub(crate) fn given_up(&self) -> Option<&[u8]> {
+        match &self.given_up {
+            Some(text) => Some(text.as_slice()),
+            None => None,
+        }
+    }
+
+    /// How many bytes the writer of this output takes.
+    fn room(&self) -> usize {
+        match self.mishap {
+            Mishap::Writer(number, room) if number == self.asked => room,
+            _ => usize::MAX,
+        }
+    }
+
+    /// Counts a failure.
+    fn count_failure(&mut self) -> OutputFault
+        ensures failures { self.new.failures ≡ one_more_failure self.old.failures }
+        ensures failed_writers { self.new.failed_writers ≡ self.old.failed_writers }
+        ensures texts { self.new.texts ≡ self.old.texts }
+    {
+        self.failures = self.failures.saturating_add(1);
+        OutputFault
+    }
+}
+
+impl Outputs for Shelf {
+    type W = Counted<Bounded>;
+
+    ghost texts = { λ shelf. Some (map (λ text. text.items) shelf.texts.items) };
+
+    ghost failures = { λ shelf. shelf.failures };
+
+    ghost given_up = { λ shelf. shelf.failed_writers };
+
+    fn next(&mut self) -> Result<Counted<Bounded>, OutputFault> {
+        self.asked = self.asked.saturating_add(1);
+        if self.mishap == Mishap::Next(self.asked) || self.failures == u64::MAX {
+            return Err(self.count_failure());
+        }
+        Ok(Counted::new(Bounded {
+            text: Vec::new(self.alloc),
+            room: self.room(),
+        }))
+    }
+
+    fn done(&mut self, writer: Counted<Bounded>) -> Result<(), OutputFault> {
+        self.handed_over = self.handed_over.saturating_add(1);
+        if self.mishap == Mishap::Done(self.handed_over) || self.failures == u64::MAX {
+            return Err(self.count_failure());
+        }
+        match self.texts.push(writer.into_inner().text) {
+            Ok(()) => Ok(()),
+            Err(_) => Err(self.count_failure()),
+        }
+    }
+
+    fn give_up(&mut self, writer: Counted<Bounded>) {
+        if writer.failures() > 0 {
+            self.failed_writers = self.failed_writers.saturating_add(1);
+        }
+        self.given_up = Some(writer.into_inner().text);
+    }
+}
