@@ -65,6 +65,10 @@ fed_none old d piece ready fresh e =
       limits = m.limits;
     }
 
+-- nothing changed
+pub fed_same : (old d same : Standing) (piece : List ℕ) (used n : ℕ) → Fed old piece used d → (n ≡ 0 → same ≡ d) → n ≤ 0 → Fed old piece used same
+fed_same old d same piece used n f kept none = subst (Fed old piece used) (sym (kept (omega (arith, none)))) f
+
 take-nothing : (k : ℕ) → take {A = ℕ} k [] ≡ []
 take-nothing zero = refl
 take-nothing (suc k) = refl

@@ -1,20 +1,20 @@
 //! The steps of a decoder.
 
-ghost use Rattle.std.specs.Prelude.{List, ◌∷◌, ◌++◌, [], ◌≡◌, ◌≢◌, length, true, false, None, Some, IsTrue, IsFalse, IsSomeAnd, IfSome, OnOk};
+ghost use Rattle.std.specs.Prelude.{List, ◌∷◌, ◌++◌, [], ◌≡◌, ◌≢◌, ◌<◌, length, true, false, None, Some, IsTrue, IsFalse, IsSomeAnd, IfSome, OnOk};
 ghost use Rattle.cwr_layouts.specs.Held.{IsHeld, Takes, held_record};
 ghost use Rattle.cwr_shape.specs.Ranges.{AreInRange};
 ghost use Rattle.cwr_shape.specs.Tallies.{IsAdmitted, IsTallyOf};
 ghost use Rattle.cwr_shape.specs.declared.symbols.Symbol.{Symbol};
 ghost use Rattle.cwr_judge.specs.Items.{stands_in_transaction};
 ghost use Rattle.cwr_judge.specs.Open.{continues_open};
-ghost use Rattle.cwr_decode.specs.Machines.{Adds, ClosesLine, EntersHeld, FinishesRecord, HandsOut, HasRecord, HoldsOpen, FitsHeld, FitsWaiting, IsReady, Judges, Settles, ReportsFault, at_start, held_list, reading, stopped};
+ghost use Rattle.cwr_decode.specs.Machines.{Adds, AddsCut, AddsFront, ClosesLine, EntersHeld, FinishesRecord, HandsOut, HasRecord, HoldsOpen, FitsHeld, FitsWaiting, IsReady, Judges, Settles, ReportsFault, at_start, held_list, reading, stopped};
 ghost use Rattle.cwr_decode.specs.Represents.{IsSound};
 ghost use Rattle.cwr_decode.specs.Calls.{TakesEnd, Feeds, Finishes};
 ghost use Rattle.cwr_values.specs.Begun.{BeginsWithOneMore};
 
 use crate::outcomes::{Outcome, Step};
 use cwr_judge::{LineFault, Refusal, judge};
-use cwr_layouts::{Kind, LineBuf, LineEnd, RecordRef, Taken};
+use cwr_layouts::{CutLine, Kind, LineBuf, LineEnd, RecordRef, Taken};
 use cwr_shape::{Limits, Place, Symbol, Tally, level};
 use cwr_values::{Item, PushFault, Transaction};
 use std::alloc::{AllocError, Global};
@@ -141,6 +141,35 @@ fn add_accepted(
     Ok(Some(item))
 }
 
+/// Adds the record of a line to the open transaction and counts it, where it continues that and memory is found. Else
+/// nothing changes. Most lines are such, and no answer is built for them.
+#[inline(always)]
+fn add_cut(tally: &mut Tally, held: &mut Option<Transaction>, cut: &CutLine<'_>) -> bool
+    ensures added { IsTrue result → AddsCut cut.now tally.old held.old tally.new held.new }
+    ensures kept { IsFalse result → (tally.new ≡ tally.old) × (held.new ≡ held.old) }
+{
+    if !stands_after_header(cut.kind()) {
+        return false;
+    }
+    let Ok((symbol, accepted)) = judge(tally, cut) else {
+        return false;
+    };
+    let mut counted = *tally;
+    if !step_continues_open(&mut counted, symbol) {
+        return false;
+    }
+    let Some(whole) = held else {
+        return false;
+    };
+    match whole.push(accepted) {
+        Ok(()) => {
+            *tally = counted;
+            true
+        }
+        Err(_) => false,
+    }
+}
+
 impl Machine {
     /// Nothing was read.
     pub fn new(alloc: Global, limits: Limits) -> Self
@@ -243,33 +272,40 @@ impl Machine {
         self.finish_record(outcome)
     }
 
-    /// Adds the record of the line that ended to the open transaction, where that continues it and memory is found,
-    /// and begins a new line. Else nothing changes. Most lines are such, and no answer is built for them.
+    /// Adds the record of the line that ended to the open transaction, where `add_cut` does, and begins a new line. Else
+    /// nothing changes.
     fn add_line(&mut self) -> bool
         requires { self.old.line.ended ≢ LineEnd.Open }
         ensures added { IsTrue result → Judges self.old None self.new }
         ensures kept { IsFalse result → self.new ≡ self.old }
     {
         let cut = self.line.cut();
-        if !stands_after_header(cut.kind()) {
+        if !add_cut(&mut self.tally, &mut self.held, &cut) {
             return false;
-        }
-        let Ok((symbol, accepted)) = judge(&self.tally, &cut) else {
-            return false;
-        };
-        let mut tally = self.tally;
-        if !step_continues_open(&mut tally, symbol) {
-            return false;
-        }
-        let Some(whole) = &mut self.held else {
-            return false;
-        };
-        match whole.push(accepted) {
-            Ok(()) => self.tally = tally,
-            Err(_) => return false,
         }
         self.begin_line();
         true
+    }
+
+    /// Adds the record of the line that the piece begins with, where a new line begins there that `add_cut` adds: it is
+    /// judged where it stands. Answers how many bytes it takes, and 0 where nothing changes.
+    #[inline(always)]
+    fn add_front(&mut self, piece: &[u8]) -> usize
+        requires { self.old.line.ended ≡ LineEnd.Open }
+        ensures added { 0 < result → AddsFront self.old piece.now result self.new }
+        ensures kept { result ≡ 0 → self.new ≡ self.old }
+    {
+        if self.line.len() > 0 {
+            return 0;
+        }
+        let Some((cut, used)) = CutLine::at_front(piece) else {
+            return 0;
+        };
+        if !add_cut(&mut self.tally, &mut self.held, &cut) {
+            return 0;
+        }
+        self.begin_line();
+        used
     }
 
     /// Judges the line that ended, and accepts or refuses it. An accepted record that ends a transaction waits, since
@@ -360,6 +396,11 @@ impl Machine {
         }
         let mut used = 0;
         loop {
+            let front = self.add_front(&piece[used..]);
+            if front > 0 {
+                used += front;
+                continue;
+            }
             let taken = self.take(&piece[used..]);
             used += taken.used;
             if let LineEnd::Open = taken.ended {

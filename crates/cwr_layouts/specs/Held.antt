@@ -142,3 +142,7 @@ pub record IsKept (text : List ℕ) (count : ℕ) (has_return : Bool) (kind : Op
   pub fits : count ≤ length text
   pub held : IsHeld (line_kept text count has_return ended)
   pub keeps : KeepsBy ended text count has_return kind (line_kept text count has_return ended)
+
+-- a line that ended is kept
+abbrev pub IsClosed : List ℕ → ℕ → Bool → Option Kind → LineEnd → Type 0
+IsClosed text count has_return kind ended = IsKept text count has_return kind ended × (ended ≢ Open)
