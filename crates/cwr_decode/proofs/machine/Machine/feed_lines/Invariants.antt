@@ -1,6 +1,6 @@
 use Rattle.std.proofs.Common.{◌-◌, length}
 use Rattle.cwr_decode.proofs.AfterPiece.{Fed}
-use Rattle.cwr_decode.proofs.machine.Machine.feed.Given as goal
+use Rattle.cwr_decode.proofs.machine.Machine.feed_lines.Given as goal
 
 abbrev pub invariant-loop-used : goal.invariant-loop-used
 invariant-loop-used l = Fed l.fn.self l.piece l.used l.self
