@@ -45,7 +45,7 @@ outside_held : (held : Option RecordValue) (old new : Standing) → IsSomeAnd he
 outside_held None old new w e = e
 outside_held (Some r) old new w e = outside_enters r.kind r old new w e
 
-outside_known : (old new : Standing) → Settles old.state old None new → ¬ WaitsOutside old
+pub outside_known : (old new : Standing) → Settles old.state old None new → ¬ WaitsOutside old
 outside_known old new e w = outside_held (held_record old.line) old new w.1 (subst (λ (s : State). Settles s old None new) w.0 e)
 
 pub fed_none : (old d : Standing) (piece : List ℕ) → IsReady old.state old.finished old.line → old.finished ≡ false → Settles old.state old None d → Fed old piece 0 d
@@ -171,12 +171,9 @@ settled_sound old d u e =
     let w = u.under_way in
     record { ready = m.ready; under_way = record { input = w.input; given = w.given ++ []; stands = m.stands w.input w.given w.stands } }
 
--- and reads, where it is no end
-pub settled_reads : (old d : Standing) → IsReady old.state old.finished old.line → Settles old.state old None d → d.state ≡ states.Reading
-settled_reads old d ready e = (settled old.state old d None refl ready e).none (settles_live old.state old d e)
-
-pub settled_fresh : (old d : Standing) → IsReady old.state old.finished old.line → old.finished ≡ false → Settles old.state old None d → d.finished ≡ false
-settled_fresh old d ready fresh e = (settled old.state old d None refl ready e).finished ∙ fresh
+pub either_sound : (b : Bool) (old d : Standing) → IsSound old → (b ≡ true → Settles old.state old None d) → (b ≡ false → d ≡ old) → IsSound d
+either_sound true old d u s k = settled_sound old d u (s refl)
+either_sound false old d u s k = subst IsSound (sym (k refl)) u
 
 -- after the end of the input nothing of the piece is used
 pub finished_feeds : (old new : Standing) (piece : List ℕ) (o : Outcome) → old.finished ≡ true → Finishes old o new → Feeds old piece 0 o new

@@ -203,6 +203,14 @@ impl Machine {
         self.tally.records()
     }
 
+    /// Whether the end of the input was taken.
+    #[inline(always)]
+    pub fn has_ended(&self) -> bool
+        ensures { result ≡ self.now.finished }
+    {
+        self.finished
+    }
+
     /// How many bytes of the line, and how many records of the transaction.
     pub fn holds(&self) -> (usize, usize)
         ensures line { result.0 ≡ length self.now.line.bytes }
@@ -387,7 +395,7 @@ impl Machine {
     /// Settles what needs no further byte and no answer, and says whether a byte is needed now. A no says nothing, and
     /// then nothing changes.
     #[inline(always)]
-    fn is_settled(&mut self) -> bool
+    pub fn is_settled(&mut self) -> bool
         requires ready { IsReady self.old.state self.old.finished self.old.line }
         requires fits { FitsWaiting self.old }
         ensures settled { IsTrue result → Settles self.old.state self.old None self.new }
