@@ -17,7 +17,7 @@ use Rattle.cwr_layouts.proofs.FilledTexts.{length-filled}
 abbrev pub part : List ℕ → ℕ × FieldLayout → List ℕ
 part text p = take p.1.width (drop p.0 text)
 
-plain_take : (n : ℕ) (text : List ℕ) → is_plain text ≡ true → is_plain (take n text) ≡ true
+pub plain_take : (n : ℕ) (text : List ℕ) → is_plain text ≡ true → is_plain (take n text) ≡ true
 plain_take zero text h = refl
 plain_take (suc n) [] h = refl
 plain_take (suc n) (b ∷ text) h = let p = and_parts (nat_lt b 256 && not (is_control b)) (is_plain text) h in ap₂ (λ (x y : Bool). x && y) p.0 (plain_take n text p.1)

@@ -254,6 +254,7 @@ impl LineBuf {
             has_return: self.has_return,
             kind: self.kind,
             ended: self.ended,
+            plain: false,
         }
     }
 }
@@ -272,16 +273,18 @@ pub struct CutLine<'a> {
     has_return: bool,
     kind: Option<Kind>,
     ended: LineEnd,
+    /// Whether the text is known to have no control byte.
+    plain: bool,
 }
 
 impl<'a> Model for CutLine<'a> {
-    ghost use Rattle.cwr_layouts.specs.Held.{HeldLine, line_kept, IsClosed};
+    ghost use Rattle.cwr_layouts.specs.Held.{HeldLine, line_kept, IsCut};
 
     ghost Value = { HeldLine };
 
     ghost view = { λ c. line_kept c.text.now c.count c.has_return c.ended };
 
-    ghost invariant = { λ c. IsClosed c.text.now c.count c.has_return c.kind c.ended };
+    ghost invariant = { λ c. IsCut c.text.now c.count c.has_return c.kind c.ended c.plain };
 }
 
 impl<'a> CutLine<'a> {
@@ -307,6 +310,7 @@ impl<'a> CutLine<'a> {
             has_return: true,
             kind: Some(kind),
             ended: LineEnd::Line,
+            plain: true,
         };
         Some((line, count + 2))
     }
@@ -351,7 +355,7 @@ impl<'a> CutLine<'a> {
         ensures value { IfSome result (λ found. held_record self.now ≡ Some found) }
     {
         let kind = self.kind?;
-        RecordRef::from_line(kind, &self.text[..width(kind)])
+        RecordRef::from_line(kind, &self.text[..width(kind)], self.plain)
     }
 
     /// The record that the line's cells carry, where they are known to carry one: nothing is judged.

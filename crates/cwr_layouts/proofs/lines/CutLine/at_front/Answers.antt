@@ -13,7 +13,7 @@ invariant_of-line c =
     let width = c.width-count.result in
     let b : Begins piece width =
     record { within = omega (arith, c.if-piece-count.false); plain = c.begins_whole.ensures.plain c.if-not-begins_whole.false; carriage = c.begins_whole.ensures.carriage c.if-not-begins_whole.false; feed = c.begins_whole.ensures.feed c.if-not-begins_whole.false } in
-    front_closed c.in_ok-kind.kind piece width c.width-count.ensures b (sym c.of.ensures ∙ c.in_ok-kind.was)
+    (front_closed c.in_ok-kind.kind piece width c.width-count.ensures b (sym c.of.ensures ∙ c.in_ok-kind.was), λ _. b.plain)
 
 pub returns-clause-held : goal.returns-clause-held
 returns-clause-held c =

@@ -10,13 +10,13 @@ pub kept-requires-clause-fits : goal.kept-requires-clause-fits
 kept-requires-clause-fits c =
     let l = c.self.inside in
     let filled : IsFilled l.text.now (Some c.in-Some.kind) c.args.self.now =
-    filled_now l.text.now l.count l.has_return l.kind l.ended c.in-Some.kind c.args.self.now c.self.invariant c.self.view_is c.in-Some.is in
+    filled_now l.text.now l.count l.has_return l.kind l.ended c.in-Some.kind c.args.self.now c.self.invariant.0 c.self.view_is c.in-Some.is in
     subst (λ (n : ℕ). IsRecord (record_in c.in-Some.kind (take n l.text.now))) (sym c.width.ensures) (known_fits l.text.now c.in-Some.kind c.args.self.now filled c.requires)
 
 pub returns : goal.returns
 returns c =
     let l = c.self.inside in
     let filled : IsFilled l.text.now (Some c.in-Some.kind) c.args.self.now =
-    filled_now l.text.now l.count l.has_return l.kind l.ended c.in-Some.kind c.args.self.now c.self.invariant c.self.view_is c.in-Some.is in
+    filled_now l.text.now l.count l.has_return l.kind l.ended c.in-Some.kind c.args.self.now c.self.invariant.0 c.self.view_is c.in-Some.is in
     record_held l.text.now c.in-Some.kind c.args.self.now filled
     ∙ ap (λ (x : RecordValue). Some x) (sym (c.kept.ensures ∙ ap (λ (n : ℕ). record_in c.in-Some.kind (take n l.text.now)) c.width.ensures))
