@@ -325,6 +325,7 @@ impl Tally {
     }
 
     /// Counts the next record, which may come.
+    #[inline(always)]
     pub fn step(&mut self, symbol: Symbol)
         requires { IsAdmitted self.old symbol }
         ensures limits { self.new.limits ≡ self.old.limits }
