@@ -1,4 +1,4 @@
-//! Whole runs over CWR 2.1 transmissions: check, show and join.
+//! Whole runs over CWR 2.1 transmissions: check, show, split and join.
 #![tactic(auto)]
 
 mod checking;
