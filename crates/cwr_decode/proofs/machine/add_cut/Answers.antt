@@ -1,4 +1,4 @@
-use Rattle.std.proofs.Common.{List, Option, Some, refl, ap, subst, ◌∙◌}
+use Rattle.std.proofs.Common.{List, Option, Some, refl, ap, subst}
 use Rattle.std.specs.Prelude.{◌≡◌, true, IsSomeAnd}
 use Rattle.cwr_layouts.specs.declared.kinds.Kind.{Kind}
 use Rattle.cwr_layouts.specs.Records.{RecordValue}
