@@ -13,7 +13,7 @@ ghost use Rattle.cwr_decode.specs.Calls.{Advances, TakesEnd, Feeds, Finishes};
 ghost use Rattle.cwr_values.specs.Begun.{BeginsWithOneMore};
 
 use crate::outcomes::{Outcome, Step};
-use cwr_judge::{LineFault, Refusal, judge};
+use cwr_judge::{LineFault, Refusal, judge, judge_quickly};
 use cwr_layouts::{CutLine, Kind, LineBuf, LineEnd, RecordRef, Taken};
 use cwr_shape::{Limits, Place, Symbol, Tally, level};
 use cwr_values::{Item, PushFault, Transaction};
@@ -59,6 +59,15 @@ impl Model for Machine {
     ghost view = { λ m. record { line = m.line; tally = m.tally; held = m.held; state = m.state; finished = m.finished } };
 }
 
+/// Whether a record that was counted continues the open transaction.
+#[inline(always)]
+fn stays_open(before: &Tally, counted: &Tally) -> bool
+    ensures { (xs : List Symbol) (symbol : Symbol) → IsTallyOf before.now xs → IsTallyOf counted.now (xs ++ symbol ∷ []) → result ≡ continues_open xs symbol }
+{
+    let begun = before.transactions();
+    counted.transactions() == begun && matches!(counted.place(), Place::Transaction)
+}
+
 /// Counts an accepted record, and answers whether it continues the open transaction.
 #[inline(always)]
 fn step_continues_open(tally: &mut Tally, symbol: Symbol) -> bool
@@ -67,9 +76,9 @@ fn step_continues_open(tally: &mut Tally, symbol: Symbol) -> bool
     ensures stands { (xs : List Symbol) → IsTallyOf tally.old xs → IsTallyOf tally.new (xs ++ symbol ∷ []) }
     ensures same { (xs : List Symbol) → IsTallyOf tally.old xs → result ≡ continues_open xs symbol }
 {
-    let begun = tally.transactions();
+    let before = *tally;
     tally.step(symbol);
-    tally.transactions() == begun && matches!(tally.place(), Place::Transaction)
+    stays_open(&before, tally)
 }
 
 /// Whether records of the kind stand inside transactions, after the header.
@@ -159,11 +168,10 @@ fn add_cut(tally: &mut Tally, held: &mut Option<Transaction>, cut: &CutLine<'_>)
     if !stands_after_header(cut.kind()) {
         return false;
     }
-    let Ok((symbol, accepted)) = judge(tally, cut) else {
+    let Some((_, accepted, counted)) = judge_quickly(tally, cut) else {
         return false;
     };
-    let mut counted = *tally;
-    if !step_continues_open(&mut counted, symbol) {
+    if !stays_open(tally, &counted) {
         return false;
     }
     let Some(whole) = held else {

@@ -1,4 +1,4 @@
-use Rattle.std.proofs.Common.{None, ap, subst, sym, ◌∙◌}
+use Rattle.std.proofs.Common.{None, subst, sym}
 use Rattle.cwr_layouts.specs.Held.{HeldLine}
 use Rattle.cwr_decode.specs.Machines.{AddsCut, Standing, Judges}
 use Rattle.cwr_decode.proofs.machine.Machine.add_line.Goals as goal

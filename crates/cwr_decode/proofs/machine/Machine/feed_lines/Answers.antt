@@ -1,4 +1,4 @@
-use Rattle.std.proofs.Common.{ℕ, drop, Some, None, refl, ap, subst, sym, ◌∙◌}
+use Rattle.std.proofs.Common.{drop, Some, None, refl, ap, subst, sym, ◌∙◌}
 use Rattle.std.proofs.lemmas.List.{take_rest}
 use Rattle.cwr_decode.specs.Machines.{Standing, Judges}
 use Rattle.cwr_decode.specs.declared.outcomes.Outcome.TheVariants as outcomes

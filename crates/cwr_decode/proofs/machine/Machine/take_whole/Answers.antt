@@ -1,4 +1,4 @@
-use Rattle.std.proofs.Common.{Some, ap, subst, ◌∙◌}
+use Rattle.std.proofs.Common.{Some, subst}
 use Rattle.cwr_decode.specs.declared.outcomes.Outcome.TheVariants as outcomes
 use Rattle.cwr_decode.specs.declared.machine.State.TheVariants as states
 use Rattle.cwr_values.specs.declared.items.Item.TheVariants as items
