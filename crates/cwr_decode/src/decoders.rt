@@ -22,8 +22,7 @@ pub struct Decoder {
 
 impl Model for Decoder {
     ghost use Rattle.cwr_decode.specs.Machines.{Standing};
-    ghost use Rattle.cwr_decode.specs.Readings.{FeedsOn};
-ghost use Rattle.cwr_decode.specs.Represents.{IsSound};
+    ghost use Rattle.cwr_decode.specs.Represents.{IsSound};
 
     ghost Value = { Standing };
 

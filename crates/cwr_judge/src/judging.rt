@@ -109,7 +109,10 @@ fn next_record<'a>(tally: &Tally, line: &CutLine<'a>) -> Option<(Symbol, RecordR
 
 /// The record of the line and its symbol, where it may come next, and what is counted with it: as `judge` says it, where
 /// quick tests find the numbers right. `None` says nothing.
-pub fn judge_quickly<'a>(tally: &Tally, line: &CutLine<'a>) -> Option<(Symbol, RecordRef<'a>, Tally)>
+pub fn judge_quickly<'a>(
+    tally: &Tally,
+    line: &CutLine<'a>,
+) -> Option<(Symbol, RecordRef<'a>, Tally)>
     ensures next { (xs : List Symbol) → IsTallyOf tally.now xs → IfSome result (λ found. IsNext tally.now.limits xs line.now found.0 found.1) }
     ensures carried { IfSome result (λ found. (held_record line.now ≡ Some found.1) × IsRecord found.1 × IsFalse (held_excess line.now)) }
     ensures limits { IfSome result (λ found. found.2.limits ≡ tally.now.limits) }

@@ -106,7 +106,11 @@ impl RecordList {
             kind: next.kind(),
             start: self.text.as_slice().len(),
         };
-        self.places.reserve(if self.places.is_empty() { FIRST_PLACES } else { 1 })?;
+        self.places.reserve(if self.places.is_empty() {
+            FIRST_PLACES
+        } else {
+            1
+        })?;
         make_first_room(&mut self.text)?;
         self.text.extend_from_slice(line)?;
         self.places.push_reserved(place);
