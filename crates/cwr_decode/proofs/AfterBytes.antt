@@ -17,7 +17,7 @@ use Rattle.cwr_decode.specs.declared.outcomes.Outcome.{Outcome}
 use Rattle.cwr_decode.specs.declared.outcomes.Outcome.TheVariants as outcomes
 use Rattle.cwr_decode.specs.declared.machine.State.{State}
 use Rattle.cwr_decode.specs.declared.machine.State.TheVariants as states
-use Rattle.cwr_decode.specs.Machines.{Standing, IsReady, Judges, with_tally, stopped}
+use Rattle.cwr_decode.specs.Machines.{Standing, AddsFront, IsReady, Judges, with_line, with_tally, stopped}
 use Rattle.cwr_decode.specs.Represents.{Represents, RepresentsIn, IsReading, IsInput, IsRight, items_out, text_of}
 use Rattle.cwr_decode.specs.Calls.{RefusesLast, Advances, Grows}
 use Rattle.cwr_decode.proofs.AfterAcceptedLine.{HasLine, never_too_long}
@@ -26,10 +26,6 @@ use Rattle.cwr_decode.proofs.StepsWithoutBytes.{IsPlain, Rest, follows_rest}
 use Rattle.cwr_decode.proofs.RightAnswers.{StandsAfterEnd, judged_right}
 
 -- ---- bytes that are taken
-
--- the same with that line
-abbrev pub with_line : Standing → HeldLine → Standing
-with_line d line = record { line = line; tally = d.tally; held = d.held; state = d.state; finished = d.finished }
 
 -- the bytes so far, and those that were used
 taken_text : (d : Standing) (input : List ℕ) (given : List Item) (piece : List ℕ) (used : ℕ) (line : HeldLine) (r : IsReading d input given) → d.finished ≡ false → Takes d.line piece used line
@@ -195,6 +191,10 @@ advanced_line d t new piece used out s fresh takes held is ended j =
   where
     at : (input : List ℕ) (given : List Item) → Represents d input given → HasLine t (input ++ take used piece) given
     at input given st = subst (λ (q : Standing). HasLine q (input ++ take used piece) given) (sym is) (line_ended d input given piece used t.line s fresh takes held ended st)
+
+-- a line is added that ends in the piece
+pub advanced_front : (d new : Standing) (piece : List ℕ) (used : ℕ) → d.state ≡ states.Reading → d.finished ≡ false → AddsFront d piece used new → Advances d piece used None new
+advanced_front d new piece used s fresh a = advanced_line d (with_line d a.line) new piece used None s fresh a.takes a.held refl a.ended a.judges
 
 -- the piece ended before the line
 pub advanced_open : (d t : Standing) (piece : List ℕ) (used : ℕ) → d.state ≡ states.Reading → d.finished ≡ false → Takes d.line piece used t.line → IsHeld t.line → t ≡ with_line d t.line → t.line.ended ≡ Open

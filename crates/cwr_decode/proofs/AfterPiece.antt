@@ -13,7 +13,7 @@ use Rattle.cwr_decode.specs.declared.machine.State.{State}
 use Rattle.cwr_decode.specs.declared.machine.State.TheVariants as states
 use Rattle.cwr_judge.specs.Items.{stands_in_transaction}
 use Rattle.cwr_decode.specs.Machines.{Standing, IsReady, Settles, Enters, EntersHeld, WaitsOutside, again, end_input}
-use Rattle.cwr_decode.specs.Represents.{Represents, IsRight, items_out}
+use Rattle.cwr_decode.specs.Represents.{Represents, IsRight, IsSound, items_out}
 use Rattle.cwr_decode.specs.Calls.{IsLive, Advances, Feeds, Finishes, seen_input}
 use Rattle.cwr_decode.proofs.StepsWithoutBytes.{settled}
 use Rattle.cwr_decode.proofs.AnsweredAtOnce.{settles_live, if_some}
@@ -45,7 +45,7 @@ outside_held : (held : Option RecordValue) (old new : Standing) → IsSomeAnd he
 outside_held None old new w e = e
 outside_held (Some r) old new w e = outside_enters r.kind r old new w e
 
-outside_known : (old new : Standing) → Settles old.state old None new → ¬ WaitsOutside old
+pub outside_known : (old new : Standing) → Settles old.state old None new → ¬ WaitsOutside old
 outside_known old new e w = outside_held (held_record old.line) old new w.1 (subst (λ (s : State). Settles s old None new) w.0 e)
 
 pub fed_none : (old d : Standing) (piece : List ℕ) → IsReady old.state old.finished old.line → old.finished ≡ false → Settles old.state old None d → Fed old piece 0 d
@@ -64,6 +64,10 @@ fed_none old d piece ready fresh e =
       grows = λ input given st. omega (arith, m.counts);
       limits = m.limits;
     }
+
+-- nothing changed
+pub fed_same : (old d same : Standing) (piece : List ℕ) (used n : ℕ) → Fed old piece used d → (n ≡ 0 → same ≡ d) → n ≤ 0 → Fed old piece used same
+fed_same old d same piece used n f kept none = subst (Fed old piece used) (sym (kept (omega (arith, none)))) f
 
 take-nothing : (k : ℕ) → take {A = ℕ} k [] ≡ []
 take-nothing zero = refl
@@ -100,6 +104,34 @@ fed_more old d new piece used n f a = record {
 pub rest_smaller : (piece : List ℕ) (used n : ℕ) (d new : Standing) → Advances d (drop used piece) n None new → length piece - (used + n) < length piece - used
 rest_smaller piece used n d new a = omega (arith, a.some, a.within, length-drop used piece)
 
+-- nothing was fed yet
+pub fed_start : (d : Standing) (piece : List ℕ) → IsReady d.state d.finished d.line → d.state ≡ states.Reading → d.finished ≡ false → Fed d piece 0 d
+fed_start d piece ready s fresh = fed_none d d piece ready fresh (subst (λ (q : State). Settles q d None d) (sym s) (refl, refl))
+
+-- an answer after bytes that were used
+pub fed_through : (old d new : Standing) (piece : List ℕ) (used n : ℕ) (o : Outcome) → Fed old piece used d → Advances d (drop used piece) n (Some o) new → Advances old piece (used + n) (Some o) new
+fed_through old d new piece used n o f a = record {
+  within = omega (arith, f.within, a.within, length-drop used piece);
+  some = tt;
+  stands = λ input given st. subst (λ (x : List ℕ). Represents new x (given ++ items_out o)) (pieces input piece used n) (a.stands (input ++ take used piece) given (f.stands input given st));
+  right = λ input given st.
+      subst (λ (k : LimitValues). IsRight k o false (input ++ take (used + n) piece) (input ++ piece) (given ++ items_out o)) f.limits
+      (subst (λ (x : List ℕ). IsRight d.tally.limits o false x (input ++ piece) (given ++ items_out o)) (pieces input piece used n)
+      (subst (λ (x : List ℕ). IsRight d.tally.limits o false ((input ++ take used piece) ++ take n (drop used piece)) x (given ++ items_out o)) (whole_piece input piece used)
+      (a.right (input ++ take used piece) given (f.stands input given st))));
+  ready = a.ready;
+  leaves = a.leaves;
+  more = λ e. omega (arith, f.within, a.more e, length-drop used piece);
+  none = tt;
+  grows = λ input given st.
+      let before : old.tally.counts.records ≤ d.tally.counts.records = f.grows input given st in
+      let after = a.grows (input ++ take used piece) given (f.stands input given st) in
+      (omega (arith, before, after.0), λ e. omega (arith, before, after.1 e));
+  empties = λ input given st. a.empties (input ++ take used piece) given (f.stands input given st);
+  finished = a.finished ∙ f.fresh ∙ sym f.was_fresh;
+  limits = a.limits ∙ f.limits;
+}
+
 pub fed_out : (old d new : Standing) (piece : List ℕ) (used n : ℕ) (o : Outcome) → Fed old piece used d → Advances d (drop used piece) n (Some o) new → Feeds old piece (used + n) o new
 fed_out old d new piece used n o f a = record {
   within = omega (arith, f.within, a.within, length-drop used piece);
@@ -125,6 +157,23 @@ fed_out old d new piece used n o f a = record {
   finished = a.finished ∙ f.fresh ∙ sym f.was_fresh;
   limits = a.limits ∙ f.limits;
 }
+
+-- what was settled before the piece goes before it
+pub fed_whole : (old d new : Standing) (piece : List ℕ) (used : ℕ) (o : Outcome) → IsReady old.state old.finished old.line → old.finished ≡ false → Settles old.state old None d → Advances d piece used (Some o) new → Feeds old piece used o new
+fed_whole old d new piece used o ready fresh e a =
+    let none : 0 + used ≡ used = omega arith in
+    subst (λ (n : ℕ). Feeds old piece n o new) none (fed_out old d new piece 0 used o (fed_none old d piece ready fresh e) a)
+
+-- a decoder that was settled and reads stands for some input
+pub settled_sound : (old d : Standing) → IsSound old → Settles old.state old None d → IsSound d
+settled_sound old d u e =
+    let m = settled old.state old d None refl u.ready e in
+    let w = u.under_way in
+    record { ready = m.ready; under_way = record { input = w.input; given = w.given ++ []; stands = m.stands w.input w.given w.stands } }
+
+pub either_sound : (b : Bool) (old d : Standing) → IsSound old → (b ≡ true → Settles old.state old None d) → (b ≡ false → d ≡ old) → IsSound d
+either_sound true old d u s k = settled_sound old d u (s refl)
+either_sound false old d u s k = subst IsSound (sym (k refl)) u
 
 -- after the end of the input nothing of the piece is used
 pub finished_feeds : (old new : Standing) (piece : List ℕ) (o : Outcome) → old.finished ≡ true → Finishes old o new → Feeds old piece 0 o new

@@ -14,11 +14,13 @@ use Rattle.cwr_decode.specs.declared.machine.State.{State}
 use Rattle.cwr_decode.specs.declared.machine.State.TheVariants as states
 use Rattle.cwr_decode.specs.declared.readings.ReadFault.{ReadFault}
 use Rattle.cwr_decode.specs.declared.readings.ReadFault.TheVariants as faults
-use Rattle.cwr_decode.specs.Machines.{Standing, Leaves, Empties, again}
+use Rattle.cwr_decode.specs.Machines.{Standing, IsReady, Settles, Leaves, Empties, again}
 use Rattle.cwr_decode.specs.Represents.{Represents, RepresentsSome, IsRight, ComesAt, MayFollow, EndsLine, items_out}
 use Rattle.cwr_decode.specs.Headline.{IsEndOf, outcome_end}
 use Rattle.cwr_decode.specs.Calls.{IsLive, RunsOutOfMemory}
 use Rattle.cwr_decode.specs.Readings.{answer_of, items_read, EmptiesRead, EndsLineOf, IsRightOf, LeavesRead, IsSpent, FeedsOn, Reads}
+use Rattle.cwr_decode.proofs.StepsWithoutBytes.{settled}
+use Rattle.cwr_decode.proofs.AnsweredAtOnce.{settles_live}
 
 abbrev Answer : Type 0
 Answer = Result (Option Item) ReadFault
@@ -220,6 +222,23 @@ feeds_none d left reading fresh = record {
   kept = omega arith;
   limits = refl;
 }
+
+-- a record that waits is entered, or none does
+pub feeds_settled : (d new : Standing) (left : Option (List ℕ)) → IsReady d.state d.finished d.line → d.finished ≡ false → Settles d.state d None new → FeedsOn 0 d left new left
+feeds_settled d new left ready fresh e =
+    let m = settled d.state d new None refl ready e in
+    let live = settles_live d.state d new e in
+    record {
+      bytes = [];
+      count = omega arith;
+      consumed = Consumes-nil left;
+      stands = λ input given h. subst (λ (l : List ℕ). Represents new l given) (sym (append-nil input)) (subst (Represents new input) (append-nil given) (m.stands input given h));
+      live = live;
+      reading = m.none live;
+      fresh = m.finished ∙ fresh;
+      kept = omega (arith, m.counts);
+      limits = m.limits;
+    }
 
 pub feeds_both : (m n : ℕ) (a : Standing) (p : Option (List ℕ)) (b : Standing) (q : Option (List ℕ)) (c : Standing) (r : Option (List ℕ)) → FeedsOn m a p b q → FeedsOn n b q c r → FeedsOn (m + n) a p c r
 feeds_both m n a p b q c r f g = record {

@@ -1,12 +1,12 @@
 -- What a decoder holds, and what each of its steps does.
-use Rattle.std.specs.Prelude.{◌≡◌, ◌≢◌, ◌⊎◌, ◌+◌, Bool, true, false, List, [], ◌∷◌, ◌++◌, length, map, Option, Some, None, IfSome, IsSomeAnd, Result, Ok, Err, MatchOption, MatchResult}
+use Rattle.std.specs.Prelude.{◌≡◌, ◌≢◌, ◌⊎◌, ℕ, ◌+◌, Bool, true, false, List, [], ◌∷◌, ◌++◌, length, map, Option, Some, None, IfSome, IsSomeAnd, Result, Ok, Err, MatchOption, MatchResult}
 use Rattle.std.specs.List.{AllByRecursion}
 use Rattle.std.specs.declared.alloc.AllocError.{AllocError}
 use Rattle.cwr_layouts.specs.declared.kinds.Kind.{Kind}
 use Rattle.cwr_layouts.specs.declared.kinds.Kind.TheVariants.{Hdr, Grh, Grt, Trl}
 use Rattle.cwr_layouts.specs.declared.lines.LineEnd.TheVariants as line_ends
 use Rattle.cwr_layouts.specs.Records.{RecordValue, IsRecord}
-use Rattle.cwr_layouts.specs.Held.{HeldLine, held_excess, held_kind, held_record, empty_line}
+use Rattle.cwr_layouts.specs.Held.{HeldLine, IsHeld, Takes, held_excess, held_kind, held_record, empty_line}
 use Rattle.cwr_shape.specs.declared.symbols.Symbol.{Symbol}
 use Rattle.cwr_shape.specs.Levels.{level_of}
 use Rattle.cwr_shape.specs.Ranges.{AreInRange}
@@ -157,6 +157,10 @@ Enters kind r old result new = MatchOption result (new ≡ reading old (Some (he
 abbrev pub with_tally : Standing → TallyValue → Standing
 with_tally old tally = record { line = old.line; tally = tally; held = old.held; state = old.state; finished = old.finished }
 
+-- the same with that line
+abbrev pub with_line : Standing → HeldLine → Standing
+with_line old line = record { line = line; tally = old.tally; held = old.held; state = old.state; finished = old.finished }
+
 -- the record of the line waits
 abbrev pub pending : Standing → Standing
 pending old = record { line = old.line; tally = old.tally; held = None; state = Pending; finished = old.finished }
@@ -202,6 +206,19 @@ pub record Refuses (old : Standing) (result : Option Outcome) (new : Standing) :
 -- the line is accepted or refused
 abbrev pub Judges : Standing → Option Outcome → Standing → Type 0
 Judges old result new = Accepts old result new ⊎ Refuses old result new
+
+-- the line is accepted and nothing is answered: whatever is done next, a new line begins with these records held
+abbrev pub AddsCut : HeldLine → TallyValue → Option (List RecordValue) → TallyValue → Option (List RecordValue) → Type 0
+AddsCut line tally held counted more = (state : State) (finished : Bool) → Judges (record { line = line; tally = tally; held = held; state = state; finished = finished }) None
+    (record { line = empty_line; tally = counted; held = more; state = Reading; finished = finished })
+
+-- so many bytes of the piece are the rest of a line that is accepted, and nothing is answered
+pub record AddsFront (old : Standing) (piece : List ℕ) (used : ℕ) (new : Standing) : Type 0 where
+  pub line : HeldLine
+  pub takes : Takes old.line piece used line
+  pub held : IsHeld line
+  pub ended : line.ended ≢ line_ends.Open
+  pub judges : Judges (with_line old line) None new
 
 -- the record that waits is entered
 abbrev pub EntersHeld : Option RecordValue → Standing → Option Outcome → Standing → Type 0

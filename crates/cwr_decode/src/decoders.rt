@@ -1,9 +1,10 @@
 //! Reading a transmission in pieces of any size.
 
-ghost use Rattle.std.specs.Prelude.{◌≡◌, ◌≢◌, ◌≤◌, ◌++◌, [], List, ℕ, length, take, IfSome, None, true, false};
+ghost use Rattle.std.specs.Prelude.{◌≡◌, ◌≢◌, ◌≤◌, ◌++◌, [], List, ℕ, length, take, IfSome, IsTrue, IsFalse, Option, None, true, false};
 ghost use Rattle.cwr_decode.specs.Calls.{RefusesLast, RunsOutOfMemory, seen_input};
 ghost use Rattle.cwr_decode.specs.Decoding.{StandsAfter, accepted_records, final_answer, has_ended, limits_of};
 ghost use Rattle.cwr_decode.specs.Machines.{Empties, WaitsOutside, held_list, end_input};
+ghost use Rattle.cwr_decode.specs.Readings.{FeedsOn};
 ghost use Rattle.cwr_decode.specs.Represents.{IsRight, RepresentsSome, Represents, items_out};
 ghost use Rattle.cwr_values.specs.declared.items.Item.{Item};
 
@@ -21,7 +22,8 @@ pub struct Decoder {
 
 impl Model for Decoder {
     ghost use Rattle.cwr_decode.specs.Machines.{Standing};
-    ghost use Rattle.cwr_decode.specs.Represents.{IsSound};
+    ghost use Rattle.cwr_decode.specs.Readings.{FeedsOn};
+ghost use Rattle.cwr_decode.specs.Represents.{IsSound};
 
     ghost Value = { Standing };
 
@@ -57,6 +59,17 @@ impl Decoder {
         ensures transaction { result.1 ≡ length (held_list self.now.held) }
     {
         self.machine.holds()
+    }
+
+    /// Enters the record that waits, where that needs no answer, and says whether a byte is needed now. A no says nothing,
+    /// and then nothing changes.
+    pub(crate) fn is_settled(&mut self) -> bool
+        ensures continues { IsTrue result → (left : Option (List ℕ)) → FeedsOn 0 self.old left self.new left }
+        ensures fresh { IsTrue result → has_ended self.old ≡ false }
+        ensures inside { IsTrue result → WaitsOutside self.old → ⊥ }
+        ensures kept { IsFalse result → self.new ≡ self.old }
+    {
+        !self.machine.has_ended() && self.machine.is_settled()
     }
 
     /// Takes the next piece of the input, up to the next item. `feed` after `finish` uses nothing and answers as that.

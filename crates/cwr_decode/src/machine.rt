@@ -1,20 +1,20 @@
 //! The steps of a decoder.
 
-ghost use Rattle.std.specs.Prelude.{List, ◌∷◌, ◌++◌, [], ◌≡◌, ◌≢◌, length, true, false, None, Some, IsTrue, IsFalse, IsSomeAnd, IfSome, OnOk};
+ghost use Rattle.std.specs.Prelude.{List, ◌∷◌, ◌++◌, [], ◌≡◌, ◌≢◌, ◌<◌, length, true, false, None, Some, IsTrue, IsFalse, IsSomeAnd, IsNone, IfSome, OnOk, OnErr};
 ghost use Rattle.cwr_layouts.specs.Held.{IsHeld, Takes, held_record};
 ghost use Rattle.cwr_shape.specs.Ranges.{AreInRange};
 ghost use Rattle.cwr_shape.specs.Tallies.{IsAdmitted, IsTallyOf};
 ghost use Rattle.cwr_shape.specs.declared.symbols.Symbol.{Symbol};
 ghost use Rattle.cwr_judge.specs.Items.{stands_in_transaction};
 ghost use Rattle.cwr_judge.specs.Open.{continues_open};
-ghost use Rattle.cwr_decode.specs.Machines.{Adds, ClosesLine, EntersHeld, FinishesRecord, HandsOut, HasRecord, HoldsOpen, FitsHeld, FitsWaiting, IsReady, Judges, Settles, ReportsFault, at_start, held_list, reading, stopped};
+ghost use Rattle.cwr_decode.specs.Machines.{Adds, AddsCut, AddsFront, ClosesLine, EntersHeld, FinishesRecord, HandsOut, HasRecord, HoldsOpen, FitsHeld, FitsWaiting, IsReady, Judges, Settles, ReportsFault, at_start, held_list, reading, stopped};
 ghost use Rattle.cwr_decode.specs.Represents.{IsSound};
-ghost use Rattle.cwr_decode.specs.Calls.{TakesEnd, Feeds, Finishes};
+ghost use Rattle.cwr_decode.specs.Calls.{Advances, TakesEnd, Feeds, Finishes};
 ghost use Rattle.cwr_values.specs.Begun.{BeginsWithOneMore};
 
 use crate::outcomes::{Outcome, Step};
-use cwr_judge::{LineFault, Refusal, judge};
-use cwr_layouts::{Kind, LineBuf, LineEnd, RecordRef, Taken};
+use cwr_judge::{LineFault, Refusal, judge, judge_quickly};
+use cwr_layouts::{CutLine, Kind, LineBuf, LineEnd, RecordRef, Taken};
 use cwr_shape::{Limits, Place, Symbol, Tally, level};
 use cwr_values::{Item, PushFault, Transaction};
 use std::alloc::{AllocError, Global};
@@ -59,6 +59,15 @@ impl Model for Machine {
     ghost view = { λ m. record { line = m.line; tally = m.tally; held = m.held; state = m.state; finished = m.finished } };
 }
 
+/// Whether a record that was counted continues the open transaction.
+#[inline(always)]
+fn stays_open(before: &Tally, counted: &Tally) -> bool
+    ensures { (xs : List Symbol) (symbol : Symbol) → IsTallyOf before.now xs → IsTallyOf counted.now (xs ++ symbol ∷ []) → result ≡ continues_open xs symbol }
+{
+    let begun = before.transactions();
+    counted.transactions() == begun && matches!(counted.place(), Place::Transaction)
+}
+
 /// Counts an accepted record, and answers whether it continues the open transaction.
 #[inline(always)]
 fn step_continues_open(tally: &mut Tally, symbol: Symbol) -> bool
@@ -67,9 +76,9 @@ fn step_continues_open(tally: &mut Tally, symbol: Symbol) -> bool
     ensures stands { (xs : List Symbol) → IsTallyOf tally.old xs → IsTallyOf tally.new (xs ++ symbol ∷ []) }
     ensures same { (xs : List Symbol) → IsTallyOf tally.old xs → result ≡ continues_open xs symbol }
 {
-    let begun = tally.transactions();
+    let before = *tally;
     tally.step(symbol);
-    tally.transactions() == begun && matches!(tally.place(), Place::Transaction)
+    stays_open(&before, tally)
 }
 
 /// Whether records of the kind stand inside transactions, after the header.
@@ -86,6 +95,13 @@ fn stands_after_header(kind: Option<Kind>) -> bool
     }
 }
 
+/// Whether records of the kind stand inside transactions.
+fn stands_inside(kind: Kind) -> bool
+    ensures { result ≡ stands_in_transaction kind }
+{
+    !matches!(kind, Kind::Hdr | Kind::Grh | Kind::Grt | Kind::Trl)
+}
+
 /// Takes the open transaction out, unless the next record continues it.
 fn hand_out(continues: bool, held: &mut Option<Transaction>) -> Option<Transaction>
     ensures { HandsOut continues held.old result held.new }
@@ -93,14 +109,15 @@ fn hand_out(continues: bool, held: &mut Option<Transaction>) -> Option<Transacti
     if continues { None } else { held.take() }
 }
 
-/// Adds a record to the transaction that is held, or begins one with it.
+/// Adds a record to the transaction that is held, or begins one with it. Where memory was refused nothing changes.
 fn add(
     alloc: Global,
     held: &mut Option<Transaction>,
     accepted: RecordRef<'_>,
 ) -> Result<(), AllocError>
     requires { BeginsWithOneMore (held_list held.old) accepted }
-    ensures { OnOk result (held.new ≡ Some (held_list held.old ++ accepted.entry ∷ [])) }
+    ensures ok { OnOk result (held.new ≡ Some (held_list held.old ++ accepted.entry ∷ [])) }
+    ensures err { OnErr result (held.new ≡ held.old) }
 {
     let added = match held {
         Some(open) => open.push(accepted),
@@ -141,6 +158,34 @@ fn add_accepted(
     Ok(Some(item))
 }
 
+/// Adds the record of a line to the open transaction and counts it, where it continues that and memory is found. Else
+/// nothing changes. Most lines are such, and no answer is built for them.
+#[inline(always)]
+fn add_cut(tally: &mut Tally, held: &mut Option<Transaction>, cut: &CutLine<'_>) -> bool
+    ensures added { IsTrue result → AddsCut cut.now tally.old held.old tally.new held.new }
+    ensures kept { IsFalse result → (tally.new ≡ tally.old) × (held.new ≡ held.old) }
+{
+    if !stands_after_header(cut.kind()) {
+        return false;
+    }
+    let Some((_, accepted, counted)) = judge_quickly(tally, cut) else {
+        return false;
+    };
+    if !stays_open(tally, &counted) {
+        return false;
+    }
+    let Some(whole) = held else {
+        return false;
+    };
+    match whole.push(accepted) {
+        Ok(()) => {
+            *tally = counted;
+            true
+        }
+        Err(_) => false,
+    }
+}
+
 impl Machine {
     /// Nothing was read.
     pub fn new(alloc: Global, limits: Limits) -> Self
@@ -164,6 +209,14 @@ impl Machine {
         ensures { result ≡ self.now.tally.counts.records }
     {
         self.tally.records()
+    }
+
+    /// Whether the end of the input was taken.
+    #[inline(always)]
+    pub fn has_ended(&self) -> bool
+        ensures { result ≡ self.now.finished }
+    {
+        self.finished
     }
 
     /// How many bytes of the line, and how many records of the transaction.
@@ -243,33 +296,64 @@ impl Machine {
         self.finish_record(outcome)
     }
 
-    /// Adds the record of the line that ended to the open transaction, where that continues it and memory is found,
-    /// and begins a new line. Else nothing changes. Most lines are such, and no answer is built for them.
+    /// Adds the record of the line that ended to the open transaction, where `add_cut` does, and begins a new line. Else
+    /// nothing changes.
     fn add_line(&mut self) -> bool
         requires { self.old.line.ended ≢ LineEnd.Open }
         ensures added { IsTrue result → Judges self.old None self.new }
         ensures kept { IsFalse result → self.new ≡ self.old }
     {
         let cut = self.line.cut();
-        if !stands_after_header(cut.kind()) {
+        if !add_cut(&mut self.tally, &mut self.held, &cut) {
             return false;
-        }
-        let Ok((symbol, accepted)) = judge(&self.tally, &cut) else {
-            return false;
-        };
-        let mut tally = self.tally;
-        if !step_continues_open(&mut tally, symbol) {
-            return false;
-        }
-        let Some(whole) = &mut self.held else {
-            return false;
-        };
-        match whole.push(accepted) {
-            Ok(()) => self.tally = tally,
-            Err(_) => return false,
         }
         self.begin_line();
         true
+    }
+
+    /// Adds the record of the line that the piece begins with, where a new line begins there that `add_cut` adds: it is
+    /// judged where it stands. Answers how many bytes it takes, and 0 where nothing changes.
+    #[inline(always)]
+    fn add_front(&mut self, piece: &[u8]) -> usize
+        requires { self.old.line.ended ≡ LineEnd.Open }
+        ensures added { 0 < result → AddsFront self.old piece.now result self.new }
+        ensures kept { result ≡ 0 → self.new ≡ self.old }
+    {
+        if self.line.len() > 0 {
+            return 0;
+        }
+        let Some((cut, used)) = CutLine::at_front(piece) else {
+            return 0;
+        };
+        if !add_cut(&mut self.tally, &mut self.held, &cut) {
+            return 0;
+        }
+        self.begin_line();
+        used
+    }
+
+    /// Takes the open transaction out, where the line that ended is accepted and ends it: its record waits then. Else
+    /// nothing changes. Most items are such, and no answer is moved about for them.
+    fn take_whole(&mut self) -> Option<Transaction>
+        requires { self.old.line.ended ≢ LineEnd.Open }
+        ensures some { IfSome result (λ whole. Judges self.old (Some (Outcome.Item (Item.Transaction whole))) self.new) }
+        ensures none { IsNone result → self.new ≡ self.old }
+    {
+        if self.held.is_none() {
+            return None;
+        }
+        let cut = self.line.cut();
+        let Ok((symbol, _)) = judge(&self.tally, &cut) else {
+            return None;
+        };
+        let mut counted = self.tally;
+        let continues = step_continues_open(&mut counted, symbol);
+        let Some(whole) = hand_out(continues, &mut self.held) else {
+            return None;
+        };
+        self.tally = counted;
+        self.state = State::Pending;
+        Some(whole)
     }
 
     /// Judges the line that ended, and accepts or refuses it. An accepted record that ends a transaction waits, since
@@ -294,6 +378,42 @@ impl Machine {
         }
         let outcome = add_accepted(self.alloc, &mut self.held, accepted);
         self.finish_record(outcome)
+    }
+
+    /// Enters the record that waits, where it stands inside a transaction and memory is found. Else nothing changes.
+    fn begin_waiting(&mut self) -> bool
+        requires carries { HasRecord self.old.line }
+        requires fits { IfSome (held_record self.old.line) (λ r. FitsHeld r self.old.held) }
+        ensures entered { IsTrue result → EntersHeld (held_record self.old.line) self.old None self.new }
+        ensures kept { IsFalse result → self.new ≡ self.old }
+    {
+        let accepted = self.line.cut().known_record();
+        if !stands_inside(accepted.kind()) {
+            return false;
+        }
+        match add(self.alloc, &mut self.held, accepted) {
+            Ok(()) => {
+                self.begin_line();
+                true
+            }
+            Err(_) => false,
+        }
+    }
+
+    /// Settles what needs no further byte and no answer, and says whether a byte is needed now. A no says nothing, and
+    /// then nothing changes.
+    #[inline(always)]
+    pub fn is_settled(&mut self) -> bool
+        requires ready { IsReady self.old.state self.old.finished self.old.line }
+        requires fits { FitsWaiting self.old }
+        ensures settled { IsTrue result → Settles self.old.state self.old None self.new }
+        ensures kept { IsFalse result → self.new ≡ self.old }
+    {
+        match self.state {
+            State::Reading => true,
+            State::Pending => self.begin_waiting(),
+            _ => false,
+        }
     }
 
     /// What is answered without a further byte. `None` where one is needed.
@@ -347,19 +467,20 @@ impl Machine {
         None
     }
 
-    /// Takes the next piece of the input, up to the next item.
-    pub fn feed(&mut self, piece: &[u8]) -> Step
-        requires { IsSound self.old }
-        ensures { Feeds self.old piece.now result.used result.outcome self.new }
+    /// Takes lines of the piece, up to the next item.
+    fn feed_lines(&mut self, piece: &[u8]) -> Step
+        requires sound { IsSound self.old }
+        requires reading { self.old.state ≡ State.Reading }
+        requires fresh { self.old.finished ≡ false }
+        ensures { Advances self.old piece.now result.used (Some result.outcome) self.new }
     {
-        if self.finished {
-            return self.finish();
-        }
-        if let Some(outcome) = self.settle() {
-            return Step { used: 0, outcome };
-        }
         let mut used = 0;
         loop {
+            let front = self.add_front(&piece[used..]);
+            if front > 0 {
+                used += front;
+                continue;
+            }
             let taken = self.take(&piece[used..]);
             used += taken.used;
             if let LineEnd::Open = taken.ended {
@@ -371,10 +492,33 @@ impl Machine {
             if self.add_line() {
                 continue;
             }
+            if let Some(whole) = self.take_whole() {
+                return Step {
+                    used,
+                    outcome: Outcome::Item(Item::Transaction(whole)),
+                };
+            }
             if let Some(outcome) = self.take_line() {
                 return Step { used, outcome };
             }
         }
+    }
+
+    /// Takes the next piece of the input, up to the next item.
+    pub fn feed(&mut self, piece: &[u8]) -> Step
+        requires { IsSound self.old }
+        ensures { Feeds self.old piece.now result.used result.outcome self.new }
+    {
+        if self.finished {
+            return self.finish();
+        }
+        if self.is_settled() {
+            return self.feed_lines(piece);
+        }
+        if let Some(outcome) = self.settle() {
+            return Step { used: 0, outcome };
+        }
+        self.feed_lines(piece)
     }
 
     /// Takes the end of the input.

@@ -115,6 +115,18 @@ fn read_on<R: Source>(decoder: &mut Decoder, reader: &mut R) -> Result<Option<It
     }
 }
 
+/// What the decoder answers to an empty piece. `None` where it needs a byte.
+fn answer_now(decoder: &mut Decoder) -> Option<Result<Option<Item>, ReadFault>>
+    ensures continues { IfNone result ((left : Option (List ℕ)) → FeedsOn 0 decoder.old left decoder.new left) }
+    ensures reads { IfSome result (λ answer. (left : Option (List ℕ)) → Reads decoder.old left answer decoder.new left) }
+    ensures failures { IfSome result (λ answer. (failures : ℕ) → CountsReader answer failures failures) }
+    ensures again { IfSome (again decoder.old.state) (λ outcome. (result ≡ answer_of outcome) × (decoder.new ≡ decoder.old)) }
+    ensures input_ended { decoder.old.finished ≡ true → IsSome result }
+    ensures alone { WaitsOutside decoder.old → IsSome result }
+{
+    answer(decoder.feed(&[]).outcome)
+}
+
 /// What the decoder answers without a further byte. `None` where it needs one.
 fn settle(decoder: &mut Decoder) -> Option<Result<Option<Item>, ReadFault>>
     ensures continues { IfNone result ((left : Option (List ℕ)) → FeedsOn 0 decoder.old left decoder.new left) }
@@ -124,7 +136,10 @@ fn settle(decoder: &mut Decoder) -> Option<Result<Option<Item>, ReadFault>>
     ensures input_ended { decoder.old.finished ≡ true → IsSome result }
     ensures alone { WaitsOutside decoder.old → IsSome result }
 {
-    answer(decoder.feed(&[]).outcome)
+    if decoder.is_settled() {
+        return None;
+    }
+    answer_now(decoder)
 }
 
 impl<'a, R: Source> Reading<'a, R> {

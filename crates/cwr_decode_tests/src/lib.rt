@@ -14,6 +14,8 @@ mod endings;
 #[cfg(test)]
 mod library_example;
 #[cfg(test)]
+mod lines_in_pieces;
+#[cfg(test)]
 mod readings;
 #[cfg(test)]
 mod refused_lines;

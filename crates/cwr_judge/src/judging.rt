@@ -1,6 +1,6 @@
 //! Whether a line may come next in a transmission.
 
-ghost use Rattle.std.specs.Prelude.{◌≡◌, ◌≤◌, List, length, IsTrue, IsFalse, IsNone, IfSome, IfOk, IfErr, OnOk, Some};
+ghost use Rattle.std.specs.Prelude.{◌≡◌, ◌≤◌, ◌++◌, ◌∷◌, [], List, length, IsTrue, IsFalse, IsNone, IfSome, IfOk, IfErr, OnOk, Some};
 ghost use Rattle.std.specs.Option.{ForSome};
 ghost use Rattle.cwr_fields.specs.Bytes.{digits};
 ghost use Rattle.cwr_fields.specs.Cells.{type_width};
@@ -104,6 +104,31 @@ fn next_record<'a>(tally: &Tally, line: &CutLine<'a>) -> Option<(Symbol, RecordR
     match tally.admits(symbol) {
         Ok(()) => Some((symbol, record)),
         Err(_) => None,
+    }
+}
+
+/// The record of the line and its symbol, where it may come next, and what is counted with it: as `judge` says it, where
+/// quick tests find the numbers right. `None` says nothing.
+pub fn judge_quickly<'a>(tally: &Tally, line: &CutLine<'a>) -> Option<(Symbol, RecordRef<'a>, Tally)>
+    ensures next { (xs : List Symbol) → IsTallyOf tally.now xs → IfSome result (λ found. IsNext tally.now.limits xs line.now found.0 found.1) }
+    ensures carried { IfSome result (λ found. (held_record line.now ≡ Some found.1) × IsRecord found.1 × IsFalse (held_excess line.now)) }
+    ensures limits { IfSome result (λ found. found.2.limits ≡ tally.now.limits) }
+    ensures stands { IfSome result (λ found. (xs : List Symbol) → IsTallyOf tally.now xs → IsTallyOf found.2 (xs ++ found.0 ∷ [])) }
+{
+    let Some(record) = line.record() else {
+        return None;
+    };
+    let has_excess = line.excess();
+    if has_excess {
+        return None;
+    }
+    if !surely_has_numbers(tally, line, record.kind()) {
+        return None;
+    }
+    let symbol = symbol_of(&record);
+    match tally.admitted(symbol) {
+        Some(counted) => Some((symbol, record, counted)),
+        None => None,
     }
 }
 

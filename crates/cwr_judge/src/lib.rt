@@ -5,5 +5,5 @@
 mod judging;
 mod refusals;
 
-pub use judging::{LineFault, judge};
+pub use judging::{LineFault, judge, judge_quickly};
 pub use refusals::Refusal;

@@ -10,14 +10,14 @@ use Rattle.cwr_layouts.specs.declared.lines.LineEnd.{LineEnd}
 use Rattle.cwr_layouts.specs.declared.lines.LineEnd.TheVariants.{Open, Line, Over}
 use Rattle.cwr_layouts.specs.Layouts.{FieldLayout, layout, placed_fields, field_placed, total_width, line_width}
 use Rattle.cwr_layouts.specs.Lines.{pieces, cells_as}
-use Rattle.cwr_layouts.specs.Held.{HeldLine, held_body, held_kind, held_cell, cell_as, IsFilled, IsKept, line_kept}
+use Rattle.cwr_layouts.specs.Held.{HeldLine, held_body, held_kind, held_cell, cell_as, IsFilled, IsKept, IsClosed, line_kept}
 use Rattle.cwr_layouts.proofs.FilledTexts.{length-filled}
 
 -- the part of a text that a field takes
 abbrev pub part : List ℕ → ℕ × FieldLayout → List ℕ
 part text p = take p.1.width (drop p.0 text)
 
-plain_take : (n : ℕ) (text : List ℕ) → is_plain text ≡ true → is_plain (take n text) ≡ true
+pub plain_take : (n : ℕ) (text : List ℕ) → is_plain text ≡ true → is_plain (take n text) ≡ true
 plain_take zero text h = refl
 plain_take (suc n) [] h = refl
 plain_take (suc n) (b ∷ text) h = let p = and_parts (nat_lt b 256 && not (is_control b)) (is_plain text) h in ap₂ (λ (x y : Bool). x && y) p.0 (plain_take n text p.1)
@@ -88,12 +88,11 @@ held_part_within text h kind j p k e =
     omega (arith, field_within kind j p e)
 
 -- a line that ended and is of that kind is filled up by it
-pub filled_now : (text : List ℕ) (count : ℕ) (has_return : Bool) (known : Option Kind) (ended : LineEnd) (kind : Kind) (h now : HeldLine)
-    → IsKept text count has_return known ended → line_kept text count has_return ended ≡ h → h.ended ≢ Open → h ≡ now → known ≡ Some kind → IsFilled text (Some kind) now
-filled_now text count has_return known ended kind h now k e n f same =
-    let closed : ended ≢ Open = λ o. n (ap (λ (x : HeldLine). x.ended) (sym e) ∙ o) in
-    let at : IsFilled text known (line_kept text count has_return ended) = filled_of text count has_return known ended k closed in
-    let moved : IsFilled text known now = subst (λ (x : HeldLine). IsFilled text known x) (e ∙ f) at in
+pub filled_now : (text : List ℕ) (count : ℕ) (has_return : Bool) (known : Option Kind) (ended : LineEnd) (kind : Kind) (now : HeldLine)
+    → IsClosed text count has_return known ended → line_kept text count has_return ended ≡ now → known ≡ Some kind → IsFilled text (Some kind) now
+filled_now text count has_return known ended kind now k e same =
+    let at : IsFilled text known (line_kept text count has_return ended) = filled_of text count has_return known ended k.0 k.1 in
+    let moved : IsFilled text known now = subst (λ (x : HeldLine). IsFilled text known x) e at in
     subst (λ (o : Option Kind). IsFilled text o now) same moved
 
 -- what is cut out where the field is known

@@ -1,5 +1,5 @@
 -- What a held line carries is what the first bytes of its filled text carry, as many as its kind is wide.
-use Rattle.std.proofs.Common.{◌≡◌, ◌≢◌, ℕ, Bool, ◌+◌, ◌-◌, ◌≤◌, List, [], ◌∷◌, length, map, take, drop, refl, sym, ap, ap₂, subst, ◌∙◌, arith}
+use Rattle.std.proofs.Common.{◌≡◌, ℕ, Bool, ◌+◌, ◌-◌, ◌≤◌, List, [], ◌∷◌, length, map, take, drop, refl, sym, ap, ap₂, subst, ◌∙◌, arith}
 use Rattle.std.specs.Prelude.{◌↔◌, Option, Some, None, IsSome, IfSome, IsSomeAnd}
 use Rattle.std.proofs.lemmas.List.{length-take, drop-take, take-take}
 use Rattle.std.proofs.lemmas.List.Sums.{sum_by-cons}
@@ -9,8 +9,7 @@ use Rattle.cwr_layouts.specs.Lines.{pieces, cells_as}
 use Rattle.cwr_layouts.specs.Records.{RecordValue, IsRecord, record_of}
 use Rattle.cwr_layouts.specs.Carried.{carried_cells, record_in}
 use Rattle.cwr_layouts.specs.declared.lines.LineEnd.{LineEnd}
-use Rattle.cwr_layouts.specs.declared.lines.LineEnd.TheVariants.{Open}
-use Rattle.cwr_layouts.specs.Held.{HeldLine, held_body, held_cells, carried_by, held_record, line_kept, IsFilled, IsKept}
+use Rattle.cwr_layouts.specs.Held.{HeldLine, held_body, held_cells, carried_by, held_record, line_kept, IsFilled, IsClosed}
 use Rattle.cwr_layouts.proofs.CellParts.{filled_of}
 use Rattle.cwr_layouts.proofs.FilledTexts.{length-filled}
 
@@ -47,18 +46,17 @@ record_value text kind h None k e = tt
 record_value text kind h (Some found) k e = record_held text kind h k ∙ ap Some (sym e)
 
 -- as many bytes of the filled text as the kind is wide
-pub first_bytes : (text slice : List ℕ) (kind : Kind) (width : ℕ) (h : HeldLine) → IsFilled text (Some kind) h → slice ≡ text → width ≡ line_width kind → length (take width slice) ≡ width
-first_bytes text slice kind width h k e f = omega (arith, length-take width slice, ap length e, f, filled_wide text kind h k)
+pub first_bytes : (text : List ℕ) (kind : Kind) (width : ℕ) (h : HeldLine) → IsFilled text (Some kind) h → width ≡ line_width kind → length (take width text) ≡ width
+first_bytes text kind width h k e = omega (arith, length-take width text, e, filled_wide text kind h k)
 
 -- a line that is known to carry a record carries it by its filled text
 pub known_fits : (text : List ℕ) (kind : Kind) (h : HeldLine) → IsFilled text (Some kind) h → IsSomeAnd (held_record h) IsRecord → IsRecord (record_in kind (take (line_width kind) text))
 known_fits text kind h k r = subst (λ (o : Option RecordValue). IsSomeAnd o IsRecord) (record_held text kind h k) r
 
 -- and isn't of unknown kind
-pub known_kind : (text : List ℕ) (count : ℕ) (has_return : Bool) (known : Option Kind) (ended : LineEnd) (h now : HeldLine)
-    → IsKept text count has_return known ended → line_kept text count has_return ended ≡ h → h.ended ≢ Open → h ≡ now → known ≡ None → IsSomeAnd (held_record now) IsRecord → ⊥
-known_kind text count has_return known ended h now k e n f none r =
-    let closed : ended ≢ Open = λ o. n (ap (λ (x : HeldLine). x.ended) (sym e) ∙ o) in
-    let at : IsFilled text known (line_kept text count has_return ended) = filled_of text count has_return known ended k closed in
-    let moved : IsFilled text known now = subst (λ (x : HeldLine). IsFilled text known x) (e ∙ f) at in
+pub known_kind : (text : List ℕ) (count : ℕ) (has_return : Bool) (known : Option Kind) (ended : LineEnd) (now : HeldLine)
+    → IsClosed text count has_return known ended → line_kept text count has_return ended ≡ now → known ≡ None → IsSomeAnd (held_record now) IsRecord → ⊥
+known_kind text count has_return known ended now k e none r =
+    let at : IsFilled text known (line_kept text count has_return ended) = filled_of text count has_return known ended k.0 k.1 in
+    let moved : IsFilled text known now = subst (λ (x : HeldLine). IsFilled text known x) e at in
     subst (λ (o : Option Kind). IsSomeAnd (carried_by o (held_cells now)) IsRecord) (sym moved.known ∙ none) r

@@ -1,7 +1,7 @@
 -- A line as far as it was taken, and what it is cut into.
 use Rattle.std.specs.Prelude.{◌≡◌, ◌≢◌, ℕ, ◌-◌, ◌<◌, ◌≤◌, Bool, true, false, ◌==◌, IsFalse, List, [], ◌∷◌, ◌++◌, length, take, Option, Some, None, slice_get, slice_index, if◌then◌else◌}
 use Rattle.std.specs.List.{list_any}
-use Rattle.cwr_fields.specs.Bytes.{filled}
+use Rattle.cwr_fields.specs.Bytes.{filled, is_plain}
 use Rattle.cwr_layouts.specs.declared.kinds.Kind.{Kind}
 use Rattle.cwr_layouts.specs.declared.lines.LineEnd.{LineEnd}
 use Rattle.cwr_layouts.specs.declared.lines.LineEnd.TheVariants.{Open, Line, Over}
@@ -142,3 +142,11 @@ pub record IsKept (text : List ℕ) (count : ℕ) (has_return : Bool) (kind : Op
   pub fits : count ≤ length text
   pub held : IsHeld (line_kept text count has_return ended)
   pub keeps : KeepsBy ended text count has_return kind (line_kept text count has_return ended)
+
+-- a line that ended is kept
+abbrev pub IsClosed : List ℕ → ℕ → Bool → Option Kind → LineEnd → Type 0
+IsClosed text count has_return kind ended = IsKept text count has_return kind ended × (ended ≢ Open)
+
+-- and where it is known to have no control byte, it has none
+abbrev pub IsCut : List ℕ → ℕ → Bool → Option Kind → LineEnd → Bool → Type 0
+IsCut text count has_return kind ended plain = IsClosed text count has_return kind ended × (plain ≡ true → is_plain text ≡ true)

@@ -108,13 +108,14 @@ fn judge_cell(kind: Kind, line: &[u8], plain: bool, j: u8) -> Result<(), CellFau
 }
 
 /// Judges the cells that a whole line carries, in order: by quick tests, and where these don't find them all good one by
-/// one for the first fault.
-pub(crate) fn judge(kind: Kind, line: &[u8]) -> Result<(), DraftFault>
-    requires { length line.now ≡ line_width kind }
+/// one for the first fault. `plain` says whether the line is known to have no control byte.
+pub(crate) fn judge(kind: Kind, line: &[u8], plain: bool) -> Result<(), DraftFault>
+    requires whole { length line.now ≡ line_width kind }
+    requires plain { IsTrue plain → IsTrue (is_plain line.now) }
     ensures variant { IsOk result ↔ IsRecord (record_in kind line.now) }
     ensures err { IfErr result (IsFirstUnfit (record_in kind line.now)) }
 {
-    let plain = is_plain(line);
+    let plain = plain || is_plain(line);
     if plain && surely_carries(kind, line) {
         return Ok(());
     }
@@ -192,7 +193,7 @@ impl Draft {
         ensures ok { IfOk result (λ made. made ≡ self.now) }
         ensures err { IfErr result (IsFirstUnfit self.now) }
     {
-        judge(self.kind, self.text.as_slice())?;
+        judge(self.kind, self.text.as_slice(), false)?;
         Ok(Record::of_line(self.kind, copy_bytes(self.text.as_slice())))
     }
 }

@@ -4,7 +4,7 @@
 
 ghost use Rattle.std.specs.Prelude.{◌≡◌, ◌≢◌, ◌≤◌, ◌<◌, ◌+◌, ◌++◌, length, take, drop, slice_index, ◌↔◌, IsFalse, IsSome, IsSomeAnd, IsTrue, IfSome, Some, MatchOption, option_map};
 ghost use Rattle.std.specs.List.{list_any};
-ghost use Rattle.cwr_fields.specs.Bytes.{filled};
+ghost use Rattle.cwr_fields.specs.Bytes.{filled, is_plain};
 ghost use Rattle.cwr_layouts.specs.Lines.{is_lf, without_cr, body_kind};
 ghost use Rattle.cwr_layouts.specs.Kinds.{is_in_transaction};
 ghost use Rattle.cwr_layouts.specs.Records.{IsRecord};
@@ -15,7 +15,7 @@ use crate::layouts::Field;
 use crate::lookups::{field, width};
 use crate::records::RecordRef;
 use arrayvec::ArrayVec;
-use cwr_fields::is_spaces;
+use cwr_fields::{is_plain, is_spaces};
 use memchr::memchr;
 use std::marker::Model;
 
@@ -99,6 +99,20 @@ pub(crate) fn part(text: &[u8], place: Field) -> &[u8]
     ensures { result.now ≡ take place.width (drop place.start text.now) }
 {
     &text[place.start..][..place.width]
+}
+
+/// Whether the piece begins with so many bytes, none of them a control byte, and then CR and LF.
+#[inline(always)]
+fn begins_whole(piece: &[u8], width: usize) -> bool
+    requires { width + 2 ≤ length piece.now }
+    ensures plain { IsTrue result → IsTrue (is_plain (take width piece.now)) }
+    ensures carriage { IsTrue result → slice_index piece.now width ≡ 13 }
+    ensures feed { IsTrue result → slice_index piece.now (width + 1) ≡ 10 }
+{
+    if piece[width] != CR || piece[width + 1] != LF {
+        return false;
+    }
+    is_plain(&piece[..width])
 }
 
 /// One line of a text, taken piece by piece. It holds 1,024 bytes at most, and takes no memory.
@@ -234,37 +248,78 @@ impl LineBuf {
         requires { self.now.ended ≢ LineEnd.Open }
         ensures { result ≡ self.now }
     {
-        CutLine { line: self }
+        CutLine {
+            text: self.text.as_slice(),
+            count: self.count,
+            has_return: self.has_return,
+            kind: self.kind,
+            ended: self.ended,
+            plain: false,
+        }
     }
 }
 
 /// A line that ended, cut into the cells of its kind by the layouts of CWR 2.1. A line that is too short for its kind
 /// represents the line filled up with spaces, and one that is too long is judged by its first 1,024 bytes.
+///
+/// Its bytes are borrowed from where it stands: a line buffer, or a piece of the text.
 #[derive(Drop)]
 pub struct CutLine<'a> {
-    line: &'a LineBuf,
+    /// The line without the carriage return of its end, filled up to the width of its kind.
+    text: &'a [u8],
+    /// How many bytes of the text stand in the line.
+    count: usize,
+    /// Whether a carriage return follows them.
+    has_return: bool,
+    kind: Option<Kind>,
+    ended: LineEnd,
+    /// Whether the text is known to have no control byte.
+    plain: bool,
 }
 
 impl<'a> Model for CutLine<'a> {
-    ghost use Rattle.std.specs.Prelude.{◌≢◌};
-    ghost use Rattle.cwr_layouts.specs.Held.{HeldLine};
+    ghost use Rattle.cwr_layouts.specs.Held.{HeldLine, line_kept, IsCut};
 
     ghost Value = { HeldLine };
 
-    ghost use Rattle.cwr_layouts.specs.declared.lines.LineEnd.TheVariants.{Open};
+    ghost view = { λ c. line_kept c.text.now c.count c.has_return c.ended };
 
-    ghost view = { λ c. c.line.now };
-
-    ghost invariant = { λ c. c.line.now.ended ≢ Open };
+    ghost invariant = { λ c. IsCut c.text.now c.count c.has_return c.kind c.ended c.plain };
 }
 
 impl<'a> CutLine<'a> {
+    /// The line that a piece begins with, where it stands, and how many bytes it takes with its end. `None` of each front
+    /// but a line as it is written: in the full width of its kind, with no control byte, and with CR and LF.
+    #[inline(always)]
+    pub fn at_front(piece: &'a [u8]) -> Option<(CutLine<'a>, usize)>
+        ensures takes { IfSome result (λ found. Takes empty_line piece.now found.1 found.0) }
+        ensures held { IfSome result (λ found. IsHeld found.0) }
+        ensures ended { IfSome result (λ found. found.0.ended ≡ LineEnd.Line) }
+    {
+        if piece.len() < 3 {
+            return None;
+        }
+        let kind = Kind::of(&piece[..3])?;
+        let count = width(kind);
+        if piece.len() < count + 2 || !begins_whole(piece, count) {
+            return None;
+        }
+        let line = CutLine {
+            text: &piece[..count],
+            count,
+            has_return: true,
+            kind: Some(kind),
+            ended: LineEnd::Line,
+            plain: true,
+        };
+        Some((line, count + 2))
+    }
+
     /// The kind that the line's first three bytes name. `None` where they name none.
     pub fn kind(&self) -> Option<Kind>
         ensures { result ≡ held_kind self.now }
     {
-        let line = self.line;
-        line.kind
+        self.kind
     }
 
     /// Cell `j` of the line, from 1: a part of the line, in its field's full width. `None` where the kind is unknown or
@@ -272,9 +327,8 @@ impl<'a> CutLine<'a> {
     pub fn cell(&self, j: u8) -> Option<&'a [u8]>
         ensures { option_map (λ cell. cell.now) result ≡ held_cell self.now j }
     {
-        let line = self.line;
-        let place = field(line.kind?, j)?;
-        Some(part(line.text.as_slice(), place))
+        let place = field(self.kind?, j)?;
+        Some(part(self.text, place))
     }
 
     /// The transaction sequence and the record sequence of a line whose kind stands in transactions, one after the other:
@@ -286,12 +340,11 @@ impl<'a> CutLine<'a> {
         ensures record { IfSome result (λ cells. held_cell self.now 3 ≡ Some (drop 8 cells.now)) }
         ensures wide { IfSome result (λ cells. length cells.now ≡ 16) }
     {
-        let line = self.line;
-        let kind = line.kind?;
+        let kind = self.kind?;
         if !is_in_transaction(kind) {
             return None;
         }
-        Some(&line.text.as_slice()[3..19])
+        Some(&self.text[3..19])
     }
 
     /// The record that the line's cells carry, borrowed from the line: nothing is copied. `None` where the kind is unknown,
@@ -301,9 +354,8 @@ impl<'a> CutLine<'a> {
         ensures some { IsSome result ↔ IsSomeAnd (held_record self.now) IsRecord }
         ensures value { IfSome result (λ found. held_record self.now ≡ Some found) }
     {
-        let line = self.line;
-        let kind = line.kind?;
-        RecordRef::from_line(kind, &line.text.as_slice()[..width(kind)])
+        let kind = self.kind?;
+        RecordRef::from_line(kind, &self.text[..width(kind)], self.plain)
     }
 
     /// The record that the line's cells carry, where they are known to carry one: nothing is judged.
@@ -311,11 +363,10 @@ impl<'a> CutLine<'a> {
         requires { IsSomeAnd (held_record self.now) IsRecord }
         ensures { held_record self.now ≡ Some result }
     {
-        let line = self.line;
-        let Some(kind) = line.kind else {
+        let Some(kind) = self.kind else {
             unreachable!()
         };
-        RecordRef::kept(kind, &line.text.as_slice()[..width(kind)])
+        RecordRef::kept(kind, &self.text[..width(kind)])
     }
 
     /// Whether what stands after the last field is bad: it isn't all spaces, or the line is too long. A line of
@@ -323,13 +374,12 @@ impl<'a> CutLine<'a> {
     pub fn excess(&self) -> bool
         ensures { result ≡ held_excess self.now }
     {
-        let line = self.line;
-        let Some(kind) = line.kind else {
+        let Some(kind) = self.kind else {
             return false;
         };
-        if let LineEnd::Over = line.ended {
+        if let LineEnd::Over = self.ended {
             return true;
         }
-        !is_spaces(&line.text.as_slice()[width(kind)..])
+        !is_spaces(&self.text[width(kind)..])
     }
 }

@@ -28,8 +28,11 @@ fn line_at(text: &[u8], place: Place) -> &[u8]
     &text[place.start..][..width(place.kind)]
 }
 
-/// How many bytes there is room for from the first record on: a transaction seldom has more than a few lines.
-const FIRST_ROOM: usize = 1024;
+/// How many bytes there is room for from the first record on: a transaction seldom has more than a dozen lines.
+const FIRST_ROOM: usize = 2048;
+
+/// How many places there is room for from the first record on.
+const FIRST_PLACES: usize = 16;
 
 /// Makes room for the first lines at once, so that a buffer that grows line by line seldom moves.
 fn make_first_room(text: &mut Vec<u8>) -> Result<(), AllocError>
@@ -103,7 +106,7 @@ impl RecordList {
             kind: next.kind(),
             start: self.text.as_slice().len(),
         };
-        self.places.reserve(1)?;
+        self.places.reserve(if self.places.is_empty() { FIRST_PLACES } else { 1 })?;
         make_first_room(&mut self.text)?;
         self.text.extend_from_slice(line)?;
         self.places.push_reserved(place);

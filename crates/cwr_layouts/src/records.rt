@@ -1,6 +1,7 @@
 //! Records as values: a kind and the cells that a record of the kind carries, each one of its field.
 
-ghost use Rattle.std.specs.Prelude.{◌≡◌, ◌↔◌, ◌<◌, ◌≤◌, length, option_map, Some, IsSome, IfSome};
+ghost use Rattle.std.specs.Prelude.{◌≡◌, ◌↔◌, ◌<◌, ◌≤◌, length, option_map, Some, IsSome, IsTrue, IfSome};
+ghost use Rattle.cwr_fields.specs.Bytes.{is_plain};
 ghost use Rattle.cwr_layouts.specs.Layouts.{line_width};
 ghost use Rattle.cwr_layouts.specs.Records.{IsRecord};
 ghost use Rattle.cwr_layouts.specs.Carried.{HasCellOf, record_cell, record_in};
@@ -121,12 +122,14 @@ impl<'a> Model for RecordRef<'a> {
 
 impl<'a> RecordRef<'a> {
     /// The record that a whole line of the kind carries. `None` where one of its cells isn't one of its field's type.
-    pub(crate) fn from_line(kind: Kind, line: &'a [u8]) -> Option<Self>
-        requires { length line.now ≡ line_width kind }
+    /// `plain` says whether the line is known to have no control byte.
+    pub(crate) fn from_line(kind: Kind, line: &'a [u8], plain: bool) -> Option<Self>
+        requires whole { length line.now ≡ line_width kind }
+        requires plain { IsTrue plain → IsTrue (is_plain line.now) }
         ensures some { IsSome result ↔ IsRecord (record_in kind line.now) }
         ensures value { IfSome result (λ found. found ≡ record_in kind line.now) }
     {
-        match judge(kind, line) {
+        match judge(kind, line, plain) {
             Ok(()) => Some(RecordRef { kind, line }),
             Err(_) => None,
         }

@@ -182,6 +182,7 @@ impl TransactionStep {
 }
 
 /// The stage after one more record inside a group of the type.
+#[inline(always)]
 fn next_within(ty: TransactionType, step: TransactionStep, symbol: Symbol) -> Option<Stage>
     ensures { result ≡ next_stage (Stage.Within ty step) symbol }
 {
@@ -216,6 +217,7 @@ fn next(stage: Stage, symbol: Symbol) -> Option<Stage>
 }
 
 /// The table of what must still come at a stage.
+#[inline(always)]
 fn needs_at(stage: Stage) -> Needs
     ensures { result ≡ needs_at stage }
 {

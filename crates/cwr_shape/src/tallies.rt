@@ -1,13 +1,13 @@
 //! Where a transmission stands, what was counted of it, and what bars a record.
 
 ghost use Rattle.cwr_shape.specs.Ranges.{AreInRange};
-ghost use Rattle.std.specs.Prelude.{◌≡◌, ◌<◌, List, [], ◌∷◌, ◌++◌, length, count_by, OnOk};
+ghost use Rattle.std.specs.Prelude.{◌≡◌, ◌<◌, List, [], ◌∷◌, ◌++◌, length, count_by, IfSome, OnOk};
 ghost use Rattle.cwr_fields.specs.declared.codes.TransactionType.TheVariants.{Acknowledgement};
 ghost use Rattle.cwr_shape.specs.declared.symbols.Symbol.{Symbol};
 ghost use Rattle.cwr_shape.specs.Stages.{is_grh, stage_after};
 ghost use Rattle.cwr_shape.specs.Numbers.{number_in, IsNumberAt};
 ghost use Rattle.cwr_shape.specs.Counting.{counts_with, wanted_role, place_at, stage_type, passed_limit_at, expected_numbers, number_inside, HaveRoom};
-ghost use Rattle.cwr_shape.specs.Tallies.{is_header_of, IsTallyOf, IsAdmitted, Answers, AnswersKind, transactions_begun, place_after, KeepsTally};
+ghost use Rattle.cwr_shape.specs.Tallies.{is_header_of, IsTallyOf, IsAdmitted, MayCome, Answers, AnswersKind, transactions_begun, place_after, KeepsTally};
 
 use crate::limits::{LimitKind, Limits};
 use crate::stages::{Stage, TransactionStep};
@@ -313,6 +313,27 @@ impl Tally {
         }
     }
 
+    /// What is counted with the next record, where that may come: the order of records is asked once. A `None` says nothing.
+    #[inline(always)]
+    pub fn admitted(&self, symbol: Symbol) -> Option<Tally>
+        ensures may_come { (xs : List Symbol) → IsTallyOf self.now xs → IfSome result (λ _. MayCome self.now.limits xs symbol) }
+        ensures limits { IfSome result (λ next. next.limits ≡ self.now.limits) }
+        ensures stands { IfSome result (λ next. (xs : List Symbol) → IsTallyOf self.now xs → IsTallyOf next (xs ++ symbol ∷ [])) }
+    {
+        let Some(stage) = self.stage.next(symbol) else {
+            return None;
+        };
+        let counts = self.counts.with(type_at(self.stage), symbol);
+        match passed_limit_at(self.limits, stage, &counts) {
+            Some(_) => None,
+            None => Some(Tally {
+                limits: self.limits,
+                stage,
+                counts,
+            }),
+        }
+    }
+
     /// Whether some record of the kind may come next: else the first bar that one of them gets.
     pub fn admits_kind(&self, kind: Kind) -> Result<(), Bar>
         ensures { (xs : List Symbol) → IsTallyOf self.now xs → AnswersKind self.now.limits xs kind result }
@@ -325,6 +346,7 @@ impl Tally {
     }
 
     /// Counts the next record, which may come.
+    #[inline(always)]
     pub fn step(&mut self, symbol: Symbol)
         requires { IsAdmitted self.old symbol }
         ensures limits { self.new.limits ≡ self.old.limits }

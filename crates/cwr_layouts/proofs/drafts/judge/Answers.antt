@@ -11,7 +11,7 @@ pub loop-before-preserved : goal.loop-before-preserved
 loop-before-preserved c = below_more (FitsAt (record_in c.args.kind c.args.line.now)) (c.loop-before.before + 1) c.loop-before.invariant c.in_default.ensures.ok
 
 pub returns-clause-variant : goal.returns-clause-variant
-returns-clause-variant c = (λ _. all_fit c.args.kind c.args.line.now c.requires (λ i h. c.loop-before.invariant i (omega (arith, c.fields-before-end.ensures))), λ _. refl)
+returns-clause-variant c = (λ _. all_fit c.args.kind c.args.line.now c.requires.whole (λ i h. c.loop-before.invariant i (omega (arith, c.fields-before-end.ensures))), λ _. refl)
 
 pub returns-in-Err-clause-variant : goal.returns-in-Err-clause-variant
 returns-in-Err-clause-variant c =

@@ -1,68 +1,42 @@
-use Rattle.std.proofs.Common.{ℕ, drop, Some, None, ap, subst, sym, ◌∙◌}
-use Rattle.std.proofs.lemmas.List.{take_rest}
-use Rattle.cwr_decode.specs.Machines.{Standing, Judges}
-use Rattle.cwr_decode.specs.declared.outcomes.Outcome.TheVariants as outcomes
+use Rattle.std.proofs.Common.{ℕ, None, Some, ap, subst, sym, ◌∙◌}
+use Rattle.cwr_decode.specs.Machines.{FitsWaiting, Standing, Settles}
 use Rattle.cwr_decode.specs.Calls.{Feeds}
-use Rattle.cwr_decode.proofs.AfterBytes.{advanced_line, advanced_open}
 use Rattle.cwr_decode.proofs.AnsweredAtOnce.{settled_feeds}
-use Rattle.cwr_decode.proofs.AfterPiece.{finished_feeds, fed_none, fed_more, fed_out, rest_smaller}
-use Rattle.cwr_decode.proofs.HeldOpen.{fed_holds, waiting_fits}
+use Rattle.cwr_decode.proofs.AfterPiece.{finished_feeds, fed_whole, settled_sound}
+use Rattle.cwr_decode.proofs.HeldOpen.{waiting_fits}
 use Rattle.cwr_decode.proofs.machine.Machine.feed.Goals as goal
 
-pub settle-requires-clause-fits : goal.settle-requires-clause-fits
-settle-requires-clause-fits c = waiting_fits c.args.self.now c.requires.under_way
+pub is_settled-requires-clause-fits : goal.is_settled-requires-clause-fits
+is_settled-requires-clause-fits c = waiting_fits c.args.self.now c.requires.under_way
 
-pub take_line-requires-clause-holds : goal.take_line-requires-clause-holds
-take_line-requires-clause-holds c =
-    let same = c.add_line.ensures.kept c.if-add_line.false ∙ c.take-taken.ensures.others in
-    fed_holds c.args.self.now c.loop-self.self c.add_line.new.self c.args.piece.now c.loop-self.used c.requires.under_way c.loop-self.invariant (ap (λ (d : Standing). d.tally) same) (ap (λ (d : Standing). d.held) same)
+pub settle-requires-clause-fits : goal.settle-requires-clause-fits
+settle-requires-clause-fits c = subst FitsWaiting (sym (c.is_settled.ensures.kept c.if-is_settled.false)) (waiting_fits c.args.self.now c.requires.under_way)
+
+pub feed_lines-requires-clause-sound : goal.feed_lines-requires-clause-sound
+feed_lines-requires-clause-sound c = settled_sound c.args.self.now c.is_settled.new.self c.requires (c.is_settled.ensures.settled c.if-is_settled.true)
+
+pub feed_lines-requires-2-clause-sound : goal.feed_lines-requires-2-clause-sound
+feed_lines-requires-2-clause-sound c =
+    let settles = subst (λ (q : Standing). Settles q.state q None c.settle.new.self) (c.is_settled.ensures.kept c.if-is_settled.false) c.in_default.ensures in
+    settled_sound c.args.self.now c.settle.new.self c.requires settles
 
 pub returns-then-self : goal.returns-then-self
 returns-then-self c =
     subst (λ (n : ℕ). Feeds c.args.self.now c.args.piece.now n c.finish.result.outcome c.finish.new.self) (sym c.finish.ensures.used)
     (finished_feeds c.args.self.now c.finish.new.self c.args.piece.now c.finish.result.outcome (ap (λ (d : Standing). d.finished) (sym c.self.view_is) ∙ c.if-self.true) c.finish.ensures.finishes)
 
+pub returns-then-is_settled : goal.returns-then-is_settled
+returns-then-is_settled c =
+    fed_whole c.args.self.now c.is_settled.new.self c.feed_lines.new.self c.args.piece.now c.feed_lines.result.used c.feed_lines.result.outcome c.requires.ready
+    (ap (λ (d : Standing). d.finished) (sym c.self.view_is) ∙ c.if-self.false) (c.is_settled.ensures.settled c.if-is_settled.true) c.feed_lines.ensures
+
 pub returns-in-Some : goal.returns-in-Some
-returns-in-Some c = settled_feeds c.args.self.now c.settle.new.self c.args.piece.now c.in-Some.outcome c.requires.ready (ap (λ (d : Standing). d.finished) (sym c.self.view_is) ∙ c.if-self.false) c.in-Some.ensures
+returns-in-Some c =
+    settled_feeds c.args.self.now c.settle.new.self c.args.piece.now c.in-Some.outcome c.requires.ready (ap (λ (d : Standing). d.finished) (sym c.self.view_is) ∙ c.if-self.false)
+    (subst (λ (q : Standing). Settles q.state q (Some c.in-Some.outcome) c.settle.new.self) (c.is_settled.ensures.kept c.if-is_settled.false) c.in-Some.ensures)
 
-pub loop-self-init : goal.loop-self-init
-loop-self-init c = fed_none c.args.self.now c.settle.new.self c.args.piece.now c.requires.ready (ap (λ (d : Standing). d.finished) (sym c.self.view_is) ∙ c.if-self.false) c.in_default.ensures
-
-pub returns-in-Open : goal.returns-in-Open
-returns-in-Open c =
-    fed_out c.args.self.now c.loop-self.self c.take-taken.new.self c.args.piece.now c.loop-self.used c.take-taken.result.used outcomes.More c.loop-self.invariant
-    (advanced_open c.loop-self.self c.take-taken.new.self (drop c.loop-self.used c.args.piece.now) c.take-taken.result.used c.loop-self.invariant.reading c.loop-self.invariant.fresh
-    (rw take_rest at c.take-taken.ensures.takes) c.take-taken.ensures.held c.take-taken.ensures.others (sym c.take-taken.ensures.ended ∙ c.in-Open.is))
-
-pub loop-self-preserved-then-add_line : goal.loop-self-preserved-then-add_line
-loop-self-preserved-then-add_line c =
-    fed_more c.args.self.now c.loop-self.self c.add_line.new.self c.args.piece.now c.loop-self.used c.take-taken.result.used c.loop-self.invariant
-    (advanced_line c.loop-self.self c.take-taken.new.self c.add_line.new.self (drop c.loop-self.used c.args.piece.now) c.take-taken.result.used None c.loop-self.invariant.reading c.loop-self.invariant.fresh
-    (rw take_rest at c.take-taken.ensures.takes) c.take-taken.ensures.held c.take-taken.ensures.others (λ e. c.in_default-ended.not-Open (c.take-taken.ensures.ended ∙ e)) (c.add_line.ensures.added c.if-add_line.true))
-
-pub loop-self-smaller-then-add_line : goal.loop-self-smaller-then-add_line
-loop-self-smaller-then-add_line c =
-    rest_smaller c.args.piece.now c.loop-self.used c.take-taken.result.used c.loop-self.self c.add_line.new.self
-    (advanced_line c.loop-self.self c.take-taken.new.self c.add_line.new.self (drop c.loop-self.used c.args.piece.now) c.take-taken.result.used None c.loop-self.invariant.reading c.loop-self.invariant.fresh
-    (rw take_rest at c.take-taken.ensures.takes) c.take-taken.ensures.held c.take-taken.ensures.others (λ e. c.in_default-ended.not-Open (c.take-taken.ensures.ended ∙ e)) (c.add_line.ensures.added c.if-add_line.true))
-
-pub returns-in-Some-take_line : goal.returns-in-Some-take_line
-returns-in-Some-take_line c =
-    fed_out c.args.self.now c.loop-self.self c.take_line.new.self c.args.piece.now c.loop-self.used c.take-taken.result.used c.in-Some-take_line.outcome c.loop-self.invariant
-    (advanced_line c.loop-self.self c.take-taken.new.self c.take_line.new.self (drop c.loop-self.used c.args.piece.now) c.take-taken.result.used (Some c.in-Some-take_line.outcome) c.loop-self.invariant.reading c.loop-self.invariant.fresh
-    (rw take_rest at c.take-taken.ensures.takes) c.take-taken.ensures.held c.take-taken.ensures.others (λ e. c.in_default-ended.not-Open (c.take-taken.ensures.ended ∙ e))
-    (subst (λ (d : Standing). Judges d (Some c.in-Some-take_line.outcome) c.take_line.new.self) (c.add_line.ensures.kept c.if-add_line.false) c.in-Some-take_line.ensures))
-
-pub loop-self-preserved : goal.loop-self-preserved
-loop-self-preserved c =
-    fed_more c.args.self.now c.loop-self.self c.take_line.new.self c.args.piece.now c.loop-self.used c.take-taken.result.used c.loop-self.invariant
-    (advanced_line c.loop-self.self c.take-taken.new.self c.take_line.new.self (drop c.loop-self.used c.args.piece.now) c.take-taken.result.used None c.loop-self.invariant.reading c.loop-self.invariant.fresh
-    (rw take_rest at c.take-taken.ensures.takes) c.take-taken.ensures.held c.take-taken.ensures.others (λ e. c.in_default-ended.not-Open (c.take-taken.ensures.ended ∙ e))
-    (subst (λ (d : Standing). Judges d None c.take_line.new.self) (c.add_line.ensures.kept c.if-add_line.false) c.in_default-take_line.ensures))
-
-pub loop-self-smaller : goal.loop-self-smaller
-loop-self-smaller c =
-    rest_smaller c.args.piece.now c.loop-self.used c.take-taken.result.used c.loop-self.self c.take_line.new.self
-    (advanced_line c.loop-self.self c.take-taken.new.self c.take_line.new.self (drop c.loop-self.used c.args.piece.now) c.take-taken.result.used None c.loop-self.invariant.reading c.loop-self.invariant.fresh
-    (rw take_rest at c.take-taken.ensures.takes) c.take-taken.ensures.held c.take-taken.ensures.others (λ e. c.in_default-ended.not-Open (c.take-taken.ensures.ended ∙ e))
-    (subst (λ (d : Standing). Judges d None c.take_line.new.self) (c.add_line.ensures.kept c.if-add_line.false) c.in_default-take_line.ensures))
+pub returns : goal.returns
+returns c =
+    let settles = subst (λ (q : Standing). Settles q.state q None c.settle.new.self) (c.is_settled.ensures.kept c.if-is_settled.false) c.in_default.ensures in
+    fed_whole c.args.self.now c.settle.new.self c.feed_lines-2.new.self c.args.piece.now c.feed_lines-2.result.used c.feed_lines-2.result.outcome c.requires.ready
+    (ap (λ (d : Standing). d.finished) (sym c.self.view_is) ∙ c.if-self.false) settles c.feed_lines-2.ensures

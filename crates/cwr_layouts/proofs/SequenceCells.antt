@@ -1,0 +1,58 @@
+-- Where the two sequences of a line inside a transaction stand.
+use Rattle.std.proofs.Common.{◌≡◌, ℕ, Bool, true, false, cond, List, ◌∷◌, take, drop, option_map, slice_get, refl, sym, ap, ◌∙◌, lit≤}
+use Rattle.std.specs.Prelude.{Option, Some, None}
+use Rattle.std.proofs.lemmas.List.{take-take, drop-take, drop-drop}
+use Rattle.cwr_layouts.specs.declared.kinds.Kind.{Kind}
+use Rattle.cwr_layouts.specs.declared.kinds.Kind.TheVariants.{Hdr, Grh, Grt, Trl, Agr, Ter, Ipa, Nwr, Rev, Spu, Opu, Spt, Swr, Owr, Swt, Pwr, Alt, Ewt, Ver, Per, Rec, Orn, Com, Ack, Msg}
+use Rattle.cwr_layouts.specs.Kinds.{is_in_transaction}
+use Rattle.cwr_layouts.specs.Layouts.{FieldLayout, field_placed, fields_after_type, in_transaction, layout, number, placed_fields, record_type}
+use Rattle.cwr_layouts.specs.Held.{HeldLine, IsFilled, held_cell}
+use Rattle.cwr_layouts.proofs.CellParts.{part, held_cell-part}
+
+-- the fields of a record inside a transaction begin with the two sequences
+record Sequenced (kind : Kind) : Type 0 where
+  rest : List FieldLayout
+  begins : layout kind ≡ record_type ∷ in_transaction rest
+
+sequenced : (kind : Kind) → is_in_transaction kind ≡ true → Sequenced kind
+sequenced Hdr e = absurd cc
+sequenced Grh e = absurd cc
+sequenced Grt e = absurd cc
+sequenced Trl e = absurd cc
+sequenced Agr e = record { rest = drop 2 (fields_after_type Agr); begins = refl }
+sequenced Ter e = record { rest = drop 2 (fields_after_type Ter); begins = refl }
+sequenced Ipa e = record { rest = drop 2 (fields_after_type Ipa); begins = refl }
+sequenced Nwr e = record { rest = drop 2 (fields_after_type Nwr); begins = refl }
+sequenced Rev e = record { rest = drop 2 (fields_after_type Rev); begins = refl }
+sequenced Spu e = record { rest = drop 2 (fields_after_type Spu); begins = refl }
+sequenced Opu e = record { rest = drop 2 (fields_after_type Opu); begins = refl }
+sequenced Spt e = record { rest = drop 2 (fields_after_type Spt); begins = refl }
+sequenced Swr e = record { rest = drop 2 (fields_after_type Swr); begins = refl }
+sequenced Owr e = record { rest = drop 2 (fields_after_type Owr); begins = refl }
+sequenced Swt e = record { rest = drop 2 (fields_after_type Swt); begins = refl }
+sequenced Pwr e = record { rest = drop 2 (fields_after_type Pwr); begins = refl }
+sequenced Alt e = record { rest = drop 2 (fields_after_type Alt); begins = refl }
+sequenced Ewt e = record { rest = drop 2 (fields_after_type Ewt); begins = refl }
+sequenced Ver e = record { rest = drop 2 (fields_after_type Ver); begins = refl }
+sequenced Per e = record { rest = drop 2 (fields_after_type Per); begins = refl }
+sequenced Rec e = record { rest = drop 2 (fields_after_type Rec); begins = refl }
+sequenced Orn e = record { rest = drop 2 (fields_after_type Orn); begins = refl }
+sequenced Com e = record { rest = drop 2 (fields_after_type Com); begins = refl }
+sequenced Ack e = record { rest = drop 2 (fields_after_type Ack); begins = refl }
+sequenced Msg e = record { rest = drop 2 (fields_after_type Msg); begins = refl }
+
+second : (kind : Kind) → is_in_transaction kind ≡ true → field_placed kind 2 ≡ Some (3, number "transaction sequence" 8)
+second kind e = ap (λ (fields : List FieldLayout). slice_get (placed_fields 0 fields) 1) (sequenced kind e).begins
+
+third : (kind : Kind) → is_in_transaction kind ≡ true → field_placed kind 3 ≡ Some (11, number "record sequence" 8)
+third kind e = ap (λ (fields : List FieldLayout). slice_get (placed_fields 0 fields) 2) (sequenced kind e).begins
+
+-- both stand in the sixteen bytes after the record type
+pub transaction_cell : (text : List ℕ) (h : HeldLine) (kind : Kind) → IsFilled text (Some kind) h → is_in_transaction kind ≡ true → held_cell h 2 ≡ Some (take 8 (take 16 (drop 3 text)))
+transaction_cell text h kind k e =
+    held_cell-part text h kind 2 k ∙ ap (option_map (part text)) (second kind e) ∙ ap (λ (x : List ℕ). Some x) (sym (take-take 8 16 (drop 3 text) (lit≤ tt)))
+
+pub record_cell : (text : List ℕ) (h : HeldLine) (kind : Kind) → IsFilled text (Some kind) h → is_in_transaction kind ≡ true → held_cell h 3 ≡ Some (drop 8 (take 16 (drop 3 text)))
+record_cell text h kind k e =
+    held_cell-part text h kind 3 k ∙ ap (option_map (part text)) (third kind e)
+    ∙ ap (λ (x : List ℕ). Some x) (sym (drop-take 8 8 (drop 3 text) ∙ ap (take 8) (drop-drop 8 3 text)))

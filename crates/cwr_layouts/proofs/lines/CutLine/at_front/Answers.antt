@@ -1,0 +1,24 @@
+use Rattle.std.proofs.Common.{◌≡◌, ℕ, List, take, sym, subst, ◌∙◌, arith, ap, true}
+use Rattle.std.specs.Prelude.{Some}
+use Rattle.cwr_layouts.specs.Kinds.{kind_of}
+use Rattle.cwr_layouts.specs.Layouts.{line_width}
+use Rattle.cwr_layouts.specs.declared.lines.LineEnd.TheVariants.{Line}
+use Rattle.cwr_layouts.specs.Held.{IsClosed, IsHeld}
+use Rattle.cwr_layouts.proofs.FrontLines.{Begins, front, front_closed, front_held_of}
+use Rattle.cwr_layouts.proofs.lines.CutLine.at_front.Goals as goal
+
+pub invariant_of-line : goal.invariant_of-line
+invariant_of-line c =
+    let piece = c.args.piece.now in
+    let width = c.width-count.result in
+    let b : Begins piece width =
+    record { within = omega (arith, c.if-piece-count.false); plain = c.begins_whole.ensures.plain c.if-not-begins_whole.false; carriage = c.begins_whole.ensures.carriage c.if-not-begins_whole.false; feed = c.begins_whole.ensures.feed c.if-not-begins_whole.false } in
+    (front_closed c.in_ok-kind.kind piece width c.width-count.ensures b (sym c.of.ensures ∙ c.in_ok-kind.was), λ _. b.plain)
+
+pub returns-clause-held : goal.returns-clause-held
+returns-clause-held c =
+    let piece = c.args.piece.now in
+    let width = c.width-count.result in
+    let b : Begins piece width =
+    record { within = omega (arith, c.if-piece-count.false); plain = c.begins_whole.ensures.plain c.if-not-begins_whole.false; carriage = c.begins_whole.ensures.carriage c.if-not-begins_whole.false; feed = c.begins_whole.ensures.feed c.if-not-begins_whole.false } in
+    front_held_of c.in_ok-kind.kind piece width c.width-count.ensures b
