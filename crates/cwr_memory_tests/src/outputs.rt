@@ -28,6 +28,8 @@ pub(crate) struct Numbered {
     /// How many calls failed. None does.
     failures: u64,
     failed_writers: u64,
+    /// How many writers are lent.
+    lent: u64,
 }
 
 impl Numbered {
@@ -37,6 +39,7 @@ impl Numbered {
             done: 0,
             failures: 0,
             failed_writers: 0,
+            lent: 0,
         }
     }
 
@@ -55,14 +58,19 @@ impl Outputs for Numbered {
 
     ghost given_up = { λ numbered. numbered.failed_writers };
 
+    ghost lent = { λ numbered. numbered.lent };
+
     fn next(&mut self) -> Result<Counted<Nowhere>, OutputFault> {
-        if self.failures == u64::MAX {
+        if self.failures == u64::MAX || self.lent == u64::MAX {
+            self.failures = self.failures.saturating_add(1);
             return Err(OutputFault);
         }
+        self.lent += 1;
         Ok(Counted::new(Nowhere))
     }
 
     fn done(&mut self, _writer: Counted<Nowhere>) -> Result<(), OutputFault> {
+        self.lent = self.lent.saturating_sub(1);
         if self.failures == u64::MAX {
             return Err(OutputFault);
         }
@@ -74,5 +82,6 @@ impl Outputs for Numbered {
         if writer.failures() > 0 {
             self.failed_writers = self.failed_writers.saturating_add(1);
         }
+        self.lent = self.lent.saturating_sub(1);
     }
 }

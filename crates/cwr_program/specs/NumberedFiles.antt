@@ -1,6 +1,7 @@
 -- What the files of a split count.
-use Rattle.std.specs.Prelude.{ℕ}
+use Rattle.std.specs.Prelude.{ℕ, Option, Some, None}
 use Rattle.cwr_program.specs.declared.new_files.NumberedFiles.{NumberedFiles}
+use Rattle.cwr_program.specs.declared.new_files.Place.{Place}
 
 -- how many calls failed
 abbrev pub failed_calls_of : {R F D : Type 0} → NumberedFiles R F D → ℕ
@@ -9,3 +10,11 @@ failed_calls_of files = files.failed_calls
 -- how many failed writers were given up
 abbrev pub given_up_of : {R F D : Type 0} → NumberedFiles R F D → ℕ
 given_up_of files = files.given_up
+
+-- one file is being written, or none
+abbrev pub written_at : Option Place → ℕ
+written_at None = 0
+written_at (Some place) = 1
+
+abbrev pub lent_of : {R F D : Type 0} → NumberedFiles R F D → ℕ
+lent_of files = written_at files.place

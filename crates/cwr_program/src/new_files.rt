@@ -2,8 +2,8 @@
 
 ghost use Rattle.std.specs.Prelude.{◌≡◌, ℕ, None, Some, IfOk, IfSome};
 ghost use Rattle.cwr_fields.specs.Counted.{failures_of};
-ghost use Rattle.cwr_fields.specs.Failures.{CountsFailure};
-ghost use Rattle.cwr_program.specs.NumberedFiles.{failed_calls_of, given_up_of};
+ghost use Rattle.cwr_fields.specs.Failures.{one_more_failure};
+ghost use Rattle.cwr_program.specs.NumberedFiles.{failed_calls_of, given_up_of, lent_of};
 
 use cwr_fields::Counted;
 use cwr_tools::{OutputFault, Outputs};
@@ -113,6 +113,7 @@ impl<'a, R: Files> NumberedFiles<'a, R> {
         ensures failed_calls { failed_calls_of self.new ≡ failed_calls_of self.old }
         ensures given_up { given_up_of self.new ≡ given_up_of self.old }
         ensures unfailed { IfSome result (λ writer. failures_of writer ≡ 0) }
+        ensures lent { IfSome result (λ writer. lent_of self.new ≡ 1) }
     {
         self.asked = self.asked.checked_add(1)?;
         let prefix = self.prefix;
@@ -128,6 +129,7 @@ impl<'a, R: Files> NumberedFiles<'a, R> {
     fn keep(&mut self) -> Option<()>
         ensures failed_calls { failed_calls_of self.new ≡ failed_calls_of self.old }
         ensures given_up { given_up_of self.new ≡ given_up_of self.old }
+        ensures lent { lent_of self.new ≡ 0 }
     {
         let place = self.place.take()?;
         place.keep(self.rt).ok()
@@ -137,25 +139,21 @@ impl<'a, R: Files> NumberedFiles<'a, R> {
     fn discard(&mut self)
         ensures failed_calls { failed_calls_of self.new ≡ failed_calls_of self.old }
         ensures given_up { given_up_of self.new ≡ given_up_of self.old }
+        ensures lent { lent_of self.new ≡ 0 }
     {
         if let Some(place) = self.place.take() {
             place.discard(self.rt);
         }
     }
 
-    /// The answer of a call that did what was asked for, or didn't; a failure is counted.
-    fn answer<T: Drop>(&mut self, made: Option<T>) -> Result<T, OutputFault>
-        ensures made { IfOk result (λ it. made ≡ Some it) }
-        ensures failed_calls { CountsFailure result (failed_calls_of self.old) (failed_calls_of self.new) }
+    /// Counts a call that failed.
+    fn count_failure(&mut self) -> OutputFault
+        ensures failed_calls { failed_calls_of self.new ≡ one_more_failure (failed_calls_of self.old) }
         ensures given_up { given_up_of self.new ≡ given_up_of self.old }
+        ensures lent { lent_of self.new ≡ lent_of self.old }
     {
-        match made {
-            Some(it) if self.failed_calls < u64::MAX => Ok(it),
-            _ => {
-                self.failed_calls = self.failed_calls.saturating_add(1);
-                Err(OutputFault)
-            }
-        }
+        self.failed_calls = self.failed_calls.saturating_add(1);
+        OutputFault
     }
 }
 
@@ -169,18 +167,28 @@ impl<R: Files> Outputs for NumberedFiles<'_, R> {
 
     ghost given_up = { given_up_of };
 
+    // One file is written at a time.
+    ghost lent = { lent_of };
+
     fn next(&mut self) -> Result<Counted<BufWriter<R::File>>, OutputFault> {
-        let made = self.make();
-        if made.is_none() {
-            self.discard();
+        if self.place.is_some() || self.failed_calls == u64::MAX {
+            return Err(self.count_failure());
         }
-        self.answer(made)
+        match self.make() {
+            Some(writer) => Ok(writer),
+            None => {
+                self.discard();
+                Err(self.count_failure())
+            }
+        }
     }
 
     fn done(&mut self, writer: Counted<BufWriter<R::File>>) -> Result<(), OutputFault> {
         drop(writer);
-        let kept = self.keep();
-        self.answer(kept)
+        match self.keep() {
+            Some(()) if self.failed_calls < u64::MAX => Ok(()),
+            _ => Err(self.count_failure()),
+        }
     }
 
     fn give_up(&mut self, writer: Counted<BufWriter<R::File>>) {

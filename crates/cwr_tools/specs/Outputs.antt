@@ -1,5 +1,5 @@
 -- What the outputs of a split have had.
-use Rattle.std.specs.Prelude.{◌≡◌, ℕ, ◌==◌, List, [], ◌∷◌, ◌++◌, Option, Some, None, if◌then◌else◌}
+use Rattle.std.specs.Prelude.{◌≡◌, ℕ, ◌+◌, ◌==◌, List, [], ◌∷◌, ◌++◌, Option, Some, None, Result, Ok, Err, if◌then◌else◌}
 use Rattle.cwr_fields.specs.Failures.{one_more_failure}
 
 -- texts that were known stay at the front, and these come after them
@@ -15,3 +15,8 @@ AddsText old new text = AddsTexts old new (text ∷ [])
 -- how many failed writers were given up, with one more that has so many failures
 abbrev pub given_up_with : ℕ → ℕ → ℕ
 given_up_with failures before = if failures == 0 then before else one_more_failure before
+
+-- how many writers are lent with one more, where it could be made
+abbrev pub lent_after : {A B : Type 0} → Result A B → ℕ → ℕ
+lent_after (Ok writer) before = before + 1
+lent_after (Err fault) before = before

@@ -27,6 +27,15 @@ abbrev pub open_group : {W : Type 0} → Option (SplitOutput W) → Bool
 open_group None = false
 open_group (Some out) = out.in_group
 
+-- how many outputs are open
+abbrev pub open_outputs : {W : Type 0} → Option (SplitOutput W) → ℕ
+open_outputs None = 0
+open_outputs (Some out) = 1
+
+-- the writers that are lent are as many more than the open outputs as they were
+abbrev pub KeepsLent : {W : Type 0} → ℕ → Option (SplitOutput W) → ℕ → Option (SplitOutput W) → Type 0
+KeepsLent before out after now = (others : ℕ) → before ≡ others + open_outputs out → after ≡ others + open_outputs now
+
 -- it has so many transactions
 abbrev pub has_all : {W : Type 0} → ℕ → Option (SplitOutput W) → Bool
 has_all size None = false

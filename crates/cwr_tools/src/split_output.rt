@@ -1,6 +1,6 @@
 //! One output of a split, while it is written.
 
-ghost use Rattle.std.specs.Prelude.{◌≡◌, ◌≢◌, ℕ, ◌+◌, ◌<◌, ◌++◌, ◌∷◌, [], List, Option, Some, Ok, Err, OnOk, IfSome, false, true};
+ghost use Rattle.std.specs.Prelude.{◌≡◌, ◌≢◌, ℕ, ◌+◌, ◌-◌, ◌<◌, ◌++◌, ◌∷◌, [], List, Option, Some, Ok, Err, OnOk, IfSome, false, true};
 ghost use Rattle.cwr_values.specs.declared.items.Item.{Item};
 ghost use Rattle.cwr_judge.specs.Items.{records_in};
 ghost use Rattle.cwr_encode.specs.Encoders.{Encodes, is_stopped, limits_of, target_of};
@@ -160,7 +160,8 @@ pub(crate) fn hand_over<O: Outputs>(
     requires unfailed { is_stopped output.encoder ≡ false }
     requires quiet { O.W.failures (target_of output.encoder) ≡ 0 }
     requires may { MayHandOver O.W.contents output }
-    ensures { HandsOver (told_by O.texts O.failures O.given_up) O.W.contents output result outputs.old outputs.new }
+    ensures hands_over { HandsOver (told_by O.texts O.failures O.given_up) O.W.contents output result outputs.old outputs.new }
+    ensures lent { O.lent outputs.new ≡ O.lent outputs.old - 1 }
 {
     let (writer, outcome) = output.encoder.finish();
     match outcome {

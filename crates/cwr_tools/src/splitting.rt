@@ -1,12 +1,12 @@
 //! Splitting a transmission.
 
-ghost use Rattle.std.specs.Prelude.{◌≡◌, ◌≢◌, ◌<◌, None, OnOk};
+ghost use Rattle.std.specs.Prelude.{◌≡◌, ◌≢◌, ℕ, ◌+◌, ◌<◌, None, OnOk};
 ghost use Rattle.cwr_values.specs.declared.items.Item.{Item};
 ghost use Rattle.cwr_tools.specs.Outputs.{given_up_with};
 ghost use Rattle.cwr_tools.specs.SplitOutputs.{open_failures, told_by};
 ghost use Rattle.cwr_tools.specs.SplitItems.{MayTake, SplitsItems, Takes};
 ghost use Rattle.cwr_tools.specs.Splitting.{CountsSplitOutput, CountsSplitReader, CountsSplitWriter, Splits, SplitsAccepted};
-ghost use Rattle.cwr_tools.specs.SplitSteps.{AddsTransaction, EndsGroup, Finishes, GivesUp, MayAddTransaction, MayEndGroup, MayFinish, MayWrite, OpensOutput, Writes, has_all, is_new};
+ghost use Rattle.cwr_tools.specs.SplitSteps.{AddsTransaction, EndsGroup, Finishes, GivesUp, MayAddTransaction, MayEndGroup, MayFinish, KeepsLent, MayWrite, OpensOutput, Writes, has_all, is_new, open_outputs};
 
 use crate::joining::reading_fault;
 use crate::outputs::Outputs;
@@ -57,7 +57,8 @@ impl<W: Target> Splitting<W> {
         requires not_ended { transaction.now ≢ Item.Ended }
         requires room { self.old.report.transactions < 199999999 }
         requires may { MayWrite W.contents transaction.now self.old }
-        ensures { Writes W.contents W.failures transaction.now result self.old self.new }
+        ensures writes { Writes W.contents W.failures transaction.now result self.old self.new }
+        ensures output { open_outputs self.new.output ≡ open_outputs self.old.output }
     {
         let Some(opening) = &self.opening else {
             unreachable!();
@@ -86,7 +87,8 @@ impl<W: Target> Splitting<W> {
     /// Ends the group of the open output, if one is open there.
     fn end_group(&mut self) -> Result<(), ToolFault>
         requires { MayEndGroup W.contents self.old.output }
-        ensures { EndsGroup W.contents W.failures result self.old self.new }
+        ensures ends { EndsGroup W.contents W.failures result self.old self.new }
+        ensures output { open_outputs self.new.output ≡ open_outputs self.old.output }
     {
         match &mut self.output {
             Some(output) => output.end_group(),
@@ -100,7 +102,8 @@ fn open_output<O: Outputs>(
     splitting: &mut Splitting<O::W>,
     outputs: &mut O,
 ) -> Result<(), ToolFault>
-    ensures { OpensOutput (told_by O.texts O.failures O.given_up) O.W.contents O.W.failures result splitting.old splitting.new outputs.old outputs.new }
+    ensures opens { OpensOutput (told_by O.texts O.failures O.given_up) O.W.contents O.W.failures result splitting.old splitting.new outputs.old outputs.new }
+    ensures lent { KeepsLent (O.lent outputs.old) splitting.old.output (O.lent outputs.new) splitting.new.output }
 {
     if splitting.output.is_some() {
         return Ok(());
@@ -121,7 +124,8 @@ fn finish_output<O: Outputs>(
 ) -> Result<(), ToolFault>
     requires room { splitting.old.report.outputs < 199999999 }
     requires may { MayFinish (told_by O.texts O.failures O.given_up) O.W.contents O.W.failures splitting.old outputs.old }
-    ensures { Finishes (told_by O.texts O.failures O.given_up) O.W.contents O.W.failures result splitting.old splitting.new outputs.old outputs.new }
+    ensures finishes { Finishes (told_by O.texts O.failures O.given_up) O.W.contents O.W.failures result splitting.old splitting.new outputs.old outputs.new }
+    ensures lent { KeepsLent (O.lent outputs.old) splitting.old.output (O.lent outputs.new) splitting.new.output }
 {
     splitting.end_group()?;
     match splitting.output.take() {
@@ -142,7 +146,8 @@ fn add_transaction<O: Outputs>(
 ) -> Result<(), ToolFault>
     requires not_ended { transaction.now ≢ Item.Ended }
     requires may { MayAddTransaction (told_by O.texts O.failures O.given_up) O.W.contents O.W.failures transaction.now splitting.old outputs.old }
-    ensures { AddsTransaction (told_by O.texts O.failures O.given_up) O.W.contents O.W.failures transaction.now result splitting.old splitting.new outputs.old outputs.new }
+    ensures adds { AddsTransaction (told_by O.texts O.failures O.given_up) O.W.contents O.W.failures transaction.now result splitting.old splitting.new outputs.old outputs.new }
+    ensures lent { KeepsLent (O.lent outputs.old) splitting.old.output (O.lent outputs.new) splitting.new.output }
 {
     open_output(splitting, outputs)?;
     splitting.put(transaction)?;
@@ -159,7 +164,8 @@ fn take_item<O: Outputs>(
     outputs: &mut O,
 ) -> Result<(), ToolFault>
     requires { MayTake (told_by O.texts O.failures O.given_up) O.W.contents O.W.failures item splitting.old outputs.old }
-    ensures { Takes (told_by O.texts O.failures O.given_up) O.W.contents O.W.failures item result splitting.old splitting.new outputs.old outputs.new }
+    ensures takes { Takes (told_by O.texts O.failures O.given_up) O.W.contents O.W.failures item result splitting.old splitting.new outputs.old outputs.new }
+    ensures lent { KeepsLent (O.lent outputs.old) splitting.old.output (O.lent outputs.new) splitting.new.output }
 {
     match &item {
         Item::Opened(_) => {
@@ -178,7 +184,8 @@ fn take_item<O: Outputs>(
 
 /// Gives the writer of an open output up, if there is one.
 fn give_up<O: Outputs>(output: Option<SplitOutput<O::W>>, outputs: &mut O)
-    ensures { GivesUp (told_by O.texts O.failures O.given_up) O.W.failures output outputs.old outputs.new }
+    ensures gives_up { GivesUp (told_by O.texts O.failures O.given_up) O.W.failures output outputs.old outputs.new }
+    ensures lent { (others : ℕ) → O.lent outputs.old ≡ others + open_outputs output → O.lent outputs.new ≡ others }
 {
     if let Some(output) = output {
         outputs.give_up(output.abandon());
@@ -197,6 +204,7 @@ fn split_items<R: Source, O: Outputs>(
     requires fresh { splitting.old ≡ is_new limits splitting.old.size }
     ensures splits { SplitsItems limits splitting.old.size (R.remaining reader.old) (R.remaining reader.new) (O.texts outputs.old) (O.texts outputs.new) splitting.new.report result }
     ensures ended { OnOk result (splitting.new.output ≡ None) }
+    ensures lent { KeepsLent (O.lent outputs.old) splitting.old.output (O.lent outputs.new) splitting.new.output }
     ensures reader_failures { CountsSplitReader result (R.failures reader.old) (R.failures reader.new) }
     ensures failures { CountsSplitOutput result (O.failures outputs.old) (O.failures outputs.new) }
     ensures given_up { CountsSplitWriter result (O.given_up outputs.old) (given_up_with (open_failures O.W.failures splitting.new.output) (O.given_up outputs.new)) }
@@ -242,6 +250,8 @@ pub fn split<R: Source, O: Outputs>(
     ensures reader_failures { CountsSplitReader result (R.failures reader.old) (R.failures reader.new) }
     ensures failures { CountsSplitOutput result (O.failures outputs.old) (O.failures outputs.new) }
     ensures given_up { CountsSplitWriter result (O.given_up outputs.old) (O.given_up outputs.new) }
+    // No writer is lost: each that was given came back, done or given up.
+    ensures lent { O.lent outputs.new ≡ O.lent outputs.old }
     ensures accepted { SplitsAccepted limits n (R.remaining reader.old) (R.remaining reader.new) (O.texts outputs.old) (O.texts outputs.new) result }
 {
     let mut splitting = Splitting::new(limits, n);

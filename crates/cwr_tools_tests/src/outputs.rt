@@ -57,6 +57,8 @@ pub(crate) struct Shelf {
     given_up: Option<Vec<u8>>,
     failures: u64,
     failed_writers: u64,
+    /// How many writers are lent.
+    lent: u64,
 }
 
 impl Shelf {
@@ -71,6 +73,7 @@ impl Shelf {
             given_up: None,
             failures: 0,
             failed_writers: 0,
+            lent: 0,
         }
     }
 
@@ -109,6 +112,7 @@ impl Shelf {
     fn count_failure(&mut self) -> OutputFault
         ensures failures { self.new.failures ≡ one_more_failure self.old.failures }
         ensures failed_writers { self.new.failed_writers ≡ self.old.failed_writers }
+        ensures lent { self.new.lent ≡ self.old.lent }
         ensures texts { self.new.texts ≡ self.old.texts }
     {
         self.failures = self.failures.saturating_add(1);
@@ -125,11 +129,15 @@ impl Outputs for Shelf {
 
     ghost given_up = { λ shelf. shelf.failed_writers };
 
+    ghost lent = { λ shelf. shelf.lent };
+
     fn next(&mut self) -> Result<Counted<Bounded>, OutputFault> {
         self.asked = self.asked.saturating_add(1);
-        if self.mishap == Mishap::Next(self.asked) || self.failures == u64::MAX {
+        let full = self.failures == u64::MAX || self.lent == u64::MAX;
+        if self.mishap == Mishap::Next(self.asked) || full {
             return Err(self.count_failure());
         }
+        self.lent += 1;
         Ok(Counted::new(Bounded {
             text: Vec::new(self.alloc),
             room: self.room(),
@@ -138,6 +146,7 @@ impl Outputs for Shelf {
 
     fn done(&mut self, writer: Counted<Bounded>) -> Result<(), OutputFault> {
         self.handed_over = self.handed_over.saturating_add(1);
+        self.lent = self.lent.saturating_sub(1);
         if self.mishap == Mishap::Done(self.handed_over) || self.failures == u64::MAX {
             return Err(self.count_failure());
         }
@@ -151,6 +160,7 @@ impl Outputs for Shelf {
         if writer.failures() > 0 {
             self.failed_writers = self.failed_writers.saturating_add(1);
         }
+        self.lent = self.lent.saturating_sub(1);
         self.given_up = Some(writer.into_inner().text);
     }
 }

@@ -1,5 +1,7 @@
-use Rattle.std.proofs.Common.{rules}
+use Rattle.std.proofs.Common.{rules, ap, arith}
 use Rattle.std.specs.Prelude.{Ok, Err}
+use Rattle.cwr_tools.specs.declared.splitting.Splitting.{Splitting}
+use Rattle.cwr_tools.specs.SplitSteps.{open_outputs}
 use Rattle.cwr_tools.specs.Splitting.{Splits}
 use Rattle.cwr_tools.proofs.AcceptedSplits.{splits_accepted}
 use Rattle.cwr_tools.proofs.splitting.split.Goals as goal
@@ -15,3 +17,13 @@ returns-in-Err-clause-accepted g c =
     let splits : Splits c.args.limits c.args.n (g.R.Source.remaining c.args.reader.now) (g.R.Source.remaining c.split_items.new.reader) (g.O.Outputs.texts c.args.outputs.now) (g.O.Outputs.texts c.give_up.new.outputs) (Err c.in-Err.fault)
     = search rules in
     splits_accepted c.args.limits c.args.n (g.R.Source.remaining c.args.reader.now) (g.R.Source.remaining c.split_items.new.reader) (g.O.Outputs.texts c.args.outputs.now) (g.O.Outputs.texts c.give_up.new.outputs) (Err c.in-Err.fault) splits
+
+pub returns-in-Ok-clause-lent : goal.returns-in-Ok-clause-lent
+returns-in-Ok-clause-lent g c =
+    let none = ap (λ (s : Splitting g.row.O-W.Denot). open_outputs s.output) c.new-splitting.ensures in
+    omega (arith, c.in-Ok.ensures.lent (g.O.Outputs.lent c.args.outputs.now) (omega (arith, none)), ap open_outputs c.in-Ok.ensures.ended)
+
+pub returns-in-Err-clause-lent : goal.returns-in-Err-clause-lent
+returns-in-Err-clause-lent g c =
+    let none = ap (λ (s : Splitting g.row.O-W.Denot). open_outputs s.output) c.new-splitting.ensures in
+    c.give_up.ensures.lent (g.O.Outputs.lent c.args.outputs.now) (c.in-Err.ensures.lent (g.O.Outputs.lent c.args.outputs.now) (omega (arith, none)))

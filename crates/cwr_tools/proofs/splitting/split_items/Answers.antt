@@ -19,6 +19,7 @@ items-init g c =
     record {
       splitting = none_split c.args.limits c.args.splitting.now.size c.new-reading.result.decoder (g.R.Source.remaining c.args.reader.now) (g.R.Source.remaining c.new-reading.result.reader.now) (told_by g.O.Outputs.texts g.O.Outputs.failures g.O.Outputs.given_up) g.O.W.Target.contents g.O.W.Target.failures
           c.args.splitting.now c.args.outputs.now c.requires.fresh reading;
+      lent = λ others e. e;
       failures = ap g.R.Source.failures new.kept;
       same = refl;
     }
@@ -58,7 +59,8 @@ items-preserved g c =
     c.requires.some c.items.invariant.splitting reading in
     record {
       splitting = item_taken c.args.limits c.args.splitting.now.size c.items.reading.decoder c.next_item.new.self.decoder (g.R.Source.remaining c.args.reader.now) _ _ (told_by g.O.Outputs.texts g.O.Outputs.failures g.O.Outputs.given_up) g.O.W.Target.contents g.O.W.Target.failures c.items.handed_out c.args.outputs.now c.items.splitting c.take_item.new.splitting c.items.outputs
-          c.take_item.new.outputs c.in-Ok-Some.item c.requires.some c.items.invariant.splitting reading (leaves_item c.in-Ok-Some.field-0 c.in-Ok-Some.item c.next_item.new.self.decoder.state c.in-Ok-Some.field-0-is c.in-Ok-Some.ensures.reads.leaves) may.0.place may.1 (c.in_ok-take_item-in-Ok-Some.ensures may.0);
+          c.take_item.new.outputs c.in-Ok-Some.item c.requires.some c.items.invariant.splitting reading (leaves_item c.in-Ok-Some.field-0 c.in-Ok-Some.item c.next_item.new.self.decoder.state c.in-Ok-Some.field-0-is c.in-Ok-Some.ensures.reads.leaves) may.0.place may.1 (c.in_ok-take_item-in-Ok-Some.ensures.takes may.0);
+      lent = λ others e. c.in_ok-take_item-in-Ok-Some.ensures.lent others (c.items.invariant.lent others e);
       failures = c.in-Ok-Some.ensures.failures ∙ c.items.invariant.failures;
       same = c.in-Ok-Some.ensures.same_reference ∙ c.items.invariant.same;
     }
@@ -69,7 +71,7 @@ returns-in_err-take_item-in-Ok-Some-clause-splits g c =
     c.in-Ok-Some.field-0 c.in-Ok-Some.item _ _ c.in-Ok-Some.field-0-is c.items.invariant.splitting c.in-Ok-Some.ensures.reads c.in-Ok-Some.ensures.again in
     let stopped : Splits c.args.limits c.args.splitting.now.size (g.R.Source.remaining c.args.reader.now) (g.R.Source.remaining c.next_item.new.self.reader.now) (g.O.Outputs.texts c.args.outputs.now) (g.O.Outputs.texts c.take_item.new.outputs) (Err c.in_err-take_item-in-Ok-Some.field-0.0)
     = output_stopped c.args.limits c.args.splitting.now.size c.items.reading.decoder c.next_item.new.self.decoder (g.R.Source.remaining c.args.reader.now) _ (g.R.Source.remaining c.next_item.new.self.reader.now) (told_by g.O.Outputs.texts g.O.Outputs.failures g.O.Outputs.given_up) g.O.W.Target.contents g.O.W.Target.failures c.items.handed_out c.args.outputs.now c.items.splitting c.items.outputs c.take_item.new.outputs
-    c.in-Ok-Some.item c.in_err-take_item-in-Ok-Some.field-0.0 _ c.requires.some c.items.invariant.splitting reading c.in_err-take_item-in-Ok-Some.ensures in
+    c.in-Ok-Some.item c.in_err-take_item-in-Ok-Some.field-0.0 _ c.requires.some c.items.invariant.splitting reading c.in_err-take_item-in-Ok-Some.ensures.takes in
     let faulty : SplitsItems c.args.limits c.args.splitting.now.size (g.R.Source.remaining c.args.reader.now) (g.R.Source.remaining c.next_item.new.self.reader.now) (g.O.Outputs.texts c.args.outputs.now) (g.O.Outputs.texts c.take_item.new.outputs) c.take_item.new.splitting.report c.from_residual.result
     = subst (λ (r : Result (Unit {0}) ToolFault). SplitsItems c.args.limits c.args.splitting.now.size (g.R.Source.remaining c.args.reader.now) (g.R.Source.remaining c.next_item.new.self.reader.now) (g.O.Outputs.texts c.args.outputs.now) (g.O.Outputs.texts c.take_item.new.outputs) c.take_item.new.splitting.report r)
     (sym (same_fault c.from_residual.result c.in_err-take_item-in-Ok-Some.field-0.0 c.from_residual.ensures.1)) stopped in
@@ -101,3 +103,6 @@ returns-in-Ok-None-clause-ended g c =
     = none_read c.args.limits c.items.reading.decoder c.next_item.new.self.decoder (g.R.Source.remaining c.args.reader.now) _ _ c.items.invariant.splitting.given c.in-Ok-None.field-0 _ c.in-Ok-None.field-0-is
     c.items.invariant.splitting.reading c.in-Ok-None.ensures.reads c.in-Ok-None.ensures.again (λ e. ap g.R.Source.remaining e) in
     no_output_left c.args.limits c.args.splitting.now.size c.items.reading.decoder (g.R.Source.remaining c.args.reader.now) _ (g.R.Source.remaining c.next_item.new.self.reader.now) (told_by g.O.Outputs.texts g.O.Outputs.failures g.O.Outputs.given_up) g.O.W.Target.contents g.O.W.Target.failures c.items.handed_out c.args.outputs.now c.items.splitting c.items.outputs c.requires.some c.items.invariant.splitting all
+
+pub returns-in_err-take_item-in-Ok-Some-clause-lent : goal.returns-in_err-take_item-in-Ok-Some-clause-lent
+returns-in_err-take_item-in-Ok-Some-clause-lent g c = λ others e. c.in_err-take_item-in-Ok-Some.ensures.lent others (c.items.invariant.lent others e)
