@@ -39,7 +39,11 @@ fn check_feed(rt: &(impl Abort + AllocGlobal), lines: &[&[u8]], items: usize) ->
 }
 
 /// Feeds a decoder with a text but for its last line feed and finishes it, call by call.
-fn check_finish(rt: &(impl Abort + AllocGlobal), lines: &[&[u8]], items: usize) -> Result<(), Fail> {
+fn check_finish(
+    rt: &(impl Abort + AllocGlobal),
+    lines: &[&[u8]],
+    items: usize,
+) -> Result<(), Fail> {
     let text = text_of(rt, lines);
     let cut = text.len().saturating_sub(1);
     let mut decoder = Decoder::new(rt.alloc(), largest());

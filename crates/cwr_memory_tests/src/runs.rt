@@ -70,10 +70,12 @@ fn check_join(
         readers.as_mut_slice(),
         Counted::new(Nowhere),
     );
-    if let Err(JoinFault {
-        fault: ToolFault::Memory,
-        ..
-    }) = outcome
+    if let Err(
+        JoinFault {
+            fault: ToolFault::Memory,
+            ..
+        },
+    ) = outcome
     {
         return Err(refused());
     }

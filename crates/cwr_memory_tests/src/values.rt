@@ -5,7 +5,9 @@ use cwr_decode::{ReadFault, Reading};
 use cwr_fields::Counted;
 use cwr_layouts::Record;
 use cwr_levels::findings;
-use cwr_values::{Group, GroupFault, Item, PushFault, Transaction, Transmission, TransmissionFault};
+use cwr_values::{
+    Group, GroupFault, Item, PushFault, Transaction, Transmission, TransmissionFault,
+};
 use cwr_worked::texts::{ONE_ACKNOWLEDGEMENT, TWO_GROUPS, WORK_OF_ELEVEN};
 use std::process::Abort;
 use std::test::Fail;
@@ -62,7 +64,10 @@ fn add_group(rt: &impl Abort, transmission: &mut Transmission, group: Group) -> 
 }
 
 /// The next item, if one is left.
-fn next<'a>(rt: &impl Abort, reading: &mut Reading<'_, Counted<&'a [u8]>>) -> Result<Option<Item>, Fail> {
+fn next<'a>(
+    rt: &impl Abort,
+    reading: &mut Reading<'_, Counted<&'a [u8]>>,
+) -> Result<Option<Item>, Fail> {
     match reading.next_item() {
         Ok(item) => Ok(item),
         Err(fault) => {
@@ -85,7 +90,9 @@ fn check_values(
     let Some(Item::Opened(opening)) = next(rt, &mut reading)? else {
         return Err(Fail::new("no HDR"));
     };
-    let mut transmission = Transmission::new(rt.alloc(), opening).ok().expect(rt, "no HDR");
+    let mut transmission = Transmission::new(rt.alloc(), opening)
+        .ok()
+        .expect(rt, "no HDR");
     let mut open: Option<Group> = None;
     let mut found = 0;
     for _ in 0..100 {
