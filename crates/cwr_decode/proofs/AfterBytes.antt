@@ -17,7 +17,7 @@ use Rattle.cwr_decode.specs.declared.outcomes.Outcome.{Outcome}
 use Rattle.cwr_decode.specs.declared.outcomes.Outcome.TheVariants as outcomes
 use Rattle.cwr_decode.specs.declared.machine.State.{State}
 use Rattle.cwr_decode.specs.declared.machine.State.TheVariants as states
-use Rattle.cwr_decode.specs.Machines.{Standing, AddsFront, IsReady, Judges, with_line, with_tally, stopped}
+use Rattle.cwr_decode.specs.Machines.{Standing, IsReady, Judges, JudgesFront, with_line, with_tally, stopped}
 use Rattle.cwr_decode.specs.Represents.{Represents, RepresentsIn, IsReading, IsInput, IsRight, items_out, text_of}
 use Rattle.cwr_decode.specs.Calls.{RefusesLast, Advances, Grows}
 use Rattle.cwr_decode.proofs.AfterAcceptedLine.{HasLine, never_too_long}
@@ -192,9 +192,9 @@ advanced_line d t new piece used out s fresh takes held is ended j =
     at : (input : List ℕ) (given : List Item) → Represents d input given → HasLine t (input ++ take used piece) given
     at input given st = subst (λ (q : Standing). HasLine q (input ++ take used piece) given) (sym is) (line_ended d input given piece used t.line s fresh takes held ended st)
 
--- a line is added that ends in the piece
-pub advanced_front : (d new : Standing) (piece : List ℕ) (used : ℕ) → d.state ≡ states.Reading → d.finished ≡ false → AddsFront d piece used new → Advances d piece used None new
-advanced_front d new piece used s fresh a = advanced_line d (with_line d a.line) new piece used None s fresh a.takes a.held refl a.ended a.judges
+-- a line is judged that ends in the piece
+pub advanced_front : (d new : Standing) (piece : List ℕ) (used : ℕ) (out : Option Outcome) → d.state ≡ states.Reading → d.finished ≡ false → JudgesFront d piece used out new → Advances d piece used out new
+advanced_front d new piece used out s fresh a = advanced_line d (with_line d a.line) new piece used out s fresh a.takes a.held refl a.ended a.judges
 
 -- the piece ended before the line
 pub advanced_open : (d t : Standing) (piece : List ℕ) (used : ℕ) → d.state ≡ states.Reading → d.finished ≡ false → Takes d.line piece used t.line → IsHeld t.line → t ≡ with_line d t.line → t.line.ended ≡ Open

@@ -1,37 +1,25 @@
 -- What a decoder represents after a piece, line by line.
 use Rattle.std.proofs.Common.{◌≡◌, ℕ, zero, suc, ◌+◌, ◌-◌, ◌<◌, ◌≤◌, Bool, true, false, List, [], ◌∷◌, ◌++◌, length, take, drop, Option, Some, None, refl, sym, ap, subst, ◌∙◌, append_assoc, append-nil, arith, inr, true≢false}
-use Rattle.std.specs.Prelude.{IfSome, IsSomeAnd}
+use Rattle.std.specs.Prelude.{IfSome, IsNone, IsSomeAnd}
 use Rattle.std.proofs.lemmas.List.{length-drop, take-append-drop}
 use Rattle.cwr_layouts.specs.declared.kinds.Kind.{Kind}
 use Rattle.cwr_layouts.specs.declared.kinds.Kind.TheVariants.{Hdr, Grh, Grt, Trl}
 use Rattle.cwr_layouts.specs.Records.{RecordValue}
 use Rattle.cwr_layouts.specs.Held.{held_record}
 use Rattle.cwr_shape.specs.Ranges.{LimitValues}
-use Rattle.cwr_values.specs.declared.items.Item.{Item}
+use Rattle.cwr_values.specs.declared.items.Item.TheVariants as items
 use Rattle.cwr_decode.specs.declared.outcomes.Outcome.{Outcome}
+use Rattle.cwr_decode.specs.declared.outcomes.Outcome.TheVariants as outcomes
 use Rattle.cwr_decode.specs.declared.machine.State.{State}
 use Rattle.cwr_decode.specs.declared.machine.State.TheVariants as states
 use Rattle.cwr_judge.specs.Items.{stands_in_transaction}
 use Rattle.cwr_decode.specs.Machines.{Standing, IsReady, Settles, Enters, EntersHeld, WaitsOutside, again, end_input}
 use Rattle.cwr_decode.specs.Represents.{Represents, IsRight, IsSound, items_out}
-use Rattle.cwr_decode.specs.Calls.{IsLive, Advances, Feeds, Finishes, seen_input}
+use Rattle.cwr_decode.specs.Calls.{Advances, Fed, Feeds, Finishes, seen_input}
 use Rattle.cwr_decode.proofs.StepsWithoutBytes.{settled}
 use Rattle.cwr_decode.proofs.AnsweredAtOnce.{settles_live, if_some}
 
 -- ---- line by line
-
--- so many bytes of the piece were used, and nothing was answered
-pub record Fed (old : Standing) (piece : List ℕ) (used : ℕ) (d : Standing) : Type 0 where
-  pub within : used ≤ length piece
-  pub stands : (input : List ℕ) (given : List Item) → Represents old input given → Represents d (input ++ take used piece) given
-  pub reading : d.state ≡ states.Reading
-  pub ready : IsReady d.state d.finished d.line
-  pub fresh : d.finished ≡ false
-  pub was_fresh : old.finished ≡ false
-  pub live : IsLive old.state
-  pub inside : ¬ WaitsOutside old
-  pub grows : (input : List ℕ) (given : List Item) → Represents old input given → old.tally.counts.records ≤ d.tally.counts.records
-  pub limits : d.tally.limits ≡ old.tally.limits
 
 -- a record that is an item of its own isn't entered without an answer
 outside_enters : (kind : Kind) (r : RecordValue) (old new : Standing) → stands_in_transaction kind ≡ false → Enters kind r old None new → ⊥
@@ -66,8 +54,8 @@ fed_none old d piece ready fresh e =
     }
 
 -- nothing changed
-pub fed_same : (old d same : Standing) (piece : List ℕ) (used n : ℕ) → Fed old piece used d → (n ≡ 0 → same ≡ d) → n ≤ 0 → Fed old piece used same
-fed_same old d same piece used n f kept none = subst (Fed old piece used) (sym (kept (omega (arith, none)))) f
+pub fed_same : (old d same : Standing) (piece : List ℕ) (used : ℕ) → Fed old piece used d → same ≡ d → Fed old piece used same
+fed_same old d same piece used f e = subst (Fed old piece used) (sym e) f
 
 take-nothing : (k : ℕ) → take {A = ℕ} k [] ≡ []
 take-nothing zero = refl
@@ -97,6 +85,20 @@ fed_more old d new piece used n f a = record {
   live = f.live;
   inside = f.inside;
   grows = λ input given st. omega (arith, f.grows input given st, (a.grows (input ++ take used piece) given (f.stands input given st)).0);
+  limits = a.limits ∙ f.limits;
+}
+
+pub fed_on : (old d new : Standing) (piece : List ℕ) (used n : ℕ) → Fed old piece used d → Fed d (drop used piece) n new → Fed old piece (used + n) new
+fed_on old d new piece used n f a = record {
+  within = omega (arith, f.within, a.within, length-drop used piece);
+  stands = λ input given st. subst (λ (x : List ℕ). Represents new x given) (pieces input piece used n) (a.stands (input ++ take used piece) given (f.stands input given st));
+  reading = a.reading;
+  ready = a.ready;
+  fresh = a.fresh;
+  was_fresh = f.was_fresh;
+  live = f.live;
+  inside = f.inside;
+  grows = λ input given st. omega (arith, f.grows input given st, a.grows (input ++ take used piece) given (f.stands input given st));
   limits = a.limits ∙ f.limits;
 }
 
@@ -171,6 +173,9 @@ settled_sound old d u e =
     let w = u.under_way in
     record { ready = m.ready; under_way = record { input = w.input; given = w.given ++ []; stands = m.stands w.input w.given w.stands } }
 
+pub settled_reading : (old d : Standing) → IsSound old → Settles old.state old None d → d.state ≡ states.Reading
+settled_reading old d u e = (settled old.state old d None refl u.ready e).none (settles_live old.state old d e)
+
 pub either_sound : (b : Bool) (old d : Standing) → IsSound old → (b ≡ true → Settles old.state old None d) → (b ≡ false → d ≡ old) → IsSound d
 either_sound true old d u s k = settled_sound old d u (s refl)
 either_sound false old d u s k = subst IsSound (sym (k refl)) u
@@ -198,3 +203,27 @@ finished_feeds old new piece o is_ended f = record {
   where
     same : end_input old ≡ old
     same = λ i. record { line = old.line; tally = old.tally; held = old.held; state = old.state; finished = sym is_ended i }
+
+-- a decoder that was fed stands for some input
+pub fed_sound : (old d : Standing) (piece : List ℕ) (used : ℕ) → IsSound old → Fed old piece used d → IsSound d
+fed_sound old d piece used u f =
+    let w = u.under_way in
+    record { ready = f.ready; under_way = record { input = w.input ++ take used piece; given = w.given; stands = f.stands w.input w.given w.stands } }
+
+fed_item_sound : (old d : Standing) (piece : List ℕ) (used : ℕ) (o : Outcome) → IsSound old → Feeds old piece used o d → IsSound d
+fed_item_sound old d piece used o u f =
+    let w = u.under_way in
+    record { ready = f.ready; under_way = record { input = w.input ++ take used piece; given = w.given ++ items_out o; stands = f.stands w.input w.given w.stands } }
+
+pub found_sound : (whole : Option (List RecordValue)) (old d : Standing) (piece : List ℕ) (used : ℕ) → IsSound old → IfSome whole (λ w. Feeds old piece used (outcomes.Item (items.Transaction w)) d) → (IsNone whole → Fed old piece used d) → IsSound d
+found_sound None old d piece used u some none = fed_sound old d piece used u (none refl)
+found_sound (Some w) old d piece used u some none = fed_item_sound old d piece used (outcomes.Item (items.Transaction w)) u some
+
+-- a transaction after bytes that were used, while it reads
+pub reading_feeds : (old d : Standing) (piece : List ℕ) (used : ℕ) (o : Outcome) → IsReady old.state old.finished old.line → old.state ≡ states.Reading → old.finished ≡ false → Advances old piece used (Some o) d → Feeds old piece used o d
+reading_feeds old d piece used o ready s fresh a = fed_whole old old d piece used o ready fresh (subst (λ (q : State). Settles q old None old) (sym s) (refl, refl)) a
+
+pub found_feeds : (whole : Option (List RecordValue)) (old d : Standing) (piece : List ℕ) (used : ℕ) → IsReady old.state old.finished old.line → old.state ≡ states.Reading → old.finished ≡ false
+    → IfSome whole (λ w. Advances old piece used (Some (outcomes.Item (items.Transaction w))) d) → IfSome whole (λ w. Feeds old piece used (outcomes.Item (items.Transaction w)) d)
+found_feeds None old d piece used ready s fresh a = tt
+found_feeds (Some w) old d piece used ready s fresh a = reading_feeds old d piece used (outcomes.Item (items.Transaction w)) ready s fresh a

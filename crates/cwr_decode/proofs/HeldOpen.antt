@@ -26,8 +26,7 @@ use Rattle.cwr_judge.proofs.EndingRecord.{ends_closes}
 use Rattle.cwr_judge.proofs.ContinuingRecord.{continuing_stays}
 use Rattle.cwr_decode.specs.Machines.{Standing, ClosesLine, HandsOut, HoldsOpen, FitsHeld, FitsWaiting, held_list}
 use Rattle.cwr_decode.specs.Represents.{RepresentsSome, RepresentsIn}
-use Rattle.cwr_decode.specs.Calls.{TakesEnd}
-use Rattle.cwr_decode.proofs.AfterPiece.{Fed}
+use Rattle.cwr_decode.specs.Calls.{Fed, TakesEnd}
 use Rattle.cwr_decode.proofs.AfterRecord.{few_records, inside_last, symbols-snoc}
 use Rattle.cwr_decode.proofs.AfterAcceptedLine.{all_snoc, list_held}
 

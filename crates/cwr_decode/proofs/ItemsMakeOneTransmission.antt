@@ -10,7 +10,7 @@ use Rattle.cwr_layouts.specs.Records.{RecordValue}
 use Rattle.cwr_shape.specs.declared.symbols.Symbol.{Symbol}
 use Rattle.cwr_shape.specs.declared.symbols.Symbol.TheVariants.{Plain}
 use Rattle.cwr_shape.specs.Numbers.{symbol_kind}
-use Rattle.cwr_shape.specs.Shapes.{IsShape, some, many, a, block, publisher, writer, tail_record, ◌then◌}
+use Rattle.cwr_shape.specs.Shapes.{IsShape, some, many, carrying, a, block, publisher, writer, tail_record, copy, ◌then◌}
 use Rattle.cwr_shape.specs.Tallies.{header_kind}
 use Rattle.cwr_shape.proofs.HeadFirst.{rest_after_head}
 use Rattle.cwr_values.specs.declared.groups.GroupFault.{GroupFault}
@@ -26,10 +26,10 @@ use Rattle.cwr_judge.proofs.NumberCells.{symbol_kind-of}
 -- ---- a whole transaction begins with its header
 
 headed : (ty : TransactionType) (xs : List Symbol) → IsShape ty xs → (rest : List Symbol) × (xs ≡ Plain (header_kind ty) ∷ rest)
-headed Agreement xs m = let b = rest_after_head (Plain kinds.Agr) (some block) xs m in (b.0, b.1)
-headed NewWork xs m = let b = rest_after_head (Plain kinds.Nwr) (many publisher then some writer then many tail_record) xs m in (b.0, b.1)
-headed RevisedWork xs m = let b = rest_after_head (Plain kinds.Rev) (many publisher then some writer then many tail_record) xs m in (b.0, b.1)
-headed Acknowledgement xs m = let b = rest_after_head (Plain kinds.Ack) (many (a kinds.Msg)) xs m in (b.0, b.1)
+headed Agreement xs m = let b = rest_after_head (Plain kinds.Agr) (carrying (some block)) xs m in (b.0, b.1)
+headed NewWork xs m = let b = rest_after_head (Plain kinds.Nwr) (carrying (many publisher then some writer then many tail_record)) xs m in (b.0, b.1)
+headed RevisedWork xs m = let b = rest_after_head (Plain kinds.Rev) (carrying (many publisher then some writer then many tail_record)) xs m in (b.0, b.1)
+headed Acknowledgement xs m = let b = rest_after_head (Plain kinds.Ack) (many (a kinds.Msg) then copy) xs m in (b.0, b.1)
 
 pub has_header : (ty : TransactionType) (t : List RecordValue) → IsTransaction ty t → HasHeaderOf ty t
 has_header ty [] h = let e = (headed ty [] h.1).1 in absurd (cc e)

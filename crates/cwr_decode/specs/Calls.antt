@@ -76,6 +76,19 @@ pub record Advances (old : Standing) (piece : List ℕ) (used : ℕ) (out : Opti
   pub finished : new.finished ≡ old.finished
   pub limits : new.tally.limits ≡ old.tally.limits
 
+-- so many bytes of the piece were used, and nothing was answered
+pub record Fed (old : Standing) (piece : List ℕ) (used : ℕ) (d : Standing) : Type 0 where
+  pub within : used ≤ length piece
+  pub stands : (input : List ℕ) (given : List Item) → Represents old input given → Represents d (input ++ take used piece) given
+  pub reading : d.state ≡ Reading
+  pub ready : IsReady d.state d.finished d.line
+  pub fresh : d.finished ≡ false
+  pub was_fresh : old.finished ≡ false
+  pub live : IsLive old.state
+  pub inside : ¬ WaitsOutside old
+  pub grows : (input : List ℕ) (given : List Item) → Represents old input given → old.tally.counts.records ≤ d.tally.counts.records
+  pub limits : d.tally.limits ≡ old.tally.limits
+
 -- a piece is fed
 pub record Feeds (old : Standing) (piece : List ℕ) (used : ℕ) (outcome : Outcome) (new : Standing) : Type 0 where
   pub within : used ≤ length piece

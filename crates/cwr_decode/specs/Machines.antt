@@ -17,6 +17,8 @@ use Rattle.cwr_judge.specs.declared.judging.LineFault.{LineFault}
 use Rattle.cwr_decode.specs.declared.outcomes.Outcome.{Outcome}
 use Rattle.cwr_decode.specs.declared.outcomes.Outcome.TheVariants as outcomes
 use Rattle.cwr_decode.specs.declared.machine.State.{State}
+use Rattle.cwr_decode.specs.declared.machine.Found.{Found}
+use Rattle.cwr_decode.specs.declared.machine.Found.TheVariants.{Added, Whole, Nothing}
 use Rattle.cwr_decode.specs.declared.machine.State.TheVariants.{Reading, Pending, Ended, Refused, Truncated, Memory}
 use Rattle.cwr_judge.specs.declared.refusals.Refusal.{Refusal}
 use Rattle.cwr_judge.specs.Judged.{IsNext, IsOfNone, IsFirstFault}
@@ -136,7 +138,7 @@ Adds Hdr r old result new = (result ≡ Ok (Some (items.Opened r))) × (new ≡ 
 Adds Grh r old result new = (result ≡ Ok (Some (items.GroupOpened r))) × (new ≡ old)
 Adds Grt r old result new = (result ≡ Ok (Some (items.GroupClosed r))) × (new ≡ old)
 Adds Trl r old result new = (result ≡ Ok (Some items.Ended)) × (new ≡ old)
-Adds kind r old result new = MatchResult result (λ item. (item ≡ None) × (new ≡ Some (held_list old ++ r ∷ []))) (λ fault. Unit {0})
+Adds this_kind r old result new = MatchResult result (λ item. (item ≡ None) × (new ≡ Some (held_list old ++ r ∷ []))) (λ fault. Unit {0})
 
 -- after an accepted record a new line begins, unless that was the last one or found no memory
 abbrev pub FinishesRecord : Result (Option Item) AllocError → Standing → Option Outcome → Standing → Type 0
@@ -151,7 +153,7 @@ Enters Hdr r old result new = (result ≡ Some (outcomes.Item (items.Opened r)))
 Enters Grh r old result new = (result ≡ Some (outcomes.Item (items.GroupOpened r))) × (new ≡ reading old old.held)
 Enters Grt r old result new = (result ≡ Some (outcomes.Item (items.GroupClosed r))) × (new ≡ reading old old.held)
 Enters Trl r old result new = (result ≡ Some (outcomes.Item items.Ended)) × (new ≡ stopped old Ended)
-Enters kind r old result new = MatchOption result (new ≡ reading old (Some (held_list old.held ++ r ∷ []))) (λ o. (o ≡ outcomes.Memory) × (new ≡ stopped old Memory))
+Enters this_kind r old result new = MatchOption result (new ≡ reading old (Some (held_list old.held ++ r ∷ []))) (λ o. (o ≡ outcomes.Memory) × (new ≡ stopped old Memory))
 
 -- the same with that tally
 abbrev pub with_tally : Standing → TallyValue → Standing
@@ -207,18 +209,33 @@ pub record Refuses (old : Standing) (result : Option Outcome) (new : Standing) :
 abbrev pub Judges : Standing → Option Outcome → Standing → Type 0
 Judges old result new = Accepts old result new ⊎ Refuses old result new
 
--- the line is accepted and nothing is answered: whatever is done next, a new line begins with these records held
-abbrev pub AddsCut : HeldLine → TallyValue → Option (List RecordValue) → TallyValue → Option (List RecordValue) → Type 0
-AddsCut line tally held counted more = (state : State) (finished : Bool) → Judges (record { line = line; tally = tally; held = held; state = state; finished = finished }) None
-    (record { line = empty_line; tally = counted; held = more; state = Reading; finished = finished })
+-- what the line that ended was found to be by quick tests
+abbrev pub FindsLine : Found → Standing → Standing → Type 0
+FindsLine Added old new = Judges old None new
+FindsLine (Whole whole) old new = Judges old (Some (outcomes.Item (items.Transaction whole))) new
+FindsLine Nothing old new = new ≡ old
 
--- so many bytes of the piece are the rest of a line that is accepted, and nothing is answered
-pub record AddsFront (old : Standing) (piece : List ℕ) (used : ℕ) (new : Standing) : Type 0 where
+-- what a cut line was found to be, whatever is done next
+abbrev pub FindsCut : Found → HeldLine → TallyValue → Option (List RecordValue) → TallyValue → Option (List RecordValue) → Type 0
+FindsCut Added line tally held counted more = (state : State) (finished : Bool) → FindsLine Added (record { line = line; tally = tally; held = held; state = state; finished = finished })
+    (record { line = empty_line; tally = counted; held = more; state = Reading; finished = finished })
+FindsCut (Whole whole) line tally held counted more = (state : State) (finished : Bool) → FindsLine (Whole whole) (record { line = line; tally = tally; held = held; state = state; finished = finished })
+    (record { line = line; tally = counted; held = more; state = Pending; finished = finished })
+FindsCut Nothing line tally held counted more = (counted ≡ tally) × (more ≡ held)
+
+-- so many bytes of the piece are the rest of a line that is judged
+pub record JudgesFront (old : Standing) (piece : List ℕ) (used : ℕ) (out : Option Outcome) (new : Standing) : Type 0 where
   pub line : HeldLine
   pub takes : Takes old.line piece used line
   pub held : IsHeld line
   pub ended : line.ended ≢ line_ends.Open
-  pub judges : Judges (with_line old line) None new
+  pub judges : Judges (with_line old line) out new
+
+-- what the line at the front of the piece was found to be
+abbrev pub FindsFront : Found → Standing → List ℕ → ℕ → Standing → Type 0
+FindsFront Added old piece used new = JudgesFront old piece used None new
+FindsFront (Whole whole) old piece used new = JudgesFront old piece used (Some (outcomes.Item (items.Transaction whole))) new
+FindsFront Nothing old piece used new = new ≡ old
 
 -- the record that waits is entered
 abbrev pub EntersHeld : Option RecordValue → Standing → Option Outcome → Standing → Type 0

@@ -8,6 +8,9 @@ use Rattle.cwr_decode.specs.declared.outcomes.Outcome.{Outcome}
 use Rattle.cwr_decode.specs.declared.outcomes.Outcome.TheVariants as outcomes
 use Rattle.cwr_decode.specs.declared.machine.State.{State}
 use Rattle.cwr_decode.specs.declared.machine.State.TheVariants as states
+use Rattle.cwr_values.specs.declared.items.Item.TheVariants as items
+use Rattle.cwr_decode.specs.declared.readings.Quick.{Quick}
+use Rattle.cwr_decode.specs.declared.readings.Quick.TheVariants as quicks
 use Rattle.cwr_decode.specs.declared.readings.ReadFault.{ReadFault}
 use Rattle.cwr_decode.specs.declared.readings.ReadFault.TheVariants as faults
 use Rattle.cwr_decode.specs.Headline.{IsEndOf, answer_end}
@@ -100,3 +103,15 @@ pub record Reads (old : Standing) (left : Option (List ℕ)) (answer : Result (O
   pub memory : answer ≡ Err faults.Memory → IsLive old.state → RunsOutOfMemory old (length bytes) new
   pub input_ended : IsSpent old left → IfSome left (λ _. IsSpent new after)
   pub limits : new.tally.limits ≡ old.tally.limits
+
+-- what is read by quick tests
+abbrev pub ReadsQuickly : Quick → Standing → Option (List ℕ) → Standing → Option (List ℕ) → Type 0
+ReadsQuickly (quicks.Whole whole) old left new after = Reads old left (Ok (Some (items.Transaction whole))) new after
+ReadsQuickly quicks.Failed old left new after = Reads old left (Err faults.Reader) new after
+ReadsQuickly quicks.Nothing old left new after = FeedsOn 0 old left new after
+
+-- a reader's failures count one more where it failed, and else they stay
+abbrev pub CountsQuickly : Quick → ℕ → ℕ → Type 0
+CountsQuickly (quicks.Whole whole) old new = new ≡ old
+CountsQuickly quicks.Failed old new = new ≡ one_more_failure old
+CountsQuickly quicks.Nothing old new = new ≡ old

@@ -1,16 +1,17 @@
 //! Reading a transmission in pieces of any size.
 
-ghost use Rattle.std.specs.Prelude.{◌≡◌, ◌≢◌, ◌≤◌, ◌++◌, [], List, ℕ, length, take, IfSome, IsTrue, IsFalse, Option, None, true, false};
-ghost use Rattle.cwr_decode.specs.Calls.{RefusesLast, RunsOutOfMemory, seen_input};
+ghost use Rattle.std.specs.Prelude.{◌≡◌, ◌≢◌, ◌≤◌, ◌++◌, [], List, ℕ, length, take, IfSome, IsNone, IsTrue, IsFalse, Option, None, true, false};
+ghost use Rattle.cwr_decode.specs.Calls.{Fed, Feeds, RefusesLast, RunsOutOfMemory, seen_input};
 ghost use Rattle.cwr_decode.specs.Decoding.{StandsAfter, accepted_records, final_answer, has_ended, limits_of};
 ghost use Rattle.cwr_decode.specs.Machines.{Empties, WaitsOutside, held_list, end_input};
 ghost use Rattle.cwr_decode.specs.Readings.{FeedsOn};
 ghost use Rattle.cwr_decode.specs.Represents.{IsRight, RepresentsSome, Represents, items_out};
 ghost use Rattle.cwr_values.specs.declared.items.Item.{Item};
 
-use crate::machine::Machine;
+use crate::machine::{Machine, State};
 use crate::outcomes::{Outcome, Step};
 use cwr_shape::Limits;
+use cwr_values::{Item, Transaction};
 use std::alloc::Global;
 use std::marker::Model;
 
@@ -69,6 +70,18 @@ impl Decoder {
         ensures kept { IsFalse result → self.new ≡ self.old }
     {
         !self.machine.has_ended() && self.machine.is_settled()
+    }
+
+    /// Takes lines of the piece by quick tests alone, up to the next transaction: how many bytes these are, and that. Where
+    /// none is answered, what is left of the piece is left to `feed`.
+    pub(crate) fn feed_quickly(&mut self, piece: &[u8]) -> (usize, Option<Transaction>)
+        requires reading { self.old.state ≡ State.Reading }
+        requires fresh { self.old.finished ≡ false }
+        ensures some { IfSome result.1 (λ whole. Feeds self.old piece.now result.0 (Outcome.Item (Item.Transaction whole)) self.new) }
+        ensures none { IsNone result.1 → Fed self.old piece.now result.0 self.new }
+        ensures under_way { RepresentsSome self.old }
+    {
+        self.machine.feed_quickly(piece)
     }
 
     /// Takes the next piece of the input, up to the next item. `feed` after `finish` uses nothing and answers as that.

@@ -7,12 +7,13 @@ ghost use Rattle.cwr_shape.specs.Tallies.{IsAdmitted, IsTallyOf};
 ghost use Rattle.cwr_shape.specs.declared.symbols.Symbol.{Symbol};
 ghost use Rattle.cwr_judge.specs.Items.{stands_in_transaction};
 ghost use Rattle.cwr_judge.specs.Open.{continues_open};
-ghost use Rattle.cwr_decode.specs.Machines.{Adds, AddsCut, AddsFront, ClosesLine, EntersHeld, FinishesRecord, HandsOut, HasRecord, HoldsOpen, FitsHeld, FitsWaiting, IsReady, Judges, Settles, ReportsFault, at_start, held_list, reading, stopped};
+ghost use Rattle.cwr_decode.specs.Machines.{Adds, ClosesLine, EntersHeld, FindsCut, FindsFront, FindsLine, FinishesRecord, HandsOut, HasRecord, HoldsOpen, FitsHeld, FitsWaiting, IsReady, Judges, Settles, ReportsFault, at_start, held_list, reading, stopped};
 ghost use Rattle.cwr_decode.specs.Represents.{IsSound};
-ghost use Rattle.cwr_decode.specs.Calls.{Advances, TakesEnd, Feeds, Finishes};
+ghost use Rattle.cwr_decode.specs.Calls.{Advances, Fed, TakesEnd, Feeds, Finishes};
 ghost use Rattle.cwr_values.specs.Begun.{BeginsWithOneMore};
 
 use crate::outcomes::{Outcome, Step};
+use cwr_fields::SpelledPair;
 use cwr_judge::{LineFault, Refusal, judge, judge_quickly};
 use cwr_layouts::{CutLine, Kind, LineBuf, LineEnd, RecordRef, Taken};
 use cwr_shape::{Limits, Place, Symbol, Tally, level};
@@ -37,6 +38,17 @@ pub enum State {
     Memory,
 }
 
+/// What quick tests find of a line.
+#[derive(Drop)]
+pub enum Found {
+    /// Its record was added to the open transaction.
+    Added,
+    /// It is accepted, and ends the open transaction, which is handed out: its record waits.
+    Whole(Transaction),
+    /// Nothing is said of the line, and nothing has changed.
+    Nothing,
+}
+
 /// What a decoder holds: at most one line and one transaction.
 #[derive(Drop)]
 pub struct Machine {
@@ -46,6 +58,8 @@ pub struct Machine {
     tally: Tally,
     /// The records of the open transaction.
     held: Option<Transaction>,
+    /// The sequences of the line before, with their digits.
+    expected: SpelledPair,
     state: State,
     /// The input has ended.
     finished: bool,
@@ -79,20 +93,6 @@ fn step_continues_open(tally: &mut Tally, symbol: Symbol) -> bool
     let before = *tally;
     tally.step(symbol);
     stays_open(&before, tally)
-}
-
-/// Whether records of the kind stand inside transactions, after the header.
-fn stands_after_header(kind: Option<Kind>) -> bool
-    ensures { IsTrue result → IsSomeAnd kind (λ known. stands_in_transaction known ≡ true) }
-{
-    let Some(known) = kind else {
-        return false;
-    };
-    match known {
-        Kind::Hdr | Kind::Grh | Kind::Grt | Kind::Trl => false,
-        Kind::Agr | Kind::Nwr | Kind::Rev | Kind::Ack => false,
-        _ => true,
-    }
 }
 
 /// Whether records of the kind stand inside transactions.
@@ -158,31 +158,42 @@ fn add_accepted(
     Ok(Some(item))
 }
 
-/// Adds the record of a line to the open transaction and counts it, where it continues that and memory is found. Else
-/// nothing changes. Most lines are such, and no answer is built for them.
+/// Judges a line by quick tests. A record that continues the open transaction is added to it and counted; one that ends it
+/// is counted, and the transaction is handed out. Most lines are such, and no answer of an outcome's size is built for them.
 #[inline(always)]
-fn add_cut(tally: &mut Tally, held: &mut Option<Transaction>, cut: &CutLine<'_>) -> bool
-    ensures added { IsTrue result → AddsCut cut.now tally.old held.old tally.new held.new }
-    ensures kept { IsFalse result → (tally.new ≡ tally.old) × (held.new ≡ held.old) }
+fn find_cut(
+    tally: &mut Tally,
+    held: &mut Option<Transaction>,
+    expected: &mut SpelledPair,
+    cut: &CutLine<'_>,
+) -> Found
+    ensures { FindsCut result cut.now tally.old held.old tally.new held.new }
 {
-    if !stands_after_header(cut.kind()) {
-        return false;
+    let Some(kind) = cut.kind() else {
+        return Found::Nothing;
+    };
+    if !stands_inside(kind) {
+        return Found::Nothing;
     }
-    let Some((_, accepted, counted)) = judge_quickly(tally, cut) else {
-        return false;
+    let Some((_, accepted, counted)) = judge_quickly(tally, cut, expected) else {
+        return Found::Nothing;
     };
     if !stays_open(tally, &counted) {
-        return false;
+        let Some(whole) = held.take() else {
+            return Found::Nothing;
+        };
+        *tally = counted;
+        return Found::Whole(whole);
     }
-    let Some(whole) = held else {
-        return false;
+    let Some(open) = held else {
+        return Found::Nothing;
     };
-    match whole.push(accepted) {
+    match open.push(accepted) {
         Ok(()) => {
             *tally = counted;
-            true
+            Found::Added
         }
-        Err(_) => false,
+        Err(_) => Found::Nothing,
     }
 }
 
@@ -199,6 +210,7 @@ impl Machine {
             line: LineBuf::new(),
             tally: Tally::new(limits),
             held: None,
+            expected: SpelledPair::new(),
             state: State::Reading,
             finished: false,
         }
@@ -296,64 +308,66 @@ impl Machine {
         self.finish_record(outcome)
     }
 
-    /// Adds the record of the line that ended to the open transaction, where `add_cut` does, and begins a new line. Else
-    /// nothing changes.
-    fn add_line(&mut self) -> bool
+    /// Judges the line that ended by quick tests. The record of one that ends the open transaction waits.
+    #[inline(never)]
+    fn find_line(&mut self) -> Found
         requires { self.old.line.ended ≢ LineEnd.Open }
-        ensures added { IsTrue result → Judges self.old None self.new }
-        ensures kept { IsFalse result → self.new ≡ self.old }
+        ensures { FindsLine result self.old self.new }
     {
         let cut = self.line.cut();
-        if !add_cut(&mut self.tally, &mut self.held, &cut) {
-            return false;
+        let found = find_cut(&mut self.tally, &mut self.held, &mut self.expected, &cut);
+        match found {
+            Found::Added => self.begin_line(),
+            Found::Whole(_) => self.state = State::Pending,
+            Found::Nothing => {}
         }
-        self.begin_line();
-        true
+        found
     }
 
-    /// Adds the record of the line that the piece begins with, where a new line begins there that `add_cut` adds: it is
-    /// judged where it stands. Answers how many bytes it takes, and 0 where nothing changes.
+    /// Judges the line that the piece begins with by quick tests, filled up in the line buffer, and answers how many bytes it
+    /// takes. Of one that the piece cuts nothing is found.
     #[inline(always)]
-    fn add_front(&mut self, piece: &[u8]) -> usize
-        requires { self.old.line.ended ≡ LineEnd.Open }
-        ensures added { 0 < result → AddsFront self.old piece.now result self.new }
-        ensures kept { result ≡ 0 → self.new ≡ self.old }
+    fn find_filled(&mut self, piece: &[u8]) -> (usize, Found)
+        requires unended { self.old.line.ended ≡ LineEnd.Open }
+        requires empty { length self.old.line.bytes ≡ 0 }
+        ensures { FindsFront result.1 self.old piece.now result.0 self.new }
+    {
+        let Some(used) = self.line.take_ended(piece) else {
+            return (0, Found::Nothing);
+        };
+        match self.find_line() {
+            Found::Added => (used, Found::Added),
+            Found::Whole(whole) => (used, Found::Whole(whole)),
+            Found::Nothing => {
+                self.line.clear();
+                (0, Found::Nothing)
+            }
+        }
+    }
+
+    /// Judges the line that the piece begins with by quick tests, where it stands, and answers how many bytes it takes. It is
+    /// copied only where it waits. Of a line that is under way, and of one that the piece cuts, nothing is found.
+    #[inline(always)]
+    fn find_front(&mut self, piece: &[u8]) -> (usize, Found)
+        requires unended { self.old.line.ended ≡ LineEnd.Open }
+        requires reading { self.old.state ≡ State.Reading }
+        ensures { FindsFront result.1 self.old piece.now result.0 self.new }
     {
         if self.line.len() > 0 {
-            return 0;
+            return (0, Found::Nothing);
         }
         let Some((cut, used)) = CutLine::at_front(piece) else {
-            return 0;
+            return self.find_filled(piece);
         };
-        if !add_cut(&mut self.tally, &mut self.held, &cut) {
-            return 0;
+        match find_cut(&mut self.tally, &mut self.held, &mut self.expected, &cut) {
+            Found::Added => (used, Found::Added),
+            Found::Whole(whole) => {
+                self.line.keep(&cut);
+                self.state = State::Pending;
+                (used, Found::Whole(whole))
+            }
+            Found::Nothing => (0, Found::Nothing),
         }
-        self.begin_line();
-        used
-    }
-
-    /// Takes the open transaction out, where the line that ended is accepted and ends it: its record waits then. Else
-    /// nothing changes. Most items are such, and no answer is moved about for them.
-    fn take_whole(&mut self) -> Option<Transaction>
-        requires { self.old.line.ended ≢ LineEnd.Open }
-        ensures some { IfSome result (λ whole. Judges self.old (Some (Outcome.Item (Item.Transaction whole))) self.new) }
-        ensures none { IsNone result → self.new ≡ self.old }
-    {
-        if self.held.is_none() {
-            return None;
-        }
-        let cut = self.line.cut();
-        let Ok((symbol, _)) = judge(&self.tally, &cut) else {
-            return None;
-        };
-        let mut counted = self.tally;
-        let continues = step_continues_open(&mut counted, symbol);
-        let Some(whole) = hand_out(continues, &mut self.held) else {
-            return None;
-        };
-        self.tally = counted;
-        self.state = State::Pending;
-        Some(whole)
     }
 
     /// Judges the line that ended, and accepts or refuses it. An accepted record that ends a transaction waits, since
@@ -467,6 +481,27 @@ impl Machine {
         None
     }
 
+    /// Takes lines of the piece by quick tests alone, up to the next transaction: how many bytes these are, and that. Where
+    /// none is answered, what is left of the piece is left to `feed`.
+    #[inline(never)]
+    pub fn feed_quickly(&mut self, piece: &[u8]) -> (usize, Option<Transaction>)
+        requires ready { IsReady self.old.state self.old.finished self.old.line }
+        requires reading { self.old.state ≡ State.Reading }
+        requires fresh { self.old.finished ≡ false }
+        ensures some { IfSome result.1 (λ whole. Advances self.old piece.now result.0 (Some (Outcome.Item (Item.Transaction whole))) self.new) }
+        ensures none { IsNone result.1 → Fed self.old piece.now result.0 self.new }
+    {
+        let mut used = 0;
+        loop {
+            let (front, found) = self.find_front(&piece[used..]);
+            match found {
+                Found::Added => used += front,
+                Found::Whole(whole) => return (used + front, Some(whole)),
+                Found::Nothing => return (used, None),
+            }
+        }
+    }
+
     /// Takes lines of the piece, up to the next item.
     fn feed_lines(&mut self, piece: &[u8]) -> Step
         requires sound { IsSound self.old }
@@ -476,10 +511,13 @@ impl Machine {
     {
         let mut used = 0;
         loop {
-            let front = self.add_front(&piece[used..]);
-            if front > 0 {
-                used += front;
-                continue;
+            let (front, found) = self.feed_quickly(&piece[used..]);
+            used += front;
+            if let Some(whole) = found {
+                return Step {
+                    used,
+                    outcome: Outcome::Item(Item::Transaction(whole)),
+                };
             }
             let taken = self.take(&piece[used..]);
             used += taken.used;
@@ -489,14 +527,15 @@ impl Machine {
                     outcome: Outcome::More,
                 };
             }
-            if self.add_line() {
-                continue;
-            }
-            if let Some(whole) = self.take_whole() {
-                return Step {
-                    used,
-                    outcome: Outcome::Item(Item::Transaction(whole)),
-                };
+            match self.find_line() {
+                Found::Added => continue,
+                Found::Whole(whole) => {
+                    return Step {
+                        used,
+                        outcome: Outcome::Item(Item::Transaction(whole)),
+                    };
+                }
+                Found::Nothing => {}
             }
             if let Some(outcome) = self.take_line() {
                 return Step { used, outcome };

@@ -4,7 +4,7 @@ ghost use Rattle.std.specs.Prelude.{◌≡◌, ◌<◌, ◌⊎◌, ℕ, List, []
 ghost use Rattle.cwr_decode.specs.Decoding.{HasWaiting, accepted_records, final_answer, has_ended, limits_of};
 ghost use Rattle.cwr_decode.specs.Represents.{RepresentsSome, Represents};
 ghost use Rattle.cwr_decode.specs.Machines.{WaitsOutside, again};
-ghost use Rattle.cwr_decode.specs.Readings.{answer_of, CountsReader, FeedsOn, Reads};
+ghost use Rattle.cwr_decode.specs.Readings.{answer_of, CountsQuickly, CountsReader, FeedsOn, Reads, ReadsQuickly};
 
 use crate::decoders::Decoder;
 use crate::machine::State;
@@ -12,7 +12,7 @@ use crate::outcomes::Outcome;
 use cwr_fields::Source;
 use cwr_judge::Refusal;
 use cwr_shape::Limits;
-use cwr_values::Item;
+use cwr_values::{Item, Transaction};
 use std::alloc::Global;
 use std::error::Error;
 use std::fmt::{self, Display, Formatter, Write};
@@ -74,6 +74,36 @@ fn answer(outcome: Outcome) -> Option<Result<Option<Item>, ReadFault>>
         Outcome::Truncated { records } => Some(Err(ReadFault::Truncated { records })),
         Outcome::Memory => Some(Err(ReadFault::Memory)),
         Outcome::Done => Some(Ok(None)),
+    }
+}
+
+/// What is read of what the reader shows next by quick tests.
+#[derive(Drop)]
+enum Quick {
+    /// A transaction.
+    Whole(Transaction),
+    /// The reader failed.
+    Failed,
+    /// No item: the rest is left to `pull`.
+    Nothing,
+}
+
+/// Feeds what the reader shows next by quick tests, up to the next transaction. What these leave is consumed later.
+fn pull_quickly<R: Source>(decoder: &mut Decoder, reader: &mut R) -> Quick
+    requires reading { decoder.old.state ≡ State.Reading }
+    requires fresh { decoder.old.finished ≡ false }
+    ensures reads { ReadsQuickly result decoder.old (R.remaining reader.old) decoder.new (R.remaining reader.new) }
+    ensures failures { CountsQuickly result (R.failures reader.old) (R.failures reader.new) }
+{
+    let piece = match reader.fill() {
+        Ok(piece) => piece,
+        Err(_) => return Quick::Failed,
+    };
+    let (used, found) = decoder.feed_quickly(piece);
+    reader.consume(used);
+    match found {
+        Some(whole) => Quick::Whole(whole),
+        None => Quick::Nothing,
     }
 }
 
@@ -183,6 +213,10 @@ impl<'a, R: Source> Reading<'a, R> {
         if let Some(reported) = settle(&mut self.decoder) {
             return reported;
         }
-        read_on(&mut self.decoder, self.reader)
+        match pull_quickly(&mut self.decoder, self.reader) {
+            Quick::Whole(whole) => Ok(Some(Item::Transaction(whole))),
+            Quick::Failed => Err(ReadFault::Reader),
+            Quick::Nothing => read_on(&mut self.decoder, self.reader),
+        }
     }
 }

@@ -4,14 +4,14 @@
 use crate::decoders::{LARGEST, Numbers, decoder_within, name_of};
 use cwr_decode::{Decoder, Outcome};
 use cwr_layouts::Kind::{
-    self, Ack, Agr, Alt, Com, Ipa, Msg, Nwr, Opu, Orn, Owr, Per, Pwr, Rec, Rev, Spt, Spu, Swr, Swt,
-    Ter, Ver,
+    self, Ack, Agr, Alt, Ari, Com, Ind, Ipa, Msg, Npa, Nwr, Opu, Orn, Owr, Per, Pwr, Rec, Rev, Spt,
+    Spu, Swr, Swt, Ter, Ver,
 };
 use cwr_values::{Item, Transaction};
 use cwr_worked::lines::*;
 use cwr_worked::texts::{
-    AGREEMENT_OF_TWO_BLOCKS, ONE_ACKNOWLEDGEMENT, TWO_GROUPS, WORK_OF_ELEVEN,
-    WORK_OF_ELEVEN_REORDERED, canonical,
+    AGREEMENT_OF_TWO_BLOCKS, CARRIED_RECORDS, COPIED_WORK, ONE_ACKNOWLEDGEMENT, TWO_GROUPS,
+    WORK_OF_ELEVEN, WORK_OF_ELEVEN_REORDERED, canonical,
 };
 use std::process::Abort;
 use std::test::Fail;
@@ -64,10 +64,85 @@ const AGREEMENT_OF_THREE: &[&[u8]] = &[
     b"TRL000010000000100000009",
 ];
 
+/// A work in which a carried record stands between a publisher and its territories.
+const CARRIED_AMONG_PUBLISHERS: &[&[u8]] = &[
+    HDR,
+    GRH_NWR,
+    NWR_0,
+    SPU_0_1,
+    IND_0_2,
+    SPT_0_3,
+    SWR_0_4,
+    b"GRT000010000000100000007",
+    b"TRL000010000000100000009",
+];
+
+/// An agreement with carried records after its header and between its parties.
+const CARRIED_AMONG_PARTIES: &[&[u8]] = &[
+    HDR,
+    GRH_AGR,
+    AGR_0,
+    NPA_0_1,
+    TER_0_2,
+    IPA_AS_0_3,
+    NPA_0_4,
+    IPA_AC_0_5,
+    b"GRT000010000000100000008",
+    b"TRL000010000000100000010",
+];
+
+/// A work of three records, of which one is carried.
+const CARRIED_BEFORE_WRITER: &[&[u8]] = &[
+    HDR,
+    GRH_NWR,
+    NWR_0,
+    IND_0_1,
+    SWR_0_2,
+    b"GRT000010000000100000005",
+    b"TRL000010000000100000007",
+];
+
+/// Two acknowledgements, the first with the copy of a work.
+const COPY_BEFORE_ANOTHER: &[&[u8]] = &[
+    HDR,
+    GRH_ACK,
+    ACK_0,
+    NWR_0_1,
+    SWR_0_2,
+    ACK_1,
+    b"GRT000010000000200000006",
+    b"TRL000010000000200000008",
+];
+
+/// An acknowledgement with the copy of an agreement, and a carried record in it.
+const COPIED_AGREEMENT: &[&[u8]] = &[
+    HDR,
+    GRH_ACK,
+    ACK_0,
+    AGR_0_1,
+    TER_0_2,
+    IPA_AS_0_3,
+    NPA_0_4,
+    IPA_AC_0_5,
+    b"GRT000010000000100000008",
+    b"TRL000010000000100000010",
+];
+
+/// An acknowledgement with the copy of a work.
+const BARE_COPY: &[&[u8]] = &[
+    HDR,
+    GRH_ACK,
+    ACK_0,
+    NWR_0_1,
+    SWR_0_2,
+    b"GRT000010000000100000005",
+    b"TRL000010000000100000007",
+];
+
 /// Limits, the lines of a transmission within them, the length of its canonical text, and the kinds of the records of each
 /// transaction.
 #[rattlefmt::skip]
-static ACCEPTED: [(Numbers, &[&[u8]], usize, &[&[Kind]]); 9] = [
+static ACCEPTED: [(Numbers, &[&[u8]], usize, &[&[Kind]]); 13] = [
     (LARGEST, MESSAGE, 546, &[&[Ack, Msg]]),
     (LARGEST, WORK_OF_ELEVEN, 1893, &[&[Nwr, Spu, Spt, Opu, Swr, Swt, Pwr, Owr, Alt, Per, Rec]]),
     (LARGEST, WORK_OF_ELEVEN_REORDERED, 1893, &[&[Nwr, Spu, Spt, Opu, Swr, Swt, Pwr, Owr, Rec, Per, Alt]]),
@@ -77,6 +152,19 @@ static ACCEPTED: [(Numbers, &[&[u8]], usize, &[&[Kind]]); 9] = [
     ((8, 99_999, 999_999), AGREEMENT, 657, &[&[Agr, Ter, Ipa, Ipa]]),
     ((9, 99_999, 999_999), AGREEMENT_OF_THREE, 812, &[&[Agr, Ter, Ipa, Ipa, Ipa]]),
     ((5, 1, 1), ONE_ACKNOWLEDGEMENT, 359, &[&[Ack]]),
+    ((8, 1, 4), CARRIED_RECORDS, 2084, &[&[Nwr, Ind, Swr, Ari]]),
+    (LARGEST, CARRIED_AMONG_PUBLISHERS, 1608, &[&[Nwr, Spu, Ind, Spt, Swr]]),
+    (LARGEST, CARRIED_AMONG_PARTIES, 2099, &[&[Agr, Npa, Ter, Ipa, Npa, Ipa]]),
+    ((99_999_999, 99_999, 3), CARRIED_BEFORE_WRITER, 1363, &[&[Nwr, Ind, Swr]]),
+];
+
+/// The same of acknowledgements with copies.
+#[rattlefmt::skip]
+static COPIES: [(Numbers, &[&[u8]], usize, &[&[Kind]]); 4] = [
+    (LARGEST, COPIED_WORK, 990, &[&[Ack, Msg, Nwr, Swr]]),
+    (LARGEST, COPY_BEFORE_ANOTHER, 964, &[&[Ack, Nwr, Swr], &[Ack]]),
+    (LARGEST, COPIED_AGREEMENT, 1539, &[&[Ack, Agr, Ter, Ipa, Npa, Ipa]]),
+    ((7, 1, 3), BARE_COPY, 803, &[&[Ack, Nwr, Swr]]),
 ];
 
 /// Checks that the transaction has records of just these kinds, and is complete.
@@ -118,14 +206,16 @@ fn feed_whole(
 
 #[test]
 fn transmissions_are_handed_out_by_items(rt: HostRuntime) -> Result<(), Fail> {
-    for (limits, lines, bytes, transactions) in &ACCEPTED {
-        let text = canonical(rt.alloc(), lines)?;
-        assert_eq!(rt; text.len(), *bytes);
-        let mut decoder = decoder_within(&rt, *limits);
-        let answer = feed_whole(&rt, &mut decoder, text.as_slice(), transactions);
-        assert_eq!(rt; answer, (*bytes, transactions.len()));
-        assert_eq!(rt; decoder.records() as usize, lines.len());
-        assert_eq!(rt; name_of(&decoder.feed(b"").outcome), "done");
+    for table in [ACCEPTED.as_slice(), COPIES.as_slice()] {
+        for (limits, lines, bytes, transactions) in table {
+            let text = canonical(rt.alloc(), lines)?;
+            assert_eq!(rt; text.len(), *bytes);
+            let mut decoder = decoder_within(&rt, *limits);
+            let answer = feed_whole(&rt, &mut decoder, text.as_slice(), transactions);
+            assert_eq!(rt; answer, (*bytes, transactions.len()));
+            assert_eq!(rt; decoder.records() as usize, lines.len());
+            assert_eq!(rt; name_of(&decoder.feed(b"").outcome), "done");
+        }
     }
     Ok(())
 }

@@ -1,10 +1,14 @@
-//! Tests of decoders over the transmission of one acknowledgement, call by call, however it is cut, and cut off.
+//! Tests of decoders over the transmission of one acknowledgement, call by call, however it is cut, and cut off; and over
+//! others in two pieces.
 
 use crate::decoders::{decoder, name_of};
 use cwr_decode::{Decoder, Outcome, Refusal};
 use cwr_fields::CellFault;
 use cwr_shape::{Level, Reason};
-use cwr_worked::texts::{ONE_ACKNOWLEDGEMENT, canonical, trimmed_text};
+use cwr_worked::texts::{
+    AGREEMENT_OF_TWO_BLOCKS, ONE_ACKNOWLEDGEMENT, TWO_GROUPS, WORK_OF_ELEVEN, canonical,
+    trimmed_text,
+};
 use std::process::Abort;
 use std::test::Fail;
 
@@ -111,6 +115,50 @@ fn one_acknowledgement_however_cut(rt: HostRuntime) -> Result<(), Fail> {
     let step = decoder.feed(b"");
     assert_eq!(rt; (step.used, name_of(&step.outcome)), (0, "done"));
     Ok(())
+}
+
+/// Feeds a piece until more is needed, or all items were answered, and answers how many bytes were used.
+fn feed_counted(decoder: &mut Decoder, piece: &[u8], items: &mut usize) -> usize {
+    let mut used: usize = 0;
+    for _ in 0..12 {
+        let step = decoder.feed(piece.get(used..).unwrap_or(b""));
+        used = used.saturating_add(step.used);
+        match step.outcome {
+            Outcome::Item(_) => *items = items.saturating_add(1),
+            _ => return used,
+        }
+    }
+    used
+}
+
+/// Cuts the text of lines into two pieces, at each byte: all is used, and so many items come.
+fn check_cuts(rt: &(impl Abort + AllocGlobal), lines: &[&[u8]], items: usize) -> Result<(), Fail> {
+    let text = canonical(rt.alloc(), lines)?;
+    for at in 0..text.len() + 1 {
+        let mut decoder = decoder(rt);
+        let mut count = 0;
+        let (front, rest) = text.as_slice().split_at(at);
+        let used = feed_counted(&mut decoder, front, &mut count);
+        let more = feed_counted(&mut decoder, rest, &mut count);
+        assert_eq!(rt; (used, more, count), (at, rest.len(), items), "at {at}");
+        assert_eq!(rt; name_of(&decoder.finish().outcome), "done");
+    }
+    Ok(())
+}
+
+#[test]
+fn a_work_in_two_pieces(rt: HostRuntime) -> Result<(), Fail> {
+    check_cuts(&rt, WORK_OF_ELEVEN, 5)
+}
+
+#[test]
+fn an_agreement_in_two_pieces(rt: HostRuntime) -> Result<(), Fail> {
+    check_cuts(&rt, AGREEMENT_OF_TWO_BLOCKS, 5)
+}
+
+#[test]
+fn two_groups_in_two_pieces(rt: HostRuntime) -> Result<(), Fail> {
+    check_cuts(&rt, TWO_GROUPS, 9)
 }
 
 #[test]

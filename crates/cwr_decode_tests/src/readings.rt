@@ -6,7 +6,7 @@ use cwr_decode::{ReadFault, Reading};
 use cwr_fields::{Counted, DeviceFault, Source};
 use cwr_shape::Limits;
 use cwr_values::Item;
-use cwr_worked::texts::{ONE_ACKNOWLEDGEMENT, canonical};
+use cwr_worked::texts::{ONE_ACKNOWLEDGEMENT, TWO_GROUPS, canonical};
 use std::process::Abort;
 use std::test::Fail;
 
@@ -157,6 +157,36 @@ fn a_reader_that_fails_once_is_read_on(rt: HostRuntime) -> Result<(), Fail> {
     ];
     check_seven(&rt, &mut reader, names);
     assert_eq!(rt; (reader.left.len(), reader.failures), (0, 1));
+    Ok(())
+}
+
+/// How many items a reader gives, and how many of its calls fail.
+fn count_read<R: Source>(rt: &(impl Abort + AllocGlobal), reader: &mut R) -> (usize, usize) {
+    let mut reading = Reading::new(rt.alloc(), largest(), reader);
+    let mut items: usize = 0;
+    let mut faults: usize = 0;
+    for _ in 0..12 {
+        match reading.next_item() {
+            Ok(Some(_)) => items = items.saturating_add(1),
+            Err(ReadFault::Reader) => faults = faults.saturating_add(1),
+            _ => break,
+        }
+    }
+    (items, faults)
+}
+
+#[test]
+fn each_call_of_a_reader_fails_once(rt: HostRuntime) -> Result<(), Fail> {
+    let text = canonical(rt.alloc(), TWO_GROUPS)?;
+    for until in 0..16 {
+        let mut reader = FailsOnce {
+            left: text.as_slice(),
+            until: Some(until),
+            shown: 0,
+            failures: 0,
+        };
+        assert_eq!(rt; count_read(&rt, &mut reader), (9, 1), "call {until}");
+    }
     Ok(())
 }
 

@@ -36,7 +36,7 @@ static COUNTS_AND_CELLS: [Refused; 8] = [
 ];
 
 #[rattlefmt::skip]
-static ORDERS: [Refused; 7] = [
+static ORDERS: [Refused; 12] = [
     (LARGEST, WORK_WITHOUT_WRITER, 2, (4, 1, Level::T, Misplaced)),
     (LARGEST, &[HDR, GRH_NWR, NWR_0, SWR_0_1, SPU_0_2], 2, (5, 1, Level::T, Misplaced)),
     (LARGEST, &[HDR, GRH_NWR, NWR_0, SWR_0_1, EWT_0_2, SWR_0_3], 2, (6, 1, Level::T, Misplaced)),
@@ -44,10 +44,15 @@ static ORDERS: [Refused; 7] = [
     (LARGEST, &[HDR, GRH_NWR, REV_0], 2, (3, 1, Level::G, Misplaced)),
     (LARGEST, &[HDR, GRH_AGR, AGR_0, TER_0_1, IPA_AS_0_2, IPA_AS_0_3, b"GRT000010000000100000006"], 2, (7, 1, Level::T, Misplaced)),
     (LARGEST, &[HDR, GRH_ACK, ACK_0, b""], 2, (4, 1, Level::T, UnknownKind)),
+    (LARGEST, &[HDR, GRH_NWR, NWR_0, SWR_0_1, ALT_0_2, IND_0_3, SWR_0_4], 2, (7, 1, Level::T, Misplaced)),
+    (LARGEST, &[HDR, GRH_NWR, ARI_0_0], 2, (3, 1, Level::G, Misplaced)),
+    (LARGEST, &[HDR, GRH_ACK, ACK_0, ARI_0_1], 2, (4, 1, Level::T, Misplaced)),
+    (LARGEST, &[HDR, GRH_ACK, ACK_0, NWR_0_1, SWR_0_2, MSG_0_3], 2, (6, 1, Level::T, Misplaced)),
+    (LARGEST, &[HDR, GRH_ACK, ACK_0, AGR_0_1, TER_0_2, IPA_AS_0_3, b"GRT000010000000100000006"], 2, (7, 1, Level::T, Misplaced)),
 ];
 
 #[rattlefmt::skip]
-static LIMITS: [Refused; 10] = [
+static LIMITS: [Refused; 13] = [
     ((7, 99_999, 999_999), &[HDR, GRH_AGR], 1, (2, 2, Level::E, Limit(LimitKind::Records))),
     ((8, 1, 3), &[HDR, GRH_AGR], 1, (2, 2, Level::G, Limit(LimitKind::Transaction))),
     ((8, 99_999, 999_999), &[HDR, GRH_AGR, AGR_0, TER_0_1, IPA_AS_0_2, IPA_AS_0_3], 2, (6, 4, Level::E, Limit(LimitKind::Records))),
@@ -58,6 +63,9 @@ static LIMITS: [Refused; 10] = [
     ((99_999_999, 99_999, 1), &[HDR, GRH_ACK, ACK_0, MSG_0_1], 2, (4, 1, Level::T, Limit(LimitKind::Transaction))),
     ((99_999_999, 1, 999_999), &[HDR, GRH_ACK, ACK_0, b"GRT000010000000100000003", GRH_ACK_2], 4, (5, 1, Level::E, Limit(LimitKind::Groups))),
     ((99, 1, 1), &[HDR, GRH_ACK, ACK_0, b"GRT000010000000100000003", b"GRH"], 4, (5, 1, Level::E, Limit(LimitKind::Groups))),
+    ((99_999_999, 99_999, 2), &[HDR, GRH_NWR, NWR_0, IND_0_1], 2, (4, 1, Level::T, Limit(LimitKind::Transaction))),
+    ((6, 99_999, 999_999), &[HDR, GRH_ACK, ACK_0, NWR_0_1], 2, (4, 1, Level::E, Limit(LimitKind::Records))),
+    ((99_999_999, 99_999, 2), &[HDR, GRH_ACK, ACK_0, NWR_0_1], 2, (4, 1, Level::T, Limit(LimitKind::Transaction))),
 ];
 
 /// Checks that a text that is fed whole gives so many items and is then refused so, however often it is asked.
@@ -104,6 +112,22 @@ fn texts_are_refused_at_their_first_wrong_field(rt: HostRuntime) -> Result<(), F
             check_refused(&rt, decoder, text.as_slice(), *items, expected);
         }
     }
+    Ok(())
+}
+
+#[test]
+fn a_carried_record_ends_with_its_text(rt: HostRuntime) -> Result<(), Fail> {
+    let mut text = canonical(rt.alloc(), &[HDR, GRH_NWR, NWR_0, IND_0_1])?;
+    // CR LF of the last line go, and a byte stands after the text
+    text.truncate(text.len().saturating_sub(2));
+    text.extend_from_slice(b"X\r\n")?;
+    let expected = Refusal {
+        rec: 4,
+        field: 5,
+        level: Level::R,
+        reason: Reason::Excess,
+    };
+    check_refused(&rt, decoder(&rt), text.as_slice(), 2, expected);
     Ok(())
 }
 

@@ -1,5 +1,5 @@
 -- What may come at the stages between calls, within the limits.
-use Rattle.std.proofs.Common.{◌≡◌, ◌+◌, ◌≤◌, ◌<◌, Bool, true, false, not, cond, List, [], ◌∷◌, ◌++◌, length, Option, Some, None, refl, sym, ap, subst, ◌∙◌, arith, true≢false}
+use Rattle.std.proofs.Common.{◌≡◌, ◌+◌, ◌≤◌, ◌<◌, Bool, true, false, not, cond, List, [], ◌∷◌, ◌++◌, length, Option, Some, None, refl, sym, ap, subst, ◌∙◌, inl, inr, arith, true≢false}
 use Rattle.std.specs.Prelude.{is_some}
 use Rattle.std.specs.List.{count_by, last_or, after_last, list_any, AllByRecursion}
 use Rattle.std.proofs.lemmas.List.{length-append}
@@ -15,7 +15,8 @@ use Rattle.cwr_shape.specs.declared.stages.TransactionStep.{TransactionStep}
 use Rattle.cwr_shape.specs.declared.stages.TransactionStep.TheVariants as steps
 use Rattle.cwr_shape.specs.declared.tallies.Counts.{Counts}
 use Rattle.cwr_shape.specs.Ranges.{LimitValues}
-use Rattle.cwr_shape.specs.Shapes.{IsShape}
+use Rattle.cwr_shape.specs.declared.tallies.Place.TheVariants as places
+use Rattle.cwr_shape.specs.Shapes.{IsShape, is_carried_symbol, without_carried}
 use Rattle.cwr_shape.specs.Outlines.{GroupOutline, IsGroupOutline, IsWithin, Continues}
 use Rattle.cwr_shape.specs.Stages.{is_grh, is_ipa, is_ipa_of, is_writer, other_role, latest, group_of, pwr_step, stage_by}
 use Rattle.cwr_shape.specs.Steps.{header_step, within, next_stage}
@@ -23,7 +24,9 @@ use Rattle.cwr_shape.specs.Needs.{needs_at}
 use Rattle.cwr_shape.specs.Left.{Any, StandsAt}
 use Rattle.cwr_shape.specs.Tallies.{TallyValue, IsTallyOf, MayCome, open_records}
 use Rattle.cwr_shape.specs.Tallies as tallies
-use Rattle.cwr_shape.specs.Counting.{open_at}
+use Rattle.cwr_shape.specs.Tallies.{place_by}
+use Rattle.cwr_shape.specs.Counting.{open_at, place_at}
+use Rattle.cwr_shape.proofs.PlacesNamed.{AreLast, last_without, carried_opens, place_stands}
 use Rattle.cwr_shape.proofs.StageStands.{next_exact, next_stands}
 use Rattle.cwr_shape.proofs.TransactionNumbers.{Headed, headed_shape}
 use Rattle.cwr_shape.proofs.LimitsByNeeds.{records_reach, groups_reach, within_goes, open_named, kept_within, kept_next}
@@ -50,7 +53,24 @@ reached_named (Some (Ipa role)) xs = by_side (list_any (is_ipa_of (other_role ro
 reached_named (Some s) xs = refl
 
 pub reached_stands : (xs : List Symbol) (stage : Stage) → StandsAt xs stage → reached_at stage ≡ reached xs
-reached_stands xs stage st = ap reached_at st.named ∙ reached_named (last_or None xs) xs
+reached_stands xs stage st = by (last_without xs)
+  where
+    inside : (s : Stage) → place_at s ≡ places.Transaction → reached_at s ≡ reached_to.Inside
+    inside (stages.Within ty steps.InGroup) e = absurd (cc e)
+    inside (stages.Within ty step) e = refl
+    inside s e = absurd (cc e)
+
+    inner : (s : Symbol) → place_by (Some s) ≡ places.Transaction → reached_by (Some s) ≡ reached_to.Inside
+    inner (Plain kinds.Hdr) e = absurd (cc e)
+    inner (Grh ty) e = absurd (cc e)
+    inner (Plain kinds.Grt) e = absurd (cc e)
+    inner (Plain kinds.Trl) e = absurd (cc e)
+    inner s e = refl
+
+    by : AreLast (last_or None xs) (last_or None (without_carried xs)) → reached_at stage ≡ reached xs
+    by (inl same) = ap reached_at st.named ∙ reached_named (last_or None (without_carried xs)) (without_carried xs) ∙ ap reached_by same
+    by (inr (s, last, e)) =
+        inside stage (place_stands xs stage st ∙ ap place_by last ∙ carried_opens s e) ∙ sym (inner s (carried_opens s e)) ∙ ap reached_by (sym last)
 
 -- ---- one record more, after which less is needed
 

@@ -17,6 +17,7 @@ use Rattle.cwr_shape.specs.Left.{StandsAt}
 use Rattle.cwr_shape.specs.Tallies.{TallyValue, IsTallyOf, MayCome}
 use Rattle.cwr_shape.proofs.OneMore.{last_or-snoc}
 use Rattle.cwr_shape.proofs.PrefixFree.{prefix_free}
+use Rattle.cwr_shape.proofs.StageNames.{stage_after-snoc}
 use Rattle.cwr_shape.proofs.StageStands.{stands_leaves}
 use Rattle.cwr_values.specs.Values.{TransmissionValue, symbol_of}
 use Rattle.cwr_values.specs.Rows.{trailer, canonical_line, canonical_text}
@@ -59,10 +60,7 @@ end_judged t xs at st e barred = by at e
 -- ---- the whole transmission
 
 ended_named : (xs : List Symbol) (stage : Stage) → StandsAt (xs ++ Plain kinds.Trl ∷ []) stage → StandsAt (xs ++ Plain kinds.Trl ∷ []) stages.Ended
-ended_named xs stage st = record { begins = st.begins; named = sym (named (last_or None (xs ++ Plain kinds.Trl ∷ [])) (last_or-snoc None xs (Plain kinds.Trl))) }
-  where
-    named : (o : Option Symbol) → o ≡ Some (Plain kinds.Trl) → stage_by o (xs ++ Plain kinds.Trl ∷ []) ≡ stages.Ended
-    named o e = ap (λ (p : Option Symbol). stage_by p (xs ++ Plain kinds.Trl ∷ [])) e
+ended_named xs stage st = record { begins = st.begins; named = sym (stage_after-snoc xs (Plain kinds.Trl) refl) }
 
 all_whole : (xs : List Symbol) (stage : Stage) → StandsAt (xs ++ Plain kinds.Trl ∷ []) stage → IsWhole (xs ++ Plain kinds.Trl ∷ [])
 all_whole xs stage st =

@@ -18,7 +18,7 @@ use Rattle.cwr_shape.specs.Steps.{header_step, step_on, may_end, within, next_or
 use Rattle.cwr_shape.specs.Left.{Any, StandsAt}
 use Rattle.cwr_shape.specs.Tallies.{TallyValue, IsTallyOf, header_kind, open_type}
 use Rattle.cwr_shape.proofs.StageStands.{next_exact}
-use Rattle.cwr_shape.proofs.TallySteps.{says_type}
+use Rattle.cwr_shape.proofs.TallySteps.{stands_type}
 use Rattle.cwr_values.specs.Values.{symbol_of, type_of}
 use Rattle.cwr_values.specs.Begun.{HasHeaderOf, IsWholeTransaction}
 use Rattle.cwr_encode.specs.declared.encoders.EncodeFault.{EncodeFault}
@@ -61,37 +61,6 @@ head_at (stages.Within u step) ty h = absurd (head_inside u ty (unless_next u (m
 
 -- ---- the header of a transaction
 
-own_header : (u ty : TransactionType) → is_some (next_or_foot u (Plain (header_kind ty))) ≡ true → u ≡ ty
-own_header Agreement Agreement h = refl
-own_header NewWork NewWork h = refl
-own_header RevisedWork RevisedWork h = refl
-own_header Acknowledgement Acknowledgement h = refl
-own_header Agreement NewWork h = absurd (true≢false (sym h))
-own_header Agreement RevisedWork h = absurd (true≢false (sym h))
-own_header Agreement Acknowledgement h = absurd (true≢false (sym h))
-own_header NewWork Agreement h = absurd (true≢false (sym h))
-own_header NewWork RevisedWork h = absurd (true≢false (sym h))
-own_header NewWork Acknowledgement h = absurd (true≢false (sym h))
-own_header RevisedWork Agreement h = absurd (true≢false (sym h))
-own_header RevisedWork NewWork h = absurd (true≢false (sym h))
-own_header RevisedWork Acknowledgement h = absurd (true≢false (sym h))
-own_header Acknowledgement Agreement h = absurd (true≢false (sym h))
-own_header Acknowledgement NewWork h = absurd (true≢false (sym h))
-own_header Acknowledgement RevisedWork h = absurd (true≢false (sym h))
-
-header_or_foot : (u ty : TransactionType) → next_or_foot u (Plain (header_kind ty)) ≡ within u (header_step u (Plain (header_kind ty)))
-header_or_foot u Agreement = refl
-header_or_foot u NewWork = refl
-header_or_foot u RevisedWork = refl
-header_or_foot u Acknowledgement = refl
-
-no_header_inside : (step : TransactionStep) (ty : TransactionType) → step_on step (Plain (header_kind ty)) ≡ None
-no_header_inside steps.InGroup ty = refl
-no_header_inside step Agreement = refl
-no_header_inside step NewWork = refl
-no_header_inside step RevisedWork = refl
-no_header_inside step Acknowledgement = refl
-
 outside : (ty : TransactionType) → next_stage stages.Start (Plain (header_kind ty)) ≡ None
 outside Agreement = refl
 outside NewWork = refl
@@ -104,26 +73,17 @@ after_group NewWork = refl
 after_group RevisedWork = refl
 after_group Acknowledgement = refl
 
--- a group of the type is open
-pub record OpenAt (stage : Stage) (ty : TransactionType) : Type 0 where
-  pub step : TransactionStep
-  pub at : stage ≡ stages.Within ty step
-  pub inside : IsInGroup (reached_at stage)
-
 in_group_at : (u : TransactionType) (step : TransactionStep) → IsInGroup (reached_at (stages.Within u step))
 in_group_at u steps.InGroup = tt
 in_group_at u step = tt
 
-opened_at : (u : TransactionType) (step : TransactionStep) (ty : TransactionType) → u ≡ ty → OpenAt (stages.Within u step) ty
-opened_at u step ty e = record { step = step; at = ap (λ (v : TransactionType). stages.Within v step) e; inside = in_group_at u step }
-
-header_at : (stage : Stage) (ty : TransactionType) → is_some (next_stage stage (Plain (header_kind ty))) ≡ true → OpenAt stage ty
+-- where a header may come a group is open
+header_at : (stage : Stage) (ty : TransactionType) → is_some (next_stage stage (Plain (header_kind ty))) ≡ true → IsInGroup (reached_at stage)
 header_at stages.Start ty h = absurd (true≢false (sym h ∙ ap is_some (outside ty)))
 header_at stages.Opened ty h = absurd (true≢false (sym h))
 header_at stages.Closed ty h = absurd (true≢false (sym h ∙ ap is_some (after_group ty)))
 header_at stages.Ended ty h = absurd (true≢false (sym h))
-header_at (stages.Within u steps.InGroup) ty h = opened_at u steps.InGroup ty (own_header u ty (ap is_some (header_or_foot u ty) ∙ h))
-header_at (stages.Within u step) ty h = opened_at u step ty (own_header u ty (unless_next u (may_end step) (step_on step (Plain (header_kind ty))) (Plain (header_kind ty)) (no_header_inside step ty) h))
+header_at (stages.Within u step) ty h = in_group_at u step
 
 -- ---- each call
 
@@ -160,14 +120,13 @@ header_first xs ty (r ∷ rs) h g =
     subst (λ (s : Symbol). Continues Any (xs ++ s ∷ [])) (header_symbol ty r h)
     (goes_front (xs ++ symbol_of r ∷ []) (map symbol_of rs) (subst (Continues Any) (sym (append_assoc xs (symbol_of r ∷ []) (map symbol_of rs))) g))
 
-pub no_mistake_transaction : (t : TallyValue) (xs : List Symbol) (ty : TransactionType) (records : List RecordValue) (result : Result (Unit {0}) EncodeFault) → IsTallyOf t xs → HasHeaderOf ty records → IsWholeTransaction records
-    → Continues Any (xs ++ map symbol_of records) → JudgesTransaction t.limits records xs result → IsNoMistake result
-no_mistake_transaction t xs ty records result st header whole g j =
-    let s : Symbol = Plain (header_kind ty) in
-    let o : OpenAt t.stage ty = header_at t.stage ty ((next_exact xs t.stage s (next_stage t.stage s) refl st.stands).1 (header_first xs ty records header g)) in
-    let stands : StandsAt xs (stages.Within ty o.step) = subst (StandsAt xs) o.at st.stands in
-    let same : ty ≡ open_type xs = says_type (last_or None xs) xs ty o.step refl stands.named in
-    judged_no_mistake t.limits xs (map symbol_of records) result (subst IsInGroup (reached_stands xs t.stage st.stands) o.inside) (subst (λ (u : TransactionType). HasHeaderOf u records) same header) whole j
+pub no_mistake_transaction : (t : TallyValue) (xs : List Symbol) (records : List RecordValue) (result : Result (Unit {0}) EncodeFault) → IsTallyOf t xs → HasHeaderOf (open_type xs) records
+    → IsWholeTransaction records → Continues Any (xs ++ map symbol_of records) → JudgesTransaction t.limits records xs result → IsNoMistake result
+no_mistake_transaction t xs records result st header whole g j =
+    let s : Symbol = Plain (header_kind (open_type xs)) in
+    let o : IsInGroup (reached_at t.stage) =
+    header_at t.stage (open_type xs) ((next_exact xs t.stage s (next_stage t.stage s) refl st.stands).1 (header_first xs (open_type xs) records header g)) in
+    judged_no_mistake t.limits xs (map symbol_of records) result (subst IsInGroup (reached_stands xs t.stage st.stands) o) header whole j
 
 pub no_mistake_foot : (t : TallyValue) (xs : List Symbol) (r : RecordValue) (result : Result (Unit {0}) EncodeFault) → IsTallyOf t xs → r.kind ≡ kinds.Grt → Continues Any (xs ++ symbol_of r ∷ []) → JudgesFoot t.limits r xs result
     → IsNoMistake result

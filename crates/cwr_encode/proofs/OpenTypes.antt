@@ -11,9 +11,9 @@ use Rattle.cwr_shape.specs.declared.stages.Stage.TheVariants as stages
 use Rattle.cwr_shape.specs.declared.stages.TransactionStep.{TransactionStep}
 use Rattle.cwr_shape.specs.declared.stages.TransactionStep.TheVariants as steps
 use Rattle.cwr_shape.specs.Outlines.{Continues}
-use Rattle.cwr_shape.specs.Left.{Any}
+use Rattle.cwr_shape.specs.Left.{Any, StandsAt}
 use Rattle.cwr_shape.specs.Tallies.{TallyValue, IsTallyOf}
-use Rattle.cwr_shape.proofs.TallySteps.{says_type}
+use Rattle.cwr_shape.proofs.TallySteps.{stands_type}
 use Rattle.cwr_encode.specs.declared.encoders.Reached.TheVariants as reached_to
 use Rattle.cwr_encode.specs.Encoders.{reached, reached_at, IsInGroup, IsBetween, IsReady}
 use Rattle.cwr_encode.proofs.Comes.{reached_stands, foot_inside}
@@ -26,7 +26,7 @@ pub ready_head : (t : TallyValue) (stage : Stage) (ty : TransactionType) (xs : L
 ready_head t stage ty xs st e w =
     let r : reached xs ≡ reached_to.GroupHead = reached_is t stage xs st e ∙ ap reached_at w in
     record {
-      same_type = sym (says_type (last_or None xs) xs ty steps.InGroup refl (sym w ∙ e ∙ st.stands.named));
+      same_type = sym (stands_type xs ty steps.InGroup (subst (StandsAt xs) (sym e ∙ w) st.stands));
       inside = subst IsInGroup (sym r) tt;
       between = λ h. absurd (cc (sym r ∙ h));
     }
@@ -35,7 +35,7 @@ ready_head t stage ty xs st e w =
 pub ready_later : (t : TallyValue) (stage : Stage) (ty : TransactionType) (step : TransactionStep) (xs : List Symbol) (b : Bool) → IsTallyOf t xs → stage ≡ t.stage → stage ≡ stages.Within ty step
     → (b ≡ true) ↔ Continues Any (xs ++ Plain kinds.Grt ∷ []) → b ≡ true → IsReady ty xs
 ready_later t stage ty step xs b st e w test h = record {
-  same_type = sym (says_type (last_or None xs) xs ty step refl (sym w ∙ e ∙ st.stands.named));
+  same_type = sym (stands_type xs ty step (subst (StandsAt xs) (sym e ∙ w) st.stands));
   inside = subst IsInGroup (sym (foot_inside t xs st (test.0 h))) tt;
   between = λ _. test.0 h;
 }

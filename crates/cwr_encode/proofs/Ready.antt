@@ -1,5 +1,5 @@
 -- Behind a whole transaction of the open group's type the group may end.
-use Rattle.std.proofs.Common.{◌≡◌, List, [], ◌∷◌, ◌++◌, inr, None, refl, sym, subst, ◌∙◌, arith, append_assoc, append-nil}
+use Rattle.std.proofs.Common.{◌≡◌, List, [], ◌∷◌, ◌++◌, inl, inr, None, refl, sym, subst, ◌∙◌, arith, append_assoc, append-nil}
 use Rattle.std.specs.List.{last_or}
 use Rattle.cwr_fields.specs.declared.codes.TransactionType.{TransactionType}
 use Rattle.cwr_layouts.specs.declared.kinds.Kind.{Kind}
@@ -15,7 +15,7 @@ use Rattle.cwr_shape.specs.Outlines.{IsWhole, Continues}
 use Rattle.cwr_shape.specs.Left.{Any, StandsAt, left, left_of, any_group, rest_of, closing}
 use Rattle.cwr_shape.specs.Tallies.{open_type}
 use Rattle.cwr_shape.proofs.StageStands.{stands_leaves}
-use Rattle.cwr_shape.proofs.TallySteps.{says_type}
+use Rattle.cwr_shape.proofs.TallySteps.{stands_type}
 use Rattle.cwr_encode.specs.declared.encoders.Reached.TheVariants as reached_to
 use Rattle.cwr_encode.specs.Encoders.{reached, reached_at, IsInGroup, IsBetween}
 use Rattle.cwr_encode.proofs.Comes.{reached_stands, ending_at, Ending}
@@ -48,7 +48,7 @@ ends_after ty t shape =
 
 -- a transaction that may end is whole as it is
 whole_now : (ty : TransactionType) (step : TransactionStep) → Ending (stages.Within ty step) → Matches (left_of step) []
-whole_now ty steps.Acked e = ([], refl, tt)
+whole_now ty steps.Acked e = ([], [], refl, ([], refl, tt), inl ([], refl, tt))
 whole_now ty steps.Both e = ([], [], refl, (inr (([], refl, tt)), inr (([], refl, tt))), ([], refl, tt))
 whole_now ty steps.Writer e = ([], [], refl, ([], refl, tt), ([], [], refl, ([], refl, tt), ([], refl, tt)))
 whole_now ty steps.OtherWriter e = ([], [], refl, ([], refl, tt), ([], [], refl, ([], refl, tt), ([], refl, tt)))
@@ -76,12 +76,12 @@ takes xs t stage ty st same inside between shape = by stage st (subst IsInGroup 
     by stages.Closed s k = absurd k
     by stages.Ended s k = absurd k
     by (stages.Within u steps.InGroup) s k =
-        let e : u ≡ ty = says_type (last_or None xs) xs u steps.InGroup refl s.named ∙ same in
+        let e : u ≡ ty = stands_type xs u steps.InGroup s ∙ same in
         let own : IsShape u t = subst (λ (v : TransactionType). IsShape v t) (sym e) shape in
         let now = ends_now u in
         ends_whole xs t (((stands_leaves xs (stages.Within u steps.InGroup) s).leaves (t ++ foot_and_trailer)).1 (t, foot_and_trailer, refl, own, now))
     by (stages.Within u step) s k =
-        let e : u ≡ ty = says_type (last_or None xs) xs u step refl s.named ∙ same in
+        let e : u ≡ ty = stands_type xs u step s ∙ same in
         let own : IsShape u t = subst (λ (v : TransactionType). IsShape v t) (sym e) shape in
         let after = ends_after u t own in
         later u step s refl (λ m. ([], t ++ foot_and_trailer, refl, m, after))

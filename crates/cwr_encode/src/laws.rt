@@ -4,11 +4,10 @@ ghost use Rattle.std.specs.Prelude.{◌≡◌, ℕ, List, [], ◌∷◌, ◌++�
 ghost use Rattle.std.specs.List.{AllByRecursion};
 ghost use Rattle.cwr_layouts.specs.Records.{RecordValue, IsRecord};
 ghost use Rattle.cwr_shape.specs.declared.limits.Limits.{Limits};
-ghost use Rattle.cwr_fields.specs.declared.codes.TransactionType.{TransactionType};
 ghost use Rattle.cwr_shape.specs.declared.symbols.Symbol.{Symbol};
 ghost use Rattle.cwr_shape.specs.Left.{Any};
 ghost use Rattle.cwr_shape.specs.Outlines.{IsWithin, Continues};
-ghost use Rattle.cwr_shape.specs.Tallies.{IsTallyOf, TallyValue};
+ghost use Rattle.cwr_shape.specs.Tallies.{IsTallyOf, TallyValue, open_type};
 ghost use Rattle.cwr_values.specs.Begun.{HasHeaderOf, IsWholeTransaction};
 ghost use Rattle.cwr_values.specs.Values.{symbol_of};
 ghost use Rattle.cwr_encode.specs.declared.encoders.EncodeFault.{EncodeFault};
@@ -31,14 +30,15 @@ pub fn part_depends_on_its_records()
 {}
 
 /// A call that adds records with which some transmission continues is no mistake of the caller: only a limit can refuse
-/// it, or the writer fail. The records are those of a tally, and the call is judged by them.
+/// it, or the writer fail. The records are those of a tally, and the call is judged by them. A transaction is one of the
+/// open group's type: an agreement or a work after an acknowledgement is its copy, and handed over with it.
 pub fn calls_that_continue_are_no_mistakes()
     ensures opening { (t : TallyValue) (xs : List Symbol) (r : RecordValue) (answer : Result (Unit {0}) EncodeFault) → IsTallyOf t xs → r.kind ≡ Kind.Hdr
         → Continues Any (xs ++ symbol_of r ∷ []) → JudgesOpening t.limits r xs answer → IsNoMistake answer }
     ensures group { (t : TallyValue) (xs : List Symbol) (r : RecordValue) (answer : Result (Unit {0}) EncodeFault) → IsTallyOf t xs → r.kind ≡ Kind.Grh
         → Continues Any (xs ++ symbol_of r ∷ []) → JudgesGroup t.limits r xs answer → IsNoMistake answer }
-    ensures transaction { (t : TallyValue) (xs : List Symbol) (ty : TransactionType) (records : List RecordValue) (answer : Result (Unit {0}) EncodeFault) → IsTallyOf t xs
-        → HasHeaderOf ty records → IsWholeTransaction records → Continues Any (xs ++ map symbol_of records) → JudgesTransaction t.limits records xs answer → IsNoMistake answer }
+    ensures transaction { (t : TallyValue) (xs : List Symbol) (records : List RecordValue) (answer : Result (Unit {0}) EncodeFault) → IsTallyOf t xs
+        → HasHeaderOf (open_type xs) records → IsWholeTransaction records → Continues Any (xs ++ map symbol_of records) → JudgesTransaction t.limits records xs answer → IsNoMistake answer }
     ensures foot { (t : TallyValue) (xs : List Symbol) (r : RecordValue) (answer : Result (Unit {0}) EncodeFault) → IsTallyOf t xs → r.kind ≡ Kind.Grt
         → Continues Any (xs ++ symbol_of r ∷ []) → JudgesFoot t.limits r xs answer → IsNoMistake answer }
 {}

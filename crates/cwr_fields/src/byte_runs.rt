@@ -3,7 +3,7 @@
 ghost use Rattle.std.specs.Prelude.{◌≡◌, ◌↔◌, ◌≤◌, ◌<◌, ◌^◌, IsSome, IfSome, IsTrue, length, position, take, drop, ◌+◌, ◌++◌};
 ghost use Rattle.cwr_fields.specs.Bytes.{is_spaces, is_control, has_control, are_digits, number_of, trimmed, digits};
 
-use crate::lanes::{LANES, are_sixteen_digits, has_control_in_lanes};
+use crate::lanes::{LANES, has_control_in_lanes};
 
 /// Whether every byte is a space.
 #[inline(always)]
@@ -77,20 +77,6 @@ pub(crate) fn number_in(cell: &[u8]) -> Option<u64>
         number = 10 * number + u64::from(*byte - b'0');
     }
     Some(number)
-}
-
-/// The number that at most ten digits write.
-#[inline(always)]
-fn number_of_digits(cell: &[u8]) -> u64
-    requires few { length cell.now ≤ 10 }
-    requires digits { IsTrue (are_digits cell.now) }
-    ensures { result ≡ number_of cell.now }
-{
-    let mut number = 0;
-    for byte in cell {
-        number = 10 * number + u64::from(*byte - b'0');
-    }
-    number
 }
 
 /// The three numbers that digits write, the first in so many digits and the others in two each. `None` where some byte
@@ -187,18 +173,4 @@ pub fn spells(cell: &[u8], number: u64) -> bool
         text = front;
     }
     true
-}
-
-/// Whether sixteen bytes are digits, the first eight of which write one number and the others another. A no says nothing
-/// of a number that eight digits can't write.
-#[inline(always)]
-pub fn surely_spell_both(text: &[u8], first: u64, second: u64) -> bool
-    requires { length text.now ≡ 16 }
-    ensures { IsTrue result → (take 8 text.now ≡ digits 8 first) × (drop 8 text.now ≡ digits 8 second) }
-{
-    if !are_sixteen_digits(text) {
-        return false;
-    }
-    let (front, back) = text.split_at(8);
-    (number_of_digits(front) == first) & (number_of_digits(back) == second)
 }

@@ -23,6 +23,7 @@ mod numbers;
 mod party_codes;
 mod quick_cells;
 mod sender_types;
+mod spelled;
 mod tables;
 mod times;
 mod typed_cells;
@@ -32,7 +33,7 @@ pub use agreement_codes::{
     AgreementType, InclusionExclusion, PostTermCollectionStatus, PriorRoyaltyStatus,
     SalesManufactureClause,
 };
-pub use byte_runs::{first_control, is_spaces, spells, surely_spell_both, trimmed};
+pub use byte_runs::{first_control, is_spaces, spells, trimmed};
 pub use cell_types::{CellFault, CellType, Word};
 pub use cells::{fits, fits_plain, is_plain, width_of};
 pub use coded::Coded;
@@ -49,6 +50,7 @@ pub use numbers::{Number, Share};
 pub use party_codes::{PublisherType, WriterDesignation};
 pub use quick_cells::surely_fits;
 pub use sender_types::SenderType;
+pub use spelled::SpelledPair;
 pub use tables::Table;
 pub use times::TimeOfDay;
 pub use typed_cells::Cell;

@@ -1,7 +1,7 @@
 //! Searches that look at many bytes at a time, and quick tests of cells, by example.
 
 use cwr_fields::{
-    CellType, Table, Word, first_control, fits, is_plain, surely_fits, surely_spell_both, width_of,
+    CellType, SpelledPair, Table, Word, first_control, fits, is_plain, surely_fits, width_of,
 };
 
 #[test]
@@ -100,9 +100,17 @@ fn quick_tests_of_each_type(rt: HostRuntime) {
 }
 
 #[test]
-fn quick_tests_of_numbers(rt: HostRuntime) {
-    assert!(rt; surely_spell_both(b"0000001299999999", 12, 99999999));
-    assert!(rt; !surely_spell_both(b"0000001200000012", 12, 100000012));
+fn pairs_of_numbers(rt: HostRuntime) {
+    let mut pair = SpelledPair::new();
+    assert!(rt; pair.are_in(b"0000000000000000", 0, 0));
+    assert!(rt; pair.are_in(b"0000001299999999", 12, 99999999));
+    assert!(rt; pair.are_in(b"0000001200000000", 12, 100000000));
+    assert!(rt; pair.are_in(b"0000000900000099", 9, 99));
+    assert!(rt; pair.are_in(b"0000001000000100", 10, 100));
+    assert!(rt; pair.are_in(b"0000001100000101", 11, 101));
+    assert!(rt; pair.are_in(b"0000001200000007", 12, 7));
+    assert!(rt; !pair.are_in(b"0000001200000007", 12, 8));
+    assert!(rt; pair.are_in(b"0000001200000007", 12, 7));
     let others = [
         b"0000001100000007",
         b"0000001200000008",
@@ -111,8 +119,7 @@ fn quick_tests_of_numbers(rt: HostRuntime) {
         b"000000120000000/",
         b"00000012:0000007",
     ];
-    assert!(rt; surely_spell_both(b"0000001200000007", 12, 7));
     for text in others {
-        assert!(rt; !surely_spell_both(text, 12, 7));
+        assert!(rt; !pair.are_in(text, 12, 7));
     }
 }

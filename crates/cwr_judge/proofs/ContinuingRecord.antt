@@ -10,23 +10,27 @@ use Rattle.cwr_layouts.specs.declared.kinds.Kind.TheVariants as kinds
 use Rattle.cwr_layouts.specs.Records.{RecordValue, IsRecord, Row}
 use Rattle.cwr_shape.specs.declared.symbols.Symbol.{Symbol}
 use Rattle.cwr_shape.specs.declared.symbols.Symbol.TheVariants.{Plain, Grh}
+use Rattle.cwr_shape.specs.declared.stages.Stage.{Stage}
 use Rattle.cwr_shape.specs.declared.stages.Stage.TheVariants as stages
 use Rattle.cwr_shape.specs.declared.stages.TransactionStep.TheVariants as steps
 use Rattle.cwr_shape.specs.Outlines.{Continues}
 use Rattle.cwr_shape.specs.Steps.{next_stage}
-use Rattle.cwr_shape.specs.Stages.{is_grh, stage_by, stage_after}
-use Rattle.cwr_shape.specs.Left.{Any}
+use Rattle.cwr_shape.specs.Stages.{is_grh, stage_after}
+use Rattle.cwr_shape.specs.Left.{Any, StandsAt}
+use Rattle.cwr_shape.specs.Counting.{place_at}
 use Rattle.cwr_shape.specs.Tallies as tallies
 use Rattle.cwr_shape.specs.Tallies.{is_header_of, type_after, transactions_begun, open_type, open_group, place_by, place_after, open_records}
-use Rattle.cwr_shape.proofs.OneMore.{last_or-snoc, after_last-snoc, open_type-snoc}
+use Rattle.cwr_shape.proofs.OneMore.{after_last-snoc}
 use Rattle.cwr_shape.proofs.StageStands.{next_exact}
+use Rattle.cwr_shape.proofs.PlacesNamed.{place_stands}
+use Rattle.cwr_shape.proofs.TallySteps.{stands_type}
 use Rattle.cwr_values.specs.declared.items.Item.{Item}
 use Rattle.cwr_values.specs.declared.items.Item.TheVariants.{Transaction}
 use Rattle.cwr_values.specs.Values.{symbol_of}
 use Rattle.cwr_values.specs.Begins.{row_after, rows_after, rows_so_far}
 use Rattle.cwr_judge.specs.Items.{stands_in_transaction, record_sequence, continues_transaction, ends_transaction, transaction_at_end, own_item, items_after}
 use Rattle.cwr_judge.specs.Open.{items_so_far, open_of, continues_open, Stays}
-use Rattle.cwr_judge.proofs.ItemsOfTransactions.{no_item, snoc_of}
+use Rattle.cwr_judge.proofs.ItemsOfTransactions.{no_item}
 use Rattle.cwr_judge.proofs.OneMoreRecord.{IsInner, inner_record_symbol, is_header, count_after_header, later_sequence, place-snoc, goes_inside, symbols-snoc, open_longer}
 use Rattle.cwr_judge.proofs.EndingRecord.{after_few, items_next}
 
@@ -58,36 +62,29 @@ group_none NewWork s h some = true≢false (sym some)
 group_none RevisedWork s h some = true≢false (sym some)
 group_none Acknowledgement s h some = true≢false (sym some)
 
--- after this symbol another one in a transaction continues it
-inner_before : (last : Symbol) (xs : List Symbol) (ty : TransactionType) (s : Symbol) → IsInner s → is_header_of (type_after ty last) s ≡ false → is_some (next_stage (stage_by (Some last) xs) s) ≡ true → IsInner last
-inner_before (Plain kinds.Hdr) xs ty s inner h some = absurd (opened_none s inner some)
-inner_before (Grh t) xs ty s inner h some = absurd (group_none t s h some)
-inner_before (Plain kinds.Grt) xs ty s inner h some = absurd (closed_none s inner some)
-inner_before (Plain kinds.Trl) xs ty s inner h some = absurd (ended_none s some)
-inner_before last xs ty s inner h some = refl
-
 goes_before : (xs : List Symbol) (s : Symbol) → Continues Any (xs ++ s ∷ []) → Continues Any xs
 goes_before xs s (groups, whole, any, more) = (groups, whole, any, (s ∷ more.0, more.1 ∙ append_assoc xs (s ∷ []) more.0))
 
 next_some : (xs : List Symbol) (s : Symbol) → Continues Any (xs ++ s ∷ []) → is_some (next_stage (stage_after xs) s) ≡ true
 next_some xs s g = (next_exact xs (stage_after xs) s (next_stage (stage_after xs) s) refl (record { begins = goes_before xs s g; named = refl })).1 g
 
-open_front : (front : List Symbol) (last s : Symbol) → IsInner s → is_header_of (open_type (front ++ last ∷ [])) s ≡ false → Continues Any ((front ++ last ∷ []) ++ s ∷ []) → IsInner last
-open_front front last s inner h g =
-    let xs : List Symbol = front ++ last ∷ [] in
-    inner_before last xs (open_type front) s inner (ap (λ (ty : TransactionType). is_header_of ty s) (sym (open_type-snoc front last)) ∙ h)
-    (ap (λ (o : Option Symbol). is_some (next_stage (stage_by o xs) s)) (sym (last_or-snoc None front last)) ∙ next_some xs s g)
+-- before a record that continues a transaction one is open
+inner_at : (xs : List Symbol) (stage : Stage) (s : Symbol) → StandsAt xs stage → IsInner s → is_header_of (open_type xs) s ≡ false → is_some (next_stage stage s) ≡ true
+    → tallies.has_open_transaction (place_at stage) ≡ true
+inner_at xs stages.Start s st inner h some = absurd (start_none s inner some)
+inner_at xs stages.Opened s st inner h some = absurd (opened_none s inner some)
+inner_at xs stages.Closed s st inner h some = absurd (closed_none s inner some)
+inner_at xs stages.Ended s st inner h some = absurd (ended_none s some)
+inner_at xs (stages.Within ty steps.InGroup) s st inner h some =
+    absurd (group_none ty s (ap (λ (t : TransactionType). is_header_of t s) (stands_type xs ty steps.InGroup st) ∙ h) some)
+inner_at xs (stages.Within ty step) s st inner h some = refl
 
--- a transaction is open before a record that continues one
 open_before : (records : List RecordValue) (s : Symbol) → IsInner s → is_header_of (open_type (map symbol_of records)) s ≡ false → Continues Any (map symbol_of records ++ s ∷ [])
     → tallies.has_open_transaction (place_after (map symbol_of records)) ≡ true
-open_before [] s inner h g = absurd (start_none s inner (next_some [] s g))
-open_before (x ∷ xs) s inner h g =
-    let front = snoc_of x xs in
-    let text : map symbol_of (x ∷ xs) ≡ map symbol_of front.front ++ symbol_of front.last ∷ [] = ap (map symbol_of) front.whole ∙ symbols-snoc front.front front.last in
-    let last : IsInner (symbol_of front.last) =
-    open_front (map symbol_of front.front) (symbol_of front.last) s inner (ap (λ (ys : List Symbol). is_header_of (open_type ys) s) (sym text) ∙ h) (subst (λ (ys : List Symbol). Continues Any (ys ++ s ∷ [])) text g) in
-    ap (λ (ys : List Symbol). tallies.has_open_transaction (place_after ys)) text ∙ place-snoc (map symbol_of front.front) (symbol_of front.last) ∙ last
+open_before records s inner h g =
+    let xs : List Symbol = map symbol_of records in
+    let st : StandsAt xs (stage_after xs) = record { begins = goes_before xs s g; named = refl } in
+    ap tallies.has_open_transaction (sym (place_stands xs (stage_after xs) st)) ∙ inner_at xs (stage_after xs) s st inner h (next_some xs s g)
 
 -- ---- fewer records stand after the last header than there are
 

@@ -77,6 +77,21 @@ each_number kinds.Orn = refl
 each_number kinds.Com = refl
 each_number kinds.Ack = refl
 each_number kinds.Msg = refl
+each_number kinds.Opt = refl
+each_number kinds.Owt = refl
+each_number kinds.Npn = refl
+each_number kinds.Npr = refl
+each_number kinds.Nwn = refl
+each_number kinds.Npa = refl
+each_number kinds.Net = refl
+each_number kinds.Now = refl
+each_number kinds.Nct = refl
+each_number kinds.Nvt = refl
+each_number kinds.Nat = refl
+each_number kinds.Ins = refl
+each_number kinds.Ind = refl
+each_number kinds.Ari = refl
+each_number kinds.Xrf = refl
 
 passes_at : (p : FieldLayout → Bool) (fields : List FieldLayout) (k : ℕ) (f : FieldLayout) → list_all p fields ≡ true → slice_get fields k ≡ Some f → p f ≡ true
 passes_at p [] k f h e = absurd (cc e)

@@ -5,17 +5,16 @@ use Rattle.cwr_layouts.specs.declared.kinds.Kind.TheVariants.{Hdr, Trl}
 use Rattle.cwr_shape.specs.declared.symbols.Symbol.{Symbol}
 use Rattle.cwr_shape.specs.declared.symbols.Symbol.TheVariants.{Plain}
 use Rattle.cwr_shape.specs.declared.stages.Stage.TheVariants as stages
-use Rattle.cwr_shape.specs.Stages.{stage_by, stage_after}
 use Rattle.cwr_shape.specs.Outlines.{group_symbols, IsWhole, Continues}
 use Rattle.cwr_shape.specs.Left.{Any, StandsAt}
+use Rattle.cwr_shape.proofs.StageNames.{stage_after-snoc}
 use Rattle.cwr_shape.proofs.OneMore.{last_or-snoc}
 use Rattle.cwr_shape.proofs.StageStands.{stands_leaves}
 
 pub trailer_ends : (xs : List Symbol) → Continues Any (xs ++ Plain Trl ∷ []) → IsWhole (xs ++ Plain Trl ∷ [])
 trailer_ends xs g =
     let ys : List Symbol = xs ++ Plain Trl ∷ [] in
-    let ended : stage_after ys ≡ stages.Ended = ap (λ (o : Option Symbol). stage_by o ys) (last_or-snoc None xs (Plain Trl)) in
-    let stands : StandsAt ys stages.Ended = record { begins = g; named = sym ended } in
+    let stands : StandsAt ys stages.Ended = record { begins = g; named = sym (stage_after-snoc xs (Plain Trl) refl) } in
     subst IsWhole (append-nil ys) (((stands_leaves ys stages.Ended stands).leaves []).1 ([], refl, tt))
 
 last_is : (xs : List Symbol) (s : Symbol) → IsWhole (xs ++ s ∷ []) → Some s ≡ Some (Plain Trl)

@@ -17,7 +17,7 @@ stands_in_transaction Hdr = false
 stands_in_transaction Grh = false
 stands_in_transaction Grt = false
 stands_in_transaction Trl = false
-stands_in_transaction kind = true
+stands_in_transaction this_kind = true
 
 -- the record sequence that a row inside a transaction carries in its third cell
 abbrev pub record_sequence : Row → ℕ
@@ -43,7 +43,7 @@ own_item Hdr row = Opened (record_of row) ∷ []
 own_item Grh row = GroupOpened (record_of row) ∷ []
 own_item Grt row = GroupClosed (record_of row) ∷ []
 own_item Trl row = Ended ∷ []
-own_item kind row = []
+own_item this_kind row = []
 
 -- the items that a row gives after these rows: the transaction that ended with the row before it, and then its own
 abbrev pub items_at : List Row → Row → List Item

@@ -60,7 +60,7 @@ IsOfNone limits xs h = (s : Symbol) (r : RecordValue) → ¬ IsNext limits xs h 
 abbrev pub named_symbol : Kind → ℕ → List ℕ → Option Symbol
 named_symbol kinds.Grh j cell = if j == 2 then option_map Grh (type_in cell) else None
 named_symbol kinds.Ipa j cell = if j == 4 then option_map Ipa (role_in cell) else None
-named_symbol kind j cell = None
+named_symbol this_kind j cell = None
 
 -- the reason of a bar
 abbrev pub bar_reason : Bar → Reason
@@ -73,10 +73,10 @@ IsGoodText limits xs kind j ty cell = Holds ty cell × IfSome (named_symbol kind
 
 -- why it isn't: the first of these that holds
 abbrev pub IsTextFault : LimitValues → List Symbol → Kind → ℕ → CellType → List ℕ → Reason → Type 0
-IsTextFault limits xs kind j ty cell (Cell fault) = HasFault ty cell fault
-IsTextFault limits xs kind j ty cell Misplaced = Holds ty cell × IsSomeAnd (named_symbol kind j cell) (λ s. IsBarred limits xs s bars.Misplaced)
-IsTextFault limits xs kind j ty cell (Limit limit) = Holds ty cell × IsSomeAnd (named_symbol kind j cell) (λ s. IsBarred limits xs s (bars.Limit limit))
-IsTextFault limits xs kind j ty cell reason = ⊥
+IsTextFault limits xs this_kind j ty cell (Cell fault) = HasFault ty cell fault
+IsTextFault limits xs this_kind j ty cell Misplaced = Holds ty cell × IsSomeAnd (named_symbol this_kind j cell) (λ s. IsBarred limits xs s bars.Misplaced)
+IsTextFault limits xs this_kind j ty cell (Limit limit) = Holds ty cell × IsSomeAnd (named_symbol this_kind j cell) (λ s. IsBarred limits xs s (bars.Limit limit))
+IsTextFault limits xs this_kind j ty cell reason = ⊥
 
 -- why a derived cell isn't the number: the first of these that holds
 abbrev pub IsNumberFault : CellType → List ℕ → ℕ → Reason → Type 0
@@ -86,13 +86,13 @@ IsNumberFault ty cell n reason = ⊥
 
 -- a cell of a field is good: a derived one is the number that belongs there
 abbrev pub IsGoodNextCell : Bool → LimitValues → List Symbol → Kind → ℕ → FieldLayout → List ℕ → Type 0
-IsGoodNextCell true limits xs kind j f cell = (n : ℕ) × IsNumberAt xs kind j (Some n) × (cell ≡ digits (length cell) n)
-IsGoodNextCell false limits xs kind j f cell = IsGoodText limits xs kind j f.ty cell
+IsGoodNextCell true limits xs this_kind j f cell = (n : ℕ) × IsNumberAt xs this_kind j (Some n) × (cell ≡ digits (length cell) n)
+IsGoodNextCell false limits xs this_kind j f cell = IsGoodText limits xs this_kind j f.ty cell
 
 -- why it isn't
 abbrev pub IsFaultBy : Bool → LimitValues → List Symbol → Kind → ℕ → FieldLayout → List ℕ → Reason → Type 0
-IsFaultBy true limits xs kind j f cell reason = (n : ℕ) × IsNumberAt xs kind j (Some n) × IsNumberFault f.ty cell n reason
-IsFaultBy false limits xs kind j f cell reason = IsTextFault limits xs kind j f.ty cell reason
+IsFaultBy true limits xs this_kind j f cell reason = (n : ℕ) × IsNumberAt xs this_kind j (Some n) × IsNumberFault f.ty cell n reason
+IsFaultBy false limits xs this_kind j f cell reason = IsTextFault limits xs this_kind j f.ty cell reason
 
 -- the line's cell in field j, which is after the record type, is good
 abbrev pub IsGoodAt : LimitValues → List Symbol → HeldLine → Kind → ℕ → Type 0
@@ -121,7 +121,7 @@ pub record IsFirstWrong (limits : LimitValues) (xs : List Symbol) (h : HeldLine)
 -- the first field of a line that is wrong, and why
 abbrev pub IsFirstBy : Option Kind → LimitValues → List Symbol → HeldLine → ℕ → Reason → Type 0
 IsFirstBy None limits xs h field reason = (field ≡ 1) × (reason ≡ UnknownKind)
-IsFirstBy (Some kind) limits xs h field reason = IsFirstWrong limits xs h kind field reason
+IsFirstBy (Some this_kind) limits xs h field reason = IsFirstWrong limits xs h this_kind field reason
 
 abbrev pub IsFirstFault : LimitValues → List Symbol → HeldLine → ℕ → Reason → Type 0
 IsFirstFault limits xs h field reason = IsFirstBy (held_kind h) limits xs h field reason

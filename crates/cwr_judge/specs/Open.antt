@@ -36,7 +36,7 @@ item_of Hdr r = Opened r ∷ []
 item_of Grh r = GroupOpened r ∷ []
 item_of Grt r = GroupClosed r ∷ []
 item_of Trl r = Ended ∷ []
-item_of kind r = []
+item_of this_kind r = []
 
 -- one more record continues the open transaction
 pub record Stays (records : List RecordValue) (r : RecordValue) : Type 0 where

@@ -28,7 +28,7 @@ pub record Viable (limits : Limits) (before : List (List ℕ)) (line : List ℕ)
 -- the number of the field after the last one, or of the first where the kind is unknown
 abbrev pub last_place : Option Kind → ℕ
 last_place None = 1
-last_place (Some kind) = length (layout kind) + 1
+last_place (Some this_kind) = length (layout this_kind) + 1
 
 -- line i of the text, from 1, is there, and nothing continues from its first k cells
 pub record IsBadAt (limits : Limits) (text : List ℕ) (i k : ℕ) : Type 0 where

@@ -11,7 +11,7 @@ ghost use Rattle.cwr_shape.specs.declared.symbols.Symbol.{Symbol};
 ghost use Rattle.cwr_shape.specs.Tallies.{IsAdmitted, IsTallyOf};
 ghost use Rattle.cwr_judge.specs.Judged.{HasNumberAt, HasNumbers, IsNext, IsOfNone, Lacks, named_symbol, bar_reason, IsGoodText, IsTextFault, IsNumberFault, IsGoodAt, HasReasonAt, MayComeOf, IsFirstFault};
 
-use cwr_fields::{Cell, CellType, Role, TransactionType, fits, spells, surely_spell_both};
+use cwr_fields::{Cell, CellType, Role, SpelledPair, TransactionType, fits, spells};
 use cwr_layouts::{CutLine, Kind, RecordRef, field, fields};
 use cwr_shape::{Bar, Reason, Symbol, Tally};
 use cwr_values::symbol_of;
@@ -47,10 +47,15 @@ fn has_number(tally: &Tally, line: &CutLine<'_>, kind: Kind, j: u8) -> bool
     }
 }
 
-/// Whether a quick test finds the two sequences of a line inside a transaction to be the numbers that belong there. A no
-/// says nothing.
+/// Whether a quick test finds the two sequences of a line inside a transaction to be the numbers that belong there, which
+/// are kept with their digits. A no says nothing.
 #[inline(always)]
-fn surely_has_numbers(tally: &Tally, line: &CutLine<'_>, kind: Kind) -> bool
+fn surely_has_numbers(
+    tally: &Tally,
+    line: &CutLine<'_>,
+    kind: Kind,
+    expected: &mut SpelledPair,
+) -> bool
     requires { held_kind line.now ≡ Some kind }
     ensures { (xs : List Symbol) → IsTallyOf tally.now xs → IsTrue result → HasNumbers xs line.now kind }
 {
@@ -63,7 +68,7 @@ fn surely_has_numbers(tally: &Tally, line: &CutLine<'_>, kind: Kind) -> bool
     let Some(record) = tally.expects(kind, 3) else {
         return false;
     };
-    surely_spell_both(sequences, transaction, record)
+    expected.are_in(sequences, transaction, record)
 }
 
 /// Whether each derived cell of the line is the number that belongs there. No kind has one after its fourth field.
@@ -72,9 +77,6 @@ fn has_numbers(tally: &Tally, line: &CutLine<'_>, kind: Kind) -> bool
     ensures yes { (xs : List Symbol) → IsTallyOf tally.now xs → IsTrue result → HasNumbers xs line.now kind }
     ensures no { (xs : List Symbol) → IsTallyOf tally.now xs → IsFalse result → Lacks xs kind (HasNumbers xs line.now kind) }
 {
-    if surely_has_numbers(tally, line, kind) {
-        return true;
-    }
     if !has_number(tally, line, kind, 2) {
         return false;
     }
@@ -108,10 +110,13 @@ fn next_record<'a>(tally: &Tally, line: &CutLine<'a>) -> Option<(Symbol, RecordR
 }
 
 /// The record of the line and its symbol, where it may come next, and what is counted with it: as `judge` says it, where
-/// quick tests find the numbers right. `None` says nothing.
+/// quick tests find the numbers right. `None` says nothing. `expected` keeps the two sequences of the line before with
+/// their digits; whatever it keeps, the answer is right.
+#[inline(always)]
 pub fn judge_quickly<'a>(
     tally: &Tally,
     line: &CutLine<'a>,
+    expected: &mut SpelledPair,
 ) -> Option<(Symbol, RecordRef<'a>, Tally)>
     ensures next { (xs : List Symbol) → IsTallyOf tally.now xs → IfSome result (λ found. IsNext tally.now.limits xs line.now found.0 found.1) }
     ensures carried { IfSome result (λ found. (held_record line.now ≡ Some found.1) × IsRecord found.1 × IsFalse (held_excess line.now)) }
@@ -125,7 +130,7 @@ pub fn judge_quickly<'a>(
     if has_excess {
         return None;
     }
-    if !surely_has_numbers(tally, line, record.kind()) {
+    if !surely_has_numbers(tally, line, record.kind(), expected) {
         return None;
     }
     let symbol = symbol_of(&record);

@@ -7,7 +7,7 @@ use Rattle.std.proofs.lemmas.Slice.Eq.{bytes_eq-Decides}
 use Rattle.cwr_fields.specs.Bytes.{trimmed}
 use Rattle.cwr_fields.proofs.LineFeeds.{NoLf}
 use Rattle.cwr_layouts.specs.declared.kinds.Kind.{Kind}
-use Rattle.cwr_layouts.specs.declared.kinds.Kind.TheVariants.{Hdr, Grh, Grt, Trl, Agr, Ter, Ipa, Nwr, Rev, Spu, Opu, Spt, Swr, Owr, Swt, Pwr, Alt, Ewt, Ver, Per, Rec, Orn, Com, Ack, Msg}
+use Rattle.cwr_layouts.specs.declared.kinds.Kind.TheVariants.{Hdr, Grh, Grt, Trl, Agr, Ter, Ipa, Nwr, Rev, Spu, Opu, Spt, Swr, Owr, Swt, Pwr, Alt, Ewt, Ver, Per, Rec, Orn, Com, Ack, Msg, Opt, Owt, Npn, Npr, Nwn, Npa, Net, Now, Nct, Nvt, Nat, Ins, Ind, Ari, Xrf}
 use Rattle.cwr_layouts.specs.Kinds.{all_kinds, letters, kind_of}
 use Rattle.cwr_layouts.specs.Layouts.{line_width}
 use Rattle.cwr_layouts.proofs.TrimmedTexts.{trimmed_three}
@@ -39,6 +39,21 @@ kind_of-letters Orn = refl
 kind_of-letters Com = refl
 kind_of-letters Ack = refl
 kind_of-letters Msg = refl
+kind_of-letters Opt = refl
+kind_of-letters Owt = refl
+kind_of-letters Npn = refl
+kind_of-letters Npr = refl
+kind_of-letters Nwn = refl
+kind_of-letters Npa = refl
+kind_of-letters Net = refl
+kind_of-letters Now = refl
+kind_of-letters Nct = refl
+kind_of-letters Nvt = refl
+kind_of-letters Nat = refl
+kind_of-letters Ins = refl
+kind_of-letters Ind = refl
+kind_of-letters Ari = refl
+kind_of-letters Xrf = refl
 
 -- each kind has three letters
 pub length-letters : (kind : Kind) → length (letters kind) ≡ 3
@@ -67,6 +82,21 @@ length-letters Orn = refl
 length-letters Com = refl
 length-letters Ack = refl
 length-letters Msg = refl
+length-letters Opt = refl
+length-letters Owt = refl
+length-letters Npn = refl
+length-letters Npr = refl
+length-letters Nwn = refl
+length-letters Npa = refl
+length-letters Net = refl
+length-letters Now = refl
+length-letters Nct = refl
+length-letters Nvt = refl
+length-letters Nat = refl
+length-letters Ins = refl
+length-letters Ind = refl
+length-letters Ari = refl
+length-letters Xrf = refl
 
 -- letters have no line feed
 pub NoLf-letters : (kind : Kind) → NoLf (letters kind)
@@ -95,9 +125,24 @@ NoLf-letters Orn = refl
 NoLf-letters Com = refl
 NoLf-letters Ack = refl
 NoLf-letters Msg = refl
+NoLf-letters Opt = refl
+NoLf-letters Owt = refl
+NoLf-letters Npn = refl
+NoLf-letters Npr = refl
+NoLf-letters Nwn = refl
+NoLf-letters Npa = refl
+NoLf-letters Net = refl
+NoLf-letters Now = refl
+NoLf-letters Nct = refl
+NoLf-letters Nvt = refl
+NoLf-letters Nat = refl
+NoLf-letters Ins = refl
+NoLf-letters Ind = refl
+NoLf-letters Ari = refl
+NoLf-letters Xrf = refl
 
 -- no line is wider than the widest
-pub line_width_widest : (kind : Kind) → line_width kind ≤ 364
+pub line_width_widest : (kind : Kind) → line_width kind ≤ 719
 line_width_widest Hdr = lit≤ tt
 line_width_widest Grh = lit≤ tt
 line_width_widest Grt = lit≤ tt
@@ -123,6 +168,21 @@ line_width_widest Orn = lit≤ tt
 line_width_widest Com = lit≤ tt
 line_width_widest Ack = lit≤ tt
 line_width_widest Msg = lit≤ tt
+line_width_widest Opt = lit≤ tt
+line_width_widest Owt = lit≤ tt
+line_width_widest Npn = lit≤ tt
+line_width_widest Npr = lit≤ tt
+line_width_widest Nwn = lit≤ tt
+line_width_widest Npa = lit≤ tt
+line_width_widest Net = lit≤ tt
+line_width_widest Now = lit≤ tt
+line_width_widest Nct = lit≤ tt
+line_width_widest Nvt = lit≤ tt
+line_width_widest Nat = lit≤ tt
+line_width_widest Ins = lit≤ tt
+line_width_widest Ind = lit≤ tt
+line_width_widest Ari = lit≤ tt
+line_width_widest Xrf = lit≤ tt
 
 -- with CR and without LF a full line fits
 pub line_width_most : (kind : Kind) → line_width kind ≤ 1023
@@ -155,6 +215,21 @@ trimmed-letters Orn rest = trimmed_three _ _ _ rest refl
 trimmed-letters Com rest = trimmed_three _ _ _ rest refl
 trimmed-letters Ack rest = trimmed_three _ _ _ rest refl
 trimmed-letters Msg rest = trimmed_three _ _ _ rest refl
+trimmed-letters Opt rest = trimmed_three _ _ _ rest refl
+trimmed-letters Owt rest = trimmed_three _ _ _ rest refl
+trimmed-letters Npn rest = trimmed_three _ _ _ rest refl
+trimmed-letters Npr rest = trimmed_three _ _ _ rest refl
+trimmed-letters Nwn rest = trimmed_three _ _ _ rest refl
+trimmed-letters Npa rest = trimmed_three _ _ _ rest refl
+trimmed-letters Net rest = trimmed_three _ _ _ rest refl
+trimmed-letters Now rest = trimmed_three _ _ _ rest refl
+trimmed-letters Nct rest = trimmed_three _ _ _ rest refl
+trimmed-letters Nvt rest = trimmed_three _ _ _ rest refl
+trimmed-letters Nat rest = trimmed_three _ _ _ rest refl
+trimmed-letters Ins rest = trimmed_three _ _ _ rest refl
+trimmed-letters Ind rest = trimmed_three _ _ _ rest refl
+trimmed-letters Ari rest = trimmed_three _ _ _ rest refl
+trimmed-letters Xrf rest = trimmed_three _ _ _ rest refl
 
 none_among : (kinds : List Kind) (text : List ℕ) → (length text ≡ 3 → ⊥) → find (λ kind. bytes_eq (letters kind) text) kinds ≡ None
 none_among [] text h = refl

@@ -120,7 +120,7 @@ blank_begins kind k place text h e =
     ap length e ∙ length-concat (take k (layout kind)) (map blank_of (take k (layout kind))) (blanks_wide (take k (layout kind)) (wide_front (layout kind) k (all_wide kind))) in
     omega (arith, count, start_by 0 (layout kind) k (field_view place) h.found)
 
-pub place_within : (kind : Kind) (k : ℕ) (place : Field) → IsPlaceAt kind k place → place.start + place.width ≤ 364
+pub place_within : (kind : Kind) (k : ℕ) (place : Field) → IsPlaceAt kind k place → place.start + place.width ≤ 719
 place_within kind k place h = omega (arith, field_part_within 0 (layout kind) k (field_view place) h.found, line_width_widest kind)
 
 pub place_wide : (kind : Kind) (k : ℕ) (place : Field) → IsPlaceAt kind k place → (w : ℕ) → type_width place.ty ≡ Some w → w ≡ place.width
@@ -149,7 +149,7 @@ blank_whole kind items k text e h t =
 
 -- a word that is appended is the blank cell of its field
 pub word_pushed : {T E : Type 0} (r : Result T E) (ty : CellType) (word : Word) (width start : ℕ) (old new text : List ℕ) → ty ≡ Constant word → ForSome (type_width ty) (λ w. w ≡ width)
-    → length old ≡ start → start + width ≤ 364 → text ≡ word_text word → (length old + length text ≤ 364 → IsOk r) → OnOk r (new ≡ old ++ text) → new ≡ old ++ blank_cell ty width
+    → length old ≡ start → start + width ≤ 719 → text ≡ word_text word → (length old + length text ≤ 719 → IsOk r) → OnOk r (new ≡ old ++ text) → new ≡ old ++ blank_cell ty width
 word_pushed (Ok x) ty word width start old new text e f b w t v o = o ∙ ap (λ (z : List ℕ). old ++ z) (t ∙ ap (λ (z : CellType). blank_cell z width) (sym e))
 word_pushed (Err x) ty word width start old new text e f b w t v o =
     let five : 5 ≡ width = f 5 (ap type_width e) in

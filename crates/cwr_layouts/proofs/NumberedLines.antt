@@ -9,7 +9,7 @@ use Rattle.std.proofs.lemmas.List.Sums.{sum_by-cons}
 use Rattle.cwr_fields.specs.Bytes.{digits}
 use Rattle.cwr_fields.proofs.Digits.{length-digits}
 use Rattle.cwr_layouts.specs.declared.kinds.Kind.{Kind}
-use Rattle.cwr_layouts.specs.declared.kinds.Kind.TheVariants.{Hdr, Grh, Grt, Trl, Agr, Ter, Ipa, Nwr, Rev, Spu, Opu, Spt, Swr, Owr, Swt, Pwr, Alt, Ewt, Ver, Per, Rec, Orn, Com, Ack, Msg}
+use Rattle.cwr_layouts.specs.declared.kinds.Kind.TheVariants.{Hdr, Grh, Grt, Trl, Agr, Ter, Ipa, Nwr, Rev, Spu, Opu, Spt, Swr, Owr, Swt, Pwr, Alt, Ewt, Ver, Per, Rec, Orn, Com, Ack, Msg, Opt, Owt, Npn, Npr, Nwn, Npa, Net, Now, Nct, Nvt, Nat, Ins, Ind, Ari, Xrf}
 use Rattle.cwr_layouts.specs.Kinds.{letters}
 use Rattle.cwr_layouts.specs.Layouts.{FieldLayout, fields_after_type, in_transaction, number, total_width, line_width}
 use Rattle.cwr_layouts.specs.Lines.{pieces}
@@ -123,6 +123,21 @@ numbered_filled Orn ns line h = sym (inside_filled (drop 2 (fields_after_type Or
 numbered_filled Com ns line h = sym (inside_filled (drop 2 (fields_after_type Com)) ns line refl h)
 numbered_filled Ack ns line h = sym (inside_filled (drop 2 (fields_after_type Ack)) ns line refl h)
 numbered_filled Msg ns line h = sym (inside_filled (drop 2 (fields_after_type Msg)) ns line refl h)
+numbered_filled Opt ns line h = sym (inside_filled (drop 2 (fields_after_type Opt)) ns line refl h)
+numbered_filled Owt ns line h = sym (inside_filled (drop 2 (fields_after_type Owt)) ns line refl h)
+numbered_filled Npn ns line h = sym (inside_filled (drop 2 (fields_after_type Npn)) ns line refl h)
+numbered_filled Npr ns line h = sym (inside_filled (drop 2 (fields_after_type Npr)) ns line refl h)
+numbered_filled Nwn ns line h = sym (inside_filled (drop 2 (fields_after_type Nwn)) ns line refl h)
+numbered_filled Npa ns line h = sym (inside_filled (drop 2 (fields_after_type Npa)) ns line refl h)
+numbered_filled Net ns line h = sym (inside_filled (drop 2 (fields_after_type Net)) ns line refl h)
+numbered_filled Now ns line h = sym (inside_filled (drop 2 (fields_after_type Now)) ns line refl h)
+numbered_filled Nct ns line h = sym (inside_filled (drop 2 (fields_after_type Nct)) ns line refl h)
+numbered_filled Nvt ns line h = sym (inside_filled (drop 2 (fields_after_type Nvt)) ns line refl h)
+numbered_filled Nat ns line h = sym (inside_filled (drop 2 (fields_after_type Nat)) ns line refl h)
+numbered_filled Ins ns line h = sym (inside_filled (drop 2 (fields_after_type Ins)) ns line refl h)
+numbered_filled Ind ns line h = sym (inside_filled (drop 2 (fields_after_type Ind)) ns line refl h)
+numbered_filled Ari ns line h = sym (inside_filled (drop 2 (fields_after_type Ari)) ns line refl h)
+numbered_filled Xrf ns line h = sym (inside_filled (drop 2 (fields_after_type Xrf)) ns line refl h)
 
 -- the line that a record is kept in, with numbers put in, is the full line of its row
 pub full_line-numbered : (kind : Kind) (ns line : List ℕ) → length line ≡ line_width kind → full_line (row_of ns (record_in kind line)) ≡ letters kind ++ numbered_part kind ns line
@@ -166,6 +181,21 @@ letters_long Orn = refl
 letters_long Com = refl
 letters_long Ack = refl
 letters_long Msg = refl
+letters_long Opt = refl
+letters_long Owt = refl
+letters_long Npn = refl
+letters_long Npr = refl
+letters_long Nwn = refl
+letters_long Npa = refl
+letters_long Net = refl
+letters_long Now = refl
+letters_long Nct = refl
+letters_long Nvt = refl
+letters_long Nat = refl
+letters_long Ins = refl
+letters_long Ind = refl
+letters_long Ari = refl
+letters_long Xrf = refl
 
 -- no line is narrower than that of TRL
 pub line_width_least : (kind : Kind) → 24 ≤ line_width kind
@@ -194,6 +224,21 @@ line_width_least Orn = lit≤ tt
 line_width_least Com = lit≤ tt
 line_width_least Ack = lit≤ tt
 line_width_least Msg = lit≤ tt
+line_width_least Opt = lit≤ tt
+line_width_least Owt = lit≤ tt
+line_width_least Npn = lit≤ tt
+line_width_least Npr = lit≤ tt
+line_width_least Nwn = lit≤ tt
+line_width_least Npa = lit≤ tt
+line_width_least Net = lit≤ tt
+line_width_least Now = lit≤ tt
+line_width_least Nct = lit≤ tt
+line_width_least Nvt = lit≤ tt
+line_width_least Nat = lit≤ tt
+line_width_least Ins = lit≤ tt
+line_width_least Ind = lit≤ tt
+line_width_least Ari = lit≤ tt
+line_width_least Xrf = lit≤ tt
 
 -- ---- what the code sets, one number after another
 

@@ -3,7 +3,7 @@ use Rattle.std.proofs.Common.{◌≡◌, ℕ, Bool, true, false, cond, List, ◌
 use Rattle.std.specs.Prelude.{Option, Some, None}
 use Rattle.std.proofs.lemmas.List.{take-take, drop-take, drop-drop}
 use Rattle.cwr_layouts.specs.declared.kinds.Kind.{Kind}
-use Rattle.cwr_layouts.specs.declared.kinds.Kind.TheVariants.{Hdr, Grh, Grt, Trl, Agr, Ter, Ipa, Nwr, Rev, Spu, Opu, Spt, Swr, Owr, Swt, Pwr, Alt, Ewt, Ver, Per, Rec, Orn, Com, Ack, Msg}
+use Rattle.cwr_layouts.specs.declared.kinds.Kind.TheVariants.{Hdr, Grh, Grt, Trl, Agr, Ter, Ipa, Nwr, Rev, Spu, Opu, Spt, Swr, Owr, Swt, Pwr, Alt, Ewt, Ver, Per, Rec, Orn, Com, Ack, Msg, Opt, Owt, Npn, Npr, Nwn, Npa, Net, Now, Nct, Nvt, Nat, Ins, Ind, Ari, Xrf}
 use Rattle.cwr_layouts.specs.Kinds.{is_in_transaction}
 use Rattle.cwr_layouts.specs.Layouts.{FieldLayout, field_placed, fields_after_type, in_transaction, layout, number, placed_fields, record_type}
 use Rattle.cwr_layouts.specs.Held.{HeldLine, IsFilled, held_cell}
@@ -40,6 +40,21 @@ sequenced Orn e = record { rest = drop 2 (fields_after_type Orn); begins = refl 
 sequenced Com e = record { rest = drop 2 (fields_after_type Com); begins = refl }
 sequenced Ack e = record { rest = drop 2 (fields_after_type Ack); begins = refl }
 sequenced Msg e = record { rest = drop 2 (fields_after_type Msg); begins = refl }
+sequenced Opt e = record { rest = drop 2 (fields_after_type Opt); begins = refl }
+sequenced Owt e = record { rest = drop 2 (fields_after_type Owt); begins = refl }
+sequenced Npn e = record { rest = drop 2 (fields_after_type Npn); begins = refl }
+sequenced Npr e = record { rest = drop 2 (fields_after_type Npr); begins = refl }
+sequenced Nwn e = record { rest = drop 2 (fields_after_type Nwn); begins = refl }
+sequenced Npa e = record { rest = drop 2 (fields_after_type Npa); begins = refl }
+sequenced Net e = record { rest = drop 2 (fields_after_type Net); begins = refl }
+sequenced Now e = record { rest = drop 2 (fields_after_type Now); begins = refl }
+sequenced Nct e = record { rest = drop 2 (fields_after_type Nct); begins = refl }
+sequenced Nvt e = record { rest = drop 2 (fields_after_type Nvt); begins = refl }
+sequenced Nat e = record { rest = drop 2 (fields_after_type Nat); begins = refl }
+sequenced Ins e = record { rest = drop 2 (fields_after_type Ins); begins = refl }
+sequenced Ind e = record { rest = drop 2 (fields_after_type Ind); begins = refl }
+sequenced Ari e = record { rest = drop 2 (fields_after_type Ari); begins = refl }
+sequenced Xrf e = record { rest = drop 2 (fields_after_type Xrf); begins = refl }
 
 second : (kind : Kind) → is_in_transaction kind ≡ true → field_placed kind 2 ≡ Some (3, number "transaction sequence" 8)
 second kind e = ap (λ (fields : List FieldLayout). slice_get (placed_fields 0 fields) 1) (sequenced kind e).begins

@@ -115,7 +115,7 @@ of_carried kind line j p now P same e d h =
     subst (λ (o : Option FieldLayout). IsSomeAnd o P) found h
 
 -- no field is wider than the widest line
-pub field_most : (kind : Kind) (j : ℕ) (p : ℕ × FieldLayout) → Some p ≡ field_placed kind j → p.1.width ≤ 364
+pub field_most : (kind : Kind) (j : ℕ) (p : ℕ × FieldLayout) → Some p ≡ field_placed kind j → p.1.width ≤ 719
 field_most kind j p e = omega (arith, field_within kind j p (sym e), line_width_widest kind)
 
 length-whole : (w : ℕ) (text cell : List ℕ) → length text ≤ w → cell ≡ filled w text → length cell ≡ w

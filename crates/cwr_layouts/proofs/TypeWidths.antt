@@ -5,7 +5,7 @@ use Rattle.std.specs.List.{list_all}
 use Rattle.std.proofs.lemmas.Bool.{and_parts, eqb-true}
 use Rattle.cwr_fields.specs.Cells.{type_width}
 use Rattle.cwr_layouts.specs.declared.kinds.Kind.{Kind}
-use Rattle.cwr_layouts.specs.declared.kinds.Kind.TheVariants.{Hdr, Grh, Grt, Trl, Agr, Ter, Ipa, Nwr, Rev, Spu, Opu, Spt, Swr, Owr, Swt, Pwr, Alt, Ewt, Ver, Per, Rec, Orn, Com, Ack, Msg}
+use Rattle.cwr_layouts.specs.declared.kinds.Kind.TheVariants.{Hdr, Grh, Grt, Trl, Agr, Ter, Ipa, Nwr, Rev, Spu, Opu, Spt, Swr, Owr, Swt, Pwr, Alt, Ewt, Ver, Per, Rec, Orn, Com, Ack, Msg, Opt, Owt, Npn, Npr, Nwn, Npa, Net, Now, Nct, Nvt, Nat, Ins, Ind, Ari, Xrf}
 use Rattle.cwr_layouts.specs.Layouts.{FieldLayout, layout, field_at}
 
 -- the field has the width of its type
@@ -38,6 +38,21 @@ all_wide Orn = refl
 all_wide Com = refl
 all_wide Ack = refl
 all_wide Msg = refl
+all_wide Opt = refl
+all_wide Owt = refl
+all_wide Npn = refl
+all_wide Npr = refl
+all_wide Nwn = refl
+all_wide Npa = refl
+all_wide Net = refl
+all_wide Now = refl
+all_wide Nct = refl
+all_wide Nvt = refl
+all_wide Nat = refl
+all_wide Ins = refl
+all_wide Ind = refl
+all_wide Ari = refl
+all_wide Xrf = refl
 
 pub wide_one : (fields : List FieldLayout) (i : ℕ) (f : FieldLayout) → list_all is_wide fields ≡ true → slice_get fields i ≡ Some f → is_wide f ≡ true
 wide_one [] i f h e = absurd (cc e)

@@ -48,10 +48,10 @@ Sets j text old new = IsSomeAnd (carried_at old.kind j) (λ f. (length text ≤ 
 
 -- why the text isn't set as a cell of field j: the first of these that holds
 abbrev pub IsSetFault : Kind → ℕ → List ℕ → SetFault → Type 0
-IsSetFault kind j text NoSuchField = field_at kind j ≡ None
-IsSetFault kind j text Derived = IsSomeAnd (field_at kind j) (λ f. IsTrue f.derived)
-IsSetFault kind j text TooWide = IsSomeAnd (carried_at kind j) (λ f. f.width < length text)
-IsSetFault kind j text (Cell fault) = IsSomeAnd (carried_at kind j) (λ f. (length text ≤ f.width) × HasFault f.ty (filled f.width text) fault)
+IsSetFault this_kind j text NoSuchField = field_at this_kind j ≡ None
+IsSetFault this_kind j text Derived = IsSomeAnd (field_at this_kind j) (λ f. IsTrue f.derived)
+IsSetFault this_kind j text TooWide = IsSomeAnd (carried_at this_kind j) (λ f. f.width < length text)
+IsSetFault this_kind j text (Cell fault) = IsSomeAnd (carried_at this_kind j) (λ f. (length text ≤ f.width) × HasFault f.ty (filled f.width text) fault)
 
 -- the record's cell of field j, where it has one, is one of the field's type
 abbrev pub FitsAt : RecordValue → ℕ → Type 0

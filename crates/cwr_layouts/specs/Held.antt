@@ -57,7 +57,7 @@ held_excess h = excess_as (held_kind h) (ended_too_long h.ended) (held_body h)
 -- cell j, from 1, of a line of the kind; a line of unknown kind has none
 abbrev pub cell_as : Option Kind → List (List ℕ) → ℕ → Option (List ℕ)
 cell_as None cells j = None
-cell_as (Some kind) cells j = if j == 0 then None else slice_get cells (j - 1)
+cell_as (Some this_kind) cells j = if j == 0 then None else slice_get cells (j - 1)
 
 -- cell j of the line, from 1
 abbrev pub held_cell : HeldLine → ℕ → Option (List ℕ)
@@ -66,7 +66,7 @@ held_cell h j = cell_as (held_kind h) (held_cells h) j
 -- what the line's cells carry; a line of unknown kind carries nothing
 abbrev pub carried_by : Option Kind → List (List ℕ) → Option RecordValue
 carried_by None cells = None
-carried_by (Some kind) cells = Some (record_of (record { kind = kind; cells = cells }))
+carried_by (Some this_kind) cells = Some (record_of (record { kind = this_kind; cells = cells }))
 
 abbrev pub held_record : HeldLine → Option RecordValue
 held_record h = carried_by (held_kind h) (held_cells h)
@@ -115,7 +115,7 @@ pub record IsCutAs (h : HeldLine) (line : List ℕ) : Type 0 where
 -- the body filled up to its kind's width, so that each cell is a part of it
 abbrev pub filled_as : Option Kind → List ℕ → List ℕ
 filled_as None body = filled 3 body
-filled_as (Some kind) body = filled (line_width kind) body
+filled_as (Some this_kind) body = filled (line_width this_kind) body
 
 -- a carriage return, where there is one
 abbrev pub return_if : Bool → List ℕ
@@ -133,9 +133,9 @@ pub record IsFilled (text : List ℕ) (kind : Option Kind) (h : HeldLine) : Type
 
 -- an open line is kept as it is, and one that ended is filled up
 abbrev pub KeepsBy : LineEnd → List ℕ → ℕ → Bool → Option Kind → HeldLine → Type 0
-KeepsBy Open text count has_return kind h = (count ≡ length text) × (has_return ≡ false)
-KeepsBy Line text count has_return kind h = IsFilled text kind h
-KeepsBy Over text count has_return kind h = IsFilled text kind h
+KeepsBy Open text count has_return this_kind h = (count ≡ length text) × (has_return ≡ false)
+KeepsBy Line text count has_return this_kind h = IsFilled text this_kind h
+KeepsBy Over text count has_return this_kind h = IsFilled text this_kind h
 
 -- a line buffer keeps a line
 pub record IsKept (text : List ℕ) (count : ℕ) (has_return : Bool) (kind : Option Kind) (ended : LineEnd) : Type 0 where

@@ -7,7 +7,7 @@ use Rattle.cwr_fields.specs.declared.cell_types.CellType.TheVariants.{Text, Requ
 use Rattle.cwr_fields.specs.declared.tables.Table.TheVariants as tables
 use Rattle.cwr_fields.specs.declared.cell_types.Word.TheVariants as words
 use Rattle.cwr_layouts.specs.declared.kinds.Kind.{Kind}
-use Rattle.cwr_layouts.specs.declared.kinds.Kind.TheVariants.{Hdr, Grh, Grt, Trl, Agr, Ter, Ipa, Nwr, Rev, Spu, Opu, Spt, Swr, Owr, Swt, Pwr, Alt, Ewt, Ver, Per, Rec, Orn, Com, Ack, Msg}
+use Rattle.cwr_layouts.specs.declared.kinds.Kind.TheVariants.{Hdr, Grh, Grt, Trl, Agr, Ter, Ipa, Nwr, Rev, Spu, Opu, Spt, Swr, Owr, Swt, Pwr, Alt, Ewt, Ver, Per, Rec, Orn, Com, Ack, Msg, Opt, Owt, Npn, Npr, Nwn, Npa, Net, Now, Nct, Nvt, Nat, Ins, Ind, Ari, Xrf}
 
 -- a field of a layout
 pub record FieldLayout : Type 0 where
@@ -131,6 +131,10 @@ original_fields =
     cell "writer 2 ipi base number" 13 Text ∷
     cell "submitter work number" 14 Text ∷
     []
+
+-- the text of a record that is carried as text
+abbrev pub carried_fields : List FieldLayout
+carried_fields = cell "carried text" 700 Text ∷ []
 
 -- the fields after the record type
 abbrev pub fields_after_type : Kind → List FieldLayout
@@ -309,6 +313,21 @@ fields_after_type Msg = in_transaction (
     cell "validation number" 3 Text ∷
     cell "message text" 150 Required ∷
     [])
+fields_after_type Opt = in_transaction carried_fields
+fields_after_type Owt = in_transaction carried_fields
+fields_after_type Npn = in_transaction carried_fields
+fields_after_type Npr = in_transaction carried_fields
+fields_after_type Nwn = in_transaction carried_fields
+fields_after_type Npa = in_transaction carried_fields
+fields_after_type Net = in_transaction carried_fields
+fields_after_type Now = in_transaction carried_fields
+fields_after_type Nct = in_transaction carried_fields
+fields_after_type Nvt = in_transaction carried_fields
+fields_after_type Nat = in_transaction carried_fields
+fields_after_type Ins = in_transaction carried_fields
+fields_after_type Ind = in_transaction carried_fields
+fields_after_type Ari = in_transaction carried_fields
+fields_after_type Xrf = in_transaction carried_fields
 
 -- the fields of a kind, numbered from 1
 abbrev pub layout : Kind → List FieldLayout
@@ -333,5 +352,5 @@ field_placed kind j = if j == 0 then None else slice_get (placed_fields 0 (layou
 
 -- field j, from 1
 abbrev pub field_at : Kind → ℕ → Option FieldLayout
-field_at kind zero = None
-field_at kind (suc i) = slice_get (layout kind) i
+field_at this_kind zero = None
+field_at this_kind (suc i) = slice_get (layout this_kind) i

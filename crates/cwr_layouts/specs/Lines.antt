@@ -53,12 +53,12 @@ body_kind body = kind_of (take 3 (filled 3 body))
 -- the cells of a line of the kind, filled up with spaces; a line of unknown kind has one cell, its first three bytes
 abbrev pub cells_as : Option Kind → List ℕ → List (List ℕ)
 cells_as None body = take 3 (filled 3 body) ∷ []
-cells_as (Some kind) body = pieces (map (λ f. f.width) (layout kind)) (filled (line_width kind) body)
+cells_as (Some this_kind) body = pieces (map (λ f. f.width) (layout this_kind)) (filled (line_width this_kind) body)
 
 -- what stands after the last field is bad: it isn't all spaces, or the line is too long; a line of unknown kind has none
 abbrev pub excess_as : Option Kind → Bool → List ℕ → Bool
 excess_as None too_long body = false
-excess_as (Some kind) too_long body = too_long || not (is_spaces (drop (line_width kind) body))
+excess_as (Some this_kind) too_long body = too_long || not (is_spaces (drop (line_width this_kind) body))
 
 -- the kind of a line
 abbrev pub line_kind : List ℕ → Option Kind

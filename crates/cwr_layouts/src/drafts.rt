@@ -109,6 +109,7 @@ fn judge_cell(kind: Kind, line: &[u8], plain: bool, j: u8) -> Result<(), CellFau
 
 /// Judges the cells that a whole line carries, in order: by quick tests, and where these don't find them all good one by
 /// one for the first fault. `plain` says whether the line is known to have no control byte.
+#[inline(never)]
 pub(crate) fn judge(kind: Kind, line: &[u8], plain: bool) -> Result<(), DraftFault>
     requires whole { length line.now ≡ line_width kind }
     requires plain { IsTrue plain → IsTrue (is_plain line.now) }
@@ -126,6 +127,20 @@ pub(crate) fn judge(kind: Kind, line: &[u8], plain: bool) -> Result<(), DraftFau
         }
     }
     Ok(())
+}
+
+/// Whether a whole line carries a record. `plain` says whether the line is known to have no control byte, and then quick
+/// tests are asked first.
+#[inline(never)]
+pub(crate) fn carries(kind: Kind, line: &[u8], plain: bool) -> bool
+    requires whole { length line.now ≡ line_width kind }
+    requires plain { IsTrue plain → IsTrue (is_plain line.now) }
+    ensures { IsTrue result ↔ IsRecord (record_in kind line.now) }
+{
+    if plain && surely_carries(kind, line) {
+        return true;
+    }
+    judge(kind, line, plain).is_ok()
 }
 
 /// A record of CWR 2.1 that is being made: a kind and the cells of its fields, of which some may not be set yet. Each

@@ -359,6 +359,141 @@ fn msg_fits(line: &[u8]) -> bool
         & fits_at(Kind::Msg, line, 8)
 }
 
+/// Whether quick tests find the cells of a line of OPT good.
+fn opt_fits(line: &[u8]) -> bool
+    requires whole { length line.now ≡ line_width Kind.Opt }
+    requires plain { IsTrue (is_plain line.now) }
+    ensures { IsTrue result → IsRecord (record_in Kind.Opt line.now) }
+{
+    true
+}
+
+/// Whether quick tests find the cells of a line of OWT good.
+fn owt_fits(line: &[u8]) -> bool
+    requires whole { length line.now ≡ line_width Kind.Owt }
+    requires plain { IsTrue (is_plain line.now) }
+    ensures { IsTrue result → IsRecord (record_in Kind.Owt line.now) }
+{
+    true
+}
+
+/// Whether quick tests find the cells of a line of NPN good.
+fn npn_fits(line: &[u8]) -> bool
+    requires whole { length line.now ≡ line_width Kind.Npn }
+    requires plain { IsTrue (is_plain line.now) }
+    ensures { IsTrue result → IsRecord (record_in Kind.Npn line.now) }
+{
+    true
+}
+
+/// Whether quick tests find the cells of a line of NPR good.
+fn npr_fits(line: &[u8]) -> bool
+    requires whole { length line.now ≡ line_width Kind.Npr }
+    requires plain { IsTrue (is_plain line.now) }
+    ensures { IsTrue result → IsRecord (record_in Kind.Npr line.now) }
+{
+    true
+}
+
+/// Whether quick tests find the cells of a line of NWN good.
+fn nwn_fits(line: &[u8]) -> bool
+    requires whole { length line.now ≡ line_width Kind.Nwn }
+    requires plain { IsTrue (is_plain line.now) }
+    ensures { IsTrue result → IsRecord (record_in Kind.Nwn line.now) }
+{
+    true
+}
+
+/// Whether quick tests find the cells of a line of NPA good.
+fn npa_fits(line: &[u8]) -> bool
+    requires whole { length line.now ≡ line_width Kind.Npa }
+    requires plain { IsTrue (is_plain line.now) }
+    ensures { IsTrue result → IsRecord (record_in Kind.Npa line.now) }
+{
+    true
+}
+
+/// Whether quick tests find the cells of a line of NET good.
+fn net_fits(line: &[u8]) -> bool
+    requires whole { length line.now ≡ line_width Kind.Net }
+    requires plain { IsTrue (is_plain line.now) }
+    ensures { IsTrue result → IsRecord (record_in Kind.Net line.now) }
+{
+    true
+}
+
+/// Whether quick tests find the cells of a line of NOW good.
+fn now_fits(line: &[u8]) -> bool
+    requires whole { length line.now ≡ line_width Kind.Now }
+    requires plain { IsTrue (is_plain line.now) }
+    ensures { IsTrue result → IsRecord (record_in Kind.Now line.now) }
+{
+    true
+}
+
+/// Whether quick tests find the cells of a line of NCT good.
+fn nct_fits(line: &[u8]) -> bool
+    requires whole { length line.now ≡ line_width Kind.Nct }
+    requires plain { IsTrue (is_plain line.now) }
+    ensures { IsTrue result → IsRecord (record_in Kind.Nct line.now) }
+{
+    true
+}
+
+/// Whether quick tests find the cells of a line of NVT good.
+fn nvt_fits(line: &[u8]) -> bool
+    requires whole { length line.now ≡ line_width Kind.Nvt }
+    requires plain { IsTrue (is_plain line.now) }
+    ensures { IsTrue result → IsRecord (record_in Kind.Nvt line.now) }
+{
+    true
+}
+
+/// Whether quick tests find the cells of a line of NAT good.
+fn nat_fits(line: &[u8]) -> bool
+    requires whole { length line.now ≡ line_width Kind.Nat }
+    requires plain { IsTrue (is_plain line.now) }
+    ensures { IsTrue result → IsRecord (record_in Kind.Nat line.now) }
+{
+    true
+}
+
+/// Whether quick tests find the cells of a line of INS good.
+fn ins_fits(line: &[u8]) -> bool
+    requires whole { length line.now ≡ line_width Kind.Ins }
+    requires plain { IsTrue (is_plain line.now) }
+    ensures { IsTrue result → IsRecord (record_in Kind.Ins line.now) }
+{
+    true
+}
+
+/// Whether quick tests find the cells of a line of IND good.
+fn ind_fits(line: &[u8]) -> bool
+    requires whole { length line.now ≡ line_width Kind.Ind }
+    requires plain { IsTrue (is_plain line.now) }
+    ensures { IsTrue result → IsRecord (record_in Kind.Ind line.now) }
+{
+    true
+}
+
+/// Whether quick tests find the cells of a line of ARI good.
+fn ari_fits(line: &[u8]) -> bool
+    requires whole { length line.now ≡ line_width Kind.Ari }
+    requires plain { IsTrue (is_plain line.now) }
+    ensures { IsTrue result → IsRecord (record_in Kind.Ari line.now) }
+{
+    true
+}
+
+/// Whether quick tests find the cells of a line of XRF good.
+fn xrf_fits(line: &[u8]) -> bool
+    requires whole { length line.now ≡ line_width Kind.Xrf }
+    requires plain { IsTrue (is_plain line.now) }
+    ensures { IsTrue result → IsRecord (record_in Kind.Xrf line.now) }
+{
+    true
+}
+
 /// Whether quick tests find each cell that a whole line carries to be one of its field's type. The line has no control
 /// byte. A no says nothing.
 #[inline(always)]
@@ -393,5 +528,20 @@ pub(crate) fn surely_carries(kind: Kind, line: &[u8]) -> bool
         Kind::Com => com_fits(line),
         Kind::Ack => ack_fits(line),
         Kind::Msg => msg_fits(line),
+        Kind::Opt => opt_fits(line),
+        Kind::Owt => owt_fits(line),
+        Kind::Npn => npn_fits(line),
+        Kind::Npr => npr_fits(line),
+        Kind::Nwn => nwn_fits(line),
+        Kind::Npa => npa_fits(line),
+        Kind::Net => net_fits(line),
+        Kind::Now => now_fits(line),
+        Kind::Nct => nct_fits(line),
+        Kind::Nvt => nvt_fits(line),
+        Kind::Nat => nat_fits(line),
+        Kind::Ins => ins_fits(line),
+        Kind::Ind => ind_fits(line),
+        Kind::Ari => ari_fits(line),
+        Kind::Xrf => xrf_fits(line),
     }
 }

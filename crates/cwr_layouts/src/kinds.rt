@@ -1,7 +1,7 @@
 //! The kinds of records.
 
 ghost use Rattle.std.specs.Prelude.{◌≡◌};
-ghost use Rattle.cwr_layouts.specs.Kinds.{is_in_transaction, kind_of, letters as letters_of};
+ghost use Rattle.cwr_layouts.specs.Kinds.{is_carried, is_in_transaction, kind_of, letters as letters_of};
 
 /// The kind of a record, by the three bytes that its line begins with.
 #[derive(Clone, Copy, Debug, PartialEq, Eq)]
@@ -56,6 +56,36 @@ pub enum Kind {
     Ack,
     /// A message of an acknowledgement.
     Msg,
+    /// OPT, carried as text.
+    Opt,
+    /// OWT, carried as text.
+    Owt,
+    /// NPN, carried as text.
+    Npn,
+    /// NPR, carried as text.
+    Npr,
+    /// NWN, carried as text.
+    Nwn,
+    /// NPA, carried as text.
+    Npa,
+    /// NET, carried as text.
+    Net,
+    /// NOW, carried as text.
+    Now,
+    /// NCT, carried as text.
+    Nct,
+    /// NVT, carried as text.
+    Nvt,
+    /// NAT, carried as text.
+    Nat,
+    /// INS, carried as text.
+    Ins,
+    /// IND, carried as text.
+    Ind,
+    /// ARI, carried as text.
+    Ari,
+    /// XRF, carried as text.
+    Xrf,
 }
 
 impl Kind {
@@ -90,6 +120,21 @@ impl Kind {
             b"COM" => Some(Kind::Com),
             b"ACK" => Some(Kind::Ack),
             b"MSG" => Some(Kind::Msg),
+            b"OPT" => Some(Kind::Opt),
+            b"OWT" => Some(Kind::Owt),
+            b"NPN" => Some(Kind::Npn),
+            b"NPR" => Some(Kind::Npr),
+            b"NWN" => Some(Kind::Nwn),
+            b"NPA" => Some(Kind::Npa),
+            b"NET" => Some(Kind::Net),
+            b"NOW" => Some(Kind::Now),
+            b"NCT" => Some(Kind::Nct),
+            b"NVT" => Some(Kind::Nvt),
+            b"NAT" => Some(Kind::Nat),
+            b"INS" => Some(Kind::Ins),
+            b"IND" => Some(Kind::Ind),
+            b"ARI" => Some(Kind::Ari),
+            b"XRF" => Some(Kind::Xrf),
             _ => None,
         }
     }
@@ -125,6 +170,21 @@ pub fn letters(kind: Kind) -> &'static [u8]
         Kind::Com => b"COM",
         Kind::Ack => b"ACK",
         Kind::Msg => b"MSG",
+        Kind::Opt => b"OPT",
+        Kind::Owt => b"OWT",
+        Kind::Npn => b"NPN",
+        Kind::Npr => b"NPR",
+        Kind::Nwn => b"NWN",
+        Kind::Npa => b"NPA",
+        Kind::Net => b"NET",
+        Kind::Now => b"NOW",
+        Kind::Nct => b"NCT",
+        Kind::Nvt => b"NVT",
+        Kind::Nat => b"NAT",
+        Kind::Ins => b"INS",
+        Kind::Ind => b"IND",
+        Kind::Ari => b"ARI",
+        Kind::Xrf => b"XRF",
     }
 }
 
@@ -136,5 +196,31 @@ pub(crate) fn is_in_transaction(kind: Kind) -> bool
     match kind {
         Kind::Hdr | Kind::Grh | Kind::Grt | Kind::Trl => false,
         _ => true,
+    }
+}
+
+/// Whether records of the kind are carried as text: they may stand anywhere after the header of an agreement or a work
+/// (this profile).
+#[inline(always)]
+pub fn is_carried(kind: Kind) -> bool
+    ensures { result ≡ is_carried kind }
+{
+    match kind {
+        Kind::Opt
+        | Kind::Owt
+        | Kind::Npn
+        | Kind::Npr
+        | Kind::Nwn
+        | Kind::Npa
+        | Kind::Net
+        | Kind::Now
+        | Kind::Nct
+        | Kind::Nvt
+        | Kind::Nat
+        | Kind::Ins
+        | Kind::Ind
+        | Kind::Ari
+        | Kind::Xrf => true,
+        _ => false,
     }
 }

@@ -513,6 +513,14 @@ static MSG: [Field; 9] = [
     carried!(35, 150, "message text", Required),
 ];
 
+#[rattlefmt::skip]
+static CARRIED: [Field; 4] = [
+    derived!(0, 3, "record type", Required),
+    derived!(3, 8, "transaction sequence", Number),
+    derived!(11, 8, "record sequence", Number),
+    carried!(19, 700, "carried text", Text),
+];
+
 /// The fields of a kind, in order.
 #[inline(always)]
 pub(crate) fn layout(kind: Kind) -> &'static [Field]
@@ -544,5 +552,20 @@ pub(crate) fn layout(kind: Kind) -> &'static [Field]
         Kind::Com => &COM,
         Kind::Ack => &ACK,
         Kind::Msg => &MSG,
+        Kind::Opt => &CARRIED,
+        Kind::Owt => &CARRIED,
+        Kind::Npn => &CARRIED,
+        Kind::Npr => &CARRIED,
+        Kind::Nwn => &CARRIED,
+        Kind::Npa => &CARRIED,
+        Kind::Net => &CARRIED,
+        Kind::Now => &CARRIED,
+        Kind::Nct => &CARRIED,
+        Kind::Nvt => &CARRIED,
+        Kind::Nat => &CARRIED,
+        Kind::Ins => &CARRIED,
+        Kind::Ind => &CARRIED,
+        Kind::Ari => &CARRIED,
+        Kind::Xrf => &CARRIED,
     }
 }

@@ -2,7 +2,7 @@
 //! one carriage return directly before that belongs to the line end. The most bytes of a line, and that spaces may be
 //! left out or added at its end, are rules of this profile.
 
-ghost use Rattle.std.specs.Prelude.{◌≡◌, ◌≢◌, ◌≤◌, ◌<◌, ◌+◌, ◌++◌, length, take, drop, slice_index, ◌↔◌, IsFalse, IsSome, IsSomeAnd, IsTrue, IfSome, Some, MatchOption, option_map};
+ghost use Rattle.std.specs.Prelude.{◌≡◌, ◌≢◌, ◌≤◌, ◌<◌, ◌+◌, ◌++◌, length, take, drop, slice_index, ◌↔◌, IsFalse, IsNone, IsSome, IsSomeAnd, IsTrue, IfSome, Some, MatchOption, option_map};
 ghost use Rattle.std.specs.List.{list_any};
 ghost use Rattle.cwr_fields.specs.Bytes.{filled, is_plain};
 ghost use Rattle.cwr_layouts.specs.Lines.{is_lf, without_cr, body_kind};
@@ -186,6 +186,18 @@ impl LineBuf {
         self.count = self.text.len();
     }
 
+    /// Holds a line that ended, wherever it stands.
+    pub fn keep(&mut self, line: &CutLine<'_>)
+        ensures { self.new ≡ line.now }
+    {
+        self.text.truncate(0);
+        let _fits = self.text.try_extend_from_slice(line.text);
+        self.count = line.count;
+        self.has_return = line.has_return;
+        self.kind = line.kind;
+        self.ended = line.ended;
+    }
+
     /// Ends an open line without a line feed, as if one stood there.
     pub fn close(&mut self)
         requires { self.old.ended ≡ LineEnd.Open }
@@ -241,6 +253,24 @@ impl LineBuf {
                 }
             }
         }
+    }
+
+    /// Takes the line's next bytes from a piece up to its line feed, where that stands in the piece and the line isn't too
+    /// long, and answers how many bytes they are, the line feed counted. `None` where nothing was taken.
+    pub fn take_ended(&mut self, piece: &[u8]) -> Option<usize>
+        requires { self.old.ended ≡ LineEnd.Open }
+        ensures takes { IfSome result (λ used. Takes self.old piece.now used self.new) }
+        ensures ended { IfSome result (λ _. self.new.ended ≡ LineEnd.Line) }
+        ensures held { IsHeld self.new }
+        ensures none { IsNone result → self.new ≡ self.old }
+    {
+        let reach = LONGEST_LINE + 1 - self.len();
+        let Some(at) = line_feed(&piece[..reach.min(piece.len())]) else {
+            return None;
+        };
+        self.hold(&piece[..at]);
+        self.close();
+        Some(at + 1)
     }
 
     /// The cells of a line that ended, borrowed from the buffer.

@@ -6,7 +6,7 @@ ghost use Rattle.cwr_layouts.specs.Layouts.{line_width};
 ghost use Rattle.cwr_layouts.specs.Records.{IsRecord};
 ghost use Rattle.cwr_layouts.specs.Carried.{HasCellOf, record_cell, record_in};
 
-use crate::drafts::judge;
+use crate::drafts::carries;
 use crate::kinds::Kind;
 use crate::lines::part;
 use crate::lookups::{carried_field, fields};
@@ -16,7 +16,7 @@ use std::fmt::{self, Debug};
 use std::marker::Model;
 
 /// The bytes of the widest line, those of EWT and VER.
-pub(crate) const WIDEST_LINE: usize = 364;
+pub(crate) const WIDEST_LINE: usize = 719;
 
 /// The bytes of a whole line of some kind.
 pub(crate) type LineText = ArrayVec<u8, WIDEST_LINE>;
@@ -123,15 +123,17 @@ impl<'a> Model for RecordRef<'a> {
 impl<'a> RecordRef<'a> {
     /// The record that a whole line of the kind carries. `None` where one of its cells isn't one of its field's type.
     /// `plain` says whether the line is known to have no control byte.
+    #[inline(always)]
     pub(crate) fn from_line(kind: Kind, line: &'a [u8], plain: bool) -> Option<Self>
         requires whole { length line.now ≡ line_width kind }
         requires plain { IsTrue plain → IsTrue (is_plain line.now) }
         ensures some { IsSome result ↔ IsRecord (record_in kind line.now) }
         ensures value { IfSome result (λ found. found ≡ record_in kind line.now) }
     {
-        match judge(kind, line, plain) {
-            Ok(()) => Some(RecordRef { kind, line }),
-            Err(_) => None,
+        if carries(kind, line, plain) {
+            Some(RecordRef { kind, line })
+        } else {
+            None
         }
     }
 

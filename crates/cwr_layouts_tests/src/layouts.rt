@@ -7,6 +7,8 @@ use cwr_layouts::{Kind, field, fields, width};
 fn kinds_by_their_letters(rt: HostRuntime) {
     assert_eq!(rt; Kind::of(b"NWR"), Some(Kind::Nwr));
     assert_eq!(rt; Kind::of(b"MSG"), Some(Kind::Msg));
+    assert_eq!(rt; Kind::of(b"OPT"), Some(Kind::Opt));
+    assert_eq!(rt; Kind::of(b"XRF"), Some(Kind::Xrf));
     assert_eq!(rt; Kind::of(b"hdr"), None);
     assert_eq!(rt; Kind::of(b"HD"), None);
     assert_eq!(rt; Kind::of(b"HDRX"), None);
@@ -40,6 +42,21 @@ fn widths_and_counts(rt: HostRuntime) {
         (Kind::Com, 308, 15),
         (Kind::Ack, 159, 13),
         (Kind::Msg, 185, 9),
+        (Kind::Opt, 719, 4),
+        (Kind::Owt, 719, 4),
+        (Kind::Npn, 719, 4),
+        (Kind::Npr, 719, 4),
+        (Kind::Nwn, 719, 4),
+        (Kind::Npa, 719, 4),
+        (Kind::Net, 719, 4),
+        (Kind::Now, 719, 4),
+        (Kind::Nct, 719, 4),
+        (Kind::Nvt, 719, 4),
+        (Kind::Nat, 719, 4),
+        (Kind::Ins, 719, 4),
+        (Kind::Ind, 719, 4),
+        (Kind::Ari, 719, 4),
+        (Kind::Xrf, 719, 4),
     ];
     for (kind, bytes, count) in table {
         assert_eq!(rt; width(kind), bytes);

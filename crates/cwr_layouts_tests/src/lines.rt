@@ -83,7 +83,7 @@ fn cells_of_short_trailers(rt: HostRuntime) {
 
 #[test]
 fn unknown_kinds_have_no_cells(rt: HostRuntime) {
-    let texts: [&[u8]; 5] = [b"", b"\r\n", b"HD\n", b"hdr\n", b"OPT000000000000000X\n"];
+    let texts: [&[u8]; 5] = [b"", b"\r\n", b"HD\n", b"hdr\n", b"EXC000000000000000X\n"];
     for text in texts {
         let line = line_of(text);
         let cut = line.cut();

@@ -49,6 +49,16 @@ fn fault_of(draft: &Draft) -> Option<DraftFault> {
 }
 
 #[test]
+fn carried_text_has_seven_hundred_bytes(rt: HostRuntime) {
+    let mut draft = Draft::blank(Kind::Ind);
+    let text = [b'A'; 701];
+    assert_eq!(rt; draft.set(4, &text), Err(SetFault::TooWide));
+    assert_eq!(rt; draft.set(4, &text[..700]), Ok(()));
+    let record = draft.done().expect(&rt, "no record");
+    assert_eq!(rt; record.view().cell(4), Some(&text[..700]));
+}
+
+#[test]
 fn refuses_texts(rt: HostRuntime) {
     let mut draft = Draft::blank(Kind::Ack);
     let table: [(u8, &[u8], SetFault); 9] = [

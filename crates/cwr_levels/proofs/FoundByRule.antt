@@ -14,12 +14,12 @@ use Rattle.cwr_levels.specs.Walks.{can_break, is_kind, rules_on}
 use Rattle.cwr_levels.proofs.RuleTests.{first_of_work, first_of_agreement, or_none}
 
 -- the finding of a rule at a record
-abbrev pub finding_of : ℕ → RecordValue → Rule → Finding
-finding_of k r rule = record { rec = k; field = field_of_rule rule r.kind; rule = rule; level = level_of_rule rule }
+abbrev pub finding_of : ℕ → ℕ → RecordValue → Rule → Finding
+finding_of n k r rule = record { rec = n + k; field = field_of_rule rule r.kind; rule = rule; level = level_of_rule rule }
 
 -- the findings of these rules at a record
-abbrev pub found_by : List RecordValue → ℕ → RecordValue → List Rule → List Finding
-found_by t k r rules = map (finding_of k r) (filter (λ rule. breaks rule t k r) rules)
+abbrev pub found_by : ℕ → List RecordValue → ℕ → RecordValue → List Rule → List Finding
+found_by n t k r rules = map (finding_of n k r) (filter (λ rule. breaks rule t k r) rules)
 
 -- ---- a rule is broken only by the kinds that can break it
 
@@ -80,28 +80,28 @@ filter_within p q h [] = refl
 filter_within p q h (x ∷ l) = filter_by p q x l (p x) (q x) refl refl (h x) (filter_within p q h l)
 
 -- so these rules are all that need to be asked
-pub found_by_all : (t : List RecordValue) (k : ℕ) (r : RecordValue) → slice_get t k ≡ Some r → found_by t k r (rules_on r.kind) ≡ findings_at t k r
-found_by_all t k r there =
-    ap (map (finding_of k r)) (filter_within (λ rule. breaks rule t k r) (λ rule. can_break rule r.kind) (λ rule h. broken_can_be rule t k r there h) all_rules)
+pub found_by_all : (n : ℕ) (t : List RecordValue) (k : ℕ) (r : RecordValue) → slice_get t k ≡ Some r → found_by n t k r (rules_on r.kind) ≡ findings_at n t k r
+found_by_all n t k r there =
+    ap (map (finding_of n k r)) (filter_within (λ rule. breaks rule t k r) (λ rule. can_break rule r.kind) (λ rule h. broken_can_be rule t k r there h) all_rules)
 
-pub found_by_end : (t : List RecordValue) (k : ℕ) (r : RecordValue) (rules : List Rule) (i : ℕ) → slice_get t k ≡ Some r → rules ≡ rules_on r.kind → length rules ≤ i → found_by t k r (take i rules) ≡ findings_at t k r
-found_by_end t k r rules i there e end = ap (found_by t k r) (take_all i rules end ∙ e) ∙ found_by_all t k r there
+pub found_by_end : (n : ℕ) (t : List RecordValue) (k : ℕ) (r : RecordValue) (rules : List Rule) (i : ℕ) → slice_get t k ≡ Some r → rules ≡ rules_on r.kind → length rules ≤ i → found_by n t k r (take i rules) ≡ findings_at n t k r
+found_by_end n t k r rules i there e end = ap (found_by n t k r) (take_all i rules end ∙ e) ∙ found_by_all n t k r there
 
 -- ---- one rule more
 
-pub found_by_more : (t : List RecordValue) (k : ℕ) (r : RecordValue) (rules : List Rule) (i : ℕ) (d : Rule) (old found : List Finding) → i < length rules → breaks (get_or rules i d) t k r ≡ true
-    → found ≡ old ++ found_by t k r (take i rules) → found ++ finding_of k r (get_or rules i d) ∷ [] ≡ old ++ found_by t k r (take (i + 1) rules)
-found_by_more t k r rules i d old found below broken h =
-    ap (λ (l : List Finding). l ++ finding_of k r (get_or rules i d) ∷ []) h
-    ∙ append_assoc old (found_by t k r (take i rules)) (finding_of k r (get_or rules i d) ∷ [])
-    ∙ ap (λ (l : List Finding). old ++ l) (sym (ap (map (finding_of k r)) (filter_more (λ rule. breaks rule t k r) rules i d below
+pub found_by_more : (n : ℕ) (t : List RecordValue) (k : ℕ) (r : RecordValue) (rules : List Rule) (i : ℕ) (d : Rule) (old found : List Finding) → i < length rules → breaks (get_or rules i d) t k r ≡ true
+    → found ≡ old ++ found_by n t k r (take i rules) → found ++ finding_of n k r (get_or rules i d) ∷ [] ≡ old ++ found_by n t k r (take (i + 1) rules)
+found_by_more n t k r rules i d old found below broken h =
+    ap (λ (l : List Finding). l ++ finding_of n k r (get_or rules i d) ∷ []) h
+    ∙ append_assoc old (found_by n t k r (take i rules)) (finding_of n k r (get_or rules i d) ∷ [])
+    ∙ ap (λ (l : List Finding). old ++ l) (sym (ap (map (finding_of n k r)) (filter_more (λ rule. breaks rule t k r) rules i d below
     ∙ ap (λ (b : Bool). filter (λ rule. breaks rule t k r) (take i rules) ++ cond b (get_or rules i d ∷ []) []) broken)
-    ∙ map-append (finding_of k r) (filter (λ rule. breaks rule t k r) (take i rules)) (get_or rules i d ∷ [])))
+    ∙ map-append (finding_of n k r) (filter (λ rule. breaks rule t k r) (take i rules)) (get_or rules i d ∷ [])))
 
-pub found_by_same : (t : List RecordValue) (k : ℕ) (r : RecordValue) (rules : List Rule) (i : ℕ) (d : Rule) (old found : List Finding) → i < length rules → breaks (get_or rules i d) t k r ≡ false
-    → found ≡ old ++ found_by t k r (take i rules) → found ≡ old ++ found_by t k r (take (i + 1) rules)
-found_by_same t k r rules i d old found below kept h =
-    h ∙ ap (λ (l : List Finding). old ++ l) (sym (ap (map (finding_of k r)) (filter_more (λ rule. breaks rule t k r) rules i d below
+pub found_by_same : (n : ℕ) (t : List RecordValue) (k : ℕ) (r : RecordValue) (rules : List Rule) (i : ℕ) (d : Rule) (old found : List Finding) → i < length rules → breaks (get_or rules i d) t k r ≡ false
+    → found ≡ old ++ found_by n t k r (take i rules) → found ≡ old ++ found_by n t k r (take (i + 1) rules)
+found_by_same n t k r rules i d old found below kept h =
+    h ∙ ap (λ (l : List Finding). old ++ l) (sym (ap (map (finding_of n k r)) (filter_more (λ rule. breaks rule t k r) rules i d below
     ∙ ap (λ (b : Bool). filter (λ rule. breaks rule t k r) (take i rules) ++ cond b (get_or rules i d ∷ []) []) kept
     ∙ append-nil (filter (λ rule. breaks rule t k r) (take i rules)))))
 
@@ -124,11 +124,11 @@ none_mapped : (f : Rule → Finding) (l : List Rule) → map f l ≡ [] → l �
 none_mapped f [] e = refl
 none_mapped f (x ∷ l) e = absurd (cc e)
 
-pub some_found : (t : List RecordValue) (k : ℕ) (r : RecordValue) (rules : List Rule) (i : ℕ) (d : Rule) → slice_get t k ≡ Some r → rules ≡ rules_on r.kind → i < length rules → breaks (get_or rules i d) t k r ≡ true
-    → findings_at t k r ≡ [] → ⊥
-some_found t k r rules i d there e below broken none =
+pub some_found : (n : ℕ) (t : List RecordValue) (k : ℕ) (r : RecordValue) (rules : List Rule) (i : ℕ) (d : Rule) → slice_get t k ≡ Some r → rules ≡ rules_on r.kind → i < length rules → breaks (get_or rules i d) t k r ≡ true
+    → findings_at n t k r ≡ [] → ⊥
+some_found n t k r rules i d there e below broken none =
     some_kept (λ rule. breaks rule t k r) rules i d below broken
-    (none_mapped (finding_of k r) (filter (λ rule. breaks rule t k r) rules) (ap (found_by t k r) e ∙ found_by_all t k r there ∙ none))
+    (none_mapped (finding_of n k r) (filter (λ rule. breaks rule t k r) rules) (ap (found_by n t k r) e ∙ found_by_all n t k r there ∙ none))
 
 pub on_err : {T E : Type 0} → (r : Result T E) (P : Type 0) → P → OnErr r P
 on_err (Ok x) P h = tt

@@ -9,6 +9,8 @@ pub mod RuleTests
 pub mod AddedShares
 pub mod HeaderTests
 pub mod BlockParties
+pub mod PublisherNumbers
+pub mod CopyStarts
 pub mod FoundByRule
 pub mod CountedRecords
 pub mod FoundByRecord

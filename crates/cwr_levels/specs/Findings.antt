@@ -136,12 +136,12 @@ breaks V11 t k r = is_agreement t && is_a kinds.Ter r && begins_block (take k t)
 
 -- the field that the rule names in a record of the kind
 abbrev pub field_of_rule : Rule → Kind → ℕ
-field_of_rule V1 kind = field_number "iswc" kind
-field_of_rule V2 kind = field_number "interested party number" kind
-field_of_rule V7 kind = field_number "publisher interested party number" kind
-field_of_rule V9 kind = field_number "composite component count" kind
-field_of_rule V10 kind = field_number "end date" kind
-field_of_rule rule kind = 1
+field_of_rule V1 this_kind = field_number "iswc" this_kind
+field_of_rule V2 this_kind = field_number "interested party number" this_kind
+field_of_rule V7 this_kind = field_number "publisher interested party number" this_kind
+field_of_rule V9 this_kind = field_number "composite component count" this_kind
+field_of_rule V10 this_kind = field_number "end date" this_kind
+field_of_rule rule this_kind = 1
 
 -- how much a finding rejects
 abbrev pub level_of_rule : Rule → Level
@@ -156,10 +156,22 @@ level_of_rule rule = T
 abbrev pub all_rules : List Rule
 all_rules = V1 ∷ V2 ∷ V3 ∷ V4 ∷ V5 ∷ V6 ∷ V7 ∷ V8 ∷ V9 ∷ V10 ∷ V11 ∷ []
 
--- the findings at a record, by rule
-abbrev pub findings_at : List RecordValue → ℕ → RecordValue → List Finding
-findings_at t k r = map (λ rule. record { rec = k; field = field_of_rule rule r.kind; rule = rule; level = level_of_rule rule }) (filter (λ rule. breaks rule t k r) all_rules)
+-- the findings at a record, by rule, where n more stand before those of the list
+abbrev pub findings_at : ℕ → List RecordValue → ℕ → RecordValue → List Finding
+findings_at n t k r = map (λ rule. record { rec = n + k; field = field_of_rule rule r.kind; rule = rule; level = level_of_rule rule }) (filter (λ rule. breaks rule t k r) all_rules)
 
--- the findings of a transaction, by record and then by rule
+-- the findings of records as of a transaction of their own, by record and then by rule, where n more stand before them
+unfoldable pub findings_after : ℕ → List RecordValue → List Finding
+findings_after n t = flat_map (λ p. findings_at n t p.0 p.1) (enumerate_from 0 t)
+
+-- an acknowledgement, or a message of one
+abbrev pub stands_before_copy : RecordValue → Bool
+stands_before_copy r = is_a kinds.Ack r || is_a kinds.Msg r
+
+-- how many records stand before an acknowledgement's copy: itself and its messages; before an agreement or a work stands none
+abbrev pub before_copy : List RecordValue → ℕ
+before_copy t = prefix_len stands_before_copy t
+
+-- the findings of a transaction: of an acknowledgement they are those of its copy
 unfoldable pub findings : List RecordValue → List Finding
-findings t = flat_map (λ p. findings_at t p.0 p.1) (enumerate_from 0 t)
+findings t = findings_after (before_copy t) (drop (before_copy t) t)

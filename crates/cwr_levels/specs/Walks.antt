@@ -1,7 +1,11 @@
 -- What a walk over the records of a transaction knows.
-use Rattle.std.specs.Prelude.{◌≡◌, ℕ, ◌<◌, Bool, true, false, ◌&&◌, ◌||◌, min, List, Option, Some, None, option_map, filter, sum_by, count_by, slice_get}
+use Rattle.std.specs.Prelude.{◌≡◌, ℕ, ◌<◌, Bool, true, false, ◌&&◌, ◌||◌, min, List, Option, Some, None, option_map, filter, sum_by, count_by, slice_get, IfSome}
 use Rattle.std.specs.List.{list_any, last_or}
+use Rattle.std.specs.Borrow.{Bor}
 use Rattle.std.specs.Str.{bytes_eq}
+use Rattle.std.specs.BTreeSet.{BTreeSet, contains_by}
+use Rattle.std.specs.Cmp.Lexicographic.{slice_cmp}
+use Rattle.std.specs.Ordering.{nat_cmp}
 use Rattle.cwr_fields.specs.declared.codes.Role.TheVariants.{Assignor, Acquirer}
 use Rattle.cwr_layouts.specs.declared.kinds.Kind.{Kind}
 use Rattle.cwr_layouts.specs.declared.kinds.Kind.TheVariants as kinds
@@ -9,6 +13,7 @@ use Rattle.cwr_layouts.specs.Kinds.{letters}
 use Rattle.cwr_layouts.specs.Records.{RecordValue, cell_named}
 use Rattle.cwr_levels.specs.declared.rules.Rule.{Rule}
 use Rattle.cwr_levels.specs.declared.rules.Rule.TheVariants.{V1, V2, V7, V8, V10, V11}
+use Rattle.cwr_levels.specs.declared.publishers.Publishers.{Publishers}
 use Rattle.cwr_levels.specs.declared.shares.Shares.{Shares}
 use Rattle.cwr_levels.specs.declared.shares.Sides.{Sides}
 use Rattle.cwr_levels.specs.declared.totals.Totals.{Totals}
@@ -60,6 +65,14 @@ is_number number (Some other) = bytes_eq number other
 abbrev pub is_publisher : List ℕ → RecordValue → Bool
 is_publisher number r = is_a kinds.Spu r && bytes_eq number (cell_named "interested party number" r)
 
+-- the set has the numbers of the SPU records among these
+abbrev pub HasNumbersOf : List RecordValue → BTreeSet (Bor (List ℕ)) → Type 0
+HasNumbersOf records numbers = (number : Bor (List ℕ)) → contains_by (λ k. slice_cmp nat_cmp number.now k.now) numbers ≡ list_any (is_publisher number.now) records
+
+-- where the numbers of publishers are kept, they are those of the SPU records among these
+abbrev pub KnowsNumbersOf : List RecordValue → Publishers → Type 0
+KnowsNumbersOf records x = IfSome x.numbers (HasNumbersOf records)
+
 -- what the records before one leave behind
 pub record IsBefore (records : List RecordValue) (x : Before) : Type 0 where
   pub publisher : option_map (λ cell. cell.now) x.publisher ≡ party_number (nearest kinds.Spu records)
@@ -73,13 +86,13 @@ is_kind kind other = bytes_eq (letters other) (letters kind)
 
 -- a record of the kind can break the rule
 abbrev pub can_break : Rule → Kind → Bool
-can_break V1 kind = is_kind kinds.Nwr kind || is_kind kinds.Rev kind || is_kind kinds.Ewt kind || is_kind kinds.Ver kind || is_kind kinds.Com kind
-can_break V2 kind = is_kind kinds.Spt kind || is_kind kinds.Swt kind
-can_break V7 kind = is_kind kinds.Pwr kind
-can_break V8 kind = is_kind kinds.Ewt kind
-can_break V10 kind = is_kind kinds.Agr kind
-can_break V11 kind = is_kind kinds.Ter kind
-can_break rule kind = is_kind kinds.Nwr kind || is_kind kinds.Rev kind
+can_break V1 this_kind = is_kind kinds.Nwr this_kind || is_kind kinds.Rev this_kind || is_kind kinds.Ewt this_kind || is_kind kinds.Ver this_kind || is_kind kinds.Com this_kind
+can_break V2 this_kind = is_kind kinds.Spt this_kind || is_kind kinds.Swt this_kind
+can_break V7 this_kind = is_kind kinds.Pwr this_kind
+can_break V8 this_kind = is_kind kinds.Ewt this_kind
+can_break V10 this_kind = is_kind kinds.Agr this_kind
+can_break V11 this_kind = is_kind kinds.Ter this_kind
+can_break rule this_kind = is_kind kinds.Nwr this_kind || is_kind kinds.Rev this_kind
 
 -- the rules that a record of the kind can break, in their order
 abbrev pub rules_on : Kind → List Rule

@@ -7,30 +7,30 @@ ghost use Rattle.cwr_fields.specs.Iswc.{is_iswc};
 ghost use Rattle.cwr_layouts.specs.Records.{RecordValue};
 ghost use Rattle.cwr_levels.specs.declared.rules.Rule.TheVariants.{V1, V2, V3, V4, V5, V6, V7, V8, V9, V10, V11};
 ghost use Rattle.cwr_levels.specs.Findings.{breaks, counts_others, ends_before_start, is_agreement, is_blank, is_off, is_work};
-ghost use Rattle.cwr_levels.specs.Walks.{AreTotals, IsBefore, capped, is_number, is_publisher};
+ghost use Rattle.cwr_levels.specs.Walks.{AreTotals, IsBefore, KnowsNumbersOf, capped, is_number};
 
 use crate::before::Before;
 use crate::named_cells::{cell, is_of, number_of};
+use crate::publishers::Publishers;
+use crate::registered::Registered;
 use crate::rules::Rule;
 use crate::shares::{Sides, is_off};
 use crate::totals::Totals;
 use cwr_fields::{is_spaces, iswc_ok};
 use cwr_layouts::{Kind, RecordRef};
-use cwr_values::Transaction;
 
 /// Whether the records begin with the header of a work.
-fn is_work(transaction: &Transaction) -> bool
+fn is_work(transaction: &Registered<'_>) -> bool
     ensures { result ≡ is_work transaction.now }
 {
-    let head = transaction.kind();
-    head == Kind::Nwr || head == Kind::Rev
+    matches!(transaction.kind(), Some(Kind::Nwr | Kind::Rev))
 }
 
 /// Whether the records begin with the header of an agreement.
-fn is_agreement(transaction: &Transaction) -> bool
+fn is_agreement(transaction: &Registered<'_>) -> bool
     ensures { result ≡ is_agreement transaction.now }
 {
-    transaction.kind() == Kind::Agr
+    matches!(transaction.kind(), Some(Kind::Agr))
 }
 
 /// Whether the work code isn't blank and isn't right.
@@ -72,41 +72,22 @@ fn names_another_party(shown: &RecordRef<'_>, before: &Before<'_>) -> bool
     }
 }
 
-/// Whether the record is an SPU of this number.
-fn is_publisher(number: &[u8], shown: &RecordRef<'_>) -> bool
-    ensures { result ≡ is_publisher number.now shown.now }
-{
-    match shown.kind() {
-        Kind::Spu => number == cell(shown, 5),
-        _ => false,
-    }
-}
-
-/// Whether one of the first `end` records is an SPU of this number.
-fn has_publisher(transaction: &Transaction, end: usize, number: &[u8]) -> bool
-    ensures { result ≡ list_any (is_publisher number.now) (take end transaction.now) }
-{
-    for i in 0..end {
-        let Some(shown) = transaction.record(i) else {
-            break;
-        };
-        if is_publisher(number, &shown) {
-            return true;
-        }
-    }
-    false
-}
-
 /// Whether PWR names a publisher that the work hasn't.
-fn names_no_publisher(transaction: &Transaction, totals: &Totals, shown: &RecordRef<'_>) -> bool
-    requires { AreTotals transaction.now totals.now }
+fn names_no_publisher(
+    transaction: &Registered<'_>,
+    totals: &Totals,
+    publishers: &Publishers<'_>,
+    shown: &RecordRef<'_>,
+) -> bool
+    requires totals { AreTotals transaction.now totals.now }
+    requires publishers { KnowsNumbersOf (take totals.now.publishers_end transaction.now) publishers.now }
     ensures { (k : ℕ) → is_work transaction.now ≡ true → result ≡ breaks V7 transaction.now k shown.now }
 {
-    is_of(shown, Kind::Pwr) && !has_publisher(transaction, totals.publishers_end, cell(shown, 4))
+    is_of(shown, Kind::Pwr) && !publishers.have(transaction, totals.publishers_end, cell(shown, 4))
 }
 
 /// Whether the header of a work has no excerpt type.
-fn has_no_excerpt_type(transaction: &Transaction) -> bool
+fn has_no_excerpt_type(transaction: &Registered<'_>) -> bool
     requires { is_work transaction.now ≡ true }
     ensures { result ≡ list_any (is_blank "excerpt type") (take 1 transaction.now) }
 {
@@ -118,7 +99,7 @@ fn has_no_excerpt_type(transaction: &Transaction) -> bool
 
 /// Whether the record is the header of a work, and the sum of its shares in a right is neither nothing nor about the
 /// whole.
-fn is_off_in(transaction: &Transaction, sequence: usize, total: u64) -> bool
+fn is_off_in(transaction: &Registered<'_>, sequence: usize, total: u64) -> bool
     ensures { (n : ℕ) → total ≡ capped n → result ≡ (is_work transaction.now && (sequence == 0) && is_off n) }
 {
     is_work(transaction) && sequence == 0 && is_off(total)
@@ -145,7 +126,7 @@ fn ends_before_start(header: &RecordRef<'_>) -> bool
 
 /// Whether the record is the first TER of a block in which one side has more than the whole.
 fn begins_block_over_whole(
-    transaction: &Transaction,
+    transaction: &Registered<'_>,
     before: &Before<'_>,
     sequence: usize,
     shown: &RecordRef<'_>,
@@ -163,13 +144,15 @@ fn begins_block_over_whole(
 /// Whether the record, which stands after so many others, breaks the rule.
 pub(crate) fn breaks(
     rule: Rule,
-    transaction: &Transaction,
+    transaction: &Registered<'_>,
     totals: &Totals,
+    publishers: &Publishers<'_>,
     before: &Before<'_>,
     sequence: usize,
     shown: &RecordRef<'_>,
 ) -> bool
     requires totals { AreTotals transaction.now totals.now }
+    requires publishers { KnowsNumbersOf (take totals.now.publishers_end transaction.now) publishers.now }
     requires before { IsBefore (take sequence transaction.now) before.now }
     requires there { slice_get transaction.now sequence ≡ Some shown.now }
     ensures { result ≡ breaks rule transaction.now sequence shown.now }
@@ -181,7 +164,8 @@ pub(crate) fn breaks(
         Rule::V4 => is_off_in(transaction, sequence, totals.ownership.mechanical),
         Rule::V5 => is_off_in(transaction, sequence, totals.ownership.synchronization),
         Rule::V6 => is_work(transaction) && sequence == 0 && !totals.has_author,
-        Rule::V7 => is_work(transaction) && names_no_publisher(transaction, totals, shown),
+        Rule::V7 => is_work(transaction)
+            && names_no_publisher(transaction, totals, publishers, shown),
         Rule::V8 => is_work(transaction)
             && is_of(shown, Kind::Ewt)
             && has_no_excerpt_type(transaction),

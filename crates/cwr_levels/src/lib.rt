@@ -5,6 +5,8 @@ mod before;
 mod judging;
 mod lines;
 mod named_cells;
+mod publishers;
+mod registered;
 mod rules;
 mod shares;
 mod totals;

@@ -7,8 +7,8 @@ ghost use Rattle.cwr_levels.specs.Findings.{is_off, is_party, parties_after, are
 ghost use Rattle.cwr_levels.specs.Walks.{AddUpTo, SidesAddUpTo, capped, has_shares};
 
 use crate::named_cells::{cell, is_of, number_of};
+use crate::registered::Registered;
 use cwr_layouts::{Kind, RecordRef};
-use cwr_values::Transaction;
 
 /// Shares in the three rights, in hundredths of a percent, as far as 64 bits go.
 #[derive(Clone, Copy)]
@@ -117,7 +117,7 @@ impl Sides {
     }
 
     /// Those of the parties of a block, of whose territories `first` is one.
-    pub(crate) fn of_block(transaction: &Transaction, first: usize) -> Sides
+    pub(crate) fn of_block(transaction: &Registered<'_>, first: usize) -> Sides
         ensures { SidesAddUpTo (parties_after (drop first transaction.now)) result }
     {
         let mut sides = Sides::none();

@@ -6,9 +6,9 @@ ghost use Rattle.cwr_levels.specs.Findings.{is_owner, is_author, names_author};
 ghost use Rattle.cwr_levels.specs.Walks.{AreTotals};
 
 use crate::named_cells::{cell, is_of};
+use crate::registered::Registered;
 use crate::shares::Shares;
 use cwr_layouts::{Kind, RecordRef};
-use cwr_values::Transaction;
 
 /// Whether the record owns shares of a work.
 fn is_owner(shown: &RecordRef<'_>) -> bool
@@ -88,7 +88,7 @@ impl Totals {
     }
 
     /// Those over the records of a transaction.
-    pub(crate) fn of(transaction: &Transaction) -> Totals
+    pub(crate) fn of(transaction: &Registered<'_>) -> Totals
         ensures { AreTotals transaction.now result }
     {
         let mut totals = Totals::none();

@@ -1,11 +1,13 @@
 //! The walk over a transaction that finds which record breaks which rule.
 
-ghost use Rattle.std.specs.Prelude.{◌≡◌, ◌≢◌, ◌++◌, [], take, true, Some, slice_get, IfOk, OnOk, OnErr};
+ghost use Rattle.std.specs.Prelude.{◌≡◌, ◌≢◌, ◌+◌, ◌^◌, ◌<◌, ◌++◌, [], take, true, Some, slice_get, IfOk, OnOk, OnErr};
 ghost use Rattle.cwr_levels.specs.Findings.{field_of_rule, level_of_rule, findings, findings_at};
-ghost use Rattle.cwr_levels.specs.Walks.{AreTotals, IsBefore, can_break, rules_on};
+ghost use Rattle.cwr_levels.specs.Walks.{AreTotals, IsBefore, KnowsNumbersOf, can_break, rules_on};
 
 use crate::before::Before;
 use crate::judging::breaks;
+use crate::publishers::Publishers;
+use crate::registered::Registered;
 use crate::rules::{Finding, Rule};
 use crate::totals::Totals;
 use cwr_layouts::{Kind, RecordRef};
@@ -57,26 +59,38 @@ fn level_of(rule: Rule) -> Level
     }
 }
 
-/// Adds the findings at a record, which stands after so many others, by rule.
+/// Adds the findings at a record, by rule. It stands after so many others, and these after so many of its transaction.
 fn add_findings_at(
     found: &mut Vec<Finding>,
-    transaction: &Transaction,
+    transaction: &Registered<'_>,
+    start: usize,
     totals: &Totals,
+    publishers: &Publishers<'_>,
     before: &Before<'_>,
     sequence: usize,
     shown: &RecordRef<'_>,
 ) -> Result<(), AllocError>
     requires totals { AreTotals transaction.now totals.now }
+    requires publishers { KnowsNumbersOf (take totals.now.publishers_end transaction.now) publishers.now }
     requires before { IsBefore (take sequence transaction.now) before.now }
     requires there { slice_get transaction.now sequence ≡ Some shown.now }
-    ensures ok { OnOk result (found.new.items ≡ found.old.items ++ findings_at transaction.now sequence shown.now) }
-    ensures err { OnErr result (findings_at transaction.now sequence shown.now ≢ []) }
+    requires room { start + sequence < 2 ^ 64 }
+    ensures ok { OnOk result (found.new.items ≡ found.old.items ++ findings_at start transaction.now sequence shown.now) }
+    ensures err { OnErr result (findings_at start transaction.now sequence shown.now ≢ []) }
 {
     let kind = shown.kind();
     for rule in rules_on(kind) {
-        if breaks(*rule, transaction, totals, before, sequence, shown) {
+        if breaks(
+            *rule,
+            transaction,
+            totals,
+            publishers,
+            before,
+            sequence,
+            shown,
+        ) {
             found.push(Finding {
-                rec: sequence,
+                rec: start + sequence,
                 field: field_of(*rule, kind),
                 rule: *rule,
                 level: level_of(*rule),
@@ -86,7 +100,8 @@ fn add_findings_at(
     Ok(())
 }
 
-/// The findings of a transaction, whole or only begun: which record breaks which rule, by record and then by rule.
+/// The findings of a transaction, whole or only begun: which record breaks which rule, by record and then by rule. Of an
+/// acknowledgement they are those of its copy.
 ///
 /// # Errors
 ///
@@ -95,14 +110,25 @@ pub fn findings(alloc: Global, transaction: &Transaction) -> Result<Vec<Finding>
     ensures ok { IfOk result (λ found. found.items ≡ findings transaction.now) }
     ensures err { OnErr result (findings transaction.now ≢ []) }
 {
-    let totals = Totals::of(transaction);
+    let (registered, start) = Registered::of(transaction);
+    let totals = Totals::of(&registered);
+    let publishers = Publishers::among(alloc, &registered, totals.publishers_end);
     let mut found = Vec::new(alloc);
     let mut before = Before::none();
-    for sequence in 0..transaction.len() {
-        let Some(shown) = transaction.record(sequence) else {
+    for sequence in 0..registered.len() {
+        let Some(shown) = registered.record(sequence) else {
             return Ok(found);
         };
-        add_findings_at(&mut found, transaction, &totals, &before, sequence, &shown)?;
+        add_findings_at(
+            &mut found,
+            &registered,
+            start,
+            &totals,
+            &publishers,
+            &before,
+            sequence,
+            &shown,
+        )?;
         before = before.with(&shown);
     }
     Ok(found)

@@ -58,7 +58,21 @@ fn agreements(rt: HostRuntime) {
     check_findings(&rt, CASES);
 }
 
-const ACKNOWLEDGEMENT: &[Case] = &[(&[ACK_0, MSG_0_1], &[], &[])];
+const ACKNOWLEDGEMENT: &[Case] = &[
+    (&[ACK_0, MSG_0_1], &[], &[]),
+    (&[ACK_0, MSG_0_1, NWR_0_2, SWR_0_3], &[], &[]),
+    // the copy of a work is judged as a work of its own, at its records' places in the acknowledgement
+    (
+        &[ACK_0, MSG_0_1, NWR_0_2, SWR_0_3],
+        &[(2, 7, b"T0345246802"), (3, 8, b"AR")],
+        &[(2, 7, Level::F, Rule::V1), (2, 1, Level::T, Rule::V6)],
+    ),
+    (
+        &[ACK_0, AGR_0_1, TER_0_2, IPA_AS_0_3, IPA_AC_0_4],
+        &[(1, 7, b"20240101"), (1, 8, b"20231231")],
+        &[(1, 8, Level::F, Rule::V10)],
+    ),
+];
 
 #[test]
 fn acknowledgements(rt: HostRuntime) {

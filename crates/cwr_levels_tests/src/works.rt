@@ -44,6 +44,12 @@ const SHORT_CASES: &[Case] = &[
     ),
     (EXCERPT, &[], &[(2, 1, Level::R, Rule::V8)]),
     (EXCERPT, &[(0, 16, b"MOV")], &[]),
+    // a record that is carried as text is counted, and seen through
+    (
+        &[NWR_0, IND_0_1, SWR_0_2, EWT_0_3],
+        &[],
+        &[(3, 1, Level::R, Rule::V8)],
+    ),
     // only begun: no writer has come yet, and so none who has written words or music
     (&[NWR_0], &[], &[(0, 1, Level::T, Rule::V6)]),
 ];
@@ -62,6 +68,74 @@ const NEAREST_CASES: &[Case] = &[(
     ],
     &[(3, 5, b"P2"), (3, 13, b"05000"), (6, 4, b"P2")],
     &[(4, 4, Level::R, Rule::V2)],
+)];
+
+/// A work of so many publishers that their numbers are kept in a set. The first, the twentieth and the last have numbers of
+/// their own; of the publishers that the PWR records name four are there, and three aren't.
+const MANY_PUBLISHERS: &[Case] = &[(
+    &[
+        NWR_0,
+        SPU_0_1,
+        SPU_0_1,
+        SPU_0_1,
+        SPU_0_1,
+        SPU_0_1,
+        SPU_0_1,
+        SPU_0_1,
+        SPU_0_1,
+        SPU_0_1,
+        SPU_0_1,
+        SPU_0_1,
+        SPU_0_1,
+        SPU_0_1,
+        SPU_0_1,
+        SPU_0_1,
+        SPU_0_1,
+        SPU_0_1,
+        SPU_0_1,
+        SPU_0_1,
+        SPU_0_1,
+        SPU_0_1,
+        SPU_0_1,
+        SPU_0_1,
+        SPU_0_1,
+        SPU_0_1,
+        SPU_0_1,
+        SPU_0_1,
+        SPU_0_1,
+        SPU_0_1,
+        SPU_0_1,
+        SPU_0_1,
+        SPU_0_1,
+        SPU_0_1,
+        SWR_0_4_WITH_SHARE,
+        PWR_0_6,
+        PWR_0_6,
+        PWR_0_6,
+        PWR_0_6,
+        PWR_0_6,
+        PWR_0_6,
+        PWR_0_6,
+    ],
+    &[
+        (1, 5, b"P2"),
+        (20, 5, b"P3"),
+        (33, 5, b"P4"),
+        (36, 4, b"P2"),
+        (37, 4, b"P3"),
+        (38, 4, b"P4"),
+        (39, 4, b"P5"),
+        (40, 4, b"P"),
+        (41, 4, b"P11"),
+    ],
+    &[
+        (0, 1, Level::T, Rule::V3),
+        (0, 1, Level::T, Rule::V4),
+        (0, 1, Level::T, Rule::V5),
+        (39, 4, Level::R, Rule::V7),
+        (40, 4, Level::R, Rule::V7),
+        (41, 4, Level::R, Rule::V7),
+    ],
 )];
 
 /// A work that breaks each rule on works.
@@ -108,7 +182,13 @@ const ALL_AT_ONCE: &[Case] = &[(
 
 #[test]
 fn works(rt: HostRuntime) {
-    for cases in [LONG_CASES, SHORT_CASES, NEAREST_CASES, ALL_AT_ONCE] {
+    for cases in [
+        LONG_CASES,
+        SHORT_CASES,
+        NEAREST_CASES,
+        MANY_PUBLISHERS,
+        ALL_AT_ONCE,
+    ] {
         check_findings(&rt, cases);
     }
 }

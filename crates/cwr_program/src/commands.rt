@@ -14,6 +14,7 @@ use cwr_tools::{
 };
 use std::alloc::Global;
 use std::fs::File;
+use std::io;
 use std::io::{BufReader, BufWriter, Read, Write};
 use std::num::NonZeroU32;
 use std::rt::Files;
@@ -118,18 +119,31 @@ fn opened_all<'a, R: Files>(
     Ok(readers)
 }
 
-/// Writes the join of some inputs to the file of that place, which gets its name where the result is whole.
+/// Makes the file that a join is written to.
+fn created<'a, R: Files>(
+    rt: &R,
+    alloc: Global,
+    out: &'a str,
+) -> Result<(Place, R::File), Fault<'a>> {
+    let name = out.to_string(alloc).map_err(|_| Fault::Memory)?;
+    match Place::create(rt, alloc, name) {
+        Ok(made) => Ok(made),
+        Err(fault) if fault.kind() == io::ErrorKind::OutOfMemory => Err(Fault::Memory),
+        Err(_) => Err(Fault::Open(out)),
+    }
+}
+
+/// Writes the join of some inputs to a file, which gets its name where the result is whole.
 fn join_to<'a, R: Files>(
     rt: &R,
     alloc: Global,
     limits: Limits,
     readers: &mut [Counted<BufReader<R::File>>],
-    place: Place,
     out: &'a str,
 ) -> Result<Result<JoinReport, JoinFault>, Fault<'a>>
     requires { 0 < length readers.old }
 {
-    let file = place.create(rt).map_err(|_| Fault::Open(out))?;
+    let (place, file) = created(rt, alloc, out)?;
     let outcome = match gathered(alloc, file) {
         Ok(writer) => join(alloc, limits, readers, writer).1,
         Err(_) => {
@@ -159,9 +173,7 @@ pub(crate) fn join_files<'a, R: Files + AllocGlobal, O: Write + Drop>(
     if readers.is_empty() {
         return Ok(Status::CommandLine);
     }
-    let name = out.to_string(alloc).map_err(|_| Fault::Memory)?;
-    let place = Place::of(rt, alloc, name).map_err(|_| Fault::Memory)?;
-    let outcome = join_to(rt, alloc, limits, readers.as_mut_slice(), place, out)?;
+    let outcome = join_to(rt, alloc, limits, readers.as_mut_slice(), out)?;
     let put = put_join_outcome(&outcome, &mut sink);
     hand_on(put, sink)?;
     ended_by(outcome.err().map(|stopped| stopped.fault))

@@ -29,8 +29,42 @@ pub(crate) fn gathered<O: Write + Drop>(
     }
 }
 
+/// How many names are tried for a file that isn't whole yet.
+const MOST_PARTS: u32 = 100;
+
+/// A name for a file that isn't whole yet: that of the whole one and `.part`, and where others are tried the number of the try.
+fn part_name(alloc: Global, name: &str, tries: u32) -> Result<String, AllocError> {
+    if tries == 0 {
+        format!(in alloc; "{name}.part")
+    } else {
+        format!(in alloc; "{name}.part{tries}")
+    }
+}
+
+/// Makes a file that isn't whole yet, under the first of its names that nothing has: what is there stays as it is.
+fn create_part<R: Files>(rt: &R, alloc: Global, name: &str) -> io::Result<(String, R::File)> {
+    for tries in 0..MOST_PARTS {
+        let part = part_name(alloc, name, tries)?;
+        match File::create_new(rt, part.as_str()) {
+            Ok(file) => return Ok((part, file)),
+            Err(fault) if fault.kind() == io::ErrorKind::AlreadyExists => {}
+            Err(fault) => return Err(fault),
+        }
+    }
+    Err(io::Error::from(io::ErrorKind::AlreadyExists))
+}
+
+/// Whether what has the name is written in place: it is there, and isn't a file of its own.
+fn is_in_place<R: Files>(rt: &R, name: &str) -> io::Result<bool> {
+    match rt.symlink_metadata(name) {
+        Ok(found) => Ok(!found.is_file()),
+        Err(fault) if fault.kind() == io::ErrorKind::NotFound => Ok(false),
+        Err(fault) => Err(fault),
+    }
+}
+
 /// Where a file is written. What isn't a file of its own already, as a device, a pipe or a link, is written in place; else
-/// the file is called by its name and `.part` until it is whole.
+/// the file has another name until it is whole, which nothing had before.
 #[derive(Debug, Drop)]
 pub(crate) struct Place {
     name: String,
@@ -38,30 +72,23 @@ pub(crate) struct Place {
 }
 
 impl Place {
-    /// The place of the file of that name.
-    pub(crate) fn of<R: Files>(rt: &R, alloc: Global, name: String) -> Result<Place, AllocError> {
-        let in_place = match rt.symlink_metadata(name.as_str()) {
-            Ok(found) => !found.is_file(),
-            Err(_) => false,
-        };
-        let part = if in_place {
-            None
-        } else {
-            Some(format!(in alloc; "{name}.part")?)
-        };
-        Ok(Place { name, part })
-    }
-
-    /// Makes the file that is written.
-    pub(crate) fn create<R: Files>(&self, rt: &R) -> io::Result<R::File> {
-        match &self.part {
-            None => File::create(rt, self.name.as_str()),
-            Some(part) => {
-                // What a run that was ended has left is replaced, and isn't written through.
-                let _ = rt.remove_file(part.as_str());
-                File::create_new(rt, part.as_str())
-            }
+    /// Makes the file that is written to be the file of that name.
+    ///
+    /// # Errors
+    ///
+    /// Out of memory, or what the system answers where nothing can be told of the name, or no file be made.
+    pub(crate) fn create<R: Files>(
+        rt: &R,
+        alloc: Global,
+        name: String,
+    ) -> io::Result<(Place, R::File)> {
+        if is_in_place(rt, name.as_str())? {
+            let file = File::create(rt, name.as_str())?;
+            return Ok((Place { name, part: None }, file));
         }
+        let (part, file) = create_part(rt, alloc, name.as_str())?;
+        let part = Some(part);
+        Ok((Place { name, part }, file))
     }
 
     /// Gives the file its name, now that it is whole. A file that had the name before is replaced.
@@ -119,8 +146,7 @@ impl<'a, R: Files> NumberedFiles<'a, R> {
         let prefix = self.prefix;
         let number = self.asked;
         let name = format!(in self.alloc; "{prefix}{number:08}").ok()?;
-        let place = Place::of(self.rt, self.alloc, name).ok()?;
-        let file = place.create(self.rt).ok()?;
+        let (place, file) = Place::create(self.rt, self.alloc, name).ok()?;
         self.place = Some(place);
         gathered(self.alloc, file).ok()
     }

@@ -105,6 +105,17 @@ best_beats (stages.Within RevisedWork steps.OtherWriter) h = refl
 best_beats (stages.Within RevisedWork steps.Tail) h = refl
 best_beats (stages.Within Acknowledgement steps.InGroup) h = refl
 best_beats (stages.Within Acknowledgement steps.Acked) h = refl
+best_beats (stages.Within Acknowledgement steps.Agreed) h = refl
+best_beats (stages.Within Acknowledgement steps.Territories) h = refl
+best_beats (stages.Within Acknowledgement (steps.OneSide Assignor)) h = refl
+best_beats (stages.Within Acknowledgement (steps.OneSide Acquirer)) h = refl
+best_beats (stages.Within Acknowledgement steps.Both) h = refl
+best_beats (stages.Within Acknowledgement steps.Work) h = refl
+best_beats (stages.Within Acknowledgement steps.Controlled) h = refl
+best_beats (stages.Within Acknowledgement steps.Other) h = refl
+best_beats (stages.Within Acknowledgement steps.Writer) h = refl
+best_beats (stages.Within Acknowledgement steps.OtherWriter) h = refl
+best_beats (stages.Within Acknowledgement steps.Tail) h = refl
 best_beats stage h = absurd (true≢false (sym h))
 
 -- another symbol by which the stage continues, to where no more is needed

@@ -7,7 +7,7 @@ use Rattle.cwr_fields.specs.declared.codes.TransactionType.TheVariants.{Agreemen
 use Rattle.cwr_layouts.specs.declared.kinds.Kind.TheVariants as kinds
 use Rattle.cwr_shape.specs.declared.symbols.Symbol.{Symbol}
 use Rattle.cwr_shape.specs.declared.symbols.Symbol.TheVariants.{Plain, Grh}
-use Rattle.cwr_shape.specs.Shapes.{Pattern, one_of, ◌then◌, many, Matches, IsShape, a, some, block, publisher, writer, tail_record}
+use Rattle.cwr_shape.specs.Shapes.{Pattern, one_of, ◌then◌, many, carrying, Matches, IsShape, a, some, block, publisher, writer, tail_record, copy}
 use Rattle.cwr_shape.proofs.PrefixFree.{only, matched_pass}
 
 -- 0 for what stands around transactions, 1 for the header of the type, 2 for any other record
@@ -47,7 +47,7 @@ headed ty s p xs h k m =
 
 pub head_first : (ty : TransactionType) (xs : List Symbol) → IsShape ty xs → HeadFirst ty xs
 unfolding only
-head_first Agreement xs m = headed Agreement (Plain kinds.Agr) (some block) xs refl refl m
-head_first NewWork xs m = headed NewWork (Plain kinds.Nwr) (many publisher then some writer then many tail_record) xs refl refl m
-head_first RevisedWork xs m = headed RevisedWork (Plain kinds.Rev) (many publisher then some writer then many tail_record) xs refl refl m
-head_first Acknowledgement xs m = headed Acknowledgement (Plain kinds.Ack) (many (a kinds.Msg)) xs refl refl m
+head_first Agreement xs m = headed Agreement (Plain kinds.Agr) (carrying (some block)) xs refl refl m
+head_first NewWork xs m = headed NewWork (Plain kinds.Nwr) (carrying (many publisher then some writer then many tail_record)) xs refl refl m
+head_first RevisedWork xs m = headed RevisedWork (Plain kinds.Rev) (carrying (many publisher then some writer then many tail_record)) xs refl refl m
+head_first Acknowledgement xs m = headed Acknowledgement (Plain kinds.Ack) (many (a kinds.Msg) then copy) xs refl refl m

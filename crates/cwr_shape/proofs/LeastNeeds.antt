@@ -83,6 +83,17 @@ all_lower (stages.Within RevisedWork steps.OtherWriter) h = refl
 all_lower (stages.Within RevisedWork steps.Tail) h = refl
 all_lower (stages.Within Acknowledgement steps.InGroup) h = refl
 all_lower (stages.Within Acknowledgement steps.Acked) h = refl
+all_lower (stages.Within Acknowledgement steps.Agreed) h = refl
+all_lower (stages.Within Acknowledgement steps.Territories) h = refl
+all_lower (stages.Within Acknowledgement (steps.OneSide Assignor)) h = refl
+all_lower (stages.Within Acknowledgement (steps.OneSide Acquirer)) h = refl
+all_lower (stages.Within Acknowledgement steps.Both) h = refl
+all_lower (stages.Within Acknowledgement steps.Work) h = refl
+all_lower (stages.Within Acknowledgement steps.Controlled) h = refl
+all_lower (stages.Within Acknowledgement steps.Other) h = refl
+all_lower (stages.Within Acknowledgement steps.Writer) h = refl
+all_lower (stages.Within Acknowledgement steps.OtherWriter) h = refl
+all_lower (stages.Within Acknowledgement steps.Tail) h = refl
 all_lower stage h = absurd (true≢false (sym h))
 
 record Lowers (stage : Stage) (s : Symbol) (to : Stage) : Type 0 where

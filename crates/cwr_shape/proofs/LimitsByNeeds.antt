@@ -29,7 +29,8 @@ use Rattle.cwr_shape.proofs.OneMore.{types_after, open_type_after}
 use Rattle.cwr_shape.proofs.TransactionNumbers.{counts_after, counted}
 use Rattle.cwr_shape.proofs.StageRuns.{run}
 use Rattle.cwr_shape.proofs.StageStands.{stands_leaves}
-use Rattle.cwr_shape.proofs.TallySteps.{says_type}
+use Rattle.cwr_shape.proofs.TallySteps.{stands_type}
+use Rattle.cwr_shape.proofs.PlacesNamed.{place_stands}
 use Rattle.cwr_shape.proofs.WithinByFronts.{Keeps, is_of_transaction, open_by, keeps_front, open_records-snoc, fronts_forth, keeps_whole, whole_keeps, groups_counted}
 use Rattle.cwr_shape.proofs.WaysToEnd.{way_out, ends, way_out_has, runs_whole, whole_runs}
 use Rattle.cwr_shape.proofs.LeastNeeds.{least_records, least_groups, least_transaction}
@@ -143,34 +144,27 @@ way_keeps limit ty c (stages.Within RevisedWork steps.OtherWriter) real one t h 
 way_keeps limit ty c (stages.Within RevisedWork steps.Tail) real one t h = subst (λ (u : TransactionType). Keeps limit u c (way_out (stages.Within RevisedWork steps.Tail))) t (omega (arith, h, one), (omega (arith, h, one), tt))
 way_keeps limit ty c (stages.Within Acknowledgement steps.InGroup) real one t h = subst (λ (u : TransactionType). Keeps limit u c (way_out (stages.Within Acknowledgement steps.InGroup))) t (omega (arith, h, one), (omega (arith, h, one), (omega (arith, h, one), tt)))
 way_keeps limit ty c (stages.Within Acknowledgement steps.Acked) real one t h = subst (λ (u : TransactionType). Keeps limit u c (way_out (stages.Within Acknowledgement steps.Acked))) t (omega (arith, h, one), (omega (arith, h, one), tt))
+way_keeps limit ty c (stages.Within Acknowledgement steps.Agreed) real one t h = subst (λ (u : TransactionType). Keeps limit u c (way_out (stages.Within Acknowledgement steps.Agreed))) t (omega (arith, h, one), (omega (arith, h, one), (omega (arith, h, one), (omega (arith, h, one), (omega (arith, h, one), tt)))))
+way_keeps limit ty c (stages.Within Acknowledgement steps.Territories) real one t h = subst (λ (u : TransactionType). Keeps limit u c (way_out (stages.Within Acknowledgement steps.Territories))) t (omega (arith, h, one), (omega (arith, h, one), (omega (arith, h, one), (omega (arith, h, one), tt))))
+way_keeps limit ty c (stages.Within Acknowledgement (steps.OneSide Assignor)) real one t h = subst (λ (u : TransactionType). Keeps limit u c (way_out (stages.Within Acknowledgement (steps.OneSide Assignor)))) t (omega (arith, h, one), (omega (arith, h, one), (omega (arith, h, one), tt)))
+way_keeps limit ty c (stages.Within Acknowledgement (steps.OneSide Acquirer)) real one t h = subst (λ (u : TransactionType). Keeps limit u c (way_out (stages.Within Acknowledgement (steps.OneSide Acquirer)))) t (omega (arith, h, one), (omega (arith, h, one), (omega (arith, h, one), tt)))
+way_keeps limit ty c (stages.Within Acknowledgement steps.Both) real one t h = subst (λ (u : TransactionType). Keeps limit u c (way_out (stages.Within Acknowledgement steps.Both))) t (omega (arith, h, one), (omega (arith, h, one), tt))
+way_keeps limit ty c (stages.Within Acknowledgement steps.Work) real one t h = subst (λ (u : TransactionType). Keeps limit u c (way_out (stages.Within Acknowledgement steps.Work))) t (omega (arith, h, one), (omega (arith, h, one), (omega (arith, h, one), tt)))
+way_keeps limit ty c (stages.Within Acknowledgement steps.Controlled) real one t h = subst (λ (u : TransactionType). Keeps limit u c (way_out (stages.Within Acknowledgement steps.Controlled))) t (omega (arith, h, one), (omega (arith, h, one), (omega (arith, h, one), tt)))
+way_keeps limit ty c (stages.Within Acknowledgement steps.Other) real one t h = subst (λ (u : TransactionType). Keeps limit u c (way_out (stages.Within Acknowledgement steps.Other))) t (omega (arith, h, one), (omega (arith, h, one), (omega (arith, h, one), tt)))
+way_keeps limit ty c (stages.Within Acknowledgement steps.Writer) real one t h = subst (λ (u : TransactionType). Keeps limit u c (way_out (stages.Within Acknowledgement steps.Writer))) t (omega (arith, h, one), (omega (arith, h, one), tt))
+way_keeps limit ty c (stages.Within Acknowledgement steps.OtherWriter) real one t h = subst (λ (u : TransactionType). Keeps limit u c (way_out (stages.Within Acknowledgement steps.OtherWriter))) t (omega (arith, h, one), (omega (arith, h, one), tt))
+way_keeps limit ty c (stages.Within Acknowledgement steps.Tail) real one t h = subst (λ (u : TransactionType). Keeps limit u c (way_out (stages.Within Acknowledgement steps.Tail))) t (omega (arith, h, one), (omega (arith, h, one), tt))
 way_keeps limit ty c stage real one t h = absurd (true≢false (sym real))
 
 -- ---- after symbols that stand at a stage
 
--- what is open is named by the last symbol
-pub place_named : (o : Option Symbol) (xs : List Symbol) → place_at (stage_by o xs) ≡ place_by o
-place_named None xs = refl
-place_named (Some (Plain kinds.Hdr)) xs = refl
-place_named (Some (Plain kinds.Grt)) xs = refl
-place_named (Some (Plain kinds.Trl)) xs = refl
-place_named (Some (Plain kinds.Pwr)) xs = by_writer (latest is_writer xs)
-  where
-    by_writer : (w : Option Symbol) → place_at (stages.Within (group_of (latest is_grh xs)) (pwr_step w)) ≡ places.Transaction
-    by_writer (Some (Plain kinds.Owr)) = refl
-    by_writer w = refl
-place_named (Some (Ipa role)) xs = by_side (list_any (is_ipa_of (other_role role)) (after_last (λ s. not (is_ipa s)) xs))
-  where
-    by_side : (b : Bool) → place_at (stages.Within (group_of (latest is_grh xs)) (cond b steps.Both (steps.OneSide role))) ≡ places.Transaction
-    by_side true = refl
-    by_side false = refl
-place_named (Some s) xs = refl
-
 pub open_named : (ys : List Symbol) (stage : Stage) → StandsAt ys stage → open_records ys ≡ open_at stage (counts_of ys)
 open_named ys stage st =
-    ap (λ (p : Place). cond (has_open_transaction p) (1 + (counts_of ys).after_header) 0) (sym (ap place_at st.named ∙ place_named (last_or None ys) ys))
+    ap (λ (p : Place). cond (has_open_transaction p) (1 + (counts_of ys).after_header) 0) (sym (place_stands ys stage st))
 
 names_type : (ys : List Symbol) (stage : Stage) → StandsAt ys stage → NamesType stage (open_type ys)
-names_type ys (stages.Within ty step) st = says_type (last_or None ys) ys ty step refl st.named
+names_type ys (stages.Within ty step) st = stands_type ys ty step st
 names_type ys stages.Start st = tt
 names_type ys stages.Opened st = tt
 names_type ys stages.Closed st = tt

@@ -1,10 +1,11 @@
 -- A test that computes whether symbols match a pattern, and one that shows that nothing does.
-use Rattle.std.proofs.Common.{◌≡◌, ℕ, zero, suc, ◌<◌, Bool, true, false, cond, ◌&&◌, ◌||◌, List, [], ◌∷◌, ◌++◌, length, refl, sym, ap, subst, ◌∙◌, inl, inr, arith, true≢false, append-nil}
+use Rattle.std.proofs.Common.{◌≡◌, ℕ, zero, suc, ◌<◌, Bool, true, false, not, cond, ◌&&◌, ◌||◌, List, [], ◌∷◌, ◌++◌, length, refl, sym, ap, subst, ◌∙◌, inl, inr, arith, true≢false, append-nil}
 use Rattle.std.specs.Prelude.{◌⊎◌, Some, None, slice_index_or}
 use Rattle.std.specs.List.{list_any, AllByRecursion, IsAmong, flat_map}
 use Rattle.std.specs.Str.{bytes_eq}
 use Rattle.std.proofs.lemmas.Bool.{and_parts, and_from, or_cases, or_left, or_right}
 use Rattle.std.proofs.lemmas.Slice.Eq.{bytes_eq-Decides}
+use Rattle.std.proofs.lemmas.List.Elements.{filter-append}
 use Rattle.cwr_fields.specs.declared.codes.Role.TheVariants.{Assignor, Acquirer}
 use Rattle.cwr_fields.specs.declared.codes.TransactionType.TheVariants.{Agreement, NewWork, RevisedWork, Acknowledgement}
 use Rattle.cwr_fields.specs.Codes.{role_code, type_code}
@@ -14,7 +15,7 @@ use Rattle.cwr_layouts.proofs.AllKinds.{kind_of-letters}
 use Rattle.cwr_layouts.proofs.RowLaws.{letters-injective}
 use Rattle.cwr_shape.specs.declared.symbols.Symbol.{Symbol}
 use Rattle.cwr_shape.specs.declared.symbols.Symbol.TheVariants.{Plain, Ipa, Grh}
-use Rattle.cwr_shape.specs.Shapes.{Pattern, one_of, ◌then◌, ◌or◌, ◌and◌, many, Matches}
+use Rattle.cwr_shape.specs.Shapes.{Pattern, one_of, ◌then◌, ◌or◌, ◌and◌, many, carrying, Matches, is_carried_symbol, without_carried}
 
 -- a text for each symbol
 abbrev pub symbol_text : Symbol → List ℕ
@@ -80,6 +81,7 @@ nullable (p then q) = nullable p && nullable q
 nullable (p or q) = nullable p || nullable q
 nullable (p and q) = nullable p && nullable q
 nullable (many p) = true
+nullable (carrying p) = nullable p
 
 -- what may follow a symbol
 unfoldable pub after : Symbol → Pattern → Pattern
@@ -88,6 +90,7 @@ after s (p then q) = (after s p then q) or cond (nullable p) (after s q) (one_of
 after s (p or q) = after s p or after s q
 after s (p and q) = after s p and after s q
 after s (many p) = after s p then many p
+after s (carrying p) = cond (is_carried_symbol s) (carrying p) (carrying (after s p))
 
 unfoldable pub after_all : List Symbol → Pattern → Pattern
 after_all [] p = p
@@ -101,6 +104,7 @@ is_dead (p then q) = is_dead p || is_dead q
 is_dead (p or q) = is_dead p && is_dead q
 is_dead (p and q) = is_dead p || is_dead q
 is_dead (many p) = false
+is_dead (carrying p) = is_dead p
 
 pub nothing_matches : (xs : List Symbol) → Matches (one_of []) xs → ⊥
 nothing_matches xs m = omega (arith, m.1.1.0)
@@ -116,6 +120,7 @@ nullable_sound (p or q) h = either (or_cases (nullable p) (nullable q) h) (nulla
     either (inr e) f g = inr (g e)
 nullable_sound (p and q) h = let b = and_parts (nullable p) (nullable q) h in (nullable_sound p b.0, nullable_sound q b.1)
 nullable_sound (many p) h = ([], refl, tt)
+nullable_sound (carrying p) h = nullable_sound p h
 
 pub empty_only : (xs : List Symbol) → Matches (many (one_of [])) xs → xs ≡ []
 empty_only xs m = by m.0 m.1 m.2
@@ -132,6 +137,24 @@ after_then : (s : Symbol) (p q r : Pattern) (xs : List Symbol) (b : Bool) → nu
 after_then s p q r xs true e f m = ([], s ∷ xs, refl, nullable_sound p e, f m)
 after_then s p q r xs false e f m = absurd (nothing_matches xs m)
 
+-- the symbols without the carried ones, with one more before them
+pub without-cons : (s : Symbol) (xs : List Symbol) (b : Bool) → is_carried_symbol s ≡ b → without_carried (s ∷ xs) ≡ cond b (without_carried xs) (s ∷ without_carried xs)
+without-cons s xs true e = ap (λ (c : Bool). cond (not c) (s ∷ without_carried xs) (without_carried xs)) e
+without-cons s xs false e = ap (λ (c : Bool). cond (not c) (s ∷ without_carried xs) (without_carried xs)) e
+
+-- and with one more after them
+pub without-snoc : (xs : List Symbol) (s : Symbol) (b : Bool) → is_carried_symbol s ≡ b → without_carried (xs ++ s ∷ []) ≡ cond b (without_carried xs) (without_carried xs ++ s ∷ [])
+without-snoc xs s b e = filter-append (λ t. not (is_carried_symbol t)) xs (s ∷ []) ∙ ap (λ (ys : List Symbol). without_carried xs ++ ys) (without-cons s [] b e) ∙ by b
+  where
+    by : (c : Bool) → without_carried xs ++ cond c [] (s ∷ []) ≡ cond c (without_carried xs) (without_carried xs ++ s ∷ [])
+    by true = append-nil (without_carried xs)
+    by false = refl
+
+after_carrying : (s : Symbol) (p r : Pattern) (xs : List Symbol) (b : Bool) → is_carried_symbol s ≡ b → (Matches r (without_carried xs) → Matches p (s ∷ without_carried xs))
+    → Matches (cond b (carrying p) (carrying r)) xs → Matches (carrying p) (s ∷ xs)
+after_carrying s p r xs true e f m = subst (Matches p) (sym (without-cons s xs true e)) m
+after_carrying s p r xs false e f m = subst (Matches p) (sym (without-cons s xs false e)) (f m)
+
 pub after_sound : (s : Symbol) (p : Pattern) (xs : List Symbol) → Matches (after s p) xs → Matches p (s ∷ xs)
 unfolding after
 after_sound s (one_of ss) xs m = after_one s ss xs (has s ss) refl m
@@ -142,6 +165,7 @@ after_sound s (p or q) xs (inr m) = inr (after_sound s q xs m)
 after_sound s (p and q) xs m = (after_sound s p xs m.0, after_sound s q xs m.1)
 after_sound s (many p) xs m =
     ((s ∷ m.0) ∷ m.4.0, ap (λ (ys : List Symbol). s ∷ ys) (m.2 ∙ ap (λ (ys : List Symbol). m.0 ++ ys) m.4.1), (after_sound s p m.0 m.3, m.4.2))
+after_sound s (carrying p) xs m = after_carrying s p (after s p) xs (is_carried_symbol s) refl (after_sound s p (without_carried xs)) m
 
 pub accepts_sound : (xs : List Symbol) (p : Pattern) → nullable (after_all xs p) ≡ true → Matches p xs
 unfolding after_all
@@ -170,6 +194,7 @@ nullable_complete (p or q) (inl m) = or_left (nullable p) (nullable q) (nullable
 nullable_complete (p or q) (inr m) = or_right (nullable p) (nullable q) (nullable_complete q m)
 nullable_complete (p and q) m = and_from (nullable p) (nullable q) (nullable_complete p m.0) (nullable_complete q m.1)
 nullable_complete (many p) m = refl
+nullable_complete (carrying p) m = nullable_complete p m
 
 cons_parts : (s t : Symbol) (xs ys : List Symbol) → s ∷ xs ≡ t ∷ ys → (s ≡ t) × (xs ≡ ys)
 cons_parts s t xs ys e = (cc e, cc e)
@@ -192,6 +217,11 @@ many_complete s p r xs ((t ∷ f) ∷ parts) fp e h =
     let c = cons_parts s t xs (f ++ flat_map (λ part. part) parts) e in
     (f, flat_map (λ part. part) parts, c.1, fp f (subst (λ (u : Symbol). Matches p (u ∷ f)) (sym c.0) h.0), (parts, refl, h.1))
 
+carrying_complete : (s : Symbol) (p r : Pattern) (xs : List Symbol) (b : Bool) → is_carried_symbol s ≡ b → (Matches p (s ∷ without_carried xs) → Matches r (without_carried xs))
+    → Matches (carrying p) (s ∷ xs) → Matches (cond b (carrying p) (carrying r)) xs
+carrying_complete s p r xs true e f m = subst (Matches p) (without-cons s xs true e) m
+carrying_complete s p r xs false e f m = f (subst (Matches p) (without-cons s xs false e) m)
+
 pub after_complete : (s : Symbol) (p : Pattern) (xs : List Symbol) → Matches p (s ∷ xs) → Matches (after s p) xs
 unfolding after
 after_complete s (one_of ss) xs m =
@@ -203,6 +233,7 @@ after_complete s (p or q) xs (inl m) = inl (after_complete s p xs m)
 after_complete s (p or q) xs (inr m) = inr (after_complete s q xs m)
 after_complete s (p and q) xs m = (after_complete s p xs m.0, after_complete s q xs m.1)
 after_complete s (many p) xs m = many_complete s p (after s p) xs m.0 (after_complete s p) m.1 m.2
+after_complete s (carrying p) xs m = carrying_complete s p (after s p) xs (is_carried_symbol s) refl (after_complete s p (without_carried xs)) m
 
 pub follows_complete : (xs rest : List Symbol) (p : Pattern) → Matches p (xs ++ rest) → Matches (after_all xs p) rest
 unfolding after_all
@@ -226,6 +257,7 @@ dead_sound (p and q) xs h m = either (or_cases (is_dead p) (is_dead q) h) (λ e.
     either (inl e) f g = f e
     either (inr e) f g = g e
 dead_sound (many p) xs h m = true≢false (sym h)
+dead_sound (carrying p) xs h m = dead_sound p (without_carried xs) h m
 
 -- symbols that don't match, and symbols that begin nothing that does
 pub no_match : (xs : List Symbol) (p : Pattern) → nullable (after_all xs p) ≡ false → Matches p xs → ⊥

@@ -5,7 +5,7 @@ use Rattle.std.specs.Str.{bytes_eq}
 use Rattle.std.proofs.lemmas.Bool.{and_parts, or_cases}
 use Rattle.std.proofs.lemmas.Slice.Eq.{bytes_eq-Decides}
 use Rattle.cwr_shape.specs.declared.symbols.Symbol.{Symbol}
-use Rattle.cwr_shape.specs.Shapes.{Pattern, one_of, ◌then◌, ◌or◌, ◌and◌, many, Matches}
+use Rattle.cwr_shape.specs.Shapes.{Pattern, one_of, ◌then◌, ◌or◌, ◌and◌, many, carrying, Matches, without_carried}
 use Rattle.cwr_shape.proofs.Matcher.{symbol_text, same_text, is_dead, dead_sound, nothing_matches, empty_only, after, after_sound, after_complete}
 
 -- the same symbols
@@ -31,6 +31,7 @@ same (p then q) (r then s) = same p r && same q s
 same (p or q) (r or s) = same p r && same q s
 same (p and q) (r and s) = same p r && same q s
 same (many p) (many q) = same p q
+same (carrying p) (carrying q) = same p q
 same p q = false
 
 pub same_sound : (p q : Pattern) → same p q ≡ true → p ≡ q
@@ -40,6 +41,7 @@ same_sound (p then q) (r then s) h = let b = and_parts (same p r) (same q s) h i
 same_sound (p or q) (r or s) h = let b = and_parts (same p r) (same q s) h in ap₂ ◌or◌ (same_sound p r b.0) (same_sound q s b.1)
 same_sound (p and q) (r and s) h = let b = and_parts (same p r) (same q s) h in ap₂ ◌and◌ (same_sound p r b.0) (same_sound q s b.1)
 same_sound (many p) (many q) h = ap many (same_sound p q h)
+same_sound (carrying p) (carrying q) h = ap carrying (same_sound p q h)
 same_sound p q h = absurd (true≢false (sym h))
 
 -- patterns that match the same symbols
@@ -84,6 +86,7 @@ seq (p then r) q = seq p (seq r q)
 seq (p or r) q = (p or r) then q
 seq (p and r) q = (p and r) then q
 seq (many p) q = cond (is_none p) q (many p then q)
+seq (carrying p) q = carrying p then q
 
 then_assoc : (p r q : Pattern) → Alike (p then (r then q)) ((p then r) then q)
 then_assoc p r q xs = (
@@ -118,6 +121,7 @@ seq_alike (p then r) q =
 seq_alike (p or r) q = alike_refl ((p or r) then q)
 seq_alike (p and r) q = alike_refl ((p and r) then q)
 seq_alike (many p) q = seq_many p q (is_none p) refl
+seq_alike (carrying p) q = alike_refl (carrying p then q)
 
 -- the pattern is one of the alternatives
 unfoldable pub contains : Pattern → Pattern → Bool
@@ -190,6 +194,7 @@ alt_alike (one_of ss) q = alt_one ss q (is_none (one_of ss)) refl
 alt_alike (p then r) q = insert_alike (p then r) q
 alt_alike (p and r) q = insert_alike (p and r) q
 alt_alike (many p) q = insert_alike (many p) q
+alt_alike (carrying p) q = insert_alike (carrying p) q
 
 -- both of two, if something matches both
 unfoldable pub both : Pattern → Pattern → Pattern
@@ -207,6 +212,21 @@ both_alike : (p q : Pattern) → Alike (both p q) (p and q)
 unfolding both
 both_alike p q = both_by p q (is_dead p || is_dead q) refl
 
+-- carried records among a pattern, if something matches it
+unfoldable pub carry : Pattern → Pattern
+carry p = cond (is_dead p) dead (carrying p)
+
+carry_by : (p : Pattern) (b : Bool) → is_dead p ≡ b → Alike (cond b dead (carrying p)) (carrying p)
+carry_by p true e = λ xs. (λ m. absurd (nothing_matches xs m), λ m. absurd (dead_sound p (without_carried xs) e m))
+carry_by p false e = alike_refl (carrying p)
+
+carry_alike : (p : Pattern) → Alike (carry p) (carrying p)
+unfolding carry
+carry_alike p = carry_by p (is_dead p) refl
+
+carrying_alike : (p q : Pattern) → Alike p q → Alike (carrying p) (carrying q)
+carrying_alike p q h xs = h (without_carried xs)
+
 -- the pattern's form
 unfoldable pub norm : Pattern → Pattern
 norm (one_of ss) = one_of ss
@@ -214,6 +234,7 @@ norm (p then q) = seq (norm p) (norm q)
 norm (p or q) = alt (norm p) (norm q)
 norm (p and q) = both (norm p) (norm q)
 norm (many p) = many p
+norm (carrying p) = carry (norm p)
 
 pub norm_alike : (p : Pattern) → Alike (norm p) p
 unfolding norm
@@ -222,6 +243,7 @@ norm_alike (p then q) = alike_trans (seq (norm p) (norm q)) (norm p then norm q)
 norm_alike (p or q) = alike_trans (alt (norm p) (norm q)) (norm p or norm q) (p or q) (alt_alike (norm p) (norm q)) (or_alike (norm p) (norm q) p q (norm_alike p) (norm_alike q))
 norm_alike (p and q) = alike_trans (both (norm p) (norm q)) (norm p and norm q) (p and q) (both_alike (norm p) (norm q)) (and_alike (norm p) (norm q) p q (norm_alike p) (norm_alike q))
 norm_alike (many p) = alike_refl (many p)
+norm_alike (carrying p) = alike_trans (carry (norm p)) (carrying (norm p)) (carrying p) (carry_alike (norm p)) (carrying_alike (norm p) p (norm_alike p))
 
 -- what may follow a symbol, in that form
 pub follows : (s : Symbol) (p : Pattern) (xs : List Symbol) → Matches (norm (after s p)) xs ↔ Matches p (s ∷ xs)

@@ -1,5 +1,5 @@
 -- No whole transmission is a proper front of another: TRL comes once, at the end.
-use Rattle.std.proofs.Common.{◌≡◌, ℕ, zero, suc, ◌<◌, Bool, true, false, ◌&&◌, List, [], ◌∷◌, ◌++◌, length, refl, sym, ap, subst, ◌∙◌, inl, inr, arith, true≢false}
+use Rattle.std.proofs.Common.{◌≡◌, ℕ, zero, suc, ◌<◌, Bool, true, false, ◌&&◌, List, [], ◌∷◌, ◌++◌, length, refl, sym, ap, subst, ◌∙◌, inl, inr, arith, true≢false, lit<}
 use Rattle.std.specs.Prelude.{slice_index_or}
 use Rattle.std.specs.List.{list_all, AllByRecursion, flat_map}
 use Rattle.std.proofs.lemmas.List.Folds.{list_all-append}
@@ -9,8 +9,13 @@ use Rattle.cwr_fields.specs.declared.codes.TransactionType.TheVariants.{Agreemen
 use Rattle.cwr_layouts.specs.declared.kinds.Kind.TheVariants as kinds
 use Rattle.cwr_shape.specs.declared.symbols.Symbol.{Symbol}
 use Rattle.cwr_shape.specs.declared.symbols.Symbol.TheVariants.{Plain}
-use Rattle.cwr_shape.specs.Shapes.{Pattern, one_of, ◌then◌, ◌or◌, ◌and◌, many, Matches, IsShape, pattern_of}
+use Rattle.cwr_shape.specs.Shapes.{Pattern, one_of, ◌then◌, ◌or◌, ◌and◌, many, carrying, Matches, is_carried_symbol, without_carried, IsShape, pattern_of}
+use Rattle.cwr_shape.proofs.Matcher.{without-cons}
 use Rattle.cwr_shape.specs.Outlines.{GroupOutline, group_symbols, symbols_of, IsGroupOutline, IsOutline}
+
+-- the symbols of carried records
+abbrev pub carried_symbols : List Symbol
+carried_symbols = Plain kinds.Opt ∷ Plain kinds.Owt ∷ Plain kinds.Npn ∷ Plain kinds.Npr ∷ Plain kinds.Nwn ∷ Plain kinds.Npa ∷ Plain kinds.Net ∷ Plain kinds.Now ∷ Plain kinds.Nct ∷ Plain kinds.Nvt ∷ Plain kinds.Nat ∷ Plain kinds.Ins ∷ Plain kinds.Ind ∷ Plain kinds.Ari ∷ Plain kinds.Xrf ∷ []
 
 -- each symbol that the pattern names passes a test
 unfoldable pub only : (Symbol → Bool) → Pattern → Bool
@@ -19,6 +24,7 @@ only test (p then q) = only test p && only test q
 only test (p or q) = only test p && only test q
 only test (p and q) = only test p
 only test (many p) = only test p
+only test (carrying p) = only test p && list_all test carried_symbols
 
 pub among_passes : (test : Symbol → Bool) (ss : List Symbol) (s : Symbol) (i : ℕ) → list_all test ss ≡ true → i < length ss → test (slice_index_or ss i s) ≡ true
 among_passes test [] s i h k = absurd (omega arith)
@@ -32,6 +38,36 @@ all_parts : (test : Symbol → Bool) (P : List Symbol → Type 0) → ((xs : Lis
     → (parts : List (List Symbol)) → AllByRecursion P parts → list_all test (flat_map (λ part. part) parts) ≡ true
 all_parts test P each [] h = refl
 all_parts test P each (x ∷ parts) h = all-append test x (flat_map (λ part. part) parts) (each x h.0) (all_parts test P each parts h.1)
+
+-- each of them passes a test that all of them pass
+pub carried_passes : (test : Symbol → Bool) (s : Symbol) → list_all test carried_symbols ≡ true → is_carried_symbol s ≡ true → test s ≡ true
+carried_passes test (Plain kinds.Opt) h e = among_passes test carried_symbols (Plain kinds.Hdr) 0 h (lit< tt)
+carried_passes test (Plain kinds.Owt) h e = among_passes test carried_symbols (Plain kinds.Hdr) 1 h (lit< tt)
+carried_passes test (Plain kinds.Npn) h e = among_passes test carried_symbols (Plain kinds.Hdr) 2 h (lit< tt)
+carried_passes test (Plain kinds.Npr) h e = among_passes test carried_symbols (Plain kinds.Hdr) 3 h (lit< tt)
+carried_passes test (Plain kinds.Nwn) h e = among_passes test carried_symbols (Plain kinds.Hdr) 4 h (lit< tt)
+carried_passes test (Plain kinds.Npa) h e = among_passes test carried_symbols (Plain kinds.Hdr) 5 h (lit< tt)
+carried_passes test (Plain kinds.Net) h e = among_passes test carried_symbols (Plain kinds.Hdr) 6 h (lit< tt)
+carried_passes test (Plain kinds.Now) h e = among_passes test carried_symbols (Plain kinds.Hdr) 7 h (lit< tt)
+carried_passes test (Plain kinds.Nct) h e = among_passes test carried_symbols (Plain kinds.Hdr) 8 h (lit< tt)
+carried_passes test (Plain kinds.Nvt) h e = among_passes test carried_symbols (Plain kinds.Hdr) 9 h (lit< tt)
+carried_passes test (Plain kinds.Nat) h e = among_passes test carried_symbols (Plain kinds.Hdr) 10 h (lit< tt)
+carried_passes test (Plain kinds.Ins) h e = among_passes test carried_symbols (Plain kinds.Hdr) 11 h (lit< tt)
+carried_passes test (Plain kinds.Ind) h e = among_passes test carried_symbols (Plain kinds.Hdr) 12 h (lit< tt)
+carried_passes test (Plain kinds.Ari) h e = among_passes test carried_symbols (Plain kinds.Hdr) 13 h (lit< tt)
+carried_passes test (Plain kinds.Xrf) h e = among_passes test carried_symbols (Plain kinds.Hdr) 14 h (lit< tt)
+carried_passes test s h e = absurd (true≢false (sym e))
+
+-- the carried symbols pass, and the others do
+all_but_carried : (test : Symbol → Bool) (xs : List Symbol) → list_all test carried_symbols ≡ true → list_all test (without_carried xs) ≡ true → list_all test xs ≡ true
+all_but_carried test [] h k = refl
+all_but_carried test (x ∷ xs) h k = by (is_carried_symbol x) refl (all_but_carried test xs h)
+  where
+    by : (b : Bool) → is_carried_symbol x ≡ b → (list_all test (without_carried xs) ≡ true → list_all test xs ≡ true) → list_all test (x ∷ xs) ≡ true
+    by true e f = and_from (test x) (list_all test xs) (carried_passes test x h e) (f (sym (ap (list_all test) (without-cons x xs true e)) ∙ k))
+    by false e f =
+        let parts = and_parts (test x) (list_all test (without_carried xs)) (sym (ap (list_all test) (without-cons x xs false e)) ∙ k) in
+        and_from (test x) (list_all test xs) parts.0 (f parts.1)
 
 -- then each symbol of what matches it does
 pub matched_pass : (test : Symbol → Bool) (p : Pattern) → only test p ≡ true → (xs : List Symbol) → Matches p xs → list_all test xs ≡ true
@@ -47,6 +83,9 @@ matched_pass test (p or q) h xs (inr m) = matched_pass test q (and_parts (only t
 matched_pass test (p and q) h xs m = matched_pass test p h xs m.0
 matched_pass test (many p) h xs m =
     subst (λ (ys : List Symbol). list_all test ys ≡ true) (sym m.1) (all_parts test (Matches p) (matched_pass test p h) m.0 m.2)
+matched_pass test (carrying p) h xs m =
+    let parts = and_parts (only test p) (list_all test carried_symbols) h in
+    all_but_carried test xs parts.1 (matched_pass test p parts.0 (without_carried xs) m)
 
 abbrev is_no_trl : Symbol → Bool
 is_no_trl (Plain kinds.Trl) = false

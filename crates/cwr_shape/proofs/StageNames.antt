@@ -1,5 +1,5 @@
 -- The stage that the table comes to is the one that the symbols name.
-use Rattle.std.proofs.Common.{◌≡◌, Bool, true, false, not, ◌&&◌, ◌||◌, List, [], ◌∷◌, ◌++◌, Option, Some, None, refl, sym, ap, subst, ◌∙◌, true≢false, append_assoc, append-nil}
+use Rattle.std.proofs.Common.{◌≡◌, Bool, true, false, cond, not, ◌&&◌, ◌||◌, List, [], ◌∷◌, ◌++◌, Option, Some, None, refl, sym, ap, subst, ◌∙◌, true≢false, append_assoc, append-nil}
 use Rattle.std.specs.List.{list_all}
 use Rattle.std.proofs.lemmas.Bool.{and_parts}
 use Rattle.cwr_fields.specs.declared.codes.Role.{Role}
@@ -12,14 +12,16 @@ use Rattle.cwr_shape.specs.declared.stages.Stage.TheVariants as stages
 use Rattle.cwr_shape.specs.declared.stages.TransactionStep.{TransactionStep}
 use Rattle.cwr_shape.specs.declared.stages.TransactionStep.TheVariants as steps
 use Rattle.cwr_shape.specs.Steps.{next_stage}
-use Rattle.cwr_shape.specs.Stages.{is_grh, is_writer, latest, group_of, stage_by, stage_after}
+use Rattle.cwr_shape.specs.Stages.{is_grh, is_writer, latest, group_of, stage_by, stage_of, stage_after}
 use Rattle.cwr_shape.specs.Left.{is_stage}
+use Rattle.cwr_shape.specs.Shapes.{is_carried_symbol, without_carried}
+use Rattle.cwr_shape.proofs.Matcher.{without-snoc}
 use Rattle.cwr_shape.proofs.StagePatterns.{all_symbols, of_each, next_is_stage}
 use Rattle.cwr_shape.proofs.StageRuns.{run, run_first}
 use Rattle.cwr_shape.proofs.OneMore.{latest-snoc, last_or-snoc}
 use Rattle.cwr_shape.proofs.SymbolsNameStages.{same_type, same_step, same_stage, same_stage_sound, same_bool, same_bool_sound, other_writer, side, name_of, named, type_next, writer_next, side_next, type_more, writer_more, side-snoc}
 
--- ---- what a stage says of the symbols that stand there
+-- ---- what a stage says of the symbols that stand there, without the carried ones
 
 abbrev side_of : Role → Stage → Bool
 side_of role (stages.Within ty steps.Both) = true
@@ -37,7 +39,7 @@ fits (stages.Within t step) ty o = same_type t ty && writer_fits step o
 fits stage ty o = true
 
 record Seen (xs : List Symbol) (stage : Stage) : Type 0 where
-  pub name : stage ≡ stage_after xs
+  pub name : stage ≡ stage_of xs
   pub fit : fits stage (group_of (latest is_grh xs)) (other_writer (latest is_writer xs)) ≡ true
   pub assignor : side Assignor xs ≡ side_of Assignor stage
   pub acquirer : side Acquirer xs ≡ side_of Acquirer stage
@@ -47,10 +49,17 @@ unfoldable agrees : Option Stage → Symbol → TransactionType → Bool → Boo
 agrees None s ty o a b = true
 agrees (Some to) s ty o a b = same_stage to (name_of s ty o a b) && fits to ty o && same_bool a (side_of Assignor to) && same_bool b (side_of Acquirer to)
 
+-- the table stays at the stage, or has no stage
+unfoldable stays : Stage → Option Stage → Bool
+stays stage None = true
+stays stage (Some to) = same_stage to stage
+
 unfoldable keeps : Stage → TransactionType → Bool → Symbol → Bool
 keeps stage ty o s =
+    cond (is_carried_symbol s) (stays stage (next_stage stage s)) (
     not (fits stage ty o)
     || agrees (next_stage stage s) s (type_next s ty) (writer_next s o) (side_next Assignor s (side_of Assignor stage)) (side_next Acquirer s (side_of Acquirer stage))
+    )
 
 -- for both last writers
 abbrev both_keep : Stage → TransactionType → Bool
@@ -61,108 +70,152 @@ unfoldable all_keep : Stage → Bool
 all_keep stage = list_all (both_keep stage) (Agreement ∷ NewWork ∷ RevisedWork ∷ Acknowledgement ∷ [])
 
 start_keeps : all_keep stages.Start ≡ true
-unfolding all_keep keeps agrees same_stage same_step same_type same_bool name_of
+unfolding all_keep keeps stays agrees same_stage same_step same_type same_bool name_of
 start_keeps = refl
 
 opened_keeps : all_keep stages.Opened ≡ true
-unfolding all_keep keeps agrees same_stage same_step same_type same_bool name_of
+unfolding all_keep keeps stays agrees same_stage same_step same_type same_bool name_of
 opened_keeps = refl
 
 closed_keeps : all_keep stages.Closed ≡ true
-unfolding all_keep keeps agrees same_stage same_step same_type same_bool name_of
+unfolding all_keep keeps stays agrees same_stage same_step same_type same_bool name_of
 closed_keeps = refl
 
 ended_keeps : all_keep stages.Ended ≡ true
-unfolding all_keep keeps agrees same_stage same_step same_type same_bool name_of
+unfolding all_keep keeps stays agrees same_stage same_step same_type same_bool name_of
 ended_keeps = refl
 
 agreement_ingroup_keeps : all_keep (stages.Within Agreement steps.InGroup) ≡ true
-unfolding all_keep keeps agrees same_stage same_step same_type same_bool name_of
+unfolding all_keep keeps stays agrees same_stage same_step same_type same_bool name_of
 agreement_ingroup_keeps = refl
 
 agreement_agreed_keeps : all_keep (stages.Within Agreement steps.Agreed) ≡ true
-unfolding all_keep keeps agrees same_stage same_step same_type same_bool name_of
+unfolding all_keep keeps stays agrees same_stage same_step same_type same_bool name_of
 agreement_agreed_keeps = refl
 
 agreement_territories_keeps : all_keep (stages.Within Agreement steps.Territories) ≡ true
-unfolding all_keep keeps agrees same_stage same_step same_type same_bool name_of
+unfolding all_keep keeps stays agrees same_stage same_step same_type same_bool name_of
 agreement_territories_keeps = refl
 
 agreement_side_assignor_keeps : all_keep (stages.Within Agreement (steps.OneSide Assignor)) ≡ true
-unfolding all_keep keeps agrees same_stage same_step same_type same_bool name_of
+unfolding all_keep keeps stays agrees same_stage same_step same_type same_bool name_of
 agreement_side_assignor_keeps = refl
 
 agreement_side_acquirer_keeps : all_keep (stages.Within Agreement (steps.OneSide Acquirer)) ≡ true
-unfolding all_keep keeps agrees same_stage same_step same_type same_bool name_of
+unfolding all_keep keeps stays agrees same_stage same_step same_type same_bool name_of
 agreement_side_acquirer_keeps = refl
 
 agreement_both_keeps : all_keep (stages.Within Agreement steps.Both) ≡ true
-unfolding all_keep keeps agrees same_stage same_step same_type same_bool name_of
+unfolding all_keep keeps stays agrees same_stage same_step same_type same_bool name_of
 agreement_both_keeps = refl
 
 newwork_ingroup_keeps : all_keep (stages.Within NewWork steps.InGroup) ≡ true
-unfolding all_keep keeps agrees same_stage same_step same_type same_bool name_of
+unfolding all_keep keeps stays agrees same_stage same_step same_type same_bool name_of
 newwork_ingroup_keeps = refl
 
 newwork_work_keeps : all_keep (stages.Within NewWork steps.Work) ≡ true
-unfolding all_keep keeps agrees same_stage same_step same_type same_bool name_of
+unfolding all_keep keeps stays agrees same_stage same_step same_type same_bool name_of
 newwork_work_keeps = refl
 
 newwork_controlled_keeps : all_keep (stages.Within NewWork steps.Controlled) ≡ true
-unfolding all_keep keeps agrees same_stage same_step same_type same_bool name_of
+unfolding all_keep keeps stays agrees same_stage same_step same_type same_bool name_of
 newwork_controlled_keeps = refl
 
 newwork_other_keeps : all_keep (stages.Within NewWork steps.Other) ≡ true
-unfolding all_keep keeps agrees same_stage same_step same_type same_bool name_of
+unfolding all_keep keeps stays agrees same_stage same_step same_type same_bool name_of
 newwork_other_keeps = refl
 
 newwork_writer_keeps : all_keep (stages.Within NewWork steps.Writer) ≡ true
-unfolding all_keep keeps agrees same_stage same_step same_type same_bool name_of
+unfolding all_keep keeps stays agrees same_stage same_step same_type same_bool name_of
 newwork_writer_keeps = refl
 
 newwork_otherwriter_keeps : all_keep (stages.Within NewWork steps.OtherWriter) ≡ true
-unfolding all_keep keeps agrees same_stage same_step same_type same_bool name_of
+unfolding all_keep keeps stays agrees same_stage same_step same_type same_bool name_of
 newwork_otherwriter_keeps = refl
 
 newwork_tail_keeps : all_keep (stages.Within NewWork steps.Tail) ≡ true
-unfolding all_keep keeps agrees same_stage same_step same_type same_bool name_of
+unfolding all_keep keeps stays agrees same_stage same_step same_type same_bool name_of
 newwork_tail_keeps = refl
 
 revisedwork_ingroup_keeps : all_keep (stages.Within RevisedWork steps.InGroup) ≡ true
-unfolding all_keep keeps agrees same_stage same_step same_type same_bool name_of
+unfolding all_keep keeps stays agrees same_stage same_step same_type same_bool name_of
 revisedwork_ingroup_keeps = refl
 
 revisedwork_work_keeps : all_keep (stages.Within RevisedWork steps.Work) ≡ true
-unfolding all_keep keeps agrees same_stage same_step same_type same_bool name_of
+unfolding all_keep keeps stays agrees same_stage same_step same_type same_bool name_of
 revisedwork_work_keeps = refl
 
 revisedwork_controlled_keeps : all_keep (stages.Within RevisedWork steps.Controlled) ≡ true
-unfolding all_keep keeps agrees same_stage same_step same_type same_bool name_of
+unfolding all_keep keeps stays agrees same_stage same_step same_type same_bool name_of
 revisedwork_controlled_keeps = refl
 
 revisedwork_other_keeps : all_keep (stages.Within RevisedWork steps.Other) ≡ true
-unfolding all_keep keeps agrees same_stage same_step same_type same_bool name_of
+unfolding all_keep keeps stays agrees same_stage same_step same_type same_bool name_of
 revisedwork_other_keeps = refl
 
 revisedwork_writer_keeps : all_keep (stages.Within RevisedWork steps.Writer) ≡ true
-unfolding all_keep keeps agrees same_stage same_step same_type same_bool name_of
+unfolding all_keep keeps stays agrees same_stage same_step same_type same_bool name_of
 revisedwork_writer_keeps = refl
 
 revisedwork_otherwriter_keeps : all_keep (stages.Within RevisedWork steps.OtherWriter) ≡ true
-unfolding all_keep keeps agrees same_stage same_step same_type same_bool name_of
+unfolding all_keep keeps stays agrees same_stage same_step same_type same_bool name_of
 revisedwork_otherwriter_keeps = refl
 
 revisedwork_tail_keeps : all_keep (stages.Within RevisedWork steps.Tail) ≡ true
-unfolding all_keep keeps agrees same_stage same_step same_type same_bool name_of
+unfolding all_keep keeps stays agrees same_stage same_step same_type same_bool name_of
 revisedwork_tail_keeps = refl
 
 acknowledgement_ingroup_keeps : all_keep (stages.Within Acknowledgement steps.InGroup) ≡ true
-unfolding all_keep keeps agrees same_stage same_step same_type same_bool name_of
+unfolding all_keep keeps stays agrees same_stage same_step same_type same_bool name_of
 acknowledgement_ingroup_keeps = refl
 
 acknowledgement_acked_keeps : all_keep (stages.Within Acknowledgement steps.Acked) ≡ true
-unfolding all_keep keeps agrees same_stage same_step same_type same_bool name_of
+unfolding all_keep keeps stays agrees same_stage same_step same_type same_bool name_of
 acknowledgement_acked_keeps = refl
+
+acknowledgement_agreed_keeps : all_keep (stages.Within Acknowledgement steps.Agreed) ≡ true
+unfolding all_keep keeps stays agrees same_stage same_step same_type same_bool name_of
+acknowledgement_agreed_keeps = refl
+
+acknowledgement_territories_keeps : all_keep (stages.Within Acknowledgement steps.Territories) ≡ true
+unfolding all_keep keeps stays agrees same_stage same_step same_type same_bool name_of
+acknowledgement_territories_keeps = refl
+
+acknowledgement_side_assignor_keeps : all_keep (stages.Within Acknowledgement (steps.OneSide Assignor)) ≡ true
+unfolding all_keep keeps stays agrees same_stage same_step same_type same_bool name_of
+acknowledgement_side_assignor_keeps = refl
+
+acknowledgement_side_acquirer_keeps : all_keep (stages.Within Acknowledgement (steps.OneSide Acquirer)) ≡ true
+unfolding all_keep keeps stays agrees same_stage same_step same_type same_bool name_of
+acknowledgement_side_acquirer_keeps = refl
+
+acknowledgement_both_keeps : all_keep (stages.Within Acknowledgement steps.Both) ≡ true
+unfolding all_keep keeps stays agrees same_stage same_step same_type same_bool name_of
+acknowledgement_both_keeps = refl
+
+acknowledgement_work_keeps : all_keep (stages.Within Acknowledgement steps.Work) ≡ true
+unfolding all_keep keeps stays agrees same_stage same_step same_type same_bool name_of
+acknowledgement_work_keeps = refl
+
+acknowledgement_controlled_keeps : all_keep (stages.Within Acknowledgement steps.Controlled) ≡ true
+unfolding all_keep keeps stays agrees same_stage same_step same_type same_bool name_of
+acknowledgement_controlled_keeps = refl
+
+acknowledgement_other_keeps : all_keep (stages.Within Acknowledgement steps.Other) ≡ true
+unfolding all_keep keeps stays agrees same_stage same_step same_type same_bool name_of
+acknowledgement_other_keeps = refl
+
+acknowledgement_writer_keeps : all_keep (stages.Within Acknowledgement steps.Writer) ≡ true
+unfolding all_keep keeps stays agrees same_stage same_step same_type same_bool name_of
+acknowledgement_writer_keeps = refl
+
+acknowledgement_otherwriter_keeps : all_keep (stages.Within Acknowledgement steps.OtherWriter) ≡ true
+unfolding all_keep keeps stays agrees same_stage same_step same_type same_bool name_of
+acknowledgement_otherwriter_keeps = refl
+
+acknowledgement_tail_keeps : all_keep (stages.Within Acknowledgement steps.Tail) ≡ true
+unfolding all_keep keeps stays agrees same_stage same_step same_type same_bool name_of
+acknowledgement_tail_keeps = refl
 
 all_stages_keep : (stage : Stage) → is_stage stage ≡ true → all_keep stage ≡ true
 all_stages_keep stages.Start h = start_keeps
@@ -191,6 +244,17 @@ all_stages_keep (stages.Within RevisedWork steps.OtherWriter) h = revisedwork_ot
 all_stages_keep (stages.Within RevisedWork steps.Tail) h = revisedwork_tail_keeps
 all_stages_keep (stages.Within Acknowledgement steps.InGroup) h = acknowledgement_ingroup_keeps
 all_stages_keep (stages.Within Acknowledgement steps.Acked) h = acknowledgement_acked_keeps
+all_stages_keep (stages.Within Acknowledgement steps.Agreed) h = acknowledgement_agreed_keeps
+all_stages_keep (stages.Within Acknowledgement steps.Territories) h = acknowledgement_territories_keeps
+all_stages_keep (stages.Within Acknowledgement (steps.OneSide Assignor)) h = acknowledgement_side_assignor_keeps
+all_stages_keep (stages.Within Acknowledgement (steps.OneSide Acquirer)) h = acknowledgement_side_acquirer_keeps
+all_stages_keep (stages.Within Acknowledgement steps.Both) h = acknowledgement_both_keeps
+all_stages_keep (stages.Within Acknowledgement steps.Work) h = acknowledgement_work_keeps
+all_stages_keep (stages.Within Acknowledgement steps.Controlled) h = acknowledgement_controlled_keeps
+all_stages_keep (stages.Within Acknowledgement steps.Other) h = acknowledgement_other_keeps
+all_stages_keep (stages.Within Acknowledgement steps.Writer) h = acknowledgement_writer_keeps
+all_stages_keep (stages.Within Acknowledgement steps.OtherWriter) h = acknowledgement_otherwriter_keeps
+all_stages_keep (stages.Within Acknowledgement steps.Tail) h = acknowledgement_tail_keeps
 all_stages_keep stage h = absurd (true≢false (sym h))
 
 here : {X : Type 0} (test : X → Bool) (x : X) (xs : List X) → list_all test (x ∷ xs) ≡ true → test x ≡ true
@@ -223,10 +287,32 @@ if_not : (a b : Bool) → a ≡ true → (not a || b) ≡ true → b ≡ true
 if_not true b e h = h
 if_not false b e h = absurd (true≢false (sym e))
 
-agreed : (stage : Stage) (ty : TransactionType) (o : Bool) (s : Symbol) → is_stage stage ≡ true → fits stage ty o ≡ true
+first_of : (c a b : Bool) → c ≡ true → cond c a b ≡ true → a ≡ true
+first_of true a b e h = h
+first_of false a b e h = absurd (true≢false (sym e))
+
+second_of : (c a b : Bool) → c ≡ false → cond c a b ≡ true → b ≡ true
+second_of true a b e h = absurd (true≢false e)
+second_of false a b e h = h
+
+-- a carried symbol leaves the stage as it is
+stays_there : (stage to : Stage) (o : Option Stage) → o ≡ Some to → stays stage o ≡ true → to ≡ stage
+unfolding stays
+stays_there stage to None e h = absurd (none_is_some to e)
+  where
+    none_is_some : (x : Stage) → None ≡ Some x → ⊥
+    none_is_some x k = cc k
+stays_there stage to (Some at) e h = let same : at ≡ to = cc e in sym same ∙ same_stage_sound at stage h
+
+pub carried_stays : (stage : Stage) (s : Symbol) (to : Stage) → is_stage stage ≡ true → is_carried_symbol s ≡ true → next_stage stage s ≡ Some to → to ≡ stage
+unfolding keeps
+carried_stays stage s to real e on =
+    stays_there stage to (next_stage stage s) on (first_of (is_carried_symbol s) _ _ e (of_each (keeps stage Acknowledgement false) s (kept stage Acknowledgement false (all_stages_keep stage real))))
+
+agreed : (stage : Stage) (ty : TransactionType) (o : Bool) (s : Symbol) → is_stage stage ≡ true → is_carried_symbol s ≡ false → fits stage ty o ≡ true
     → agrees (next_stage stage s) s (type_next s ty) (writer_next s o) (side_next Assignor s (side_of Assignor stage)) (side_next Acquirer s (side_of Acquirer stage)) ≡ true
 unfolding keeps
-agreed stage ty o s real fit = if_not (fits stage ty o) _ fit (of_each (keeps stage ty o) s (kept stage ty o (all_stages_keep stage real)))
+agreed stage ty o s real e fit = if_not (fits stage ty o) _ fit (second_of (is_carried_symbol s) _ _ e (of_each (keeps stage ty o) s (kept stage ty o (all_stages_keep stage real))))
 
 -- what agreeing says
 agrees_says : (op : Option Stage) (to : Stage) (s : Symbol) (ty : TransactionType) (o a b : Bool) → op ≡ Some to → agrees op s ty o a b ≡ true
@@ -244,19 +330,19 @@ agrees_says (Some at) to s ty o a b e h =
     subst (λ (t : Stage). (t ≡ name_of s ty o a b) × (fits t ty o ≡ true) × (a ≡ side_of Assignor t) × (b ≡ side_of Acquirer t)) same
     (same_stage_sound at (name_of s ty o a b) z.0, z.1, same_bool_sound a (side_of Assignor at) y.1, same_bool_sound b (side_of Acquirer at) x.1)
 
-stage-snoc : (xs : List Symbol) (s : Symbol) → stage_after (xs ++ s ∷ []) ≡ stage_by (Some s) (xs ++ s ∷ [])
+stage-snoc : (xs : List Symbol) (s : Symbol) → stage_of (xs ++ s ∷ []) ≡ stage_by (Some s) (xs ++ s ∷ [])
 stage-snoc xs s = ap (λ (l : Option Symbol). stage_by l (xs ++ s ∷ [])) (last_or-snoc None xs s)
 
--- one more symbol by the table
-seen_next : (xs : List Symbol) (stage : Stage) (s : Symbol) (to : Stage) → is_stage stage ≡ true → next_stage stage s ≡ Some to → Seen xs stage → Seen (xs ++ s ∷ []) to
-seen_next xs stage s to real e seen =
+-- one more symbol by the table, which isn't carried
+seen_next : (xs : List Symbol) (stage : Stage) (s : Symbol) (to : Stage) → is_stage stage ≡ true → is_carried_symbol s ≡ false → next_stage stage s ≡ Some to → Seen xs stage → Seen (xs ++ s ∷ []) to
+seen_next xs stage s to real ordered e seen =
     let ys : List Symbol = xs ++ s ∷ [] in
     let ty : group_of (latest is_grh ys) ≡ type_next s (group_of (latest is_grh xs)) = ap group_of (latest-snoc is_grh xs s) ∙ type_more s (latest is_grh xs) in
     let o : other_writer (latest is_writer ys) ≡ writer_next s (other_writer (latest is_writer xs)) = ap other_writer (latest-snoc is_writer xs s) ∙ writer_more s (latest is_writer xs) in
     let a : side Assignor ys ≡ side_next Assignor s (side_of Assignor stage) = side-snoc Assignor xs s ∙ ap (side_next Assignor s) seen.assignor in
     let b : side Acquirer ys ≡ side_next Acquirer s (side_of Acquirer stage) = side-snoc Acquirer xs s ∙ ap (side_next Acquirer s) seen.acquirer in
-    let says = agrees_says (next_stage stage s) to s _ _ _ _ e (agreed stage (group_of (latest is_grh xs)) (other_writer (latest is_writer xs)) s real seen.fit) in
-    let named_so : stage_after ys ≡ name_of s (group_of (latest is_grh ys)) (other_writer (latest is_writer ys)) (side Assignor ys) (side Acquirer ys) = stage-snoc xs s ∙ named s ys in
+    let says = agrees_says (next_stage stage s) to s _ _ _ _ e (agreed stage (group_of (latest is_grh xs)) (other_writer (latest is_writer xs)) s real ordered seen.fit) in
+    let named_so : stage_of ys ≡ name_of s (group_of (latest is_grh ys)) (other_writer (latest is_writer ys)) (side Assignor ys) (side Acquirer ys) = stage-snoc xs s ∙ named s ys in
     record {
       name = says.0 ∙ sym (named_so ∙ same_name s _ _ _ _ _ _ _ _ ty o a b);
       fit = fits_too to _ _ _ _ ty o says.1;
@@ -270,15 +356,27 @@ seen_next xs stage s to real e seen =
     fits_too : (to : Stage) (ty ty' : TransactionType) (o o' : Bool) → ty ≡ ty' → o ≡ o' → fits to ty' o' ≡ true → fits to ty o ≡ true
     fits_too to ty ty' o o' p q h = rw (p, q) h
 
+-- and any symbol
+seen_more : (xs : List Symbol) (stage : Stage) (s : Symbol) (to : Stage) (b : Bool) → is_carried_symbol s ≡ b → is_stage stage ≡ true → next_stage stage s ≡ Some to
+    → Seen (without_carried xs) stage → Seen (without_carried (xs ++ s ∷ [])) to
+seen_more xs stage s to true e real on seen =
+    subst (Seen (without_carried (xs ++ s ∷ []))) (sym (carried_stays stage s to real e on)) (subst (λ (ys : List Symbol). Seen ys stage) (sym (without-snoc xs s true e)) seen)
+seen_more xs stage s to false e real on seen = subst (λ (ys : List Symbol). Seen ys to) (sym (without-snoc xs s false e)) (seen_next (without_carried xs) stage s to real e on seen)
+
 -- and so on to the end
-seen_run : (front xs : List Symbol) (stage to : Stage) → is_stage stage ≡ true → run stage xs ≡ Some to → Seen front stage → Seen (front ++ xs) to
+seen_run : (front xs : List Symbol) (stage to : Stage) → is_stage stage ≡ true → run stage xs ≡ Some to → Seen (without_carried front) stage → Seen (without_carried (front ++ xs)) to
 unfolding run
 seen_run front [] stage to real e seen =
-    let same : stage ≡ to = cc e in subst (λ (t : Stage). Seen (front ++ []) t) same (subst (λ (ys : List Symbol). Seen ys stage) (sym (append-nil front)) seen)
+    let same : stage ≡ to = cc e in
+    subst (Seen (without_carried (front ++ []))) same (subst (λ (ys : List Symbol). Seen (without_carried ys) stage) (sym (append-nil front)) seen)
 seen_run front (s ∷ xs) stage to real e seen =
     let first = run_first stage s xs to e in
-    let more = seen_next front stage s first.0 real first.1 seen in
-    subst (λ (ys : List Symbol). Seen ys to) (append_assoc front (s ∷ []) xs) (seen_run (front ++ s ∷ []) xs first.0 to (next_is_stage stage s first.0 real first.1) first.2 more)
+    let more = seen_more front stage s first.0 (is_carried_symbol s) refl real first.1 seen in
+    subst (λ (ys : List Symbol). Seen (without_carried ys) to) (append_assoc front (s ∷ []) xs) (seen_run (front ++ s ∷ []) xs first.0 to (next_is_stage stage s first.0 real first.1) first.2 more)
+
+-- the stage after a symbol that isn't carried is the one that it names
+pub stage_after-snoc : (xs : List Symbol) (s : Symbol) → is_carried_symbol s ≡ false → stage_after (xs ++ s ∷ []) ≡ stage_by (Some s) (without_carried xs ++ s ∷ [])
+stage_after-snoc xs s e = ap stage_of (without-snoc xs s false e) ∙ stage-snoc (without_carried xs) s
 
 -- the stage to which the table comes is the one that the symbols name
 pub run_names : (xs : List Symbol) (to : Stage) → run stages.Start xs ≡ Some to → to ≡ stage_after xs

@@ -15,7 +15,7 @@ use Rattle.cwr_shape.specs.Steps.{next_stage}
 use Rattle.cwr_shape.specs.Left.{is_stage, left}
 use Rattle.cwr_shape.proofs.PrefixFree.{among_passes}
 use Rattle.cwr_shape.proofs.Matcher.{nullable, after, is_dead, dead_sound}
-use Rattle.cwr_shape.proofs.NormalForms.{same_list, same, same_sound, seq, contains, insert, alt, both, norm, norm_alike, follows}
+use Rattle.cwr_shape.proofs.NormalForms.{same_list, same, same_sound, seq, contains, insert, alt, both, carry, norm, norm_alike, follows}
 
 -- what the pattern leaves is what is left at the stage; no stage, and nothing is
 unfoldable pub leads : Option Stage → Pattern → Bool
@@ -31,114 +31,159 @@ all_symbols =
     Plain kinds.Hdr ∷ Plain kinds.Grh ∷ Plain kinds.Grt ∷ Plain kinds.Trl ∷ Plain kinds.Agr ∷ Plain kinds.Ter ∷ Plain kinds.Ipa ∷ Plain kinds.Nwr ∷ Plain kinds.Rev ∷
     Plain kinds.Spu ∷ Plain kinds.Opu ∷ Plain kinds.Spt ∷ Plain kinds.Swr ∷ Plain kinds.Owr ∷ Plain kinds.Swt ∷ Plain kinds.Pwr ∷ Plain kinds.Alt ∷ Plain kinds.Ewt ∷
     Plain kinds.Ver ∷ Plain kinds.Per ∷ Plain kinds.Rec ∷ Plain kinds.Orn ∷ Plain kinds.Com ∷ Plain kinds.Ack ∷ Plain kinds.Msg ∷
+    Plain kinds.Opt ∷ Plain kinds.Owt ∷ Plain kinds.Npn ∷ Plain kinds.Npr ∷ Plain kinds.Nwn ∷ Plain kinds.Npa ∷ Plain kinds.Net ∷ Plain kinds.Now ∷ Plain kinds.Nct ∷ Plain kinds.Nvt ∷ Plain kinds.Nat ∷ Plain kinds.Ins ∷ Plain kinds.Ind ∷ Plain kinds.Ari ∷ Plain kinds.Xrf ∷
     Ipa Assignor ∷ Ipa Acquirer ∷ Grh Agreement ∷ Grh NewWork ∷ Grh RevisedWork ∷ Grh Acknowledgement ∷ []
 
 abbrev AllFollow : Stage → Type 0
 AllFollow stage = list_all (follows_table stage) all_symbols ≡ true
 
 start_follows : AllFollow stages.Start
-unfolding follows_table leads nullable after is_dead same_list same seq contains insert alt both norm
+unfolding follows_table leads nullable after is_dead same_list same seq contains insert alt both carry norm
 start_follows = refl
 
 opened_follows : AllFollow stages.Opened
-unfolding follows_table leads nullable after is_dead same_list same seq contains insert alt both norm
+unfolding follows_table leads nullable after is_dead same_list same seq contains insert alt both carry norm
 opened_follows = refl
 
 closed_follows : AllFollow stages.Closed
-unfolding follows_table leads nullable after is_dead same_list same seq contains insert alt both norm
+unfolding follows_table leads nullable after is_dead same_list same seq contains insert alt both carry norm
 closed_follows = refl
 
 ended_follows : AllFollow stages.Ended
-unfolding follows_table leads nullable after is_dead same_list same seq contains insert alt both norm
+unfolding follows_table leads nullable after is_dead same_list same seq contains insert alt both carry norm
 ended_follows = refl
 
 agreement_ingroup_follows : AllFollow (stages.Within Agreement steps.InGroup)
-unfolding follows_table leads nullable after is_dead same_list same seq contains insert alt both norm
+unfolding follows_table leads nullable after is_dead same_list same seq contains insert alt both carry norm
 agreement_ingroup_follows = refl
 
 agreement_agreed_follows : AllFollow (stages.Within Agreement steps.Agreed)
-unfolding follows_table leads nullable after is_dead same_list same seq contains insert alt both norm
+unfolding follows_table leads nullable after is_dead same_list same seq contains insert alt both carry norm
 agreement_agreed_follows = refl
 
 agreement_territories_follows : AllFollow (stages.Within Agreement steps.Territories)
-unfolding follows_table leads nullable after is_dead same_list same seq contains insert alt both norm
+unfolding follows_table leads nullable after is_dead same_list same seq contains insert alt both carry norm
 agreement_territories_follows = refl
 
 agreement_side_assignor_follows : AllFollow (stages.Within Agreement (steps.OneSide Assignor))
-unfolding follows_table leads nullable after is_dead same_list same seq contains insert alt both norm
+unfolding follows_table leads nullable after is_dead same_list same seq contains insert alt both carry norm
 agreement_side_assignor_follows = refl
 
 agreement_side_acquirer_follows : AllFollow (stages.Within Agreement (steps.OneSide Acquirer))
-unfolding follows_table leads nullable after is_dead same_list same seq contains insert alt both norm
+unfolding follows_table leads nullable after is_dead same_list same seq contains insert alt both carry norm
 agreement_side_acquirer_follows = refl
 
 agreement_both_follows : AllFollow (stages.Within Agreement steps.Both)
-unfolding follows_table leads nullable after is_dead same_list same seq contains insert alt both norm
+unfolding follows_table leads nullable after is_dead same_list same seq contains insert alt both carry norm
 agreement_both_follows = refl
 
 newwork_ingroup_follows : AllFollow (stages.Within NewWork steps.InGroup)
-unfolding follows_table leads nullable after is_dead same_list same seq contains insert alt both norm
+unfolding follows_table leads nullable after is_dead same_list same seq contains insert alt both carry norm
 newwork_ingroup_follows = refl
 
 newwork_work_follows : AllFollow (stages.Within NewWork steps.Work)
-unfolding follows_table leads nullable after is_dead same_list same seq contains insert alt both norm
+unfolding follows_table leads nullable after is_dead same_list same seq contains insert alt both carry norm
 newwork_work_follows = refl
 
 newwork_controlled_follows : AllFollow (stages.Within NewWork steps.Controlled)
-unfolding follows_table leads nullable after is_dead same_list same seq contains insert alt both norm
+unfolding follows_table leads nullable after is_dead same_list same seq contains insert alt both carry norm
 newwork_controlled_follows = refl
 
 newwork_other_follows : AllFollow (stages.Within NewWork steps.Other)
-unfolding follows_table leads nullable after is_dead same_list same seq contains insert alt both norm
+unfolding follows_table leads nullable after is_dead same_list same seq contains insert alt both carry norm
 newwork_other_follows = refl
 
 newwork_writer_follows : AllFollow (stages.Within NewWork steps.Writer)
-unfolding follows_table leads nullable after is_dead same_list same seq contains insert alt both norm
+unfolding follows_table leads nullable after is_dead same_list same seq contains insert alt both carry norm
 newwork_writer_follows = refl
 
 newwork_otherwriter_follows : AllFollow (stages.Within NewWork steps.OtherWriter)
-unfolding follows_table leads nullable after is_dead same_list same seq contains insert alt both norm
+unfolding follows_table leads nullable after is_dead same_list same seq contains insert alt both carry norm
 newwork_otherwriter_follows = refl
 
 newwork_tail_follows : AllFollow (stages.Within NewWork steps.Tail)
-unfolding follows_table leads nullable after is_dead same_list same seq contains insert alt both norm
+unfolding follows_table leads nullable after is_dead same_list same seq contains insert alt both carry norm
 newwork_tail_follows = refl
 
 revisedwork_ingroup_follows : AllFollow (stages.Within RevisedWork steps.InGroup)
-unfolding follows_table leads nullable after is_dead same_list same seq contains insert alt both norm
+unfolding follows_table leads nullable after is_dead same_list same seq contains insert alt both carry norm
 revisedwork_ingroup_follows = refl
 
 revisedwork_work_follows : AllFollow (stages.Within RevisedWork steps.Work)
-unfolding follows_table leads nullable after is_dead same_list same seq contains insert alt both norm
+unfolding follows_table leads nullable after is_dead same_list same seq contains insert alt both carry norm
 revisedwork_work_follows = refl
 
 revisedwork_controlled_follows : AllFollow (stages.Within RevisedWork steps.Controlled)
-unfolding follows_table leads nullable after is_dead same_list same seq contains insert alt both norm
+unfolding follows_table leads nullable after is_dead same_list same seq contains insert alt both carry norm
 revisedwork_controlled_follows = refl
 
 revisedwork_other_follows : AllFollow (stages.Within RevisedWork steps.Other)
-unfolding follows_table leads nullable after is_dead same_list same seq contains insert alt both norm
+unfolding follows_table leads nullable after is_dead same_list same seq contains insert alt both carry norm
 revisedwork_other_follows = refl
 
 revisedwork_writer_follows : AllFollow (stages.Within RevisedWork steps.Writer)
-unfolding follows_table leads nullable after is_dead same_list same seq contains insert alt both norm
+unfolding follows_table leads nullable after is_dead same_list same seq contains insert alt both carry norm
 revisedwork_writer_follows = refl
 
 revisedwork_otherwriter_follows : AllFollow (stages.Within RevisedWork steps.OtherWriter)
-unfolding follows_table leads nullable after is_dead same_list same seq contains insert alt both norm
+unfolding follows_table leads nullable after is_dead same_list same seq contains insert alt both carry norm
 revisedwork_otherwriter_follows = refl
 
 revisedwork_tail_follows : AllFollow (stages.Within RevisedWork steps.Tail)
-unfolding follows_table leads nullable after is_dead same_list same seq contains insert alt both norm
+unfolding follows_table leads nullable after is_dead same_list same seq contains insert alt both carry norm
 revisedwork_tail_follows = refl
 
 acknowledgement_ingroup_follows : AllFollow (stages.Within Acknowledgement steps.InGroup)
-unfolding follows_table leads nullable after is_dead same_list same seq contains insert alt both norm
+unfolding follows_table leads nullable after is_dead same_list same seq contains insert alt both carry norm
 acknowledgement_ingroup_follows = refl
 
 acknowledgement_acked_follows : AllFollow (stages.Within Acknowledgement steps.Acked)
-unfolding follows_table leads nullable after is_dead same_list same seq contains insert alt both norm
+unfolding follows_table leads nullable after is_dead same_list same seq contains insert alt both carry norm
 acknowledgement_acked_follows = refl
+
+acknowledgement_agreed_follows : AllFollow (stages.Within Acknowledgement steps.Agreed)
+unfolding follows_table leads nullable after is_dead same_list same seq contains insert alt both carry norm
+acknowledgement_agreed_follows = refl
+
+acknowledgement_territories_follows : AllFollow (stages.Within Acknowledgement steps.Territories)
+unfolding follows_table leads nullable after is_dead same_list same seq contains insert alt both carry norm
+acknowledgement_territories_follows = refl
+
+acknowledgement_side_assignor_follows : AllFollow (stages.Within Acknowledgement (steps.OneSide Assignor))
+unfolding follows_table leads nullable after is_dead same_list same seq contains insert alt both carry norm
+acknowledgement_side_assignor_follows = refl
+
+acknowledgement_side_acquirer_follows : AllFollow (stages.Within Acknowledgement (steps.OneSide Acquirer))
+unfolding follows_table leads nullable after is_dead same_list same seq contains insert alt both carry norm
+acknowledgement_side_acquirer_follows = refl
+
+acknowledgement_both_follows : AllFollow (stages.Within Acknowledgement steps.Both)
+unfolding follows_table leads nullable after is_dead same_list same seq contains insert alt both carry norm
+acknowledgement_both_follows = refl
+
+acknowledgement_work_follows : AllFollow (stages.Within Acknowledgement steps.Work)
+unfolding follows_table leads nullable after is_dead same_list same seq contains insert alt both carry norm
+acknowledgement_work_follows = refl
+
+acknowledgement_controlled_follows : AllFollow (stages.Within Acknowledgement steps.Controlled)
+unfolding follows_table leads nullable after is_dead same_list same seq contains insert alt both carry norm
+acknowledgement_controlled_follows = refl
+
+acknowledgement_other_follows : AllFollow (stages.Within Acknowledgement steps.Other)
+unfolding follows_table leads nullable after is_dead same_list same seq contains insert alt both carry norm
+acknowledgement_other_follows = refl
+
+acknowledgement_writer_follows : AllFollow (stages.Within Acknowledgement steps.Writer)
+unfolding follows_table leads nullable after is_dead same_list same seq contains insert alt both carry norm
+acknowledgement_writer_follows = refl
+
+acknowledgement_otherwriter_follows : AllFollow (stages.Within Acknowledgement steps.OtherWriter)
+unfolding follows_table leads nullable after is_dead same_list same seq contains insert alt both carry norm
+acknowledgement_otherwriter_follows = refl
+
+acknowledgement_tail_follows : AllFollow (stages.Within Acknowledgement steps.Tail)
+unfolding follows_table leads nullable after is_dead same_list same seq contains insert alt both carry norm
+acknowledgement_tail_follows = refl
 
 -- at each stage the table follows the patterns
 all_follow : (stage : Stage) → is_stage stage ≡ true → AllFollow stage
@@ -168,6 +213,17 @@ all_follow (stages.Within RevisedWork steps.OtherWriter) h = revisedwork_otherwr
 all_follow (stages.Within RevisedWork steps.Tail) h = revisedwork_tail_follows
 all_follow (stages.Within Acknowledgement steps.InGroup) h = acknowledgement_ingroup_follows
 all_follow (stages.Within Acknowledgement steps.Acked) h = acknowledgement_acked_follows
+all_follow (stages.Within Acknowledgement steps.Agreed) h = acknowledgement_agreed_follows
+all_follow (stages.Within Acknowledgement steps.Territories) h = acknowledgement_territories_follows
+all_follow (stages.Within Acknowledgement (steps.OneSide Assignor)) h = acknowledgement_side_assignor_follows
+all_follow (stages.Within Acknowledgement (steps.OneSide Acquirer)) h = acknowledgement_side_acquirer_follows
+all_follow (stages.Within Acknowledgement steps.Both) h = acknowledgement_both_follows
+all_follow (stages.Within Acknowledgement steps.Work) h = acknowledgement_work_follows
+all_follow (stages.Within Acknowledgement steps.Controlled) h = acknowledgement_controlled_follows
+all_follow (stages.Within Acknowledgement steps.Other) h = acknowledgement_other_follows
+all_follow (stages.Within Acknowledgement steps.Writer) h = acknowledgement_writer_follows
+all_follow (stages.Within Acknowledgement steps.OtherWriter) h = acknowledgement_otherwriter_follows
+all_follow (stages.Within Acknowledgement steps.Tail) h = acknowledgement_tail_follows
 all_follow stage h = absurd (true≢false (sym h))
 
 -- a test of every symbol is one of each
@@ -197,12 +253,27 @@ of_each test (Plain kinds.Orn) h = among_passes test all_symbols (Plain kinds.Hd
 of_each test (Plain kinds.Com) h = among_passes test all_symbols (Plain kinds.Hdr) 22 h (lit< tt)
 of_each test (Plain kinds.Ack) h = among_passes test all_symbols (Plain kinds.Hdr) 23 h (lit< tt)
 of_each test (Plain kinds.Msg) h = among_passes test all_symbols (Plain kinds.Hdr) 24 h (lit< tt)
-of_each test (Ipa Assignor) h = among_passes test all_symbols (Plain kinds.Hdr) 25 h (lit< tt)
-of_each test (Ipa Acquirer) h = among_passes test all_symbols (Plain kinds.Hdr) 26 h (lit< tt)
-of_each test (Grh Agreement) h = among_passes test all_symbols (Plain kinds.Hdr) 27 h (lit< tt)
-of_each test (Grh NewWork) h = among_passes test all_symbols (Plain kinds.Hdr) 28 h (lit< tt)
-of_each test (Grh RevisedWork) h = among_passes test all_symbols (Plain kinds.Hdr) 29 h (lit< tt)
-of_each test (Grh Acknowledgement) h = among_passes test all_symbols (Plain kinds.Hdr) 30 h (lit< tt)
+of_each test (Plain kinds.Opt) h = among_passes test all_symbols (Plain kinds.Hdr) 25 h (lit< tt)
+of_each test (Plain kinds.Owt) h = among_passes test all_symbols (Plain kinds.Hdr) 26 h (lit< tt)
+of_each test (Plain kinds.Npn) h = among_passes test all_symbols (Plain kinds.Hdr) 27 h (lit< tt)
+of_each test (Plain kinds.Npr) h = among_passes test all_symbols (Plain kinds.Hdr) 28 h (lit< tt)
+of_each test (Plain kinds.Nwn) h = among_passes test all_symbols (Plain kinds.Hdr) 29 h (lit< tt)
+of_each test (Plain kinds.Npa) h = among_passes test all_symbols (Plain kinds.Hdr) 30 h (lit< tt)
+of_each test (Plain kinds.Net) h = among_passes test all_symbols (Plain kinds.Hdr) 31 h (lit< tt)
+of_each test (Plain kinds.Now) h = among_passes test all_symbols (Plain kinds.Hdr) 32 h (lit< tt)
+of_each test (Plain kinds.Nct) h = among_passes test all_symbols (Plain kinds.Hdr) 33 h (lit< tt)
+of_each test (Plain kinds.Nvt) h = among_passes test all_symbols (Plain kinds.Hdr) 34 h (lit< tt)
+of_each test (Plain kinds.Nat) h = among_passes test all_symbols (Plain kinds.Hdr) 35 h (lit< tt)
+of_each test (Plain kinds.Ins) h = among_passes test all_symbols (Plain kinds.Hdr) 36 h (lit< tt)
+of_each test (Plain kinds.Ind) h = among_passes test all_symbols (Plain kinds.Hdr) 37 h (lit< tt)
+of_each test (Plain kinds.Ari) h = among_passes test all_symbols (Plain kinds.Hdr) 38 h (lit< tt)
+of_each test (Plain kinds.Xrf) h = among_passes test all_symbols (Plain kinds.Hdr) 39 h (lit< tt)
+of_each test (Ipa Assignor) h = among_passes test all_symbols (Plain kinds.Hdr) 40 h (lit< tt)
+of_each test (Ipa Acquirer) h = among_passes test all_symbols (Plain kinds.Hdr) 41 h (lit< tt)
+of_each test (Grh Agreement) h = among_passes test all_symbols (Plain kinds.Hdr) 42 h (lit< tt)
+of_each test (Grh NewWork) h = among_passes test all_symbols (Plain kinds.Hdr) 43 h (lit< tt)
+of_each test (Grh RevisedWork) h = among_passes test all_symbols (Plain kinds.Hdr) 44 h (lit< tt)
+of_each test (Grh Acknowledgement) h = among_passes test all_symbols (Plain kinds.Hdr) 45 h (lit< tt)
 
 -- what follows a symbol at a stage is what is left at the next
 pub record Goes (stage : Stage) (s : Symbol) (xs : List Symbol) : Type 0 where

@@ -197,6 +197,50 @@ left_within_acknowledgement_acked : Left (stages.Within Acknowledgement steps.Ac
 unfolding nullable after after_all
 left_within_acknowledgement_acked = (ending, accepts_sound _ (left (stages.Within Acknowledgement steps.Acked)) refl)
 
+left_within_acknowledgement_work : Left (stages.Within Acknowledgement steps.Work)
+unfolding nullable after after_all
+left_within_acknowledgement_work = (p kinds.Swr ∷ ending, accepts_sound _ (left (stages.Within Acknowledgement steps.Work)) refl)
+
+left_within_acknowledgement_controlled : Left (stages.Within Acknowledgement steps.Controlled)
+unfolding nullable after after_all
+left_within_acknowledgement_controlled = (p kinds.Swr ∷ ending, accepts_sound _ (left (stages.Within Acknowledgement steps.Controlled)) refl)
+
+left_within_acknowledgement_other : Left (stages.Within Acknowledgement steps.Other)
+unfolding nullable after after_all
+left_within_acknowledgement_other = (p kinds.Swr ∷ ending, accepts_sound _ (left (stages.Within Acknowledgement steps.Other)) refl)
+
+left_within_acknowledgement_writer : Left (stages.Within Acknowledgement steps.Writer)
+unfolding nullable after after_all
+left_within_acknowledgement_writer = (ending, accepts_sound _ (left (stages.Within Acknowledgement steps.Writer)) refl)
+
+left_within_acknowledgement_otherwriter : Left (stages.Within Acknowledgement steps.OtherWriter)
+unfolding nullable after after_all
+left_within_acknowledgement_otherwriter = (ending, accepts_sound _ (left (stages.Within Acknowledgement steps.OtherWriter)) refl)
+
+left_within_acknowledgement_tail : Left (stages.Within Acknowledgement steps.Tail)
+unfolding nullable after after_all
+left_within_acknowledgement_tail = (ending, accepts_sound _ (left (stages.Within Acknowledgement steps.Tail)) refl)
+
+left_within_acknowledgement_agreed : Left (stages.Within Acknowledgement steps.Agreed)
+unfolding nullable after after_all
+left_within_acknowledgement_agreed = (p kinds.Ter ∷ Ipa Assignor ∷ Ipa Acquirer ∷ ending, accepts_sound _ (left (stages.Within Acknowledgement steps.Agreed)) refl)
+
+left_within_acknowledgement_territories : Left (stages.Within Acknowledgement steps.Territories)
+unfolding nullable after after_all
+left_within_acknowledgement_territories = (Ipa Assignor ∷ Ipa Acquirer ∷ ending, accepts_sound _ (left (stages.Within Acknowledgement steps.Territories)) refl)
+
+left_within_acknowledgement_oneside_assignor : Left (stages.Within Acknowledgement (steps.OneSide Assignor))
+unfolding nullable after after_all
+left_within_acknowledgement_oneside_assignor = (Ipa Acquirer ∷ ending, accepts_sound _ (left (stages.Within Acknowledgement (steps.OneSide Assignor))) refl)
+
+left_within_acknowledgement_oneside_acquirer : Left (stages.Within Acknowledgement (steps.OneSide Acquirer))
+unfolding nullable after after_all
+left_within_acknowledgement_oneside_acquirer = (Ipa Assignor ∷ ending, accepts_sound _ (left (stages.Within Acknowledgement (steps.OneSide Acquirer))) refl)
+
+left_within_acknowledgement_both : Left (stages.Within Acknowledgement steps.Both)
+unfolding nullable after after_all
+left_within_acknowledgement_both = (ending, accepts_sound _ (left (stages.Within Acknowledgement steps.Both)) refl)
+
 -- at each stage something is left
 left_at : (stage : Stage) → is_stage stage ≡ true → Left stage
 left_at stages.Start h = left_start
@@ -225,6 +269,17 @@ left_at (stages.Within Agreement (steps.OneSide Acquirer)) h = left_within_agree
 left_at (stages.Within Agreement steps.Both) h = left_within_agreement_both
 left_at (stages.Within Acknowledgement steps.InGroup) h = left_within_acknowledgement_ingroup
 left_at (stages.Within Acknowledgement steps.Acked) h = left_within_acknowledgement_acked
+left_at (stages.Within Acknowledgement steps.Work) h = left_within_acknowledgement_work
+left_at (stages.Within Acknowledgement steps.Controlled) h = left_within_acknowledgement_controlled
+left_at (stages.Within Acknowledgement steps.Other) h = left_within_acknowledgement_other
+left_at (stages.Within Acknowledgement steps.Writer) h = left_within_acknowledgement_writer
+left_at (stages.Within Acknowledgement steps.OtherWriter) h = left_within_acknowledgement_otherwriter
+left_at (stages.Within Acknowledgement steps.Tail) h = left_within_acknowledgement_tail
+left_at (stages.Within Acknowledgement steps.Agreed) h = left_within_acknowledgement_agreed
+left_at (stages.Within Acknowledgement steps.Territories) h = left_within_acknowledgement_territories
+left_at (stages.Within Acknowledgement (steps.OneSide Assignor)) h = left_within_acknowledgement_oneside_assignor
+left_at (stages.Within Acknowledgement (steps.OneSide Acquirer)) h = left_within_acknowledgement_oneside_acquirer
+left_at (stages.Within Acknowledgement steps.Both) h = left_within_acknowledgement_both
 left_at stage h = absurd (true≢false (sym h))
 
 -- one more symbol comes where the table has a stage for it

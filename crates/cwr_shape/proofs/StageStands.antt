@@ -17,7 +17,7 @@ one_stage : (x y : Stage) → Some x ≡ Some y → x ≡ y
 one_stage x y e = cc e
 
 -- the table comes to where symbols stand
-stands_run : (xs : List Symbol) (stage : Stage) → StandsAt xs stage → run stages.Start xs ≡ Some stage
+pub stands_run : (xs : List Symbol) (stage : Stage) → StandsAt xs stage → run stages.Start xs ≡ Some stage
 stands_run xs stage st =
     let come = begins_run xs st.begins in
     let there : come.0 ≡ stage = run_names xs come.0 come.1 ∙ sym st.named in
@@ -44,7 +44,7 @@ pub stands_start : StandsAt [] stages.Start
 unfolding run
 stands_start = run_stands [] stages.Start refl
 
-run_one : (stage : Stage) (s : Symbol) (to : Stage) → next_stage stage s ≡ Some to → run stage (s ∷ []) ≡ Some to
+pub run_one : (stage : Stage) (s : Symbol) (to : Stage) → next_stage stage s ≡ Some to → run stage (s ∷ []) ≡ Some to
 unfolding run
 run_one stage s to e = ap (option_and_then (λ t. run t [])) e
 

@@ -15,7 +15,7 @@ use Rattle.cwr_shape.specs.Shapes.{Pattern, Matches, pattern_of, IsShape}
 use Rattle.cwr_shape.specs.Steps.{header_step, step_on, may_end}
 use Rattle.cwr_shape.specs.Left.{left_of, is_inside, StandsAtStep, ContinuesIn}
 use Rattle.cwr_shape.proofs.Matcher.{nullable, nullable_sound, nullable_complete, after, after_all, is_dead, dead_sound, accepts_sound}
-use Rattle.cwr_shape.proofs.NormalForms.{same_list, same, same_sound, seq, contains, insert, alt, both, norm, norm_alike, follows}
+use Rattle.cwr_shape.proofs.NormalForms.{same_list, same, same_sound, seq, contains, insert, alt, both, carry, norm, norm_alike, follows}
 use Rattle.cwr_shape.proofs.StagePatterns.{all_symbols, of_each}
 use Rattle.cwr_shape.proofs.StepNames.{first_named, on_named}
 
@@ -31,19 +31,19 @@ unfoldable step_follows : TransactionStep → Symbol → Bool
 step_follows step s = leads_in (step_on step s) (norm (after s (left_of step)))
 
 agreement_first : list_all (first_follows Agreement) all_symbols ≡ true
-unfolding first_follows leads_in nullable after is_dead same_list same seq contains insert alt both norm
+unfolding first_follows leads_in nullable after is_dead same_list same seq contains insert alt both carry norm
 agreement_first = refl
 
 newwork_first : list_all (first_follows NewWork) all_symbols ≡ true
-unfolding first_follows leads_in nullable after is_dead same_list same seq contains insert alt both norm
+unfolding first_follows leads_in nullable after is_dead same_list same seq contains insert alt both carry norm
 newwork_first = refl
 
 revisedwork_first : list_all (first_follows RevisedWork) all_symbols ≡ true
-unfolding first_follows leads_in nullable after is_dead same_list same seq contains insert alt both norm
+unfolding first_follows leads_in nullable after is_dead same_list same seq contains insert alt both carry norm
 revisedwork_first = refl
 
 acknowledgement_first : list_all (first_follows Acknowledgement) all_symbols ≡ true
-unfolding first_follows leads_in nullable after is_dead same_list same seq contains insert alt both norm
+unfolding first_follows leads_in nullable after is_dead same_list same seq contains insert alt both carry norm
 acknowledgement_first = refl
 
 first_follow : (ty : TransactionType) → list_all (first_follows ty) all_symbols ≡ true
@@ -53,51 +53,51 @@ first_follow RevisedWork = revisedwork_first
 first_follow Acknowledgement = acknowledgement_first
 
 agreed_on : list_all (step_follows steps.Agreed) all_symbols ≡ true
-unfolding step_follows leads_in nullable after is_dead same_list same seq contains insert alt both norm
+unfolding step_follows leads_in nullable after is_dead same_list same seq contains insert alt both carry norm
 agreed_on = refl
 
 territories_on : list_all (step_follows steps.Territories) all_symbols ≡ true
-unfolding step_follows leads_in nullable after is_dead same_list same seq contains insert alt both norm
+unfolding step_follows leads_in nullable after is_dead same_list same seq contains insert alt both carry norm
 territories_on = refl
 
 side_assignor_on : list_all (step_follows (steps.OneSide Assignor)) all_symbols ≡ true
-unfolding step_follows leads_in nullable after is_dead same_list same seq contains insert alt both norm
+unfolding step_follows leads_in nullable after is_dead same_list same seq contains insert alt both carry norm
 side_assignor_on = refl
 
 side_acquirer_on : list_all (step_follows (steps.OneSide Acquirer)) all_symbols ≡ true
-unfolding step_follows leads_in nullable after is_dead same_list same seq contains insert alt both norm
+unfolding step_follows leads_in nullable after is_dead same_list same seq contains insert alt both carry norm
 side_acquirer_on = refl
 
 both_on : list_all (step_follows steps.Both) all_symbols ≡ true
-unfolding step_follows leads_in nullable after is_dead same_list same seq contains insert alt both norm
+unfolding step_follows leads_in nullable after is_dead same_list same seq contains insert alt both carry norm
 both_on = refl
 
 work_on : list_all (step_follows steps.Work) all_symbols ≡ true
-unfolding step_follows leads_in nullable after is_dead same_list same seq contains insert alt both norm
+unfolding step_follows leads_in nullable after is_dead same_list same seq contains insert alt both carry norm
 work_on = refl
 
 controlled_on : list_all (step_follows steps.Controlled) all_symbols ≡ true
-unfolding step_follows leads_in nullable after is_dead same_list same seq contains insert alt both norm
+unfolding step_follows leads_in nullable after is_dead same_list same seq contains insert alt both carry norm
 controlled_on = refl
 
 other_on : list_all (step_follows steps.Other) all_symbols ≡ true
-unfolding step_follows leads_in nullable after is_dead same_list same seq contains insert alt both norm
+unfolding step_follows leads_in nullable after is_dead same_list same seq contains insert alt both carry norm
 other_on = refl
 
 writer_on : list_all (step_follows steps.Writer) all_symbols ≡ true
-unfolding step_follows leads_in nullable after is_dead same_list same seq contains insert alt both norm
+unfolding step_follows leads_in nullable after is_dead same_list same seq contains insert alt both carry norm
 writer_on = refl
 
 otherwriter_on : list_all (step_follows steps.OtherWriter) all_symbols ≡ true
-unfolding step_follows leads_in nullable after is_dead same_list same seq contains insert alt both norm
+unfolding step_follows leads_in nullable after is_dead same_list same seq contains insert alt both carry norm
 otherwriter_on = refl
 
 tail_on : list_all (step_follows steps.Tail) all_symbols ≡ true
-unfolding step_follows leads_in nullable after is_dead same_list same seq contains insert alt both norm
+unfolding step_follows leads_in nullable after is_dead same_list same seq contains insert alt both carry norm
 tail_on = refl
 
 acked_on : list_all (step_follows steps.Acked) all_symbols ≡ true
-unfolding step_follows leads_in nullable after is_dead same_list same seq contains insert alt both norm
+unfolding step_follows leads_in nullable after is_dead same_list same seq contains insert alt both carry norm
 acked_on = refl
 
 step_follow : (step : TransactionStep) → is_inside step ≡ true → list_all (step_follows step) all_symbols ≡ true
@@ -162,14 +162,14 @@ led_back p xs to (Some other) e h m =
 left_in : (step : TransactionStep) → is_inside step ≡ true → (rest : List Symbol) × Matches (left_of step) rest
 unfolding nullable after after_all
 left_in steps.Acked h = ([], accepts_sound [] (left_of steps.Acked) refl)
-left_in steps.Agreed h = (Plain kinds.Ter ∷ Ipa Assignor ∷ Ipa Acquirer ∷ [], accepts_sound _ (left_of steps.Agreed) refl)
-left_in steps.Territories h = (Ipa Assignor ∷ Ipa Acquirer ∷ [], accepts_sound _ (left_of steps.Territories) refl)
-left_in (steps.OneSide Assignor) h = (Ipa Acquirer ∷ [], accepts_sound _ (left_of (steps.OneSide Assignor)) refl)
-left_in (steps.OneSide Acquirer) h = (Ipa Assignor ∷ [], accepts_sound _ (left_of (steps.OneSide Acquirer)) refl)
+left_in steps.Agreed h = (Plain kinds.Ter ∷ Ipa Assignor ∷ Ipa Acquirer ∷ [], accepts_sound (Plain kinds.Ter ∷ Ipa Assignor ∷ Ipa Acquirer ∷ []) (left_of steps.Agreed) refl)
+left_in steps.Territories h = (Ipa Assignor ∷ Ipa Acquirer ∷ [], accepts_sound (Ipa Assignor ∷ Ipa Acquirer ∷ []) (left_of steps.Territories) refl)
+left_in (steps.OneSide Assignor) h = (Ipa Acquirer ∷ [], accepts_sound (Ipa Acquirer ∷ []) (left_of (steps.OneSide Assignor)) refl)
+left_in (steps.OneSide Acquirer) h = (Ipa Assignor ∷ [], accepts_sound (Ipa Assignor ∷ []) (left_of (steps.OneSide Acquirer)) refl)
 left_in steps.Both h = ([], accepts_sound [] (left_of steps.Both) refl)
-left_in steps.Work h = (Plain kinds.Swr ∷ [], accepts_sound _ (left_of steps.Work) refl)
-left_in steps.Controlled h = (Plain kinds.Swr ∷ [], accepts_sound _ (left_of steps.Controlled) refl)
-left_in steps.Other h = (Plain kinds.Swr ∷ [], accepts_sound _ (left_of steps.Other) refl)
+left_in steps.Work h = (Plain kinds.Swr ∷ [], accepts_sound (Plain kinds.Swr ∷ []) (left_of steps.Work) refl)
+left_in steps.Controlled h = (Plain kinds.Swr ∷ [], accepts_sound (Plain kinds.Swr ∷ []) (left_of steps.Controlled) refl)
+left_in steps.Other h = (Plain kinds.Swr ∷ [], accepts_sound (Plain kinds.Swr ∷ []) (left_of steps.Other) refl)
 left_in steps.Writer h = ([], accepts_sound [] (left_of steps.Writer) refl)
 left_in steps.OtherWriter h = ([], accepts_sound [] (left_of steps.OtherWriter) refl)
 left_in steps.Tail h = ([], accepts_sound [] (left_of steps.Tail) refl)

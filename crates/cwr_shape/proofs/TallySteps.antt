@@ -7,7 +7,8 @@ use Rattle.cwr_fields.specs.declared.codes.TransactionType.TheVariants.{Agreemen
 use Rattle.cwr_layouts.specs.declared.kinds.Kind.{Kind}
 use Rattle.cwr_layouts.specs.declared.kinds.Kind.TheVariants as kinds
 use Rattle.cwr_shape.specs.declared.symbols.Symbol.{Symbol}
-use Rattle.cwr_shape.specs.declared.symbols.Symbol.TheVariants.{Plain, Grh}
+use Rattle.cwr_layouts.specs.Kinds.{is_carried}
+use Rattle.cwr_shape.specs.declared.symbols.Symbol.TheVariants.{Plain, Ipa, Grh}
 use Rattle.cwr_shape.specs.declared.stages.Stage.{Stage}
 use Rattle.cwr_shape.specs.declared.stages.Stage.TheVariants as stages
 use Rattle.cwr_shape.specs.declared.stages.TransactionStep.{TransactionStep}
@@ -15,11 +16,13 @@ use Rattle.cwr_shape.specs.declared.tallies.Counts.{Counts}
 use Rattle.cwr_shape.specs.Outlines.{Continues, IsWithin}
 use Rattle.cwr_shape.specs.Numbers.{symbol_kind, number_in, numbers_of, lengths_of, IsNumberAt}
 use Rattle.cwr_shape.specs.declared.stages.TransactionStep.TheVariants as steps
+use Rattle.cwr_shape.specs.Shapes.{without_carried}
 use Rattle.cwr_shape.specs.Stages.{is_grh, group_of, step_after, stage_by}
 use Rattle.cwr_shape.specs.Steps.{next_stage}
 use Rattle.cwr_shape.specs.Left.{Any, StandsAt}
 use Rattle.cwr_shape.specs.Tallies.{is_header_of, open_type, counts_of, TallyValue, IsTallyOf}
 use Rattle.cwr_shape.specs.Counting.{stage_type, counts_with, counts_with_header, counts_with_other, expected_numbers}
+use Rattle.cwr_shape.proofs.Matcher.{without-cons}
 use Rattle.cwr_shape.proofs.StageStands.{next_exact}
 use Rattle.cwr_shape.proofs.OneMore.{counts-snoc}
 use Rattle.cwr_shape.proofs.NumbersAreCounted.{numbers_counted}
@@ -45,6 +48,22 @@ says_type (Some (Plain kinds.Grt)) xs ty step l e = absurd (cc e)
 says_type (Some (Plain kinds.Trl)) xs ty step l e = absurd (cc e)
 says_type (Some (Grh t)) xs ty step l e = one_type ty t step steps.InGroup e ∙ sym (type_at_last None None xs t (λ k. absurd (cc k)) l)
 says_type (Some s) xs ty step l e = one_type ty (open_type xs) step (step_after s xs) e
+
+-- the last GRH is no carried record
+grh_there : (xs : List Symbol) → filter is_grh (without_carried xs) ≡ filter is_grh xs
+grh_there [] = refl
+grh_there (Grh t ∷ xs) = ap (λ (l : List Symbol). Grh t ∷ l) (grh_there xs)
+grh_there (Ipa role ∷ xs) = grh_there xs
+grh_there (Plain kind ∷ xs) = ap (filter is_grh) (without-cons (Plain kind) xs (is_carried kind) refl) ∙ by (is_carried kind) ∙ grh_there xs
+  where
+    by : (b : Bool) → filter is_grh (cond b (without_carried xs) (Plain kind ∷ without_carried xs)) ≡ filter is_grh (without_carried xs)
+    by true = refl
+    by false = refl
+
+-- the type of the group in which symbols stand
+pub stands_type : (xs : List Symbol) (ty : TransactionType) (step : TransactionStep) → StandsAt xs (stages.Within ty step) → ty ≡ open_type xs
+stands_type xs ty step st =
+    says_type (last_or None (without_carried xs)) (without_carried xs) ty step refl st.named ∙ ap (λ (l : List Symbol). group_of (last_or None l)) (grh_there xs)
 
 -- with the one type and with the other the next record is counted alike
 record Alike (t u : TransactionType) (c : Counts) (s : Symbol) : Type 0 where
@@ -74,7 +93,7 @@ alike_plain t u c kind n e f = record {
 
 alike : (xs : List Symbol) (stage : Stage) (s : Symbol) (c : Counts) → StandsAt xs stage → is_some (next_stage stage s) ≡ true → Alike (stage_type stage) (open_type xs) c s
 alike xs (stages.Within ty step) s c st h =
-    subst (λ (t : TransactionType). Alike ty t c s) (says_type (last_or None xs) xs ty step refl st.named) (record { numbers = refl; counts = refl })
+    subst (λ (t : TransactionType). Alike ty t c s) (stands_type xs ty step st) (record { numbers = refl; counts = refl })
 alike xs stages.Start (Plain kinds.Hdr) c st h = alike_plain Acknowledgement (open_type xs) c kinds.Hdr refl refl (header_no_header (open_type xs))
 alike xs stages.Opened (Grh t) c st h = record { numbers = refl; counts = refl }
 alike xs stages.Closed (Grh t) c st h = record { numbers = refl; counts = refl }

@@ -9,7 +9,7 @@ use Rattle.cwr_layouts.specs.declared.kinds.Kind.TheVariants as kinds
 use Rattle.cwr_shape.specs.declared.symbols.Symbol.{Symbol}
 use Rattle.cwr_shape.specs.declared.symbols.Symbol.TheVariants.{Plain, Ipa, Grh}
 use Rattle.cwr_shape.specs.declared.tallies.Counts.{Counts}
-use Rattle.cwr_shape.specs.Shapes.{Pattern, one_of, ◌then◌, many, Matches, IsShape, a, some, block, publisher, writer, tail_record}
+use Rattle.cwr_shape.specs.Shapes.{Pattern, one_of, ◌then◌, many, carrying, Matches, IsShape, a, some, block, publisher, writer, tail_record, copy}
 use Rattle.cwr_shape.specs.Numbers.{transaction_numbers, symbol_kind}
 use Rattle.cwr_shape.specs.Tallies.{is_header_of, type_after, open_type, counts_of}
 use Rattle.cwr_shape.specs.Counting.{counts_with, counts_with_header, counts_with_other, expected_numbers, expected_inside}
@@ -98,10 +98,10 @@ headed ty s p xs f g h k m =
 
 pub headed_shape : (ty : TransactionType) (xs : List Symbol) → IsShape ty xs → Headed ty xs
 unfolding only
-headed_shape Agreement xs m = headed Agreement (Plain kinds.Agr) (some block) xs (λ c. refl) (λ c. refl) refl refl m
-headed_shape NewWork xs m = headed NewWork (Plain kinds.Nwr) (many publisher then some writer then many tail_record) xs (λ c. refl) (λ c. refl) refl refl m
-headed_shape RevisedWork xs m = headed RevisedWork (Plain kinds.Rev) (many publisher then some writer then many tail_record) xs (λ c. refl) (λ c. refl) refl refl m
-headed_shape Acknowledgement xs m = headed Acknowledgement (Plain kinds.Ack) (many (a kinds.Msg)) xs (λ c. refl) (λ c. refl) refl refl m
+headed_shape Agreement xs m = headed Agreement (Plain kinds.Agr) (carrying (some block)) xs (λ c. refl) (λ c. refl) refl refl m
+headed_shape NewWork xs m = headed NewWork (Plain kinds.Nwr) (carrying (many publisher then some writer then many tail_record)) xs (λ c. refl) (λ c. refl) refl refl m
+headed_shape RevisedWork xs m = headed RevisedWork (Plain kinds.Rev) (carrying (many publisher then some writer then many tail_record)) xs (λ c. refl) (λ c. refl) refl refl m
+headed_shape Acknowledgement xs m = headed Acknowledgement (Plain kinds.Ack) (many (a kinds.Msg) then copy) xs (λ c. refl) (λ c. refl) refl refl m
 
 not_true : (b : Bool) → not b ≡ true → b ≡ false
 not_true true h = absurd (true≢false (sym h))

@@ -81,6 +81,17 @@ ends (stages.Within RevisedWork steps.OtherWriter) h = refl
 ends (stages.Within RevisedWork steps.Tail) h = refl
 ends (stages.Within Acknowledgement steps.InGroup) h = refl
 ends (stages.Within Acknowledgement steps.Acked) h = refl
+ends (stages.Within Acknowledgement steps.Agreed) h = refl
+ends (stages.Within Acknowledgement steps.Territories) h = refl
+ends (stages.Within Acknowledgement (steps.OneSide Assignor)) h = refl
+ends (stages.Within Acknowledgement (steps.OneSide Acquirer)) h = refl
+ends (stages.Within Acknowledgement steps.Both) h = refl
+ends (stages.Within Acknowledgement steps.Work) h = refl
+ends (stages.Within Acknowledgement steps.Controlled) h = refl
+ends (stages.Within Acknowledgement steps.Other) h = refl
+ends (stages.Within Acknowledgement steps.Writer) h = refl
+ends (stages.Within Acknowledgement steps.OtherWriter) h = refl
+ends (stages.Within Acknowledgement steps.Tail) h = refl
 ends stage h = absurd (true≢false (sym h))
 
 -- with exactly the numbers of the table
@@ -116,6 +127,17 @@ way_out_has (stages.Within RevisedWork steps.OtherWriter) h = record { records =
 way_out_has (stages.Within RevisedWork steps.Tail) h = record { records = refl; groups = refl; transaction = refl }
 way_out_has (stages.Within Acknowledgement steps.InGroup) h = record { records = refl; groups = refl; transaction = refl }
 way_out_has (stages.Within Acknowledgement steps.Acked) h = record { records = refl; groups = refl; transaction = refl }
+way_out_has (stages.Within Acknowledgement steps.Agreed) h = record { records = refl; groups = refl; transaction = refl }
+way_out_has (stages.Within Acknowledgement steps.Territories) h = record { records = refl; groups = refl; transaction = refl }
+way_out_has (stages.Within Acknowledgement (steps.OneSide Assignor)) h = record { records = refl; groups = refl; transaction = refl }
+way_out_has (stages.Within Acknowledgement (steps.OneSide Acquirer)) h = record { records = refl; groups = refl; transaction = refl }
+way_out_has (stages.Within Acknowledgement steps.Both) h = record { records = refl; groups = refl; transaction = refl }
+way_out_has (stages.Within Acknowledgement steps.Work) h = record { records = refl; groups = refl; transaction = refl }
+way_out_has (stages.Within Acknowledgement steps.Controlled) h = record { records = refl; groups = refl; transaction = refl }
+way_out_has (stages.Within Acknowledgement steps.Other) h = record { records = refl; groups = refl; transaction = refl }
+way_out_has (stages.Within Acknowledgement steps.Writer) h = record { records = refl; groups = refl; transaction = refl }
+way_out_has (stages.Within Acknowledgement steps.OtherWriter) h = record { records = refl; groups = refl; transaction = refl }
+way_out_has (stages.Within Acknowledgement steps.Tail) h = record { records = refl; groups = refl; transaction = refl }
 way_out_has stage h = absurd (true≢false (sym h))
 
 -- ---- runs to the end are what makes symbols whole

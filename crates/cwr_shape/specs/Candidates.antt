@@ -36,7 +36,7 @@ abbrev pub candidates : Option Kind → List (List ℕ) → List Symbol
 candidates None cells = []
 candidates (Some kinds.Ipa) cells = parties_of (option_and_then role_in (slice_get cells 3))
 candidates (Some kinds.Grh) cells = groups_of (option_and_then type_in (slice_get cells 1))
-candidates (Some kind) cells = Plain kind ∷ []
+candidates (Some this_kind) cells = Plain this_kind ∷ []
 
 -- the transmission begins with records each of which has one of its candidates
 abbrev pub BeginsAmong : List (List Symbol) → List GroupOutline → Type 0

@@ -94,7 +94,7 @@ expected_numbers ty c Hdr = []
 expected_numbers ty c Grh = (c.groups + 1) ∷ []
 expected_numbers ty c Grt = c.groups ∷ c.in_group ∷ (c.after_grh + 2) ∷ []
 expected_numbers ty c Trl = c.groups ∷ c.transactions ∷ (c.records + 1) ∷ []
-expected_numbers ty c kind = expected_inside (is_header_of ty (symbols.Plain kind)) c
+expected_numbers ty c this_kind = expected_inside (is_header_of ty (symbols.Plain this_kind)) c
 
 -- the number in a field of a record inside a transaction, which is a header or not
 abbrev pub number_inside : Bool → Counts → ℕ → Option ℕ

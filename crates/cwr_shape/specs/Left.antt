@@ -10,7 +10,7 @@ use Rattle.cwr_shape.specs.declared.stages.Stage.{Stage}
 use Rattle.cwr_shape.specs.declared.stages.Stage.TheVariants as stages
 use Rattle.cwr_shape.specs.declared.stages.TransactionStep.{TransactionStep}
 use Rattle.cwr_shape.specs.declared.stages.TransactionStep.TheVariants as steps
-use Rattle.cwr_shape.specs.Shapes.{Pattern, one_of, ◌then◌, ◌or◌, ◌and◌, many, Matches, a, some, party, among_parties, block, publisher, writer, tail_record, pattern_of, IsShape}
+use Rattle.cwr_shape.specs.Shapes.{Pattern, one_of, ◌then◌, ◌or◌, ◌and◌, many, carrying, Matches, a, some, copy, party, among_parties, block, publisher, writer, tail_record, pattern_of, IsShape}
 use Rattle.cwr_shape.specs.Outlines.{GroupOutline, IsWhole, Continues}
 use Rattle.cwr_shape.specs.Stages.{stage_after}
 
@@ -33,18 +33,18 @@ rest_of ty = many (pattern_of ty) then (a kinds.Grt then closing)
 -- what is left of a transaction
 abbrev pub left_of : TransactionStep → Pattern
 left_of steps.InGroup = one_of []
-left_of steps.Acked = many (a kinds.Msg)
-left_of steps.Agreed = some block
-left_of steps.Territories = many (a kinds.Ter) then ((among_parties Assignor and among_parties Acquirer) then many block)
-left_of (steps.OneSide Assignor) = ((among_parties Assignor or many party) and among_parties Acquirer) then many block
-left_of (steps.OneSide Acquirer) = (among_parties Assignor and (among_parties Acquirer or many party)) then many block
-left_of steps.Both = ((among_parties Assignor or many party) and (among_parties Acquirer or many party)) then many block
-left_of steps.Work = many publisher then (some writer then many tail_record)
-left_of steps.Controlled = many (a kinds.Spt) then (many publisher then (some writer then many tail_record))
-left_of steps.Other = many publisher then (some writer then many tail_record)
-left_of steps.Writer = many (a kinds.Swt or a kinds.Pwr) then (many writer then many tail_record)
-left_of steps.OtherWriter = many (a kinds.Pwr) then (many writer then many tail_record)
-left_of steps.Tail = many tail_record
+left_of steps.Acked = many (a kinds.Msg) then copy
+left_of steps.Agreed = carrying (some block)
+left_of steps.Territories = carrying (many (a kinds.Ter) then ((among_parties Assignor and among_parties Acquirer) then many block))
+left_of (steps.OneSide Assignor) = carrying (((among_parties Assignor or many party) and among_parties Acquirer) then many block)
+left_of (steps.OneSide Acquirer) = carrying ((among_parties Assignor and (among_parties Acquirer or many party)) then many block)
+left_of steps.Both = carrying (((among_parties Assignor or many party) and (among_parties Acquirer or many party)) then many block)
+left_of steps.Work = carrying (many publisher then (some writer then many tail_record))
+left_of steps.Controlled = carrying (many (a kinds.Spt) then (many publisher then (some writer then many tail_record)))
+left_of steps.Other = carrying (many publisher then (some writer then many tail_record))
+left_of steps.Writer = carrying (many (a kinds.Swt or a kinds.Pwr) then (many writer then many tail_record))
+left_of steps.OtherWriter = carrying (many (a kinds.Pwr) then (many writer then many tail_record))
+left_of steps.Tail = carrying (many tail_record)
 
 -- what is left of a transmission
 abbrev pub left : Stage → Pattern
@@ -58,7 +58,7 @@ left stages.Ended = many (one_of [])
 -- the step is one of a transaction of the type
 abbrev pub is_step_of : TransactionType → TransactionStep → Bool
 is_step_of ty steps.InGroup = true
-is_step_of Acknowledgement steps.Acked = true
+is_step_of Acknowledgement step = true
 is_step_of Agreement steps.Agreed = true
 is_step_of Agreement steps.Territories = true
 is_step_of Agreement (steps.OneSide role) = true

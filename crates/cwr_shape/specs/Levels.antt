@@ -33,9 +33,9 @@ level_of_type (Some f) = if must_be_filled f.ty then R else F
 
 -- the level of a cell, a number or an excess inside a transaction, after its header; fields 2 and 3 are the sequences
 abbrev pub level_inside : Kind → ℕ → Reason → Level
-level_inside kind field (reasons.Cell fault) = if (field == 2) || (field == 3) then T else level_of_type (field_at kind field)
-level_inside kind field (reasons.Number n) = T
-level_inside kind field reason = R
+level_inside this_kind field (reasons.Cell fault) = if (field == 2) || (field == 3) then T else level_of_type (field_at this_kind field)
+level_inside this_kind field (reasons.Number n) = T
+level_inside this_kind field reason = R
 
 -- the level of a cell, a number or an excess
 abbrev pub level_in : Kind → ℕ → Reason → Level
@@ -47,20 +47,20 @@ level_in Agr field reason = T
 level_in Nwr field reason = T
 level_in Rev field reason = T
 level_in Ack field reason = T
-level_in kind field reason = level_inside kind field reason
+level_in this_kind field reason = level_inside this_kind field reason
 
 -- the level of a transaction that would become too long
 abbrev pub level_of_length : Option Kind → Level
 level_of_length (Some Grh) = G
-level_of_length kind = T
+level_of_length this_kind = T
 
 -- the level of a refusal at a field of a line of the kind, where that place is open
 abbrev pub level_of : Option Kind → ℕ → Reason → Place → Level
-level_of kind field reasons.UnknownKind place = level_of_place place
-level_of kind field reasons.Misplaced place = level_of_place place
-level_of kind field (reasons.Limit limits.Transaction) place = level_of_length kind
-level_of kind field (reasons.Limit limit) place = E
-level_of (Some kind) field reason place = level_in kind field reason
+level_of this_kind field reasons.UnknownKind place = level_of_place place
+level_of this_kind field reasons.Misplaced place = level_of_place place
+level_of this_kind field (reasons.Limit limits.Transaction) place = level_of_length this_kind
+level_of this_kind field (reasons.Limit limit) place = E
+level_of (Some this_kind) field reason place = level_in this_kind field reason
 level_of None field reason place = level_of_place place
 
 -- what is open after a record of the kind, or at the start
@@ -70,4 +70,4 @@ place_after_kind (Some Hdr) = places.File
 place_after_kind (Some Grt) = places.File
 place_after_kind (Some Trl) = places.File
 place_after_kind (Some Grh) = places.Group
-place_after_kind (Some kind) = places.Transaction
+place_after_kind (Some this_kind) = places.Transaction

@@ -44,7 +44,7 @@ number_in kind j numbers = option_map (λ p. p.1) (find (λ p. p.0 == j) (zip (n
 
 -- the kind of a symbol
 abbrev pub symbol_kind : Symbol → Kind
-symbol_kind (Plain kind) = kind
+symbol_kind (Plain this_kind) = this_kind
 symbol_kind (Ipa role) = kinds.Ipa
 symbol_kind (Grh ty) = kinds.Grh
 

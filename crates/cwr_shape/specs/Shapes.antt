@@ -1,21 +1,31 @@
 -- The shapes of transactions: which lists of records, seen as symbols, one may have.
-use Rattle.std.specs.Prelude.{◌≡◌, List, [], ◌∷◌, ◌++◌, ◌⊎◌}
-use Rattle.std.specs.List.{AllByRecursion, IsAmong, flat_map}
+use Rattle.std.specs.Prelude.{◌≡◌, Bool, false, not, List, [], ◌∷◌, ◌++◌, ◌⊎◌}
+use Rattle.std.specs.List.{AllByRecursion, IsAmong, filter, flat_map}
 use Rattle.cwr_fields.specs.declared.codes.Role.{Role}
 use Rattle.cwr_fields.specs.declared.codes.Role.TheVariants.{Assignor, Acquirer}
 use Rattle.cwr_fields.specs.declared.codes.TransactionType.{TransactionType}
 use Rattle.cwr_fields.specs.declared.codes.TransactionType.TheVariants.{Agreement, NewWork, RevisedWork, Acknowledgement}
 use Rattle.cwr_layouts.specs.declared.kinds.Kind.{Kind}
 use Rattle.cwr_layouts.specs.declared.kinds.Kind.TheVariants as kinds
+use Rattle.cwr_layouts.specs.Kinds.{is_carried}
 use Rattle.cwr_shape.specs.declared.symbols.Symbol.{Symbol}
 use Rattle.cwr_shape.specs.declared.symbols.Symbol.TheVariants.{Plain, Ipa}
 
--- A pattern of symbols: one of some, a pattern and then another, one or the other of two, both of two, or a
--- pattern any number of times.
+-- the symbol is that of a record that is carried as text
+abbrev pub is_carried_symbol : Symbol → Bool
+is_carried_symbol (Plain this_kind) = is_carried this_kind
+is_carried_symbol s = false
+
+-- the symbols without those of carried records
+abbrev pub without_carried : List Symbol → List Symbol
+without_carried xs = filter (λ s. not (is_carried_symbol s)) xs
+
+-- A pattern of symbols: one of some, a pattern and then another, one or the other of two, both of two, a
+-- pattern any number of times, or a pattern with carried records at any place.
 pub data Pattern : Type 0 where
   one_of : List Symbol → Pattern
   ◌then◌ ◌or◌ ◌and◌ : Pattern → Pattern → Pattern
-  many : Pattern → Pattern
+  many carrying : Pattern → Pattern
 
 infixr 30 ◌then◌
 infixr 20 ◌or◌
@@ -26,6 +36,7 @@ Matches (one_of ss) xs = (s : Symbol) × IsAmong ss s × (xs ≡ s ∷ [])
 Matches (p then q) xs = (front : List Symbol) × (rest : List Symbol) × (xs ≡ front ++ rest) × Matches p front × Matches q rest
 Matches (p or q) xs = Matches p xs ⊎ Matches q xs
 Matches (p and q) xs = Matches p xs × Matches q xs
+Matches (carrying p) xs = Matches p (without_carried xs)
 Matches (many p) xs = (parts : List (List Symbol)) × (xs ≡ flat_map (λ part. part) parts) × AllByRecursion (Matches p) parts
 
 -- one record of the kind
@@ -50,7 +61,7 @@ block = some (a kinds.Ter) then (among_parties Assignor and among_parties Acquir
 
 -- an agreement
 abbrev pub agreement : Pattern
-agreement = a kinds.Agr then some block
+agreement = a kinds.Agr then carrying (some block)
 
 -- a publisher with its territories, or one whom the submitter doesn't control
 abbrev pub publisher : Pattern
@@ -66,11 +77,19 @@ tail_record = one_of (Plain kinds.Alt ∷ Plain kinds.Ewt ∷ Plain kinds.Ver �
 
 -- a work with that header
 abbrev pub work : Kind → Pattern
-work header = a header then many publisher then some writer then many tail_record
+work header = a header then carrying (many publisher then some writer then many tail_record)
 
--- an acknowledgement and its messages
+-- no record at all
+abbrev pub nothing : Pattern
+nothing = many (one_of [])
+
+-- the copy of the agreement or the work that an acknowledgement speaks of, if it has one
+abbrev pub copy : Pattern
+copy = nothing or agreement or work kinds.Nwr or work kinds.Rev
+
+-- an acknowledgement, its messages and its copy
 abbrev pub acknowledgement : Pattern
-acknowledgement = a kinds.Ack then many (a kinds.Msg)
+acknowledgement = a kinds.Ack then many (a kinds.Msg) then copy
 
 -- the pattern of the transactions of a type
 abbrev pub pattern_of : TransactionType → Pattern

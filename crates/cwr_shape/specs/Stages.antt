@@ -12,6 +12,7 @@ use Rattle.cwr_shape.specs.declared.stages.Stage.{Stage}
 use Rattle.cwr_shape.specs.declared.stages.Stage.TheVariants as stages
 use Rattle.cwr_shape.specs.declared.stages.TransactionStep.{TransactionStep}
 use Rattle.cwr_shape.specs.declared.stages.TransactionStep.TheVariants as steps
+use Rattle.cwr_shape.specs.Shapes.{without_carried}
 
 -- the symbol is a GRH
 abbrev pub is_grh : Symbol → Bool
@@ -81,6 +82,10 @@ stage_by (Some (Plain kinds.Grt)) xs = stages.Closed
 stage_by (Some (Plain kinds.Trl)) xs = stages.Ended
 stage_by (Some s) xs = stages.Within (group_of (latest is_grh xs)) (step_after s xs)
 
--- how far the symbols have come, by the last of them
+-- how far symbols have come, by the last of them
+abbrev pub stage_of : List Symbol → Stage
+stage_of xs = stage_by (last_or None xs) xs
+
+-- how far the symbols have come: carried records leave the stage as it is
 abbrev pub stage_after : List Symbol → Stage
-stage_after xs = stage_by (last_or None xs) xs
+stage_after xs = stage_of (without_carried xs)

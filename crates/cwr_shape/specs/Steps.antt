@@ -12,6 +12,7 @@ use Rattle.cwr_shape.specs.declared.stages.Stage.{Stage}
 use Rattle.cwr_shape.specs.declared.stages.Stage.TheVariants as stages
 use Rattle.cwr_shape.specs.declared.stages.TransactionStep.{TransactionStep}
 use Rattle.cwr_shape.specs.declared.stages.TransactionStep.TheVariants as steps
+use Rattle.cwr_shape.specs.Shapes.{is_carried_symbol}
 
 -- after the header of the type
 abbrev pub header_step : TransactionType → Symbol → Option TransactionStep
@@ -52,31 +53,44 @@ after_writer (Plain kinds.Swr) = Some steps.Writer
 after_writer (Plain kinds.Owr) = Some steps.OtherWriter
 after_writer s = tail_step s
 
+-- after one more record of the transaction that isn't carried as text
+abbrev pub ordered_step : TransactionStep → Symbol → Option TransactionStep
+ordered_step steps.InGroup s = None
+ordered_step steps.Acked (Plain kinds.Msg) = Some steps.Acked
+ordered_step steps.Acked (Plain kinds.Agr) = Some steps.Agreed
+ordered_step steps.Acked (Plain kinds.Nwr) = Some steps.Work
+ordered_step steps.Acked (Plain kinds.Rev) = Some steps.Work
+ordered_step steps.Acked s = None
+ordered_step steps.Agreed (Plain kinds.Ter) = Some steps.Territories
+ordered_step steps.Agreed s = None
+ordered_step steps.Territories (Plain kinds.Ter) = Some steps.Territories
+ordered_step steps.Territories (Ipa role) = Some (steps.OneSide role)
+ordered_step steps.Territories s = None
+ordered_step (steps.OneSide side) (Ipa role) = Some (party_step side role)
+ordered_step (steps.OneSide side) s = None
+ordered_step steps.Both (Ipa role) = Some steps.Both
+ordered_step steps.Both (Plain kinds.Ter) = Some steps.Territories
+ordered_step steps.Both s = None
+ordered_step steps.Work s = party_of_work s
+ordered_step steps.Controlled (Plain kinds.Spt) = Some steps.Controlled
+ordered_step steps.Controlled s = party_of_work s
+ordered_step steps.Other s = party_of_work s
+ordered_step steps.Writer (Plain kinds.Swt) = Some steps.Writer
+ordered_step steps.Writer (Plain kinds.Pwr) = Some steps.Writer
+ordered_step steps.Writer s = after_writer s
+ordered_step steps.OtherWriter (Plain kinds.Pwr) = Some steps.OtherWriter
+ordered_step steps.OtherWriter s = after_writer s
+ordered_step steps.Tail s = tail_step s
+
+-- after a carried record: after the header of an agreement or a work it leaves the step as it is
+abbrev pub carried_step : TransactionStep → Option TransactionStep
+carried_step steps.InGroup = None
+carried_step steps.Acked = None
+carried_step step = Some step
+
 -- after one more record of the transaction
 abbrev pub step_on : TransactionStep → Symbol → Option TransactionStep
-step_on steps.InGroup s = None
-step_on steps.Acked (Plain kinds.Msg) = Some steps.Acked
-step_on steps.Acked s = None
-step_on steps.Agreed (Plain kinds.Ter) = Some steps.Territories
-step_on steps.Agreed s = None
-step_on steps.Territories (Plain kinds.Ter) = Some steps.Territories
-step_on steps.Territories (Ipa role) = Some (steps.OneSide role)
-step_on steps.Territories s = None
-step_on (steps.OneSide side) (Ipa role) = Some (party_step side role)
-step_on (steps.OneSide side) s = None
-step_on steps.Both (Ipa role) = Some steps.Both
-step_on steps.Both (Plain kinds.Ter) = Some steps.Territories
-step_on steps.Both s = None
-step_on steps.Work s = party_of_work s
-step_on steps.Controlled (Plain kinds.Spt) = Some steps.Controlled
-step_on steps.Controlled s = party_of_work s
-step_on steps.Other s = party_of_work s
-step_on steps.Writer (Plain kinds.Swt) = Some steps.Writer
-step_on steps.Writer (Plain kinds.Pwr) = Some steps.Writer
-step_on steps.Writer s = after_writer s
-step_on steps.OtherWriter (Plain kinds.Pwr) = Some steps.OtherWriter
-step_on steps.OtherWriter s = after_writer s
-step_on steps.Tail s = tail_step s
+step_on step s = if is_carried_symbol s then carried_step step else ordered_step step s
 
 -- the transaction may end here
 abbrev pub may_end : TransactionStep → Bool

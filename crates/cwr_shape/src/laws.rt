@@ -1,11 +1,14 @@
 //! Laws over the order of records.
 
-ghost use Rattle.std.specs.Prelude.{List, [], ◌∷◌, ◌++◌, ◌≡◌, length, slice_index_or};
+ghost use Rattle.std.specs.Prelude.{List, [], ◌∷◌, ◌++◌, ◌≡◌, ◌↔◌, length, slice_index_or};
 ghost use Rattle.cwr_shape.specs.Numbers.{numbers_of, lengths_of, symbol_kind};
 ghost use Rattle.cwr_shape.specs.Outlines.{GroupOutline, IsOutline, IsWhole, symbols_of};
 ghost use Rattle.cwr_shape.specs.declared.symbols.Symbol.{Symbol};
 ghost use Rattle.cwr_shape.specs.declared.stages.Stage.{Stage};
 ghost use Rattle.cwr_shape.specs.Left.{StandsAt, LeavesAt};
+ghost use Rattle.cwr_shape.specs.Shapes.{IsShape};
+ghost use Rattle.cwr_shape.specs.UncarriedOrder.{IsUncarriedShape, AreFormer};
+ghost use Rattle.cwr_fields.specs.declared.codes.TransactionType.{TransactionType};
 
 /// No whole transmission continues to another: after TRL nothing more belongs to it.
 pub fn no_transmission_continues()
@@ -24,4 +27,10 @@ pub fn numbers_depend_on_records_before()
         → IsOutline groups → IsOutline others → symbols_of groups ≡ xs ++ s ∷ rest → symbols_of others ≡ xs ++ t ∷ more
         → symbol_kind s ≡ symbol_kind t
         → slice_index_or (numbers_of (lengths_of groups)) (length xs) [] ≡ slice_index_or (numbers_of (lengths_of others)) (length xs) [] }
+{}
+
+/// Carried records and copies change no order without them: the records of a transaction among which none is carried,
+/// and of an acknowledgement without a copy, are whole exactly where they are in the order that knows neither.
+pub fn orders_without_carried_records_are_kept()
+    ensures { (ty : TransactionType) (xs : List Symbol) → IsUncarriedShape ty xs ↔ (IsShape ty xs × AreFormer ty xs) }
 {}

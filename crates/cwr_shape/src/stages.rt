@@ -7,7 +7,7 @@ ghost use Rattle.cwr_shape.specs.Left.{Any, StandsAt, ContinuesIn, StandsAtStep}
 ghost use Rattle.cwr_shape.specs.Shapes.{IsShape};
 ghost use Rattle.cwr_fields.specs.declared.codes.TransactionType.{TransactionType};
 ghost use Rattle.cwr_shape.specs.Needs.{needs_at, AreNeeds};
-ghost use Rattle.cwr_shape.specs.Steps.{header_step, party_step, tail_step, party_of_work, after_writer, step_on, may_end, next_stage};
+ghost use Rattle.cwr_shape.specs.Steps.{header_step, party_step, tail_step, party_of_work, after_writer, ordered_step, carried_step, step_on, may_end, next_stage};
 
 use crate::symbols::Symbol;
 use cwr_fields::{Role, TransactionType};
@@ -131,13 +131,17 @@ impl TransactionStep {
         }
     }
 
-    /// The step after one more record of the transaction.
+    /// The step after one more record of the transaction that isn't carried as text.
     #[inline(always)]
-    fn on(self, symbol: Symbol) -> Option<TransactionStep>
-        ensures { result ≡ step_on self symbol }
+    fn ordered(self, symbol: Symbol) -> Option<TransactionStep>
+        ensures { result ≡ ordered_step self symbol }
     {
         match (self, symbol) {
             (TransactionStep::Acked, Symbol::Plain(Kind::Msg)) => Some(TransactionStep::Acked),
+            (TransactionStep::Acked, Symbol::Plain(Kind::Agr)) => Some(TransactionStep::Agreed),
+            (TransactionStep::Acked, Symbol::Plain(Kind::Nwr | Kind::Rev)) => Some(
+                TransactionStep::Work,
+            ),
             (
                 TransactionStep::Agreed | TransactionStep::Territories | TransactionStep::Both,
                 Symbol::Plain(Kind::Ter),
@@ -163,6 +167,28 @@ impl TransactionStep {
             (TransactionStep::Writer | TransactionStep::OtherWriter, _) => after_writer(symbol),
             (TransactionStep::Tail, _) => tail_step(symbol),
             _ => None,
+        }
+    }
+
+    /// The step after a record that is carried as text: after the header of an agreement or a work it stays as it is.
+    fn carried(self) -> Option<TransactionStep>
+        ensures { result ≡ carried_step self }
+    {
+        match self {
+            TransactionStep::InGroup | TransactionStep::Acked => None,
+            _ => Some(self),
+        }
+    }
+
+    /// The step after one more record of the transaction.
+    #[inline(always)]
+    fn on(self, symbol: Symbol) -> Option<TransactionStep>
+        ensures { result ≡ step_on self symbol }
+    {
+        if symbol.is_carried() {
+            self.carried()
+        } else {
+            self.ordered(symbol)
         }
     }
 

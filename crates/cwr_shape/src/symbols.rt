@@ -1,7 +1,10 @@
 //! Records as their order sees them.
 
+ghost use Rattle.std.specs.Prelude.{◌≡◌};
+ghost use Rattle.cwr_shape.specs.Shapes.{is_carried_symbol};
+
 use cwr_fields::{Role, TransactionType};
-use cwr_layouts::Kind;
+use cwr_layouts::{Kind, is_carried};
 
 /// What the order of records sees of a record: its kind, and of IPA and GRH the role or the type too.
 #[derive(Clone, Copy, Debug, PartialEq, Eq)]
@@ -12,4 +15,17 @@ pub enum Symbol {
     Ipa(Role),
     /// A GRH record whose transactions are of the type.
     Grh(TransactionType),
+}
+
+impl Symbol {
+    /// Whether the record is one that is carried as text.
+    #[inline(always)]
+    pub(crate) fn is_carried(self) -> bool
+        ensures { result ≡ is_carried_symbol self }
+    {
+        match self {
+            Symbol::Plain(kind) => is_carried(kind),
+            _ => false,
+        }
+    }
 }

@@ -7,7 +7,7 @@ ghost use Rattle.cwr_shape.specs.declared.symbols.Symbol.{Symbol};
 ghost use Rattle.cwr_shape.specs.Stages.{is_grh, stage_after};
 ghost use Rattle.cwr_shape.specs.Numbers.{number_in, IsNumberAt};
 ghost use Rattle.cwr_shape.specs.Counting.{counts_with, wanted_role, place_at, stage_type, passed_limit_at, expected_numbers, number_inside, HaveRoom};
-ghost use Rattle.cwr_shape.specs.Tallies.{is_header_of, IsTallyOf, IsAdmitted, MayCome, Answers, AnswersKind, transactions_begun, place_after, KeepsTally};
+ghost use Rattle.cwr_shape.specs.Tallies.{header_kind, is_header_of, IsTallyOf, IsAdmitted, MayCome, Answers, AnswersKind, transactions_begun, place_after, KeepsTally};
 
 use crate::limits::{LimitKind, Limits};
 use crate::stages::{Stage, TransactionStep};
@@ -131,18 +131,28 @@ impl Counts {
     }
 }
 
+/// The kind of a type's header.
+#[inline(always)]
+fn header_kind(ty: TransactionType) -> Kind
+    ensures { result ≡ header_kind ty }
+{
+    match ty {
+        TransactionType::Agreement => Kind::Agr,
+        TransactionType::NewWork => Kind::Nwr,
+        TransactionType::RevisedWork => Kind::Rev,
+        TransactionType::Acknowledgement => Kind::Ack,
+    }
+}
+
 /// Whether the record is the header of a transaction of the type.
 #[inline(always)]
 fn is_header(ty: TransactionType, symbol: Symbol) -> bool
     ensures { result ≡ is_header_of ty symbol }
 {
-    matches!(
-        (ty, symbol),
-        (TransactionType::Agreement, Symbol::Plain(Kind::Agr))
-            | (TransactionType::NewWork, Symbol::Plain(Kind::Nwr))
-            | (TransactionType::RevisedWork, Symbol::Plain(Kind::Rev))
-            | (TransactionType::Acknowledgement, Symbol::Plain(Kind::Ack))
-    )
+    match symbol {
+        Symbol::Plain(kind) => kind == header_kind(ty),
+        _ => false,
+    }
 }
 
 /// What is open at a stage.

@@ -29,31 +29,31 @@ cell_reasons = map reasons.Cell (Blank ∷ Control ∷ NotDigits ∷ NotADate �
 
 -- the kinds inside transactions that begin none
 abbrev inner_kinds : List Kind
-inner_kinds = kinds.Ter ∷ kinds.Ipa ∷ kinds.Spu ∷ kinds.Opu ∷ kinds.Spt ∷ kinds.Swr ∷ kinds.Owr ∷ kinds.Swt ∷ kinds.Pwr ∷ kinds.Alt ∷ kinds.Ewt ∷ kinds.Ver ∷ kinds.Per ∷ kinds.Rec ∷ kinds.Orn ∷ kinds.Com ∷ kinds.Msg ∷ []
+inner_kinds = kinds.Ter ∷ kinds.Ipa ∷ kinds.Spu ∷ kinds.Opu ∷ kinds.Spt ∷ kinds.Swr ∷ kinds.Owr ∷ kinds.Swt ∷ kinds.Pwr ∷ kinds.Alt ∷ kinds.Ewt ∷ kinds.Ver ∷ kinds.Per ∷ kinds.Rec ∷ kinds.Orn ∷ kinds.Com ∷ kinds.Msg ∷ kinds.Opt ∷ kinds.Owt ∷ kinds.Npn ∷ kinds.Npr ∷ kinds.Nwn ∷ kinds.Npa ∷ kinds.Net ∷ kinds.Now ∷ kinds.Nct ∷ kinds.Nvt ∷ kinds.Nat ∷ kinds.Ins ∷ kinds.Ind ∷ kinds.Ari ∷ kinds.Xrf ∷ []
 
 -- a record that may not come, by what is open
 unknown : map (level_of None 1 reasons.UnknownKind) all_places ≡ E ∷ G ∷ T ∷ []
 unknown = refl
 
-misplaced : map (λ place. map (λ kind. level_of (Some kind) 1 reasons.Misplaced place) all_kinds) all_places ≡ replicate 25 E ∷ replicate 25 G ∷ replicate 25 T ∷ []
+misplaced : map (λ place. map (λ kind. level_of (Some kind) 1 reasons.Misplaced place) all_kinds) all_places ≡ replicate 40 E ∷ replicate 40 G ∷ replicate 40 T ∷ []
 misplaced = refl
 
 -- what is open after each kind
 places_after_kinds : (place_after_kind None ≡ places.File)
     × (map (λ kind. place_after_kind (Some kind)) (kinds.Hdr ∷ kinds.Grh ∷ kinds.Grt ∷ kinds.Trl ∷ []) ≡ places.File ∷ places.Group ∷ places.File ∷ places.File ∷ [])
-    × (map (λ kind. place_after_kind (Some kind)) (kinds.Agr ∷ kinds.Nwr ∷ kinds.Rev ∷ kinds.Ack ∷ inner_kinds) ≡ replicate 21 places.Transaction)
+    × (map (λ kind. place_after_kind (Some kind)) (kinds.Agr ∷ kinds.Nwr ∷ kinds.Rev ∷ kinds.Ack ∷ inner_kinds) ≡ replicate 36 places.Transaction)
 places_after_kinds = (refl, refl, refl)
 
 -- a limit
-too_many_records : flat_map (λ place. map (λ kind. level_of (Some kind) 1 (reasons.Limit limits.Records) place) all_kinds) all_places ≡ replicate 75 E
+too_many_records : flat_map (λ place. map (λ kind. level_of (Some kind) 1 (reasons.Limit limits.Records) place) all_kinds) all_places ≡ replicate 120 E
 too_many_records = refl
 
-too_many_groups : flat_map (λ place. map (λ kind. level_of (Some kind) 1 (reasons.Limit limits.Groups) place) all_kinds) all_places ≡ replicate 75 E
+too_many_groups : flat_map (λ place. map (λ kind. level_of (Some kind) 1 (reasons.Limit limits.Groups) place) all_kinds) all_places ≡ replicate 120 E
 too_many_groups = refl
 
 transaction_too_long : (level_of (Some kinds.Grh) 2 (reasons.Limit limits.Transaction) places.File ≡ G)
     × (level_of (Some kinds.Ipa) 4 (reasons.Limit limits.Transaction) places.Transaction ≡ T)
-    × (map (λ kind. level_of (Some kind) 1 (reasons.Limit limits.Transaction) places.Transaction) (kinds.Agr ∷ kinds.Nwr ∷ kinds.Rev ∷ kinds.Ack ∷ inner_kinds) ≡ replicate 21 T)
+    × (map (λ kind. level_of (Some kind) 1 (reasons.Limit limits.Transaction) places.Transaction) (kinds.Agr ∷ kinds.Nwr ∷ kinds.Rev ∷ kinds.Ack ∷ inner_kinds) ≡ replicate 36 T)
 transaction_too_long = (refl, refl, refl)
 
 -- a cell, a number or an excess around transactions and in their headers, at field 2, at the last one and after it
@@ -70,11 +70,11 @@ in_header : flat_map (λ kind. flat_map (levels_in kind) (places.Group ∷ place
 in_header = refl
 
 -- after a header: the two sequences
-in_sequences : flat_map (λ kind. flat_map (λ j. map (λ reason. level_of (Some kind) j reason places.Transaction) (reasons.Cell Blank ∷ reasons.Cell NotDigits ∷ reasons.Number 7 ∷ [])) (2 ∷ 3 ∷ [])) inner_kinds ≡ replicate 102 T
+in_sequences : flat_map (λ kind. flat_map (λ j. map (λ reason. level_of (Some kind) j reason places.Transaction) (reasons.Cell Blank ∷ reasons.Cell NotDigits ∷ reasons.Number 7 ∷ [])) (2 ∷ 3 ∷ [])) inner_kinds ≡ replicate 192 T
 in_sequences = refl
 
 -- after a header: the excess
-in_excess : map (λ kind. level_of (Some kind) (length (layout kind) + 1) reasons.Excess places.Transaction) inner_kinds ≡ replicate 17 R
+in_excess : map (λ kind. level_of (Some kind) (length (layout kind) + 1) reasons.Excess places.Transaction) inner_kinds ≡ replicate 32 R
 in_excess = refl
 
 -- after a header: a cell, by its type

@@ -5,7 +5,7 @@ use Rattle.cwr_fields.specs.declared.codes.Role.TheVariants.{Assignor, Acquirer}
 use Rattle.cwr_fields.specs.declared.codes.TransactionType.{TransactionType}
 use Rattle.cwr_fields.specs.declared.codes.TransactionType.TheVariants.{Agreement, NewWork, RevisedWork, Acknowledgement}
 use Rattle.cwr_layouts.specs.declared.kinds.Kind.{Kind}
-use Rattle.cwr_layouts.specs.declared.kinds.Kind.TheVariants.{Hdr, Grt, Trl, Agr, Ter, Nwr, Rev, Spu, Opu, Spt, Swr, Owr, Swt, Pwr, Alt, Ewt, Per, Rec, Ack, Msg}
+use Rattle.cwr_layouts.specs.declared.kinds.Kind.TheVariants.{Hdr, Grt, Trl, Agr, Ter, Nwr, Rev, Spu, Opu, Spt, Swr, Owr, Swt, Pwr, Alt, Ewt, Per, Rec, Ack, Msg, Npa, Ind, Ari}
 use Rattle.cwr_shape.specs.declared.symbols.Symbol.{Symbol}
 use Rattle.cwr_shape.specs.declared.symbols.Symbol.TheVariants.{Plain, Ipa, Grh}
 use Rattle.cwr_shape.specs.Shapes.{IsShape, pattern_of, BeginsShape}
@@ -27,6 +27,32 @@ two_blocks : IsShape Agreement (p Agr ∷ p Ter ∷ Ipa Assignor ∷ Ipa Acquire
 unfolding nullable after after_all
 two_blocks = accepts_sound _ (pattern_of Agreement) refl
 
+-- records that are carried as text, at some places
+carried_in_a_work : IsShape NewWork (p Nwr ∷ p Ind ∷ p Spu ∷ p Ari ∷ p Spt ∷ p Swr ∷ p Ind ∷ p Alt ∷ p Ari ∷ [])
+unfolding nullable after after_all
+carried_in_a_work = accepts_sound _ (pattern_of NewWork) refl
+
+carried_in_an_agreement : IsShape Agreement (p Agr ∷ p Npa ∷ p Ter ∷ Ipa Assignor ∷ p Npa ∷ Ipa Acquirer ∷ p Npa ∷ [])
+unfolding nullable after after_all
+carried_in_an_agreement = accepts_sound _ (pattern_of Agreement) refl
+
+-- but not before a header, nor in an acknowledgement; and they don't stand for a writer, nor let one come late
+carried_first : (rest : List Symbol) → ¬ IsShape NewWork (p Ind ∷ rest)
+unfolding nullable after after_all is_dead
+carried_first rest = no_begin (p Ind ∷ []) rest (pattern_of NewWork) refl
+
+carried_message : (rest : List Symbol) → ¬ IsShape Acknowledgement (p Ack ∷ p Ari ∷ rest)
+unfolding nullable after after_all is_dead
+carried_message rest = no_begin (p Ack ∷ p Ari ∷ []) rest (pattern_of Acknowledgement) refl
+
+carried_for_a_writer : ¬ IsShape NewWork (p Nwr ∷ p Ind ∷ [])
+unfolding nullable after after_all
+carried_for_a_writer = no_match _ (pattern_of NewWork) refl
+
+writer_after_carried : (rest : List Symbol) → ¬ IsShape NewWork ((p Nwr ∷ p Swr ∷ p Alt ∷ p Ind ∷ p Swr ∷ []) ++ rest)
+unfolding nullable after after_all is_dead
+writer_after_carried rest = no_begin (p Nwr ∷ p Swr ∷ p Alt ∷ p Ind ∷ p Swr ∷ []) rest (pattern_of NewWork) refl
+
 revised : IsShape RevisedWork (p Rev ∷ p Swr ∷ [])
 unfolding nullable after after_all
 revised = accepts_sound _ (pattern_of RevisedWork) refl
@@ -34,6 +60,28 @@ revised = accepts_sound _ (pattern_of RevisedWork) refl
 acknowledged : IsShape Acknowledgement (p Ack ∷ p Msg ∷ p Msg ∷ [])
 unfolding nullable after after_all
 acknowledged = accepts_sound _ (pattern_of Acknowledgement) refl
+
+-- with the copy of a work, or of an agreement with a carried record
+copied_work : IsShape Acknowledgement (p Ack ∷ p Msg ∷ p Nwr ∷ p Swr ∷ [])
+unfolding nullable after after_all
+copied_work = accepts_sound _ (pattern_of Acknowledgement) refl
+
+copied_agreement : IsShape Acknowledgement (p Ack ∷ p Agr ∷ p Npa ∷ p Ter ∷ Ipa Assignor ∷ Ipa Acquirer ∷ [])
+unfolding nullable after after_all
+copied_agreement = accepts_sound _ (pattern_of Acknowledgement) refl
+
+-- but no second copy, no message after it, and none that isn't whole
+second_copy : (rest : List Symbol) → ¬ IsShape Acknowledgement ((p Ack ∷ p Nwr ∷ p Swr ∷ p Nwr ∷ []) ++ rest)
+unfolding nullable after after_all is_dead
+second_copy rest = no_begin (p Ack ∷ p Nwr ∷ p Swr ∷ p Nwr ∷ []) rest (pattern_of Acknowledgement) refl
+
+late_message : (rest : List Symbol) → ¬ IsShape Acknowledgement ((p Ack ∷ p Nwr ∷ p Swr ∷ p Msg ∷ []) ++ rest)
+unfolding nullable after after_all is_dead
+late_message rest = no_begin (p Ack ∷ p Nwr ∷ p Swr ∷ p Msg ∷ []) rest (pattern_of Acknowledgement) refl
+
+copy_begun : ¬ IsShape Acknowledgement (p Ack ∷ p Agr ∷ p Ter ∷ Ipa Assignor ∷ [])
+unfolding nullable after after_all
+copy_begun = no_match _ (pattern_of Acknowledgement) refl
 
 -- a block of one side is none
 one_side : ¬ IsShape Agreement (p Agr ∷ p Ter ∷ Ipa Assignor ∷ Ipa Assignor ∷ [])

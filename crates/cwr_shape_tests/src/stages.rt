@@ -110,3 +110,33 @@ fn works(rt: HostRuntime) {
     assert!(rt; stage_inside(ty, &[work[0], work[4], work[9], work[6]]).is_none());
     assert!(rt; stage_inside(ty, &[work[0], work[9]]).is_none());
 }
+
+#[test]
+fn carried_records_leave_the_stage_as_it_is(rt: HostRuntime) {
+    let carried = Symbol::Plain(Kind::Ind);
+    let ty = TransactionType::NewWork;
+    let work = [
+        Symbol::Plain(Kind::Nwr),
+        carried,
+        Symbol::Plain(Kind::Spu),
+        carried,
+        Symbol::Plain(Kind::Spt),
+        Symbol::Plain(Kind::Swr),
+        carried,
+        Symbol::Plain(Kind::Alt),
+        carried,
+    ];
+    for (count, step) in [
+        (2, TransactionStep::Work),
+        (4, TransactionStep::Controlled),
+        (7, TransactionStep::Writer),
+        (9, TransactionStep::Tail),
+    ] {
+        let reached = stage_inside(ty, work.get(..count).unwrap_or(&work));
+        assert_eq!(rt; reached, Some(Stage::Within(ty, step)));
+    }
+    assert!(rt; stage_inside(ty, &[carried]).is_none());
+    assert!(rt; stage_inside(ty, &[work[0], work[5], work[7], carried, work[5]]).is_none());
+    let acknowledged = [Symbol::Plain(Kind::Ack), Symbol::Plain(Kind::Ari)];
+    assert!(rt; stage_inside(TransactionType::Acknowledgement, &acknowledged).is_none());
+}

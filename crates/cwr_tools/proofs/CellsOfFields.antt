@@ -8,7 +8,7 @@ use Rattle.std.proofs.lemmas.List.{length-append, take_all}
 use Rattle.std.proofs.lemmas.Option.{slice_get-get_or}
 use Rattle.cwr_fields.specs.Bytes.{trimmed}
 use Rattle.cwr_layouts.specs.declared.kinds.Kind.{Kind}
-use Rattle.cwr_layouts.specs.declared.kinds.Kind.TheVariants.{Hdr, Grh, Grt, Trl, Agr, Ter, Ipa, Nwr, Rev, Spu, Opu, Spt, Swr, Owr, Swt, Pwr, Alt, Ewt, Ver, Per, Rec, Orn, Com, Ack, Msg}
+use Rattle.cwr_layouts.specs.declared.kinds.Kind.TheVariants.{Hdr, Grh, Grt, Trl, Agr, Ter, Ipa, Nwr, Rev, Spu, Opu, Spt, Swr, Owr, Swt, Pwr, Alt, Ewt, Ver, Per, Rec, Orn, Com, Ack, Msg, Opt, Owt, Npn, Npr, Nwn, Npa, Net, Now, Nct, Nvt, Nat, Ins, Ind, Ari, Xrf}
 use Rattle.cwr_layouts.specs.Layouts.{FieldLayout, layout, record_type, field_at, field_placed}
 use Rattle.cwr_layouts.specs.Records.{RecordValue, IsRecord}
 use Rattle.cwr_layouts.specs.Carried.{carried_at, record_cell}
@@ -25,7 +25,7 @@ length-trimmed-le text = let p = spaces_after text in omega (arith, ap length p.
 
 -- the name and the cells of a field are short
 abbrev is_short : FieldLayout → Bool
-is_short f = nat_le (length f.name + f.width) 170
+is_short f = nat_le (length f.name + f.width) 720
 
 all_short : (kind : Kind) → list_all is_short (layout kind) ≡ true
 all_short Hdr = refl
@@ -53,6 +53,21 @@ all_short Orn = refl
 all_short Com = refl
 all_short Ack = refl
 all_short Msg = refl
+all_short Opt = refl
+all_short Owt = refl
+all_short Npn = refl
+all_short Npr = refl
+all_short Nwn = refl
+all_short Npa = refl
+all_short Net = refl
+all_short Now = refl
+all_short Nct = refl
+all_short Nvt = refl
+all_short Nat = refl
+all_short Ins = refl
+all_short Ind = refl
+all_short Ari = refl
+all_short Xrf = refl
 
 -- no kind has more than 28 fields
 pub few_fields : (kind : Kind) → length (layout kind) ≤ 28
@@ -81,6 +96,21 @@ few_fields Orn = lit≤ tt
 few_fields Com = lit≤ tt
 few_fields Ack = lit≤ tt
 few_fields Msg = lit≤ tt
+few_fields Opt = lit≤ tt
+few_fields Owt = lit≤ tt
+few_fields Npn = lit≤ tt
+few_fields Npr = lit≤ tt
+few_fields Nwn = lit≤ tt
+few_fields Npa = lit≤ tt
+few_fields Net = lit≤ tt
+few_fields Now = lit≤ tt
+few_fields Nct = lit≤ tt
+few_fields Nvt = lit≤ tt
+few_fields Nat = lit≤ tt
+few_fields Ins = lit≤ tt
+few_fields Ind = lit≤ tt
+few_fields Ari = lit≤ tt
+few_fields Xrf = lit≤ tt
 
 found_passes : (p : FieldLayout → Bool) (fields : List FieldLayout) (i : ℕ) (f : FieldLayout) → list_all p fields ≡ true → slice_get fields i ≡ Some f → p f ≡ true
 found_passes p [] i f h e = absurd (cc e)
@@ -117,17 +147,17 @@ field_line-none r j place =
     ap (λ (o : Option FieldLayout). line_of j (option_and_then (λ f. cond f.derived None (Some f)) o) (record_cell r j)) none
 
 -- its name and its cell are short
-pub short_line : (r : RecordValue) (j : ℕ) (p : ℕ × FieldLayout) (cell : List ℕ) → IsRecord r → Some cell ≡ record_cell r j → Some p ≡ field_placed r.kind j → length p.1.name + length cell ≤ 170
+pub short_line : (r : RecordValue) (j : ℕ) (p : ℕ × FieldLayout) (cell : List ℕ) → IsRecord r → Some cell ≡ record_cell r j → Some p ≡ field_placed r.kind j → length p.1.name + length cell ≤ 720
 short_line r zero p cell h e place = absurd (cc e)
 short_line r (suc i) p cell h e place =
     let carried = carried_field r (suc i) p cell e place in
     let at = record_cell-at r (suc i) p.1 h carried in
     let same : cell ≡ at.cell = cc (e, at.found) in
     let found : slice_get (layout r.kind) i ≡ Some p.1 = (open_some (field_at r.kind (suc i)) p.1 carried).0 in
-    let short : nat_le (length p.1.name + p.1.width) 170 ≡ true = found_passes is_short (layout r.kind) i p.1 (all_short r.kind) found in
+    let short : nat_le (length p.1.name + p.1.width) 720 ≡ true = found_passes is_short (layout r.kind) i p.1 (all_short r.kind) found in
     within (length p.1.name) p.1.width (length cell) short (ap length same ∙ at.is_cell.0)
   where
-    within : (a b c : ℕ) → nat_le (a + b) 170 ≡ true → c ≡ b → a + c ≤ 170
+    within : (a b c : ℕ) → nat_le (a + b) 720 ≡ true → c ≡ b → a + c ≤ 720
     within a b c h e = grind (arith, h, e)
 
 -- ---- the lines of the first fields

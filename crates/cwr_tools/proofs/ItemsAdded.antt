@@ -12,7 +12,7 @@ use Rattle.cwr_layouts.specs.Records.{RecordValue}
 use Rattle.cwr_shape.specs.declared.symbols.Symbol.{Symbol}
 use Rattle.cwr_shape.specs.Outlines.{Continues}
 use Rattle.cwr_shape.specs.Left.{Any}
-use Rattle.cwr_shape.specs.Tallies.{IsTallyOf, TallyValue}
+use Rattle.cwr_shape.specs.Tallies.{IsTallyOf, TallyValue, open_type}
 use Rattle.cwr_values.specs.declared.items.Item.{Item}
 use Rattle.cwr_values.specs.declared.items.Item.TheVariants.{Opened, GroupOpened, Transaction, GroupClosed, Ended}
 use Rattle.cwr_values.specs.Values.{GroupValue, TransmissionValue, IsGroup, IsTransaction, IsTransmission, symbol_of, type_of}
@@ -23,6 +23,7 @@ use Rattle.cwr_encode.specs.declared.encoders.EncodeFault.{EncodeFault}
 use Rattle.cwr_encode.specs.Encoders.{IsNoMistake}
 use Rattle.cwr_encode.proofs.NoMistakes.{no_mistake_foot, no_mistake_group, no_mistake_opening, no_mistake_transaction}
 use Rattle.cwr_tools.specs.Joined.{JudgesItem}
+use Rattle.cwr_tools.proofs.OwnTypes.{own_type}
 
 -- ---- the records of items
 
@@ -82,11 +83,24 @@ right_items v h = (h.opening.0, all_more (flat_map group_items v.groups) (Ended 
 
 -- ---- the call for an item
 
-pub no_mistake : (t : TallyValue) (xs : List Symbol) (item : Item) (answer : Result (Unit {0}) EncodeFault) → IsTallyOf t xs → IsRight item → Continues Any (xs ++ map symbol_of (item_records item))
+-- a transaction is of the open group's type
+abbrev pub IsOwn : List Symbol → Item → Type 0
+IsOwn xs (Transaction t) = IsTransaction (open_type xs) t
+IsOwn xs item = IsRight item
+
+-- an item that continues a transmission's is one
+pub own_item : (v : TransmissionValue) (items : List Item) (item : Item) (rest : List Item) → IsTransmission v → value_items v ≡ (items ++ item ∷ []) ++ rest → IsRight item → IsOwn (map symbol_of (records_in items)) item
+own_item v items (Transaction u) rest h e right = own_type v items u rest h e
+own_item v items (Opened r) rest h e right = right
+own_item v items (GroupOpened r) rest h e right = right
+own_item v items (GroupClosed r) rest h e right = right
+own_item v items Ended rest h e right = right
+
+pub no_mistake : (t : TallyValue) (xs : List Symbol) (item : Item) (answer : Result (Unit {0}) EncodeFault) → IsTallyOf t xs → IsOwn xs item → Continues Any (xs ++ map symbol_of (item_records item))
     → JudgesItem t.limits item xs answer → IsNoMistake answer
 no_mistake t xs (Opened r) answer s right more judged = no_mistake_opening t xs r answer s right more judged
 no_mistake t xs (GroupOpened r) answer s right more judged = no_mistake_group t xs r answer s right more judged
-no_mistake t xs (Transaction u) answer s right more judged = no_mistake_transaction t xs right.0 u answer s (has_header right.0 u right.1) (right.0, right.1.1) more judged
+no_mistake t xs (Transaction u) answer s right more judged = no_mistake_transaction t xs u answer s (has_header (open_type xs) u right) (open_type xs, right.1) more judged
 no_mistake t xs (GroupClosed r) answer s right more judged = no_mistake_foot t xs r answer s right more judged
 no_mistake t xs Ended answer s right more judged = absurd judged
 

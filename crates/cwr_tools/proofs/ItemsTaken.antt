@@ -1,4 +1,4 @@
--- A split takes an item: what it holds goes on to the next place, and a part that is whole was handed over.
+-- A split takes an item: what it holds is then that of the next place, and a part that is whole was handed over.
 use Rattle.std.proofs.Common.{◌≡◌, ℕ, List, Option, Some, None, refl, sym, ap, subst, ◌∙◌}
 use Rattle.std.specs.Prelude.{Result, Ok, Err}
 use Rattle.cwr_fields.specs.Failures.{one_more_failure}

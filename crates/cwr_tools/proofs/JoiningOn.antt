@@ -27,7 +27,7 @@ use Rattle.cwr_tools.specs.Verdicts.{totals_with}
 use Rattle.cwr_tools.specs.Joined.{AddsItems, AreCounted, FailsOn, HasJoined, IsBarredAfter, JoinsOn, JudgesItem, MayAdd, is_fault_of}
 use Rattle.cwr_tools.proofs.BegunTransmissions.{begins_more}
 use Rattle.cwr_tools.proofs.CountedTotals.{IsCount, count_more}
-use Rattle.cwr_tools.proofs.ItemsAdded.{IsRight, all_first, all_second, few_after, few_items, no_mistake, records_in-append, records_in_value, right_items}
+use Rattle.cwr_tools.proofs.ItemsAdded.{IsRight, all_first, all_second, few_after, few_items, no_mistake, own_item, records_in-append, records_in_value, right_items}
 
 -- ---- the records of one item more
 
@@ -87,7 +87,7 @@ put_right contents item j answer may judged =
     let split : records_of may.value ≡ (before ++ own) ++ records_in may.rest = sym (records_in_value may.value) ∙ ap records_in may.split ∙ records_in-append (may.items ++ item ∷ []) may.rest
     ∙ ap (λ (l : List RecordValue). l ++ records_in may.rest) (records_more may.items item) in
     let more : Continues Any (map symbol_of before ++ map symbol_of own) = begins_more may.value before own (records_in may.rest) may.whole split in
-    no_mistake j.encoder.tally (map symbol_of before) item answer may.joined.encodes.counted last.0 more (judged may.start before may.joined.encodes)
+    no_mistake j.encoder.tally (map symbol_of before) item answer may.joined.encodes.counted (own_item may.value may.items item may.rest may.whole may.split last.0) more (judged may.start before may.joined.encodes)
 
 -- the item was joined
 pub put_on : {W : Type 0} (contents : W → Option (List ℕ)) (failures : W → ℕ) (item : Item) (old new : Joined W) (u : Unit {0}) → Adds contents failures (item_records item) (Ok u) old.encoder new.encoder

@@ -20,7 +20,7 @@ use Rattle.cwr_tools.specs.declared.verdicts.ToolFault.TheVariants as tool_fault
 use Rattle.cwr_tools.specs.Joined.{JudgesItem, is_fault_of}
 use Rattle.cwr_tools.specs.SplitOutputs.{MayPut, PutsItems, PutsOn}
 use Rattle.cwr_tools.proofs.BegunTransmissions.{begins_more, begins_more_within, never_barred}
-use Rattle.cwr_tools.proofs.ItemsAdded.{IsRight, all_first, all_second, no_mistake, records_in-append, records_in_value, right_items}
+use Rattle.cwr_tools.proofs.ItemsAdded.{IsRight, all_first, all_second, no_mistake, own_item, records_in-append, records_in_value, right_items}
 use Rattle.cwr_tools.proofs.JoiningOn.{item_barred, records_more}
 
 -- the records of the transmission that the items begin
@@ -40,7 +40,7 @@ right_item contents item e answer may judged =
     let right = subst (AllByRecursion IsRight) first.split (right_items first.value first.whole) in
     let last = all_second may.items (item ∷ []) (all_first (may.items ++ item ∷ []) first.rest right) in
     let more : Continues Any (map symbol_of before ++ map symbol_of (item_records item)) = begins_more first.value before (item_records item) (records_in first.rest) first.whole (records_split first.value may.items item first.rest first.split) in
-    no_mistake e.tally (map symbol_of before) item answer may.encodes.counted last.0 more (judged may.start before may.encodes)
+    no_mistake e.tally (map symbol_of before) item answer may.encodes.counted (own_item first.value may.items item first.rest first.whole first.split last.0) more (judged may.start before may.encodes)
 
 -- no limit refuses it
 within : {W : Type 0} (contents : W → Option (List ℕ)) (item : Item) (e : Encoder W) (limit : LimitKind) → MayPut contents (item ∷ []) e → Judged contents item e (Err (encode_faults.Limit limit)) → ⊥

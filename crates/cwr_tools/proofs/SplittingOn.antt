@@ -1,4 +1,4 @@
--- A split goes on with each item that is handed out.
+-- A split continues with each item that is handed out.
 use Rattle.std.proofs.Common.{◌≡◌, ℕ, ◌+◌, ◌<◌, ◌≤◌, List, [], ◌∷◌, ◌++◌, length, map, Option, Some, refl, sym, ap, ap₂, subst, ◌∙◌, append_assoc, arith}
 use Rattle.std.specs.Prelude.{Ok, IfSome, count_by, if◌then◌else◌}
 use Rattle.std.proofs.lemmas.List.{length-append, map-append}

@@ -1,4 +1,4 @@
--- A split takes a transaction: the open output goes on with it, or is whole and handed over.
+-- A split takes a transaction: the open output continues with it, or is whole and handed over.
 use Rattle.std.proofs.Common.{◌≡◌, ◌≢◌, ℕ, ◌+◌, ◌*◌, ◌<◌, ◌≤◌, zero, suc, Bool, true, false, inl, inr, List, [], ◌∷◌, ◌++◌, length, Option, Some, None, refl, sym, ap, subst, ◌∙◌, append_assoc, arith}
 use Rattle.std.specs.Prelude.{◌==◌, if◌then◌else◌, Ok}
 use Rattle.std.proofs.lemmas.Bool.{eq-eqb}
@@ -66,7 +66,7 @@ in_group_with : (o : RecordValue) (closed : List GroupValue) (h : RecordValue) (
 in_group_with o closed h [] t = refl
 in_group_with o closed h (x ∷ cur) t = refl
 
--- the open output goes on with it
+-- the open output continues with it
 went_on : {O W : Type 0} (told : Told O) (contents : W → Option (List ℕ)) (failures : W → ℕ) (o : RecordValue) (closed : List GroupValue) (h : RecordValue) (cur : List (List RecordValue)) (t : List RecordValue) (s new : Splitting W) (now after : O) → ArePartGroups closed
     → Holds told contents failures (Inside o closed h cur) s now → GoesOn told contents failures (Opened o) (GroupOpened h) (Transaction t) s new now after
     → IsTaken told contents failures (Inside o closed h (cur ++ t ∷ [])) [] (Transaction t) s new now after

@@ -171,7 +171,7 @@ pub record MayAddTransaction {O W : Type 0} (told : Told O) (contents : W → Op
   pub first : AreFirstItems s.limits (items_with items opening head item s.output)
   pub full : open_count s.output + 1 ≡ s.size → MayEnd s.limits (items_with items opening head item s.output ++ blank_end ∷ [])
 
--- the open output goes on with it
+-- the open output continues with it
 pub record GoesOn {O W : Type 0} (told : Told O) (contents : W → Option (List ℕ)) (failures : W → ℕ) (opening head item : Item) (old new : Splitting W) (before after : O) : Type 0 where
   pub few : open_count old.output + 1 ≢ old.size
   pub out : SplitOutput W

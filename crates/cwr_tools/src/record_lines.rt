@@ -15,7 +15,7 @@ use std::marker::Model;
 const LONGEST_HEAD: usize = 25;
 
 /// The most bytes of the line of a cell: none comes near.
-const LONGEST_CELL_LINE: usize = 200;
+const LONGEST_CELL_LINE: usize = 750;
 
 /// The most bytes of the lines of a record, of which no kind has more than 28 fields.
 const LONGEST: usize = LONGEST_HEAD + 28 * LONGEST_CELL_LINE;

@@ -22,12 +22,12 @@ use Rattle.cwr_tools.specs.Texts.{check_text, check_lines, show_text, cell_lines
 use Rattle.cwr_tools.specs.Splits.{split_of, join_of}
 use Rattle.cwr_tools_tests.proofs.Samples
 
--- the widths of the kinds, from HDR to MSG
-widths : map line_width all_kinds ≡ 101 ∷ 28 ∷ 37 ∷ 24 ∷ 121 ∷ 24 ∷ 153 ∷ 260 ∷ 260 ∷ 183 ∷ 183 ∷ 58 ∷ 180 ∷ 180 ∷ 52 ∷ 110 ∷ 83 ∷ 364 ∷ 364 ∷ 118 ∷ 266 ∷ 301 ∷ 308 ∷ 159 ∷ 185 ∷ []
+-- the widths of the kinds, from HDR to XRF
+widths : map line_width all_kinds ≡ 101 ∷ 28 ∷ 37 ∷ 24 ∷ 121 ∷ 24 ∷ 153 ∷ 260 ∷ 260 ∷ 183 ∷ 183 ∷ 58 ∷ 180 ∷ 180 ∷ 52 ∷ 110 ∷ 83 ∷ 364 ∷ 364 ∷ 118 ∷ 266 ∷ 301 ∷ 308 ∷ 159 ∷ 185 ∷ 719 ∷ 719 ∷ 719 ∷ 719 ∷ 719 ∷ 719 ∷ 719 ∷ 719 ∷ 719 ∷ 719 ∷ 719 ∷ 719 ∷ 719 ∷ 719 ∷ 719 ∷ []
 widths = refl
 
 -- how many fields the kinds have
-field_counts : map (λ kind. length (layout kind)) all_kinds ≡ 9 ∷ 6 ∷ 6 ∷ 4 ∷ 19 ∷ 5 ∷ 15 ∷ 28 ∷ 28 ∷ 25 ∷ 25 ∷ 12 ∷ 23 ∷ 23 ∷ 11 ∷ 8 ∷ 6 ∷ 16 ∷ 16 ∷ 7 ∷ 15 ∷ 16 ∷ 15 ∷ 13 ∷ 9 ∷ []
+field_counts : map (λ kind. length (layout kind)) all_kinds ≡ 9 ∷ 6 ∷ 6 ∷ 4 ∷ 19 ∷ 5 ∷ 15 ∷ 28 ∷ 28 ∷ 25 ∷ 25 ∷ 12 ∷ 23 ∷ 23 ∷ 11 ∷ 8 ∷ 6 ∷ 16 ∷ 16 ∷ 7 ∷ 15 ∷ 16 ∷ 15 ∷ 13 ∷ 9 ∷ 4 ∷ 4 ∷ 4 ∷ 4 ∷ 4 ∷ 4 ∷ 4 ∷ 4 ∷ 4 ∷ 4 ∷ 4 ∷ 4 ∷ 4 ∷ 4 ∷ 4 ∷ []
 field_counts = refl
 
 -- ---- one acknowledgement

@@ -37,7 +37,7 @@ type_of r = unwrap_or (type_in (first_cell r)) Acknowledgement
 abbrev pub symbol_by : Kind → RecordValue → Symbol
 symbol_by kinds.Ipa r = Ipa (unwrap_or (role_in (first_cell r)) Assignor)
 symbol_by kinds.Grh r = Grh (type_of r)
-symbol_by kind r = Plain kind
+symbol_by this_kind r = Plain this_kind
 
 -- what the order of records sees of a record
 abbrev pub symbol_of : RecordValue → Symbol

@@ -4,7 +4,6 @@ ghost use Rattle.std.specs.Prelude.{◌≡◌, ◌↔◌, List, [], ◌∷◌, �
 ghost use Rattle.cwr_shape.specs.Shapes.{BeginsShape};
 ghost use Rattle.cwr_shape.specs.Left.{StandsAtStep};
 ghost use Rattle.cwr_values.specs.Values.{symbol_of};
-ghost use Rattle.cwr_shape.specs.Tallies.{header_kind};
 ghost use Rattle.cwr_values.specs.Begun.{HasHeaderOf, IsBegun, IsWholeTransaction, BeginsWithOneMore};
 
 use crate::symbols::symbol_of;
@@ -53,18 +52,6 @@ fn begin(symbol: Symbol) -> Option<(TransactionType, TransactionStep)>
     match TransactionStep::first(TransactionType::Acknowledgement, symbol) {
         Some(step) => Some((TransactionType::Acknowledgement, step)),
         None => None,
-    }
-}
-
-/// The kind of a type's header.
-fn header_kind(ty: TransactionType) -> Kind
-    ensures { result ≡ header_kind ty }
-{
-    match ty {
-        TransactionType::Agreement => Kind::Agr,
-        TransactionType::NewWork => Kind::Nwr,
-        TransactionType::RevisedWork => Kind::Rev,
-        TransactionType::Acknowledgement => Kind::Ack,
     }
 }
 
@@ -157,7 +144,13 @@ impl Transaction {
     pub fn is_of(&self, ty: TransactionType) -> bool
         ensures { IsTrue result ↔ HasHeaderOf ty self.now }
     {
-        self.kind() == header_kind(ty)
+        matches!(
+            (ty, self.kind()),
+            (TransactionType::Agreement, Kind::Agr)
+                | (TransactionType::NewWork, Kind::Nwr)
+                | (TransactionType::RevisedWork, Kind::Rev)
+                | (TransactionType::Acknowledgement, Kind::Ack)
+        )
     }
 
     /// Whether its records are a whole transaction.

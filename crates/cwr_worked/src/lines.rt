@@ -181,3 +181,49 @@ pub const IPA_AC_0_4: &[u8] = b"IPA0000000000000004AC                           
 
 /// IPA, record 5 of transaction 0, of an acquirer.
 pub const IPA_AC_0_5: &[u8] = b"IPA0000000000000005AC                                 MUSIC HOUSE";
+
+/// A writer after a header and another record, and after three records.
+pub const SWR_0_2: &[u8] =
+    b"SWR0000000000000002W1       SMITH                                        ANNA                           CA";
+
+pub const SWR_0_4: &[u8] =
+    b"SWR0000000000000004W1       SMITH                                        ANNA                           CA";
+
+/// The publisher's territories after a header and two records.
+pub const SPT_0_3: &[u8] = b"SPT0000000000000003P1             050001000010000I2136 001";
+
+/// An alternative title after a writer.
+pub const ALT_0_2: &[u8] =
+    b"ALT0000000000000002BLUE RIVERS                                                 AT";
+
+/// The title of the work that an excerpt is taken from, after three records.
+pub const EWT_0_3: &[u8] = b"EWT0000000000000003RIVER SUITE";
+
+/// IND, ARI and NPA, which are carried as text.
+pub const IND_0_1: &[u8] = b"IND0000000000000001GUITAR";
+
+pub const IND_0_2: &[u8] = b"IND0000000000000002GUITAR";
+
+pub const IND_0_3: &[u8] = b"IND0000000000000003GUITAR";
+
+pub const ARI_0_0: &[u8] = b"ARI0000000000000000NOTE";
+
+pub const ARI_0_1: &[u8] = b"ARI0000000000000001NOTE";
+
+pub const ARI_0_3: &[u8] = b"ARI0000000000000003NOTE";
+
+pub const NPA_0_1: &[u8] = b"NPA0000000000000001NAME";
+
+pub const NPA_0_4: &[u8] = b"NPA0000000000000004NAME";
+
+/// Records of an acknowledgement's copy: a work after ACK, and after ACK and MSG, and an agreement.
+pub const NWR_0_1: &[u8] =
+    b"NWR0000000000000001BLUE RIVER                                                    W0001                                        POP             ORI";
+
+pub const NWR_0_2: &[u8] =
+    b"NWR0000000000000002BLUE RIVER                                                    W0001                                        POP             ORI";
+
+pub const AGR_0_1: &[u8] = b"AGR0000000000000001AGR0001                     OS";
+
+/// MSG, record 3 of transaction 0.
+pub const MSG_0_3: &[u8] = b"MSG0000000000000003F           F   TITLE CHANGED";

@@ -107,6 +107,30 @@ pub const AGREEMENT_OF_TWO_BLOCKS: &[&[u8]] = &[
     b"TRL000010000000100000011",
 ];
 
+/// A new work with two records that are carried as text: 2,084 bytes.
+pub const CARRIED_RECORDS: &[&[u8]] = &[
+    HDR,
+    GRH_NWR,
+    NWR_0,
+    IND_0_1,
+    SWR_0_2,
+    ARI_0_3,
+    b"GRT000010000000100000006",
+    b"TRL000010000000100000008",
+];
+
+/// An acknowledgement with a message and the copy of a new work: 990 bytes.
+pub const COPIED_WORK: &[&[u8]] = &[
+    HDR,
+    GRH_ACK,
+    ACK_0,
+    MSG_0_1,
+    NWR_0_2,
+    SWR_0_3,
+    b"GRT000010000000100000006",
+    b"TRL000010000000100000008",
+];
+
 /// The canonical text of lines: each in the full width of its kind, with CR LF after it. Of a line of unknown kind just
 /// its bytes, with CR LF.
 pub fn canonical(alloc: Global, lines: &[&[u8]]) -> Result<Vec<u8>, AllocError> {

@@ -154,3 +154,93 @@ msg_fits-requires-clause-whole c = c.requires.whole ∙ ap line_width c.in-Msg.i
 
 pub returns-in-Msg : goal.returns-in-Msg
 returns-in-Msg c = λ yes. subst (λ (k : Kind). IsRecord (record_in k c.args.line.now)) (sym c.in-Msg.is) (c.msg_fits.ensures yes)
+
+pub opt_fits-requires-clause-whole : goal.opt_fits-requires-clause-whole
+opt_fits-requires-clause-whole c = c.requires.whole ∙ ap line_width c.in-Opt.is
+
+pub returns-in-Opt : goal.returns-in-Opt
+returns-in-Opt c = λ yes. subst (λ (k : Kind). IsRecord (record_in k c.args.line.now)) (sym c.in-Opt.is) (c.opt_fits.ensures yes)
+
+pub owt_fits-requires-clause-whole : goal.owt_fits-requires-clause-whole
+owt_fits-requires-clause-whole c = c.requires.whole ∙ ap line_width c.in-Owt.is
+
+pub returns-in-Owt : goal.returns-in-Owt
+returns-in-Owt c = λ yes. subst (λ (k : Kind). IsRecord (record_in k c.args.line.now)) (sym c.in-Owt.is) (c.owt_fits.ensures yes)
+
+pub npn_fits-requires-clause-whole : goal.npn_fits-requires-clause-whole
+npn_fits-requires-clause-whole c = c.requires.whole ∙ ap line_width c.in-Npn.is
+
+pub returns-in-Npn : goal.returns-in-Npn
+returns-in-Npn c = λ yes. subst (λ (k : Kind). IsRecord (record_in k c.args.line.now)) (sym c.in-Npn.is) (c.npn_fits.ensures yes)
+
+pub npr_fits-requires-clause-whole : goal.npr_fits-requires-clause-whole
+npr_fits-requires-clause-whole c = c.requires.whole ∙ ap line_width c.in-Npr.is
+
+pub returns-in-Npr : goal.returns-in-Npr
+returns-in-Npr c = λ yes. subst (λ (k : Kind). IsRecord (record_in k c.args.line.now)) (sym c.in-Npr.is) (c.npr_fits.ensures yes)
+
+pub nwn_fits-requires-clause-whole : goal.nwn_fits-requires-clause-whole
+nwn_fits-requires-clause-whole c = c.requires.whole ∙ ap line_width c.in-Nwn.is
+
+pub returns-in-Nwn : goal.returns-in-Nwn
+returns-in-Nwn c = λ yes. subst (λ (k : Kind). IsRecord (record_in k c.args.line.now)) (sym c.in-Nwn.is) (c.nwn_fits.ensures yes)
+
+pub npa_fits-requires-clause-whole : goal.npa_fits-requires-clause-whole
+npa_fits-requires-clause-whole c = c.requires.whole ∙ ap line_width c.in-Npa.is
+
+pub returns-in-Npa : goal.returns-in-Npa
+returns-in-Npa c = λ yes. subst (λ (k : Kind). IsRecord (record_in k c.args.line.now)) (sym c.in-Npa.is) (c.npa_fits.ensures yes)
+
+pub net_fits-requires-clause-whole : goal.net_fits-requires-clause-whole
+net_fits-requires-clause-whole c = c.requires.whole ∙ ap line_width c.in-Net.is
+
+pub returns-in-Net : goal.returns-in-Net
+returns-in-Net c = λ yes. subst (λ (k : Kind). IsRecord (record_in k c.args.line.now)) (sym c.in-Net.is) (c.net_fits.ensures yes)
+
+pub now_fits-requires-clause-whole : goal.now_fits-requires-clause-whole
+now_fits-requires-clause-whole c = c.requires.whole ∙ ap line_width c.in-Now.is
+
+pub returns-in-Now : goal.returns-in-Now
+returns-in-Now c = λ yes. subst (λ (k : Kind). IsRecord (record_in k c.args.line.now)) (sym c.in-Now.is) (c.now_fits.ensures yes)
+
+pub nct_fits-requires-clause-whole : goal.nct_fits-requires-clause-whole
+nct_fits-requires-clause-whole c = c.requires.whole ∙ ap line_width c.in-Nct.is
+
+pub returns-in-Nct : goal.returns-in-Nct
+returns-in-Nct c = λ yes. subst (λ (k : Kind). IsRecord (record_in k c.args.line.now)) (sym c.in-Nct.is) (c.nct_fits.ensures yes)
+
+pub nvt_fits-requires-clause-whole : goal.nvt_fits-requires-clause-whole
+nvt_fits-requires-clause-whole c = c.requires.whole ∙ ap line_width c.in-Nvt.is
+
+pub returns-in-Nvt : goal.returns-in-Nvt
+returns-in-Nvt c = λ yes. subst (λ (k : Kind). IsRecord (record_in k c.args.line.now)) (sym c.in-Nvt.is) (c.nvt_fits.ensures yes)
+
+pub nat_fits-requires-clause-whole : goal.nat_fits-requires-clause-whole
+nat_fits-requires-clause-whole c = c.requires.whole ∙ ap line_width c.in-Nat.is
+
+pub returns-in-Nat : goal.returns-in-Nat
+returns-in-Nat c = λ yes. subst (λ (k : Kind). IsRecord (record_in k c.args.line.now)) (sym c.in-Nat.is) (c.nat_fits.ensures yes)
+
+pub ins_fits-requires-clause-whole : goal.ins_fits-requires-clause-whole
+ins_fits-requires-clause-whole c = c.requires.whole ∙ ap line_width c.in-Ins.is
+
+pub returns-in-Ins : goal.returns-in-Ins
+returns-in-Ins c = λ yes. subst (λ (k : Kind). IsRecord (record_in k c.args.line.now)) (sym c.in-Ins.is) (c.ins_fits.ensures yes)
+
+pub ind_fits-requires-clause-whole : goal.ind_fits-requires-clause-whole
+ind_fits-requires-clause-whole c = c.requires.whole ∙ ap line_width c.in-Ind.is
+
+pub returns-in-Ind : goal.returns-in-Ind
+returns-in-Ind c = λ yes. subst (λ (k : Kind). IsRecord (record_in k c.args.line.now)) (sym c.in-Ind.is) (c.ind_fits.ensures yes)
+
+pub ari_fits-requires-clause-whole : goal.ari_fits-requires-clause-whole
+ari_fits-requires-clause-whole c = c.requires.whole ∙ ap line_width c.in-Ari.is
+
+pub returns-in-Ari : goal.returns-in-Ari
+returns-in-Ari c = λ yes. subst (λ (k : Kind). IsRecord (record_in k c.args.line.now)) (sym c.in-Ari.is) (c.ari_fits.ensures yes)
+
+pub xrf_fits-requires-clause-whole : goal.xrf_fits-requires-clause-whole
+xrf_fits-requires-clause-whole c = c.requires.whole ∙ ap line_width c.in-Xrf.is
+
+pub returns-in-Xrf : goal.returns-in-Xrf
+returns-in-Xrf c = λ yes. subst (λ (k : Kind). IsRecord (record_in k c.args.line.now)) (sym c.in-Xrf.is) (c.xrf_fits.ensures yes)

@@ -5,6 +5,6 @@ use Rattle.cwr_levels.proofs.walk.findings.Given as goal
 
 abbrev pub invariant-loop-sequence : goal.invariant-loop-sequence
 invariant-loop-sequence l = record {
-  found : l.found.items ≡ found_before l.transaction l.sequence;
-  before : IsBefore (take l.sequence l.transaction) l.before;
+  found : l.found.items ≡ found_before l.start l.registered l.sequence;
+  before : IsBefore (take l.sequence l.registered) l.before;
 }

@@ -5,5 +5,5 @@ use Rattle.cwr_tools.proofs.record_lines.push_cells.Given as goal
 abbrev pub invariant-loop-before : goal.invariant-loop-before
 invariant-loop-before l = record {
   lines : l.text.items ≡ l.fn.text.items ++ lines_before l.shown l.before;
-  len : length l.text.items ≤ 25 + 200 * l.before;
+  len : length l.text.items ≤ 25 + 750 * l.before;
 }

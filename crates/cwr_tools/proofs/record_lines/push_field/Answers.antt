@@ -16,7 +16,7 @@ pub push_cell-requires : goal.push_cell-requires
 push_cell-requires c =
     let place : Some (field_view c.in-Some-field.place) ≡ field_placed c.args.shown.now.kind c.args.j
     = sym (ap (option_map field_view) c.in-Some-field.is) ∙ c.field.ensures ∙ ap (λ (kind : Kind). field_placed kind c.args.j) c.kind.ensures.value in
-    let short : length c.in-Some-field.place.name.now + length c.in-Some.cell.now ≤ 170
+    let short : length c.in-Some-field.place.name.now + length c.in-Some.cell.now ≤ 720
     = short_line c.args.shown.now c.args.j (field_view c.in-Some-field.place) c.in-Some.cell.now c.kind.ensures.fits c.in-Some.ensures.value place in
     omega (arith, short)
 
@@ -31,6 +31,6 @@ pub returns-clause-len : goal.returns-clause-len
 returns-clause-len c =
     let place : Some (field_view c.in-Some-field.place) ≡ field_placed c.args.shown.now.kind c.args.j
     = sym (ap (option_map field_view) c.in-Some-field.is) ∙ c.field.ensures ∙ ap (λ (kind : Kind). field_placed kind c.args.j) c.kind.ensures.value in
-    let short : length c.in-Some-field.place.name.now + length c.in-Some.cell.now ≤ 170
+    let short : length c.in-Some-field.place.name.now + length c.in-Some.cell.now ≤ 720
     = short_line c.args.shown.now c.args.j (field_view c.in-Some-field.place) c.in-Some.cell.now c.kind.ensures.fits c.in-Some.ensures.value place in
     omega (arith, short, c.push_cell.ensures.len)

@@ -2,7 +2,7 @@ use Rattle.std.proofs.Common.{ℕ, None, Some, ap, subst, sym, ◌∙◌}
 use Rattle.cwr_decode.specs.Machines.{FitsWaiting, Standing, Settles}
 use Rattle.cwr_decode.specs.Calls.{Feeds}
 use Rattle.cwr_decode.proofs.AnsweredAtOnce.{settled_feeds}
-use Rattle.cwr_decode.proofs.AfterPiece.{finished_feeds, fed_whole, settled_sound}
+use Rattle.cwr_decode.proofs.AfterPiece.{finished_feeds, fed_whole, settled_reading, settled_sound}
 use Rattle.cwr_decode.proofs.HeldOpen.{waiting_fits}
 use Rattle.cwr_decode.proofs.machine.Machine.feed.Goals as goal
 
@@ -19,6 +19,11 @@ pub feed_lines-requires-2-clause-sound : goal.feed_lines-requires-2-clause-sound
 feed_lines-requires-2-clause-sound c =
     let settles = subst (λ (q : Standing). Settles q.state q None c.settle.new.self) (c.is_settled.ensures.kept c.if-is_settled.false) c.in_default.ensures in
     settled_sound c.args.self.now c.settle.new.self c.requires settles
+
+pub feed_lines-requires-2-clause-reading : goal.feed_lines-requires-2-clause-reading
+feed_lines-requires-2-clause-reading c =
+    let settles = subst (λ (q : Standing). Settles q.state q None c.settle.new.self) (c.is_settled.ensures.kept c.if-is_settled.false) c.in_default.ensures in
+    settled_reading c.args.self.now c.settle.new.self c.requires settles
 
 pub returns-then-self : goal.returns-then-self
 returns-then-self c =

@@ -1,78 +1,98 @@
-use Rattle.std.proofs.Common.{drop, Some, None, refl, ap, subst, sym, ◌∙◌}
+use Rattle.std.proofs.Common.{List, Option, ◌+◌, ◌-◌, ◌<◌, arith, drop, length, refl, Some, None, ap, subst, sym, ◌∙◌}
+use Rattle.std.specs.Prelude.{IfSome, IsNone}
 use Rattle.std.proofs.lemmas.List.{take_rest}
+use Rattle.cwr_layouts.specs.Records.{RecordValue}
+use Rattle.cwr_decode.specs.Calls.{Advances, Fed}
 use Rattle.cwr_decode.specs.Machines.{Standing, Judges}
 use Rattle.cwr_decode.specs.declared.outcomes.Outcome.TheVariants as outcomes
 use Rattle.cwr_values.specs.declared.items.Item.TheVariants as items
-use Rattle.cwr_decode.proofs.AfterBytes.{advanced_front, advanced_line, advanced_open}
-use Rattle.cwr_decode.proofs.AfterPiece.{fed_start, fed_same, fed_more, fed_through, rest_smaller}
+use Rattle.cwr_decode.proofs.AfterBytes.{advanced_line, advanced_open}
+use Rattle.cwr_decode.proofs.AfterPiece.{fed_start, fed_on, fed_more, fed_through, rest_smaller}
 use Rattle.cwr_decode.proofs.HeldOpen.{fed_holds}
 use Rattle.cwr_decode.proofs.machine.Machine.feed_lines.Goals as goal
 
-pub take_line-requires-clause-holds : goal.take_line-requires-clause-holds
-take_line-requires-clause-holds c =
-    let at = fed_same c.args.self.now c.loop-used.self c.add_front-front.new.self c.args.piece.now c.loop-used.used c.add_front-front.result c.loop-used.invariant c.add_front-front.ensures.kept c.if-front-gt0.false in
-    let same = c.in_default-take_whole.ensures.none refl ∙ c.add_line.ensures.kept c.if-add_line.false ∙ c.take-taken.ensures.others in
-    fed_holds c.args.self.now c.add_front-front.new.self c.take_whole.new.self c.args.piece.now c.loop-used.used c.requires.sound.under_way at (ap (λ (d : Standing). d.tally) same) (ap (λ (d : Standing). d.held) same)
-
-pub loop-used-init : goal.loop-used-init
-loop-used-init c = fed_start c.args.self.now c.args.piece.now c.requires.sound.ready c.requires.reading c.requires.fresh
-
-pub returns-in-Open : goal.returns-in-Open
-returns-in-Open c =
-    let at = fed_same c.args.self.now c.loop-used.self c.add_front-front.new.self c.args.piece.now c.loop-used.used c.add_front-front.result c.loop-used.invariant c.add_front-front.ensures.kept c.if-front-gt0.false in
-    fed_through c.args.self.now c.add_front-front.new.self c.take-taken.new.self c.args.piece.now c.loop-used.used c.take-taken.result.used outcomes.More at
-    (advanced_open c.add_front-front.new.self c.take-taken.new.self (drop c.loop-used.used c.args.piece.now) c.take-taken.result.used at.reading at.fresh
-    (rw take_rest at c.take-taken.ensures.takes) c.take-taken.ensures.held c.take-taken.ensures.others (sym c.take-taken.ensures.ended ∙ c.in-Open.is))
-
-pub loop-used-preserved-then-add_line : goal.loop-used-preserved-then-add_line
-loop-used-preserved-then-add_line c =
-    let at = fed_same c.args.self.now c.loop-used.self c.add_front-front.new.self c.args.piece.now c.loop-used.used c.add_front-front.result c.loop-used.invariant c.add_front-front.ensures.kept c.if-front-gt0.false in
-    fed_more c.args.self.now c.add_front-front.new.self c.add_line.new.self c.args.piece.now c.loop-used.used c.take-taken.result.used at
-    (advanced_line c.add_front-front.new.self c.take-taken.new.self c.add_line.new.self (drop c.loop-used.used c.args.piece.now) c.take-taken.result.used None at.reading at.fresh
-    (rw take_rest at c.take-taken.ensures.takes) c.take-taken.ensures.held c.take-taken.ensures.others (λ e. c.in_default.not-Open (c.take-taken.ensures.ended ∙ e)) (c.add_line.ensures.added c.if-add_line.true))
-
-pub loop-used-smaller-then-add_line : goal.loop-used-smaller-then-add_line
-loop-used-smaller-then-add_line c =
-    let at = fed_same c.args.self.now c.loop-used.self c.add_front-front.new.self c.args.piece.now c.loop-used.used c.add_front-front.result c.loop-used.invariant c.add_front-front.ensures.kept c.if-front-gt0.false in
-    rest_smaller c.args.piece.now c.loop-used.used c.take-taken.result.used c.add_front-front.new.self c.add_line.new.self
-    (advanced_line c.add_front-front.new.self c.take-taken.new.self c.add_line.new.self (drop c.loop-used.used c.args.piece.now) c.take-taken.result.used None at.reading at.fresh
-    (rw take_rest at c.take-taken.ensures.takes) c.take-taken.ensures.held c.take-taken.ensures.others (λ e. c.in_default.not-Open (c.take-taken.ensures.ended ∙ e)) (c.add_line.ensures.added c.if-add_line.true))
-
-pub returns-in-Some-take_line : goal.returns-in-Some-take_line
-returns-in-Some-take_line c =
-    let at = fed_same c.args.self.now c.loop-used.self c.add_front-front.new.self c.args.piece.now c.loop-used.used c.add_front-front.result c.loop-used.invariant c.add_front-front.ensures.kept c.if-front-gt0.false in
-    fed_through c.args.self.now c.add_front-front.new.self c.take_line.new.self c.args.piece.now c.loop-used.used c.take-taken.result.used c.in-Some-take_line.outcome at
-    (advanced_line c.add_front-front.new.self c.take-taken.new.self c.take_line.new.self (drop c.loop-used.used c.args.piece.now) c.take-taken.result.used (Some c.in-Some-take_line.outcome) at.reading at.fresh
-    (rw take_rest at c.take-taken.ensures.takes) c.take-taken.ensures.held c.take-taken.ensures.others (λ e. c.in_default.not-Open (c.take-taken.ensures.ended ∙ e))
-    (subst (λ (d : Standing). Judges d (Some c.in-Some-take_line.outcome) c.take_line.new.self) (c.in_default-take_whole.ensures.none refl ∙ c.add_line.ensures.kept c.if-add_line.false) c.in-Some-take_line.ensures))
-
-pub loop-used-preserved : goal.loop-used-preserved
-loop-used-preserved c =
-    let at = fed_same c.args.self.now c.loop-used.self c.add_front-front.new.self c.args.piece.now c.loop-used.used c.add_front-front.result c.loop-used.invariant c.add_front-front.ensures.kept c.if-front-gt0.false in
-    fed_more c.args.self.now c.add_front-front.new.self c.take_line.new.self c.args.piece.now c.loop-used.used c.take-taken.result.used at
-    (advanced_line c.add_front-front.new.self c.take-taken.new.self c.take_line.new.self (drop c.loop-used.used c.args.piece.now) c.take-taken.result.used None at.reading at.fresh
-    (rw take_rest at c.take-taken.ensures.takes) c.take-taken.ensures.held c.take-taken.ensures.others (λ e. c.in_default.not-Open (c.take-taken.ensures.ended ∙ e))
-    (subst (λ (d : Standing). Judges d None c.take_line.new.self) (c.in_default-take_whole.ensures.none refl ∙ c.add_line.ensures.kept c.if-add_line.false) c.in_default-take_line.ensures))
-
-pub loop-used-smaller : goal.loop-used-smaller
-loop-used-smaller c =
-    let at = fed_same c.args.self.now c.loop-used.self c.add_front-front.new.self c.args.piece.now c.loop-used.used c.add_front-front.result c.loop-used.invariant c.add_front-front.ensures.kept c.if-front-gt0.false in
-    rest_smaller c.args.piece.now c.loop-used.used c.take-taken.result.used c.add_front-front.new.self c.take_line.new.self
-    (advanced_line c.add_front-front.new.self c.take-taken.new.self c.take_line.new.self (drop c.loop-used.used c.args.piece.now) c.take-taken.result.used None at.reading at.fresh
-    (rw take_rest at c.take-taken.ensures.takes) c.take-taken.ensures.held c.take-taken.ensures.others (λ e. c.in_default.not-Open (c.take-taken.ensures.ended ∙ e))
-    (subst (λ (d : Standing). Judges d None c.take_line.new.self) (c.in_default-take_whole.ensures.none refl ∙ c.add_line.ensures.kept c.if-add_line.false) c.in_default-take_line.ensures))
-
-pub loop-used-preserved-then-front-gt0 : goal.loop-used-preserved-then-front-gt0
-loop-used-preserved-then-front-gt0 c =
-    fed_more c.args.self.now c.loop-used.self c.add_front-front.new.self c.args.piece.now c.loop-used.used c.add_front-front.result c.loop-used.invariant
-    (advanced_front c.loop-used.self c.add_front-front.new.self (drop c.loop-used.used c.args.piece.now) c.add_front-front.result c.loop-used.invariant.reading c.loop-used.invariant.fresh
-    (rw take_rest at (c.add_front-front.ensures.added c.if-front-gt0.true)))
+pub loop-whole-init : goal.loop-whole-init
+loop-whole-init c = fed_start c.args.self.now c.args.piece.now c.requires.sound.ready c.requires.reading c.requires.fresh
 
 pub returns-in-Some : goal.returns-in-Some
 returns-in-Some c =
-    let at = fed_same c.args.self.now c.loop-used.self c.add_front-front.new.self c.args.piece.now c.loop-used.used c.add_front-front.result c.loop-used.invariant c.add_front-front.ensures.kept c.if-front-gt0.false in
     let out = outcomes.Item (items.Transaction c.in-Some.whole) in
-    fed_through c.args.self.now c.add_front-front.new.self c.take_whole.new.self c.args.piece.now c.loop-used.used c.take-taken.result.used out at
-    (advanced_line c.add_front-front.new.self c.take-taken.new.self c.take_whole.new.self (drop c.loop-used.used c.args.piece.now) c.take-taken.result.used (Some out) at.reading at.fresh
-    (rw take_rest at c.take-taken.ensures.takes) c.take-taken.ensures.held c.take-taken.ensures.others (λ e. c.in_default.not-Open (c.take-taken.ensures.ended ∙ e))
-    (subst (λ (d : Standing). Judges d (Some out) c.take_whole.new.self) (c.add_line.ensures.kept c.if-add_line.false) c.in-Some.ensures.some))
+    let all : IfSome c.feed_quickly-front.result.1 (λ whole. Advances c.loop-whole.self (drop c.loop-whole.used c.args.piece.now) c.feed_quickly-front.result.0 (Some (outcomes.Item (items.Transaction whole))) c.feed_quickly-front.new.self) = rw take_rest at c.feed_quickly-front.ensures.some in
+    let one = subst (λ (o : Option (List RecordValue)). IfSome o (λ whole. Advances c.loop-whole.self (drop c.loop-whole.used c.args.piece.now) c.feed_quickly-front.result.0 (Some (outcomes.Item (items.Transaction whole))) c.feed_quickly-front.new.self)) c.in-Some.is all in
+    fed_through c.args.self.now c.loop-whole.self c.feed_quickly-front.new.self c.args.piece.now c.loop-whole.used c.feed_quickly-front.result.0 out c.loop-whole.invariant one
+
+pub returns-in-Open : goal.returns-in-Open
+returns-in-Open c =
+    let none : IsNone c.feed_quickly-front.result.1 = subst (λ (o : Option (List RecordValue)). IsNone o) (sym c.in_default.is) refl in
+    let rest : Fed c.loop-whole.self (drop c.loop-whole.used c.args.piece.now) c.feed_quickly-front.result.0 c.feed_quickly-front.new.self = rw take_rest at (c.feed_quickly-front.ensures.none none) in
+    let at = fed_on c.args.self.now c.loop-whole.self c.feed_quickly-front.new.self c.args.piece.now c.loop-whole.used c.feed_quickly-front.result.0 c.loop-whole.invariant rest in
+    fed_through c.args.self.now c.feed_quickly-front.new.self c.take-taken.new.self c.args.piece.now (c.loop-whole.used + c.feed_quickly-front.result.0) c.take-taken.result.used outcomes.More at
+    (advanced_open c.feed_quickly-front.new.self c.take-taken.new.self (drop (c.loop-whole.used + c.feed_quickly-front.result.0) c.args.piece.now) c.take-taken.result.used at.reading at.fresh
+    (rw take_rest at c.take-taken.ensures.takes) c.take-taken.ensures.held c.take-taken.ensures.others (sym c.take-taken.ensures.ended ∙ c.in-Open.is))
+
+pub loop-whole-smaller-in-Added : goal.loop-whole-smaller-in-Added
+loop-whole-smaller-in-Added c =
+    let none : IsNone c.feed_quickly-front.result.1 = subst (λ (o : Option (List RecordValue)). IsNone o) (sym c.in_default.is) refl in
+    let rest : Fed c.loop-whole.self (drop c.loop-whole.used c.args.piece.now) c.feed_quickly-front.result.0 c.feed_quickly-front.new.self = rw take_rest at (c.feed_quickly-front.ensures.none none) in
+    let at = fed_on c.args.self.now c.loop-whole.self c.feed_quickly-front.new.self c.args.piece.now c.loop-whole.used c.feed_quickly-front.result.0 c.loop-whole.invariant rest in
+    let less = rest_smaller c.args.piece.now (c.loop-whole.used + c.feed_quickly-front.result.0) c.take-taken.result.used c.feed_quickly-front.new.self c.find_line.new.self
+    (advanced_line c.feed_quickly-front.new.self c.take-taken.new.self c.find_line.new.self (drop (c.loop-whole.used + c.feed_quickly-front.result.0) c.args.piece.now) c.take-taken.result.used None at.reading at.fresh
+    (rw take_rest at c.take-taken.ensures.takes) c.take-taken.ensures.held c.take-taken.ensures.others (λ e. c.in_default-ended.not-Open (c.take-taken.ensures.ended ∙ e)) c.in-Added.ensures) in
+    let all : length c.args.piece.now - ((c.loop-whole.used + c.feed_quickly-front.result.0) + c.take-taken.result.used) < length c.args.piece.now - c.loop-whole.used = omega (arith, less) in
+    all
+
+pub loop-whole-preserved-in-Added : goal.loop-whole-preserved-in-Added
+loop-whole-preserved-in-Added c =
+    let none : IsNone c.feed_quickly-front.result.1 = subst (λ (o : Option (List RecordValue)). IsNone o) (sym c.in_default.is) refl in
+    let rest : Fed c.loop-whole.self (drop c.loop-whole.used c.args.piece.now) c.feed_quickly-front.result.0 c.feed_quickly-front.new.self = rw take_rest at (c.feed_quickly-front.ensures.none none) in
+    let at = fed_on c.args.self.now c.loop-whole.self c.feed_quickly-front.new.self c.args.piece.now c.loop-whole.used c.feed_quickly-front.result.0 c.loop-whole.invariant rest in
+    fed_more c.args.self.now c.feed_quickly-front.new.self c.find_line.new.self c.args.piece.now (c.loop-whole.used + c.feed_quickly-front.result.0) c.take-taken.result.used at
+    (advanced_line c.feed_quickly-front.new.self c.take-taken.new.self c.find_line.new.self (drop (c.loop-whole.used + c.feed_quickly-front.result.0) c.args.piece.now) c.take-taken.result.used None at.reading at.fresh
+    (rw take_rest at c.take-taken.ensures.takes) c.take-taken.ensures.held c.take-taken.ensures.others (λ e. c.in_default-ended.not-Open (c.take-taken.ensures.ended ∙ e)) c.in-Added.ensures)
+
+pub returns-in-Whole : goal.returns-in-Whole
+returns-in-Whole c =
+    let none : IsNone c.feed_quickly-front.result.1 = subst (λ (o : Option (List RecordValue)). IsNone o) (sym c.in_default.is) refl in
+    let rest : Fed c.loop-whole.self (drop c.loop-whole.used c.args.piece.now) c.feed_quickly-front.result.0 c.feed_quickly-front.new.self = rw take_rest at (c.feed_quickly-front.ensures.none none) in
+    let at = fed_on c.args.self.now c.loop-whole.self c.feed_quickly-front.new.self c.args.piece.now c.loop-whole.used c.feed_quickly-front.result.0 c.loop-whole.invariant rest in
+    let out = outcomes.Item (items.Transaction c.in-Whole.whole) in
+    fed_through c.args.self.now c.feed_quickly-front.new.self c.find_line.new.self c.args.piece.now (c.loop-whole.used + c.feed_quickly-front.result.0) c.take-taken.result.used out at
+    (advanced_line c.feed_quickly-front.new.self c.take-taken.new.self c.find_line.new.self (drop (c.loop-whole.used + c.feed_quickly-front.result.0) c.args.piece.now) c.take-taken.result.used (Some out) at.reading at.fresh
+    (rw take_rest at c.take-taken.ensures.takes) c.take-taken.ensures.held c.take-taken.ensures.others (λ e. c.in_default-ended.not-Open (c.take-taken.ensures.ended ∙ e)) c.in-Whole.ensures)
+
+pub take_line-requires-clause-holds : goal.take_line-requires-clause-holds
+take_line-requires-clause-holds c =
+    let none : IsNone c.feed_quickly-front.result.1 = subst (λ (o : Option (List RecordValue)). IsNone o) (sym c.in_default.is) refl in
+    let rest : Fed c.loop-whole.self (drop c.loop-whole.used c.args.piece.now) c.feed_quickly-front.result.0 c.feed_quickly-front.new.self = rw take_rest at (c.feed_quickly-front.ensures.none none) in
+    let at = fed_on c.args.self.now c.loop-whole.self c.feed_quickly-front.new.self c.args.piece.now c.loop-whole.used c.feed_quickly-front.result.0 c.loop-whole.invariant rest in
+    let same = c.in-Nothing.ensures ∙ c.take-taken.ensures.others in
+    fed_holds c.args.self.now c.feed_quickly-front.new.self c.find_line.new.self c.args.piece.now (c.loop-whole.used + c.feed_quickly-front.result.0) c.requires.sound.under_way at (ap (λ (d : Standing). d.tally) same) (ap (λ (d : Standing). d.held) same)
+
+pub returns-in-Some-take_line : goal.returns-in-Some-take_line
+returns-in-Some-take_line c =
+    let none : IsNone c.feed_quickly-front.result.1 = subst (λ (o : Option (List RecordValue)). IsNone o) (sym c.in_default.is) refl in
+    let rest : Fed c.loop-whole.self (drop c.loop-whole.used c.args.piece.now) c.feed_quickly-front.result.0 c.feed_quickly-front.new.self = rw take_rest at (c.feed_quickly-front.ensures.none none) in
+    let at = fed_on c.args.self.now c.loop-whole.self c.feed_quickly-front.new.self c.args.piece.now c.loop-whole.used c.feed_quickly-front.result.0 c.loop-whole.invariant rest in
+    fed_through c.args.self.now c.feed_quickly-front.new.self c.take_line.new.self c.args.piece.now (c.loop-whole.used + c.feed_quickly-front.result.0) c.take-taken.result.used c.in-Some-take_line.outcome at
+    (advanced_line c.feed_quickly-front.new.self c.take-taken.new.self c.take_line.new.self (drop (c.loop-whole.used + c.feed_quickly-front.result.0) c.args.piece.now) c.take-taken.result.used (Some c.in-Some-take_line.outcome) at.reading at.fresh
+    (rw take_rest at c.take-taken.ensures.takes) c.take-taken.ensures.held c.take-taken.ensures.others (λ e. c.in_default-ended.not-Open (c.take-taken.ensures.ended ∙ e)) (subst (λ (d : Standing). Judges d (Some c.in-Some-take_line.outcome) c.take_line.new.self) c.in-Nothing.ensures c.in-Some-take_line.ensures))
+
+pub loop-whole-smaller : goal.loop-whole-smaller
+loop-whole-smaller c =
+    let none : IsNone c.feed_quickly-front.result.1 = subst (λ (o : Option (List RecordValue)). IsNone o) (sym c.in_default.is) refl in
+    let rest : Fed c.loop-whole.self (drop c.loop-whole.used c.args.piece.now) c.feed_quickly-front.result.0 c.feed_quickly-front.new.self = rw take_rest at (c.feed_quickly-front.ensures.none none) in
+    let at = fed_on c.args.self.now c.loop-whole.self c.feed_quickly-front.new.self c.args.piece.now c.loop-whole.used c.feed_quickly-front.result.0 c.loop-whole.invariant rest in
+    let less = rest_smaller c.args.piece.now (c.loop-whole.used + c.feed_quickly-front.result.0) c.take-taken.result.used c.feed_quickly-front.new.self c.take_line.new.self
+    (advanced_line c.feed_quickly-front.new.self c.take-taken.new.self c.take_line.new.self (drop (c.loop-whole.used + c.feed_quickly-front.result.0) c.args.piece.now) c.take-taken.result.used None at.reading at.fresh
+    (rw take_rest at c.take-taken.ensures.takes) c.take-taken.ensures.held c.take-taken.ensures.others (λ e. c.in_default-ended.not-Open (c.take-taken.ensures.ended ∙ e)) (subst (λ (d : Standing). Judges d None c.take_line.new.self) c.in-Nothing.ensures c.in_default-take_line.ensures)) in
+    let all : length c.args.piece.now - ((c.loop-whole.used + c.feed_quickly-front.result.0) + c.take-taken.result.used) < length c.args.piece.now - c.loop-whole.used = omega (arith, less) in
+    all
+
+pub loop-whole-preserved : goal.loop-whole-preserved
+loop-whole-preserved c =
+    let none : IsNone c.feed_quickly-front.result.1 = subst (λ (o : Option (List RecordValue)). IsNone o) (sym c.in_default.is) refl in
+    let rest : Fed c.loop-whole.self (drop c.loop-whole.used c.args.piece.now) c.feed_quickly-front.result.0 c.feed_quickly-front.new.self = rw take_rest at (c.feed_quickly-front.ensures.none none) in
+    let at = fed_on c.args.self.now c.loop-whole.self c.feed_quickly-front.new.self c.args.piece.now c.loop-whole.used c.feed_quickly-front.result.0 c.loop-whole.invariant rest in
+    fed_more c.args.self.now c.feed_quickly-front.new.self c.take_line.new.self c.args.piece.now (c.loop-whole.used + c.feed_quickly-front.result.0) c.take-taken.result.used at
+    (advanced_line c.feed_quickly-front.new.self c.take-taken.new.self c.take_line.new.self (drop (c.loop-whole.used + c.feed_quickly-front.result.0) c.args.piece.now) c.take-taken.result.used None at.reading at.fresh
+    (rw take_rest at c.take-taken.ensures.takes) c.take-taken.ensures.held c.take-taken.ensures.others (λ e. c.in_default-ended.not-Open (c.take-taken.ensures.ended ∙ e)) (subst (λ (d : Standing). Judges d None c.take_line.new.self) c.in-Nothing.ensures c.in_default-take_line.ensures))

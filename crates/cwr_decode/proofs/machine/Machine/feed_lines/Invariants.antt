@@ -1,9 +1,9 @@
 use Rattle.std.proofs.Common.{◌-◌, length}
-use Rattle.cwr_decode.proofs.AfterPiece.{Fed}
+use Rattle.cwr_decode.specs.Calls.{Fed}
 use Rattle.cwr_decode.proofs.machine.Machine.feed_lines.Given as goal
 
-abbrev pub invariant-loop-used : goal.invariant-loop-used
-invariant-loop-used l = Fed l.fn.self l.piece l.used l.self
+abbrev pub invariant-loop-whole : goal.invariant-loop-whole
+invariant-loop-whole l = Fed l.fn.self l.piece l.used l.self
 
-abbrev pub decreases-loop-used : goal.decreases-loop-used
-decreases-loop-used l = length l.piece - l.used
+abbrev pub decreases-loop-whole : goal.decreases-loop-whole
+decreases-loop-whole l = length l.piece - l.used

@@ -2,5 +2,5 @@ use Rattle.std.proofs.Common.{sym, arith}
 use Rattle.cwr_layouts.proofs.AllKinds.{kind_of-other_length}
 use Rattle.cwr_layouts.proofs.kinds.Kind.of.Goals as goal
 
-pub returns-in_default-38 : goal.returns-in_default-38
-returns-in_default-38 c = sym (kind_of-other_length c.args.text.now (λ e. omega arith))
+pub returns-in_default-48 : goal.returns-in_default-48
+returns-in_default-48 c = sym (kind_of-other_length c.args.text.now (λ e. omega arith))

@@ -1,10 +1,23 @@
-use Rattle.std.proofs.Common.{◌∙◌, List, ℕ, take, sym, ap, subst, Some}
+use Rattle.std.proofs.Common.{◌≡◌, ◌≤◌, ◌∙◌, List, ℕ, length, take, sym, ap, subst, Some, arith}
+use Rattle.std.proofs.lemmas.List.{length-take-le}
 use Rattle.cwr_layouts.specs.Held.{IsFilled}
 use Rattle.cwr_layouts.specs.Records.{RecordValue, IsRecord}
 use Rattle.cwr_layouts.specs.Carried.{record_in}
 use Rattle.cwr_layouts.proofs.CellParts.{filled_now}
-use Rattle.cwr_layouts.proofs.HeldRecords.{known_fits, known_kind, record_held}
+use Rattle.cwr_layouts.proofs.HeldRecords.{known_fits, known_kind, record_held, filled_wide}
 use Rattle.cwr_layouts.proofs.lines.CutLine.known_record.Goals as goal
+
+pub slice_bounds-kept-end : goal.slice_bounds-kept-end
+slice_bounds-kept-end c =
+    let l = c.self.inside in
+    let filled : IsFilled l.text.now (Some c.in-Some.kind) c.args.self.now =
+    filled_now l.text.now l.count l.has_return l.kind l.ended c.in-Some.kind c.args.self.now c.self.invariant.0 c.self.view_is c.in-Some.is in
+    let wide : c.width.result ≤ length l.text.now =
+    subst (λ (n : ℕ). n ≤ length l.text.now) (sym c.width.ensures) (filled_wide l.text.now c.in-Some.kind c.args.self.now filled) in
+    sym (length-take-le c.width.result l.text.now wide)
+
+pub kept-requires-clause-whole : goal.kept-requires-clause-whole
+kept-requires-clause-whole c = sym (slice_bounds-kept-end c) ∙ c.width.ensures
 
 pub kept-requires-clause-fits : goal.kept-requires-clause-fits
 kept-requires-clause-fits c =

@@ -1,0 +1,56 @@
+-- A line that is judged where it stands, at the front of a piece, is one that was taken from there.
+use Rattle.std.proofs.Common.{◌≡◌, ◌≢◌, ℕ, List, length, Option, Some, None, sym, subst}
+use Rattle.cwr_layouts.specs.declared.lines.LineEnd.TheVariants.{Open}
+use Rattle.cwr_layouts.specs.Records.{RecordValue}
+use Rattle.cwr_layouts.specs.Held.{HeldLine, IsHeld, Takes, empty_line}
+use Rattle.cwr_shape.specs.Tallies.{TallyValue}
+use Rattle.cwr_values.specs.declared.items.Item.TheVariants as items
+use Rattle.cwr_decode.specs.declared.outcomes.Outcome.{Outcome}
+use Rattle.cwr_decode.specs.declared.outcomes.Outcome.TheVariants as outcomes
+use Rattle.cwr_decode.specs.declared.machine.Found.{Found}
+use Rattle.cwr_decode.specs.declared.machine.Found.TheVariants.{Added, Whole}
+use Rattle.cwr_decode.specs.declared.machine.State.TheVariants as states
+use Rattle.cwr_decode.specs.Machines.{FindsCut, FindsFront, Judges, JudgesFront, Standing, with_line}
+use Rattle.cwr_decode.proofs.AfterInputEnd.{no_bytes}
+
+empty_open : (h : HeldLine) → h.ended ≡ Open → length h.bytes ≡ 0 → h ≡ empty_line
+empty_open h e none = λ i. record { bytes = no_bytes h.bytes none i; ended = e i }
+
+-- the record of the line is added
+pub front_added : (d : Standing) (piece : List ℕ) (used : ℕ) (line : HeldLine) (counted : TallyValue) (more : Option (List RecordValue)) → d.state ≡ states.Reading → d.line.ended ≡ Open → length d.line.bytes ≡ 0
+    → Takes empty_line piece used line → IsHeld line → line.ended ≢ Open → FindsCut Added line d.tally d.held counted more
+    → JudgesFront d piece used None (record { line = d.line; tally = counted; held = more; state = d.state; finished = d.finished })
+front_added d piece used line counted more s unended none takes held ended finds =
+    let empty : d.line ≡ empty_line = empty_open d.line unended none in
+    let new : Standing = record { line = empty_line; tally = counted; held = more; state = states.Reading; finished = d.finished } in
+    let now : new ≡ record { line = d.line; tally = counted; held = more; state = d.state; finished = d.finished } =
+    λ i. record { line = sym empty i; tally = counted; held = more; state = sym s i; finished = d.finished } in
+    record {
+      line = line;
+      takes = subst (λ (h : HeldLine). Takes h piece used line) (sym empty) takes;
+      held = held;
+      ended = ended;
+      judges = subst (Judges (with_line d line) None) now (finds d.state d.finished);
+    }
+
+-- the line ends the open transaction, and waits
+pub front_whole : (d : Standing) (piece : List ℕ) (used : ℕ) (line kept : HeldLine) (whole : List RecordValue) (counted : TallyValue) (more : Option (List RecordValue)) → d.line.ended ≡ Open → length d.line.bytes ≡ 0
+    → Takes empty_line piece used line → IsHeld line → line.ended ≢ Open → FindsCut (Whole whole) line d.tally d.held counted more → kept ≡ line
+    → JudgesFront d piece used (Some (outcomes.Item (items.Transaction whole))) (record { line = kept; tally = counted; held = more; state = states.Pending; finished = d.finished })
+front_whole d piece used line kept whole counted more unended none takes held ended finds same =
+    let empty : d.line ≡ empty_line = empty_open d.line unended none in
+    let out : Option Outcome = Some (outcomes.Item (items.Transaction whole)) in
+    let new : Standing = record { line = line; tally = counted; held = more; state = states.Pending; finished = d.finished } in
+    let now : new ≡ record { line = kept; tally = counted; held = more; state = states.Pending; finished = d.finished } =
+    λ i. record { line = sym same i; tally = counted; held = more; state = states.Pending; finished = d.finished } in
+    record {
+      line = line;
+      takes = subst (λ (h : HeldLine). Takes h piece used line) (sym empty) takes;
+      held = held;
+      ended = ended;
+      judges = subst (Judges (with_line d line) out) now (finds d.state d.finished);
+    }
+
+-- what was found, by its name
+pub found_as : (f g : Found) (old new : Standing) (piece : List ℕ) (used : ℕ) → f ≡ g → FindsFront f old piece used new → FindsFront g old piece used new
+found_as f g old new piece used e h = subst (λ (x : Found). FindsFront x old piece used new) e h

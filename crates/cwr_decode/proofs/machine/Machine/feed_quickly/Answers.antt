@@ -1,0 +1,36 @@
+use Rattle.std.proofs.Common.{drop, Some, None}
+use Rattle.std.proofs.lemmas.List.{take_rest}
+use Rattle.cwr_decode.specs.declared.machine.Found.TheVariants as founds
+use Rattle.cwr_decode.specs.declared.outcomes.Outcome.TheVariants as outcomes
+use Rattle.cwr_values.specs.declared.items.Item.TheVariants as items
+use Rattle.cwr_decode.proofs.AfterBytes.{advanced_front}
+use Rattle.cwr_decode.proofs.AfterPiece.{fed_start, fed_same, fed_more, fed_through, rest_smaller}
+use Rattle.cwr_decode.proofs.FrontSteps.{found_as}
+use Rattle.cwr_decode.proofs.machine.Machine.feed_quickly.Goals as goal
+
+pub loop-used-init : goal.loop-used-init
+loop-used-init c = fed_start c.args.self.now c.args.piece.now c.requires.ready c.requires.reading c.requires.fresh
+
+pub loop-used-smaller : goal.loop-used-smaller
+loop-used-smaller c =
+    rest_smaller c.args.piece.now c.loop-used.used c.find_front-front.result.0 c.loop-used.self c.find_front-front.new.self
+    (advanced_front c.loop-used.self c.find_front-front.new.self (drop c.loop-used.used c.args.piece.now) c.find_front-front.result.0 None c.loop-used.invariant.reading c.loop-used.invariant.fresh
+    (found_as c.find_front-front.result.1 founds.Added c.loop-used.self c.find_front-front.new.self (drop c.loop-used.used c.args.piece.now) c.find_front-front.result.0 c.in-Added.is (rw take_rest at c.find_front-front.ensures)))
+
+pub loop-used-preserved : goal.loop-used-preserved
+loop-used-preserved c =
+    fed_more c.args.self.now c.loop-used.self c.find_front-front.new.self c.args.piece.now c.loop-used.used c.find_front-front.result.0 c.loop-used.invariant
+    (advanced_front c.loop-used.self c.find_front-front.new.self (drop c.loop-used.used c.args.piece.now) c.find_front-front.result.0 None c.loop-used.invariant.reading c.loop-used.invariant.fresh
+    (found_as c.find_front-front.result.1 founds.Added c.loop-used.self c.find_front-front.new.self (drop c.loop-used.used c.args.piece.now) c.find_front-front.result.0 c.in-Added.is (rw take_rest at c.find_front-front.ensures)))
+
+pub returns-in-Whole-clause-some : goal.returns-in-Whole-clause-some
+returns-in-Whole-clause-some c =
+    let out = outcomes.Item (items.Transaction c.in-Whole.whole) in
+    fed_through c.args.self.now c.loop-used.self c.find_front-front.new.self c.args.piece.now c.loop-used.used c.find_front-front.result.0 out c.loop-used.invariant
+    (advanced_front c.loop-used.self c.find_front-front.new.self (drop c.loop-used.used c.args.piece.now) c.find_front-front.result.0 (Some out) c.loop-used.invariant.reading c.loop-used.invariant.fresh
+    (found_as c.find_front-front.result.1 (founds.Whole c.in-Whole.whole) c.loop-used.self c.find_front-front.new.self (drop c.loop-used.used c.args.piece.now) c.find_front-front.result.0 c.in-Whole.is (rw take_rest at c.find_front-front.ensures)))
+
+pub returns-in-Nothing-clause-none : goal.returns-in-Nothing-clause-none
+returns-in-Nothing-clause-none c = λ _.
+    fed_same c.args.self.now c.loop-used.self c.find_front-front.new.self c.args.piece.now c.loop-used.used c.loop-used.invariant
+    (found_as c.find_front-front.result.1 founds.Nothing c.loop-used.self c.find_front-front.new.self (drop c.loop-used.used c.args.piece.now) c.find_front-front.result.0 c.in-Nothing.is (rw take_rest at c.find_front-front.ensures))

@@ -1,0 +1,95 @@
+-- Orders of records without carried ones are those that they were before these were taken.
+use Rattle.std.proofs.Common.{◌≡◌, Bool, true, false, not, cond, List, [], ◌∷◌, ◌++◌, refl, sym, ap, ap₂, subst, ◌∙◌, inl, inr, true≢false, append_assoc, append-nil}
+use Rattle.std.specs.Prelude.{◌↔◌}
+use Rattle.std.specs.List.{list_all}
+use Rattle.std.proofs.lemmas.Bool.{and_parts}
+use Rattle.std.proofs.lemmas.List.Folds.{list_all-append}
+use Rattle.cwr_fields.specs.declared.codes.TransactionType.{TransactionType}
+use Rattle.cwr_fields.specs.declared.codes.TransactionType.TheVariants.{Agreement, NewWork, RevisedWork, Acknowledgement}
+use Rattle.cwr_layouts.specs.declared.kinds.Kind.TheVariants as kinds
+use Rattle.cwr_shape.specs.declared.symbols.Symbol.{Symbol}
+use Rattle.cwr_shape.specs.declared.symbols.Symbol.TheVariants.{Plain}
+use Rattle.cwr_shape.specs.Shapes.{Pattern, one_of, ◌then◌, many, carrying, Matches, is_carried_symbol, without_carried, IsShape, a, some, block, publisher, writer, tail_record, copy}
+use Rattle.cwr_shape.specs.UncarriedOrder.{IsUncarriedShape, AreFormer, is_former, uncarried_pattern}
+use Rattle.cwr_shape.proofs.Matcher.{without-cons, empty_only}
+use Rattle.cwr_shape.proofs.HeadFirst.{rest_after_head}
+use Rattle.cwr_shape.proofs.PrefixFree.{only, matched_pass}
+
+abbrev is_ordered : Symbol → Bool
+is_ordered s = not (is_carried_symbol s)
+
+not_carried : (b : Bool) → not b ≡ true → b ≡ false
+not_carried true h = absurd (true≢false (sym h))
+not_carried false h = refl
+
+-- no symbol is that of a carried record
+abbrev HasNoCarried : List Symbol → Type 0
+HasNoCarried xs = list_all is_ordered xs ≡ true
+
+-- where none is carried none is taken out
+none_out : (xs : List Symbol) → HasNoCarried xs → without_carried xs ≡ xs
+none_out [] h = refl
+none_out (s ∷ xs) h =
+    let parts = and_parts (is_ordered s) (list_all is_ordered xs) h in
+    without-cons s xs false (not_carried (is_carried_symbol s) parts.0) ∙ ap (λ (ys : List Symbol). s ∷ ys) (none_out xs parts.1)
+
+-- a header and a pattern, with carried records among it or without
+with_carried : (head p : Pattern) (xs : List Symbol) → only is_ordered p ≡ true → Matches (head then p) xs → Matches (head then carrying p) xs
+with_carried head p xs h m = (m.0, m.1, m.2, m.3, subst (Matches p) (sym (none_out m.1 (matched_pass is_ordered p h m.1 m.4))) m.4)
+
+without : (head p : Pattern) (xs : List Symbol) → HasNoCarried xs → Matches (head then carrying p) xs → Matches (head then p) xs
+without head p xs h m =
+    let all : list_all is_ordered (m.0 ++ m.1) ≡ true = ap (list_all is_ordered) (sym m.2) ∙ h in
+    let rest : HasNoCarried m.1 = (and_parts (list_all is_ordered m.0) (list_all is_ordered m.1) (sym (list_all-append is_ordered m.0 m.1) ∙ all)).1 in
+    (m.0, m.1, m.2, m.3, subst (Matches p) (none_out m.1 rest) m.4)
+
+-- an acknowledgement without a copy
+no_copy : (xs : List Symbol) → Matches (a kinds.Ack then many (a kinds.Msg)) xs → Matches (a kinds.Ack then many (a kinds.Msg) then copy) xs
+no_copy xs m = (m.0, m.1, m.2, m.3, (m.1, [], sym (append-nil m.1), m.4, inl ([], refl, tt)))
+
+-- a header of a copy isn't one of those symbols
+begins_copy : (s : Symbol) (p : Pattern) (front more : List Symbol) → is_former Acknowledgement s ≡ false → Matches (one_of (s ∷ []) then p) more → AreFormer Acknowledgement (front ++ more) → ⊥
+begins_copy s p front more e m h =
+    let b = rest_after_head s p more m in
+    let all : list_all (is_former Acknowledgement) (front ++ s ∷ b.0) ≡ true = ap (λ (ys : List Symbol). list_all (is_former Acknowledgement) (front ++ ys)) (sym b.1) ∙ h in
+    let rest = (and_parts (list_all (is_former Acknowledgement) front) (list_all (is_former Acknowledgement) (s ∷ b.0)) (sym (list_all-append (is_former Acknowledgement) front (s ∷ b.0)) ∙ all)).1 in
+    true≢false (sym (and_parts (is_former Acknowledgement s) (list_all (is_former Acknowledgement) b.0) rest).0 ∙ e)
+
+copy_none : (front more : List Symbol) → Matches copy more → AreFormer Acknowledgement (front ++ more) → more ≡ []
+copy_none front more (inl m) h = empty_only more m
+copy_none front more (inr (inl m)) h = absurd (begins_copy (Plain kinds.Agr) (carrying (some block)) front more refl m h)
+copy_none front more (inr (inr (inl m))) h = absurd (begins_copy (Plain kinds.Nwr) (carrying (many publisher then some writer then many tail_record)) front more refl m h)
+copy_none front more (inr (inr (inr m))) h = absurd (begins_copy (Plain kinds.Rev) (carrying (many publisher then some writer then many tail_record)) front more refl m h)
+
+without_copy : (xs : List Symbol) → AreFormer Acknowledgement xs → Matches (a kinds.Ack then many (a kinds.Msg) then copy) xs → Matches (a kinds.Ack then many (a kinds.Msg)) xs
+without_copy xs h m =
+    let rest = m.4 in
+    let split : xs ≡ (m.0 ++ rest.0) ++ rest.1 = m.2 ∙ ap (λ (ys : List Symbol). m.0 ++ ys) rest.2 ∙ sym (append_assoc m.0 rest.0 rest.1) in
+    let none : rest.1 ≡ [] = copy_none (m.0 ++ rest.0) rest.1 rest.4 (ap (list_all (is_former Acknowledgement)) (sym split) ∙ h) in
+    (m.0, m.1, m.2, m.3, subst (Matches (many (a kinds.Msg))) (sym (rest.2 ∙ ap (λ (ys : List Symbol). rest.0 ++ ys) none ∙ append-nil rest.0)) rest.3)
+
+forth : (ty : TransactionType) (xs : List Symbol) → IsUncarriedShape ty xs → IsShape ty xs
+unfolding only
+forth Agreement xs m = with_carried (a kinds.Agr) (some block) xs refl m
+forth NewWork xs m = with_carried (a kinds.Nwr) (many publisher then some writer then many tail_record) xs refl m
+forth RevisedWork xs m = with_carried (a kinds.Rev) (many publisher then some writer then many tail_record) xs refl m
+forth Acknowledgement xs m = no_copy xs m
+
+are_former : (ty : TransactionType) → only (is_former ty) (uncarried_pattern ty) ≡ true
+unfolding only
+are_former Agreement = refl
+are_former NewWork = refl
+are_former RevisedWork = refl
+are_former Acknowledgement = refl
+
+back : (ty : TransactionType) (xs : List Symbol) → AreFormer ty xs → IsShape ty xs → IsUncarriedShape ty xs
+back Agreement xs h m = without (a kinds.Agr) (some block) xs h m
+back NewWork xs h m = without (a kinds.Nwr) (many publisher then some writer then many tail_record) xs h m
+back RevisedWork xs h m = without (a kinds.Rev) (many publisher then some writer then many tail_record) xs h m
+back Acknowledgement xs h m = without_copy xs h m
+
+pub uncarried_exact : (ty : TransactionType) (xs : List Symbol) → IsUncarriedShape ty xs ↔ (IsShape ty xs × AreFormer ty xs)
+uncarried_exact ty xs = (
+  λ m. (forth ty xs m, matched_pass (is_former ty) (uncarried_pattern ty) (are_former ty) xs m),
+  λ m. back ty xs m.1 m.0,
+)
