@@ -14,7 +14,7 @@ use Rattle.cwr_shape.specs.declared.reasons.Level.TheVariants.{T, R, F}
 use Rattle.cwr_levels.specs.declared.rules.Rule.{Rule}
 use Rattle.cwr_levels.specs.declared.rules.Rule.TheVariants.{V1, V2, V3, V4, V5, V6, V7, V8, V9, V10, V11}
 use Rattle.cwr_levels.specs.declared.rules.Finding.{Finding}
-use Rattle.cwr_levels.specs.Findings.{findings}
+use Rattle.cwr_levels.specs.Findings.{findings, findings_after}
 use Rattle.cwr_levels.specs.Lines.{input_mark, joined_line, limit_line, refusal_line, split_line, truncated_line}
 use Rattle.cwr_tools.specs.Texts.{check_text, check_lines, good_verdict}
 use Rattle.cwr_fields.specs.declared.cell_types.CellFault.TheVariants as cell_faults
@@ -39,70 +39,70 @@ abbrev spu_with : List (ℕ × String) → List (ℕ × String)
 spu_with last = (4, "01") ∷ (5, "P1") ∷ (6, "MUSIC HOUSE") ∷ (8, "E") ∷ (13, "02500") ∷ last
 
 wrong_writer : alone (Samples.w1 ∷ Samples.p1 ∷ Samples.pt1 ∷ Samples.o1 ∷ Samples.s2 ∷ Samples.with_cells kinds.Swt ((4, "W9") ∷ (5, "05000") ∷ (8, "I") ∷ (9, "2136") ∷ (11, "001") ∷ []) ∷ drop 6 Samples.long_work) ≡ finding 5 4 V2 R ∷ []
-unfolding findings
+unfolding findings findings_after
 wrong_writer = refl
 
 mechanical : alone (with_shares (spu_with ((15, "04993") ∷ (17, "05000") ∷ []))) ≡ finding 0 1 V4 T ∷ []
-unfolding findings
+unfolding findings findings_after
 mechanical = refl
 
 synchronisation : alone (with_shares (spu_with ((15, "05000") ∷ (17, "05007") ∷ []))) ≡ finding 0 1 V5 T ∷ []
-unfolding findings
+unfolding findings findings_after
 synchronisation = refl
 
 synchronisation_near : alone (with_shares (spu_with ((15, "05000") ∷ (17, "05006") ∷ []))) ≡ []
-unfolding findings
+unfolding findings findings_after
 synchronisation_near = refl
 
 no_author : alone (Samples.w1 ∷ Samples.with_cells kinds.Swr ((4, "W1") ∷ (5, "SMITH") ∷ (6, "ANNA") ∷ (8, "AR") ∷ []) ∷ []) ≡ finding 0 1 V6 T ∷ []
-unfolding findings
+unfolding findings findings_after
 no_author = refl
 
 wrong_publisher : alone (take 6 Samples.long_work ++ Samples.with_cells kinds.Pwr ((4, "P9") ∷ (5, "MUSIC HOUSE") ∷ (8, "W1") ∷ []) ∷ drop 7 Samples.long_work) ≡ finding 6 4 V7 R ∷ []
-unfolding findings
+unfolding findings findings_after
 wrong_publisher = refl
 
 excerpt : alone (Samples.w1 ∷ Samples.s1 ∷ Samples.ew1 ∷ []) ≡ finding 2 1 V8 R ∷ []
-unfolding findings
+unfolding findings findings_after
 excerpt = refl
 
 components : alone (Samples.with_cells kinds.Nwr (Samples.w1_sets ++ (23, "001") ∷ []) ∷ Samples.s1 ∷ []) ≡ finding 0 23 V9 T ∷ []
-unfolding findings
+unfolding findings findings_after
 components = refl
 
 no_components : alone (Samples.with_cells kinds.Nwr (Samples.w1_sets ++ (23, "000") ∷ []) ∷ Samples.s1 ∷ []) ≡ []
-unfolding findings
+unfolding findings findings_after
 no_components = refl
 
 abbrev ipa_share : String → String → RecordValue
 ipa_share role amount = Samples.with_cells kinds.Ipa ((4, role) ∷ (8, "SMITH") ∷ (11, amount) ∷ [])
 
 block_over : alone (Samples.ag1 ∷ Samples.te1 ∷ ipa_share "AS" "06000" ∷ ipa_share "AS" "04007" ∷ Samples.ipa_ac ∷ []) ≡ finding 1 1 V11 T ∷ []
-unfolding findings
+unfolding findings findings_after
 block_over = refl
 
 iswc_and_author : alone (Samples.with_cells kinds.Nwr (Samples.w1_sets ++ (7, "T0345246802") ∷ []) ∷ Samples.with_cells kinds.Swr ((4, "W1") ∷ (5, "SMITH") ∷ (6, "ANNA") ∷ (8, "AR") ∷ []) ∷ []) ≡ finding 0 7 V1 F ∷ finding 0 1 V6 T ∷ []
-unfolding findings
+unfolding findings findings_after
 iswc_and_author = refl
 
 iswc_right : alone (Samples.with_cells kinds.Nwr (Samples.w1_sets ++ (7, "T0345246801") ∷ []) ∷ Samples.s1 ∷ []) ≡ []
-unfolding findings
+unfolding findings findings_after
 iswc_right = refl
 
 performing : alone (Samples.w1 ∷ Samples.with_cells kinds.Swr (Samples.s1_sets ++ (12, "09993") ∷ []) ∷ []) ≡ finding 0 1 V3 T ∷ []
-unfolding findings
+unfolding findings findings_after
 performing = refl
 
 performing_near : alone (Samples.w1 ∷ Samples.with_cells kinds.Swr (Samples.s1_sets ++ (12, "09994") ∷ []) ∷ []) ≡ []
-unfolding findings
+unfolding findings findings_after
 performing_near = refl
 
 end_first : alone (Samples.with_cells kinds.Agr (Samples.ag1_sets ++ (7, "20240101") ∷ (8, "20231231") ∷ []) ∷ []) ≡ finding 0 8 V10 F ∷ []
-unfolding findings
+unfolding findings findings_after
 end_first = refl
 
 bare_acknowledgement : alone (Samples.a1 ∷ Samples.ms1 ∷ []) ≡ []
-unfolding findings
+unfolding findings findings_after
 bare_acknowledgement = refl
 
 -- the finding's line, in the first transaction of the first group
@@ -110,7 +110,7 @@ abbrev two_groups_with_finding : TransmissionValue
 two_groups_with_finding = Samples.transmission (Samples.group_with "NWR" ((Samples.with_cells kinds.Nwr (Samples.w1_sets ++ (7, "T0345246802") ∷ []) ∷ Samples.s1 ∷ []) ∷ []) ∷ Samples.group_with "REV" ((Samples.v1 ∷ Samples.s1 ∷ []) ∷ (Samples.v2 ∷ Samples.s1 ∷ []) ∷ []) ∷ [])
 
 two_groups_with_finding_check : check_text (items (rows two_groups_with_finding)) (good_verdict two_groups_with_finding) ≡ codes "FINDING group 1 transaction 0 record 0 field 7 level F rule V1\nGOOD groups 2 transactions 3 records 12\n"
-unfolding digits plain_digits rows items_after check_lines findings
+unfolding digits plain_digits rows items_after check_lines findings findings_after
 two_groups_with_finding_check = refl
 
 -- ---- lines

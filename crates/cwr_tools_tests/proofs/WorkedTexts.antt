@@ -17,7 +17,7 @@ use Rattle.cwr_values.specs.Rows.{rows, records_of, canonical_text, lengths_of_v
 use Rattle.cwr_values.specs.Fits.{value_fault}
 use Rattle.cwr_values.specs.declared.items.Item.TheVariants.{Opened, GroupOpened, Transaction, GroupClosed, Ended}
 use Rattle.cwr_judge.specs.Items.{items, items_after}
-use Rattle.cwr_levels.specs.Findings.{findings}
+use Rattle.cwr_levels.specs.Findings.{findings, findings_after}
 use Rattle.cwr_tools.specs.Texts.{check_text, check_lines, show_text, cell_lines, show_lines, good_verdict}
 use Rattle.cwr_tools.specs.Splits.{split_of, join_of}
 use Rattle.cwr_tools_tests.proofs.Samples
@@ -89,7 +89,7 @@ unfolding digits rows items_after
 one_acknowledgement_three = refl
 
 one_acknowledgement_check : check_text (items (rows Samples.one_acknowledgement)) (good_verdict Samples.one_acknowledgement) ≡ codes "GOOD groups 1 transactions 1 records 5\n"
-unfolding digits plain_digits rows items_after check_lines findings
+unfolding digits plain_digits rows items_after check_lines findings findings_after
 one_acknowledgement_check = refl
 
 one_acknowledgement_show : show_text (items (rows Samples.one_acknowledgement)) (good_verdict Samples.one_acknowledgement) ≡
@@ -111,15 +111,15 @@ unfolding digits trimmed rows
 one_work_ends = refl
 
 one_work_findings : findings Samples.long_work ≡ []
-unfolding findings
+unfolding findings findings_after
 one_work_findings = refl
 
 one_work_check : check_text (items (rows Samples.one_work)) (good_verdict Samples.one_work) ≡ codes "GOOD groups 1 transactions 1 records 15\n"
-unfolding digits plain_digits rows items_after check_lines findings
+unfolding digits plain_digits rows items_after check_lines findings findings_after
 one_work_check = refl
 
 one_agreement_check : check_text (items (rows Samples.one_agreement)) (good_verdict Samples.one_agreement) ≡ codes "GOOD groups 1 transactions 1 records 11\n"
-unfolding digits plain_digits rows items_after check_lines findings
+unfolding digits plain_digits rows items_after check_lines findings findings_after
 one_agreement_check = refl
 
 -- ---- two groups
@@ -137,7 +137,7 @@ two_groups_outline : lengths_of (outline_of Samples.two_groups) ≡ lengths_of_v
 two_groups_outline = refl
 
 two_groups_check : check_text (items (rows Samples.two_groups)) (good_verdict Samples.two_groups) ≡ codes "GOOD groups 2 transactions 3 records 12\n"
-unfolding digits plain_digits rows items_after check_lines findings
+unfolding digits plain_digits rows items_after check_lines findings findings_after
 two_groups_check = refl
 
 limits : ℕ → ℕ → ℕ → Limits

@@ -30,7 +30,8 @@ abbrev pub largest : Limits
 largest = record { records = 99999999; groups = 99999; transaction = 999999 }
 
 bare_acknowledgement : IsShape Acknowledgement (Plain kinds.Ack ∷ [])
-bare_acknowledgement = (Plain kinds.Ack ∷ [], [], refl, (Plain kinds.Ack, (0, (lit< tt, refl)), refl), ([], refl, tt))
+unfolding nullable after after_all
+bare_acknowledgement = accepts_sound _ (pattern_of Acknowledgement) refl
 
 pub one_acknowledgement_whole : IsTransmission Samples.one_acknowledgement
 unfolding digits holds_test number_test day_test time_test share_test
