@@ -9,7 +9,7 @@ use Rattle.cwr_values.proofs.RowAt.{length-rows_so_far}
 use Rattle.cwr_values.proofs.OneSpelling.{lines_without_lf}
 use Rattle.cwr_judge.specs.Ends.{IsTruncated}
 use Rattle.cwr_decode.specs.Machines.{Standing}
-use Rattle.cwr_decode.specs.Represents.{IsCut, IsInput, text_of}
+use Rattle.cwr_decode.specs.Represents.{EndsTooEarly, IsInput, text_of}
 use Rattle.cwr_judge.proofs.AcceptedViable.{accepted_viable}
 use Rattle.cwr_decode.proofs.NoneAcceptedAfter.{none_after_cut}
 use Rattle.cwr_decode.proofs.RawLines.{raw_begins}
@@ -20,7 +20,7 @@ no_raw_lines =
     let none : length (slice_split is_lf []) - 1 ≡ 0 = omega (arith, length-slice_split is_lf []) in
     ap (λ (n : ℕ). take n (slice_split is_lf [])) none
 
-pub cut_truncated : (d : Standing) (input : List ℕ) (given : List Item) (count : ℕ) → IsCut d input given count → IsTruncated d.tally.limits input count
+pub cut_truncated : (d : Standing) (input : List ℕ) (given : List Item) (count : ℕ) → EndsTooEarly d input given count → IsTruncated d.tally.limits input count
 cut_truncated d input given count c =
     let t = c.through in
     let text : closed input ≡ text_of t.lines = subst (λ (b : Bool). IsInput b input (text_of t.lines)) c.input_ended t.split in

@@ -89,7 +89,7 @@ pub record IsEnded (d : Standing) (input : List ℕ) (given : List Item) : Type 
   pub whole : IsWhole (map symbol_of through.records)
 
 -- the input has ended, and the records of all its lines aren't a whole transmission
-pub record IsCut (d : Standing) (input : List ℕ) (given : List Item) (count : ℕ) : Type 0 where
+pub record EndsTooEarly (d : Standing) (input : List ℕ) (given : List Item) (count : ℕ) : Type 0 where
   pub through : IsThrough d input given
   pub input_ended : d.finished ≡ true
   pub left : ¬ IsWhole (map symbol_of through.records)
@@ -121,7 +121,7 @@ RepresentsIn Reading d input given = IsReading d input given
 RepresentsIn Pending d input given = IsPending d input given
 RepresentsIn Ended d input given = IsEnded d input given
 RepresentsIn (Refused refusal) d input given = IsStopped d input given refusal
-RepresentsIn (Truncated count) d input given = IsCut d input given count
+RepresentsIn (Truncated count) d input given = EndsTooEarly d input given count
 RepresentsIn Memory d input given = IsOutOfMemory d input given
 
 -- the decoder represents the input so far and the items that were handed out

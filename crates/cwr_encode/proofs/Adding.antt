@@ -24,7 +24,7 @@ use Rattle.cwr_encode.specs.declared.encoders.Reached.TheVariants as reached_to
 use Rattle.cwr_encode.specs.declared.encoders.EncodeFault.{EncodeFault}
 use Rattle.cwr_encode.specs.declared.encoders.EncodeFault.TheVariants.{Writer}
 use Rattle.cwr_encode.specs.Sinks.{HasWritten, Puts}
-use Rattle.cwr_encode.specs.Encoders.{part_of, reached, reached_by, Encodes, JudgesCall, RepresentsMore, Adds, bytes_written}
+use Rattle.cwr_encode.specs.Encoders.{part_of, reached, reached_by, Encodes, JudgesCall, RepresentsMore, AddsRecords, bytes_written}
 
 -- ---- the part grows by the rows of what comes
 
@@ -63,14 +63,14 @@ encodes_more contents start records r s text old new symbol in_order line outsid
 }
 
 pub adds_by : {W : Type 0} (contents : W → Option (List ℕ)) (failures : W → ℕ) (added : List RecordValue) (text : List ℕ) (old new : Encoder W) (result : Result (Unit {0}) EncodeFault) → RepresentsMore contents added old new
-    → Puts contents failures text result old.sink new.sink → IfErr result (λ e. e ≡ Writer (bytes_written new)) → Adds contents failures added result old new
+    → Puts contents failures text result old.sink new.sink → IfErr result (λ e. e ≡ Writer (bytes_written new)) → AddsRecords contents failures added result old new
 adds_by contents failures added text old new (Ok x) goes p f = (goes, p.failed, p.counts)
-adds_by contents failures added text old new (Err e) goes p f = subst (λ (x : EncodeFault). Adds contents failures added (Err x) old new) (sym f) (goes, p.failed, refl, p.counts)
+adds_by contents failures added text old new (Err e) goes p f = subst (λ (x : EncodeFault). AddsRecords contents failures added (Err x) old new) (sym f) (goes, p.failed, refl, p.counts)
 
 pub adds_one : {W : Type 0} (contents : W → Option (List ℕ)) (failures : W → ℕ) (r q : RecordValue) (s : Symbol) (ns : List ℕ) (old new : Encoder W) (result : Result (Unit {0}) EncodeFault) → q ≡ r → symbol_of r ≡ s → IsRecord r
     → (reached_by (Some s) ≡ reached_to.Inside → ⊥) → ((xs : List Symbol) → tallies.IsTallyOf old.tally xs → ns ≡ numbers_after xs r.kind)
     → ((xs : List Symbol) → tallies.IsTallyOf old.tally xs → tallies.IsTallyOf new.tally (xs ++ s ∷ []))
-    → Puts contents failures (canonical_line (row_of ns q)) result old.sink new.sink → IfErr result (λ e. e ≡ Writer (bytes_written new)) → Adds contents failures (r ∷ []) result old new
+    → Puts contents failures (canonical_line (row_of ns q)) result old.sink new.sink → IfErr result (λ e. e ≡ Writer (bytes_written new)) → AddsRecords contents failures (r ∷ []) result old new
 adds_one contents failures r q s ns old new result same symbol in_order outside numbers counts p f =
     adds_by contents failures (r ∷ []) (canonical_line (row_of ns q)) old new result
     (λ start records e. encodes_more contents start records r s (canonical_line (row_of ns q)) old new symbol in_order

@@ -32,8 +32,8 @@ use Rattle.cwr_encode.specs.declared.encoders.EncodeFault.TheVariants.{OutOfOrde
 use Rattle.cwr_fields.specs.Failures.{one_more_failure}
 use Rattle.cwr_encode.specs.declared.sinks.Sink.{Sink}
 use Rattle.cwr_encode.specs.Sinks.{HasWritten, has_failed, writer_of, written_of}
-use Rattle.cwr_encode.specs.Encoders.{part_of, reached, Encodes, Adds, end_fault, is_stopped, target_of, bytes_written}
-use Rattle.cwr_encode.specs.Finishing.{MayEnd, JudgesEnd, Completes, HasAll, HasFront, FinishesWriting}
+use Rattle.cwr_encode.specs.Encoders.{part_of, reached, Encodes, AddsRecords, end_fault, is_stopped, target_of, bytes_written}
+use Rattle.cwr_encode.specs.Finishing.{IsBeforeTrailer, JudgesEnd, Completes, HasAll, HasFront, FinishesWriting}
 use Rattle.cwr_encode.proofs.Adding.{symbols_more, judged_taken}
 use Rattle.cwr_encode.proofs.Comes.{trailer_comes}
 
@@ -50,12 +50,12 @@ pub end_judged : (t : TallyValue) (xs : List Symbol) (at : Reached) → IsTallyO
 end_judged t xs at st e barred = by at e
   where
     by : (r : Reached) → r ≡ reached xs → JudgesEnd {A = Unit {0}} t.limits xs (Err (end_fault r))
-    by reached_to.Opening h = (subst MayEnd h tt, tt, λ k. absurd (cc (h ∙ k)))
+    by reached_to.Opening h = (subst IsBeforeTrailer h tt, tt, λ k. absurd (cc (h ∙ k)))
     by reached_to.GroupFoot h = absurd (barred (trailer_comes t xs st (sym h)).0)
-    by reached_to.Nothing h = λ k. subst MayEnd (sym h) k
-    by reached_to.GroupHead h = λ k. subst MayEnd (sym h) k
-    by reached_to.Inside h = λ k. subst MayEnd (sym h) k
-    by reached_to.End h = λ k. subst MayEnd (sym h) k
+    by reached_to.Nothing h = λ k. subst IsBeforeTrailer (sym h) k
+    by reached_to.GroupHead h = λ k. subst IsBeforeTrailer (sym h) k
+    by reached_to.Inside h = λ k. subst IsBeforeTrailer (sym h) k
+    by reached_to.End h = λ k. subst IsBeforeTrailer (sym h) k
 
 -- ---- the whole transmission
 
@@ -136,7 +136,7 @@ kept_same (Some x) = refl
 
 -- TRL was written, and the writer handed on what it has, or failed to
 pub finishes_flushed : {W : Type 0} (contents : W → Option (List ℕ)) (failures : W → ℕ) (old new : Encoder W) (writer : W) (result : Result ℕ EncodeFault) → new.tally.limits ≡ old.tally.limits
-    → Adds contents failures (trailer ∷ []) (Ok tt) old new → Keeps (contents (target_of new)) (contents writer) → IfOk result (λ n. (n ≡ bytes_written new) × (failures writer ≡ failures (target_of new)))
+    → AddsRecords contents failures (trailer ∷ []) (Ok tt) old new → Keeps (contents (target_of new)) (contents writer) → IfOk result (λ n. (n ≡ bytes_written new) × (failures writer ≡ failures (target_of new)))
     → IfErr result (λ f. (f ≡ Writer (bytes_written new)) × (failures writer ≡ one_more_failure (failures (target_of new)))) → FinishesWriting contents failures old writer result
 finishes_flushed contents failures old new writer (Ok n) same a kept ok err =
     (ok.1 ∙ a.2, λ start records e. finished contents start records old.tally.limits new writer n same a.1 kept ok.0 (a.0 start records e))
@@ -146,7 +146,7 @@ finishes_flushed contents failures old new writer (Err f) same a kept ok err =
 
 -- TRL wasn't written whole
 pub finishes_refused : {W : Type 0} (contents : W → Option (List ℕ)) (failures : W → ℕ) (old new : Encoder W) (f : EncodeFault) → new.tally.limits ≡ old.tally.limits
-    → Adds contents failures (trailer ∷ []) (Err f) old new → FinishesWriting contents failures old (target_of new) (Err f)
+    → AddsRecords contents failures (trailer ∷ []) (Err f) old new → FinishesWriting contents failures old (target_of new) (Err f)
 finishes_refused contents failures old new (Writer n) same a =
     (a.3, λ start records e. cut_short contents start records old.tally.limits new (target_of new) n same (kept_same (contents (target_of new))) a.2 (a.0 start records e))
 finishes_refused contents failures old new OutOfOrder same a = ap (λ (x : Encoder _). target_of x) a

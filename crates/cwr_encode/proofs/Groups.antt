@@ -16,7 +16,7 @@ use Rattle.cwr_shape.specs.Counting.{expected_numbers}
 use Rattle.cwr_shape.proofs.NumbersAreCounted.{numbers_counted}
 use Rattle.cwr_values.specs.Values.{symbol_of, symbol_by, type_of}
 use Rattle.cwr_values.specs.Begins.{numbers_after}
-use Rattle.cwr_encode.specs.Encoders.{reached, IsBetween, MayBeginGroup, JudgesGroup, IsInGroup, JudgesFoot, fault_of}
+use Rattle.cwr_encode.specs.Encoders.{reached, IsBetween, MayBeginGroup, JudgesGroup, IsInGroup, JudgesFoot, fault_of_bar}
 use Rattle.cwr_encode.specs.declared.encoders.Reached.{Reached}
 use Rattle.cwr_encode.specs.declared.encoders.EncodeFault.TheVariants.{Incomplete}
 use Rattle.cwr_encode.proofs.Comes.{head_goes, foot_comes}
@@ -32,7 +32,7 @@ pub head_symbol : (r : RecordValue) → r.kind ≡ kinds.Grh → symbol_of r ≡
 head_symbol r e = ap (λ (k : Kind). symbol_by k r) e
 
 pub head_barred : (t : TallyValue) (xs : List Symbol) (r : RecordValue) (s : Symbol) (bar : Bar) → IsTallyOf t xs → MayBeginGroup (reached xs) → r.kind ≡ kinds.Grh → s ≡ symbol_of r → IsBarred t.limits xs s bar
-    → JudgesGroup t.limits r xs (Err (fault_of bar))
+    → JudgesGroup t.limits r xs (Err (fault_of_bar bar))
 head_barred t xs r s Misplaced st m k e b = absurd (b (subst (λ (u : Symbol). Continues Any (xs ++ u ∷ [])) (sym (e ∙ head_symbol r k)) (head_goes t xs (type_of r) st m)))
 head_barred t xs r s (Limit limit) st m k e b = (m, k, tt, subst (λ (u : Symbol). IsBarred t.limits xs u (Limit limit)) e b)
 

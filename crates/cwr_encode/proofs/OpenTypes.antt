@@ -15,14 +15,14 @@ use Rattle.cwr_shape.specs.Left.{Any, StandsAt}
 use Rattle.cwr_shape.specs.Tallies.{TallyValue, IsTallyOf}
 use Rattle.cwr_shape.proofs.TallySteps.{stands_type}
 use Rattle.cwr_encode.specs.declared.encoders.Reached.TheVariants as reached_to
-use Rattle.cwr_encode.specs.Encoders.{reached, reached_at, IsInGroup, IsBetween, IsReady}
+use Rattle.cwr_encode.specs.Encoders.{reached, reached_at, IsInGroup, IsBetween, TakesTransactions}
 use Rattle.cwr_encode.proofs.Comes.{reached_stands, foot_inside}
 
 reached_is : (t : TallyValue) (stage : Stage) (xs : List Symbol) → IsTallyOf t xs → stage ≡ t.stage → reached xs ≡ reached_at stage
 reached_is t stage xs st e = sym (reached_stands xs t.stage st.stands) ∙ ap reached_at (sym e)
 
 -- right after GRH
-pub ready_head : (t : TallyValue) (stage : Stage) (ty : TransactionType) (xs : List Symbol) → IsTallyOf t xs → stage ≡ t.stage → stage ≡ stages.Within ty steps.InGroup → IsReady ty xs
+pub ready_head : (t : TallyValue) (stage : Stage) (ty : TransactionType) (xs : List Symbol) → IsTallyOf t xs → stage ≡ t.stage → stage ≡ stages.Within ty steps.InGroup → TakesTransactions ty xs
 ready_head t stage ty xs st e w =
     let r : reached xs ≡ reached_to.GroupHead = reached_is t stage xs st e ∙ ap reached_at w in
     record {
@@ -33,7 +33,7 @@ ready_head t stage ty xs st e w =
 
 -- after a transaction that is whole
 pub ready_later : (t : TallyValue) (stage : Stage) (ty : TransactionType) (step : TransactionStep) (xs : List Symbol) (b : Bool) → IsTallyOf t xs → stage ≡ t.stage → stage ≡ stages.Within ty step
-    → (b ≡ true) ↔ Continues Any (xs ++ Plain kinds.Grt ∷ []) → b ≡ true → IsReady ty xs
+    → (b ≡ true) ↔ Continues Any (xs ++ Plain kinds.Grt ∷ []) → b ≡ true → TakesTransactions ty xs
 ready_later t stage ty step xs b st e w test h = record {
   same_type = sym (stands_type xs ty step (subst (StandsAt xs) (sym e ∙ w) st.stands));
   inside = subst IsInGroup (sym (foot_inside t xs st (test.0 h))) tt;

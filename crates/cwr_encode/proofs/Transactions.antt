@@ -28,7 +28,7 @@ use Rattle.cwr_encode.specs.declared.encoders.EncodeFault.{EncodeFault}
 use Rattle.cwr_encode.specs.declared.encoders.EncodeFault.TheVariants.{Limit, WrongKind}
 use Rattle.cwr_encode.specs.Sinks.{HasWritten, Puts}
 use Rattle.cwr_encode.specs.Texts.{text_from}
-use Rattle.cwr_encode.specs.Encoders.{part_of, IsReady, IsNextNumber, passed_with, JudgesTransaction, RepresentsMore}
+use Rattle.cwr_encode.specs.Encoders.{part_of, TakesTransactions, IsNextNumber, passed_with, JudgesTransaction, RepresentsMore}
 use Rattle.cwr_encode.proofs.Adding.{part-append, all_more}
 use Rattle.cwr_encode.proofs.Reaching.{Reaches, reaches, goes_front}
 use Rattle.cwr_encode.proofs.TransactionTexts.{transaction_text}
@@ -64,19 +64,19 @@ pub record Whole (ty : TransactionType) (t : List RecordValue) : Type 0 where
 pub whole_of : (ty : TransactionType) (t : List RecordValue) (b d : Bool) → IsBegun t → (b ≡ true) ↔ HasHeaderOf ty t → b ≡ true → (d ≡ true) ↔ IsWholeTransaction t → d ≡ true → Whole ty t
 whole_of ty t b d begun h b_is w d_is = record { begun = begun; header = h.0 b_is; whole = w.0 d_is; shape = (of_type ty t begun (h.0 b_is) (w.0 d_is)).1 }
 
-pub reach : (tally : TallyValue) (xs : List Symbol) (ty : TransactionType) (t : List RecordValue) → IsTallyOf tally xs → IsReady ty xs → Whole ty t → Reaches tally xs (map symbol_of t)
+pub reach : (tally : TallyValue) (xs : List Symbol) (ty : TransactionType) (t : List RecordValue) → IsTallyOf tally xs → TakesTransactions ty xs → Whole ty t → Reaches tally xs (map symbol_of t)
 reach tally xs ty t st ready w = reaches tally xs (map symbol_of t) ty st ready.same_type ready.inside ready.between w.shape
 
-pub header_there : (xs : List Symbol) (ty : TransactionType) (t : List RecordValue) → IsReady ty xs → HasHeaderOf ty t → HasHeaderOf (open_type xs) t
+pub header_there : (xs : List Symbol) (ty : TransactionType) (t : List RecordValue) → TakesTransactions ty xs → HasHeaderOf ty t → HasHeaderOf (open_type xs) t
 header_there xs ty t ready h = subst (λ (u : TransactionType). HasHeaderOf u t) (sym ready.same_type) h
 
-pub wrong_type : (tally : TallyValue) (xs : List Symbol) (ty : TransactionType) (t : List RecordValue) (b : Bool) → IsReady ty xs → (b ≡ true) ↔ HasHeaderOf ty t → b ≡ false → JudgesTransaction tally.limits t xs (Err WrongKind)
+pub wrong_type : (tally : TallyValue) (xs : List Symbol) (ty : TransactionType) (t : List RecordValue) (b : Bool) → TakesTransactions ty xs → (b ≡ true) ↔ HasHeaderOf ty t → b ≡ false → JudgesTransaction tally.limits t xs (Err WrongKind)
 wrong_type tally xs ty t b ready h b_is = (ready.inside, λ k. absurd (cc (sym (h.1 (subst (λ (u : TransactionType). HasHeaderOf u t) ready.same_type k)) ∙ b_is)))
 
 long : (t : List RecordValue) → length (map symbol_of t) ≡ length t
 long t = length-map t symbol_of
 
-pub limit_judged : (tally : TallyValue) (xs : List Symbol) (ty : TransactionType) (t : List RecordValue) (o : Option LimitKind) (limit : LimitKind) → IsTallyOf tally xs → IsReady ty xs → Whole ty t
+pub limit_judged : (tally : TallyValue) (xs : List Symbol) (ty : TransactionType) (t : List RecordValue) (o : Option LimitKind) (limit : LimitKind) → IsTallyOf tally xs → TakesTransactions ty xs → Whole ty t
     → o ≡ passed_with tally (length t) → o ≡ Some limit → JudgesTransaction tally.limits t xs (Err (Limit limit))
 limit_judged tally xs ty t o limit st ready w e f = by limit (passed_as tally (length t) o (Some limit) e f)
   where
@@ -89,7 +89,7 @@ limit_judged tally xs ty t o limit st ready w e f = by limit (passed_as tally (l
     by Transaction h = (ready.inside, header_there xs ty t ready w.header, w.whole, (r.records.1 (omega (arith, h.0, long t)), r.groups, λ g. omega (arith, h.1, r.transaction.0 g, long t)))
 
 -- it is within the limits
-pub comes_within : (tally : TallyValue) (xs : List Symbol) (ty : TransactionType) (t : List RecordValue) (o : Option LimitKind) → IsTallyOf tally xs → IsReady ty xs → Whole ty t
+pub comes_within : (tally : TallyValue) (xs : List Symbol) (ty : TransactionType) (t : List RecordValue) (o : Option LimitKind) → IsTallyOf tally xs → TakesTransactions ty xs → Whole ty t
     → o ≡ passed_with tally (length t) → o ≡ None → Continues (IsWithin tally.limits) (xs ++ map symbol_of t)
 comes_within tally xs ty t o st ready w e f =
     let h = passed_as tally (length t) o None e f in
@@ -106,7 +106,7 @@ header_number NewWork c = refl
 header_number RevisedWork c = refl
 header_number Acknowledgement c = refl
 
-pub number_known : (tally : TallyValue) (xs : List Symbol) (ty : TransactionType) (t : List RecordValue) (kind : Kind) (n : ℕ) → IsTallyOf tally xs → IsReady ty xs → Whole ty t
+pub number_known : (tally : TallyValue) (xs : List Symbol) (ty : TransactionType) (t : List RecordValue) (kind : Kind) (n : ℕ) → IsTallyOf tally xs → TakesTransactions ty xs → Whole ty t
     → Some kind ≡ option_map (λ r. r.kind) (slice_get t 0) → IsNextNumber tally kind 2 n → n ≡ (counts_of xs).in_group
 number_known tally xs ty [] kind n st ready w k next = absurd (cc k)
 number_known tally xs ty (r ∷ rs) kind n st ready w k next =
@@ -122,7 +122,7 @@ number_known tally xs ty (r ∷ rs) kind n st ready w k next =
 -- ---- the encoder with it
 
 pub transaction_added : {W : Type 0} (contents : W → Option (List ℕ)) (failures : W → ℕ) (old new : Encoder W) (ty : TransactionType) (t : List RecordValue) (kind : Kind) (n : ℕ) (result : Result (Unit {0}) EncodeFault)
-    → ((xs : List Symbol) → IsTallyOf old.tally xs → IsReady ty xs) → Whole ty t → Some kind ≡ option_map (λ r. r.kind) (slice_get t 0) → IsNextNumber old.tally kind 2 n
+    → ((xs : List Symbol) → IsTallyOf old.tally xs → TakesTransactions ty xs) → Whole ty t → Some kind ≡ option_map (λ r. r.kind) (slice_get t 0) → IsNextNumber old.tally kind 2 n
     → ((xs : List Symbol) → IsTallyOf old.tally xs → IsTallyOf new.tally (xs ++ map symbol_of t)) → Puts contents failures (text_from n 0 t) result old.sink new.sink → RepresentsMore contents t old new
 transaction_added contents failures old new ty t kind n result ready w k next stands p start records e =
     let xs : List Symbol = map symbol_of records in

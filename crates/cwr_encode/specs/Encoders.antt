@@ -78,8 +78,8 @@ abbrev pub target_of : {W : Type 0} → Encoder W → W
 target_of e = writer_of e.sink
 
 -- the limits that it was given
-abbrev pub limits_of : {W : Type 0} → Encoder W → LimitValues
-limits_of e = e.tally.limits
+abbrev pub encoder_limits : {W : Type 0} → Encoder W → LimitValues
+encoder_limits e = e.tally.limits
 
 -- The encoder accepted these records, which begin a transmission within its limits, the last transaction whole. After what
 -- its writer had at the start it has written their part, or, once its writer failed, the first bytes of that.
@@ -107,11 +107,11 @@ RepresentsMore contents added old new = (start : Option (List ℕ)) (records : L
 
 -- What a call does that adds these records, where the writer hasn't failed before: where it is refused nothing is changed
 -- and nothing written. Else the records are accepted, and the writer failed exactly where that is the answer.
-abbrev pub Adds : {W : Type 0} → (W → Option (List ℕ)) → (W → ℕ) → List RecordValue → Result (Unit {0}) EncodeFault → Encoder W → Encoder W → Type 0
-Adds contents failures added (Ok x) old new = RepresentsMore contents added old new × (is_stopped new ≡ false) × (failures (target_of new) ≡ failures (target_of old))
-Adds contents failures added (Err (Writer written)) old new =
+abbrev pub AddsRecords : {W : Type 0} → (W → Option (List ℕ)) → (W → ℕ) → List RecordValue → Result (Unit {0}) EncodeFault → Encoder W → Encoder W → Type 0
+AddsRecords contents failures added (Ok x) old new = RepresentsMore contents added old new × (is_stopped new ≡ false) × (failures (target_of new) ≡ failures (target_of old))
+AddsRecords contents failures added (Err (Writer written)) old new =
     RepresentsMore contents added old new × (is_stopped new ≡ true) × (written ≡ bytes_written new) × (failures (target_of new) ≡ one_more_failure (failures (target_of old)))
-Adds contents failures added (Err fault) old new = new ≡ old
+AddsRecords contents failures added (Err fault) old new = new ≡ old
 
 -- after a fault of the writer each call answers the same, and changes nothing
 abbrev pub AnswersAgain : {W A : Type 0} → Result A EncodeFault → Encoder W → Encoder W → Type 0
@@ -165,12 +165,12 @@ abbrev pub IsNextNumber : TallyValue → Kind → ℕ → ℕ → Type 0
 IsNextNumber t kind j n = (xs : List Symbol) (s : Symbol) → tallies.IsTallyOf t xs → symbol_kind s ≡ kind → Continues Any (xs ++ s ∷ []) → n ≡ unwrap_or (number_in kind j (numbers_after xs kind)) 0
 
 -- the fault that a bar is
-abbrev pub fault_of : Bar → EncodeFault
-fault_of bars.Misplaced = OutOfOrder
-fault_of (bars.Limit limit) = Limit limit
+abbrev pub fault_of_bar : Bar → EncodeFault
+fault_of_bar bars.Misplaced = OutOfOrder
+fault_of_bar (bars.Limit limit) = Limit limit
 
 -- a group of the type is open, in which each transaction is whole
-pub record IsReady (ty : TransactionType) (xs : List Symbol) : Type 0 where
+pub record TakesTransactions (ty : TransactionType) (xs : List Symbol) : Type 0 where
   pub same_type : open_type xs ≡ ty
   pub inside : IsInGroup (reached xs)
   pub between : IsBetween xs

@@ -14,17 +14,17 @@ use Rattle.cwr_encode.specs.declared.encoders.Reached.{Reached}
 use Rattle.cwr_encode.specs.declared.encoders.Reached.TheVariants as reached_to
 use Rattle.cwr_encode.specs.declared.encoders.EncodeFault.{EncodeFault}
 use Rattle.cwr_encode.specs.declared.encoders.EncodeFault.TheVariants.{Writer}
-use Rattle.cwr_encode.specs.Encoders.{Encodes, JudgesCall, limits_of, reached, target_of}
+use Rattle.cwr_encode.specs.Encoders.{Encodes, JudgesCall, encoder_limits, reached, target_of}
 
 -- a transmission ends after a group, and no call but the last comes after HDR alone
-abbrev pub MayEnd : Reached → Type 0
-MayEnd reached_to.Opening = Unit {0}
-MayEnd reached_to.GroupFoot = Unit {0}
-MayEnd r = ⊥
+abbrev pub IsBeforeTrailer : Reached → Type 0
+IsBeforeTrailer reached_to.Opening = Unit {0}
+IsBeforeTrailer reached_to.GroupFoot = Unit {0}
+IsBeforeTrailer r = ⊥
 
 -- a transmission ends that has a group
 abbrev pub JudgesEnd : {A : Type 0} → LimitValues → List Symbol → Result A EncodeFault → Type 0
-JudgesEnd limits xs answer = JudgesCall (MayEnd (reached xs)) (Unit {0}) (reached xs ≡ reached_to.GroupFoot) limits xs (Plain kinds.Trl ∷ []) answer
+JudgesEnd limits xs answer = JudgesCall (IsBeforeTrailer (reached xs)) (Unit {0}) (reached xs ≡ reached_to.GroupFoot) limits xs (Plain kinds.Trl ∷ []) answer
 
 -- with TRL after them the records are those of the transmission, which is within the limits
 pub record Completes (limits : LimitValues) (records : List RecordValue) (v : TransmissionValue) : Type 0 where
@@ -48,7 +48,7 @@ pub record HasFront {W : Type 0} (contents : W → Option (List ℕ)) (start : O
 -- length is the answer; where the writer fails, its first bytes are. Where the call is refused nothing is written.
 abbrev pub FinishesWriting : {W : Type 0} → (W → Option (List ℕ)) → (W → ℕ) → Encoder W → W → Result ℕ EncodeFault → Type 0
 FinishesWriting contents failures e writer (Ok n) = (failures writer ≡ failures (target_of e))
-    × ((start : Option (List ℕ)) (records : List RecordValue) → Encodes contents start records e → (v : TransmissionValue) × Completes (limits_of e) records v × HasAll contents start writer (canonical_text v) n)
+    × ((start : Option (List ℕ)) (records : List RecordValue) → Encodes contents start records e → (v : TransmissionValue) × Completes (encoder_limits e) records v × HasAll contents start writer (canonical_text v) n)
 FinishesWriting contents failures e writer (Err (Writer n)) = (failures writer ≡ one_more_failure (failures (target_of e)))
-    × ((start : Option (List ℕ)) (records : List RecordValue) → Encodes contents start records e → (v : TransmissionValue) × Completes (limits_of e) records v × HasFront contents start writer (canonical_text v) n)
+    × ((start : Option (List ℕ)) (records : List RecordValue) → Encodes contents start records e → (v : TransmissionValue) × Completes (encoder_limits e) records v × HasFront contents start writer (canonical_text v) n)
 FinishesWriting contents failures e writer (Err fault) = writer ≡ target_of e

@@ -8,7 +8,7 @@ ghost use Rattle.cwr_values.specs.Values.{symbol_of as symbol_by_cells};
 ghost use Rattle.cwr_values.specs.Rows.{canonical_line, trailer};
 ghost use Rattle.cwr_encode.specs.Sinks.{Puts, writer_of, written_of};
 ghost use Rattle.cwr_encode.specs.Texts.{text_from};
-ghost use Rattle.cwr_encode.specs.Encoders.{Encodes, IsUnlimited, Adds, AnswersAgain, IsBetween, IsInGroup, IsNextNumber, IsReady, JudgesTransaction, JudgesFoot, JudgesGroup, JudgesOpening, MayBeginGroup, end_fault, fault_of, reached, reached_at, is_stopped, limits_of, target_of, bytes_written};
+ghost use Rattle.cwr_encode.specs.Encoders.{Encodes, IsUnlimited, AddsRecords, AnswersAgain, IsBetween, IsInGroup, IsNextNumber, TakesTransactions, JudgesTransaction, JudgesFoot, JudgesGroup, JudgesOpening, MayBeginGroup, end_fault, fault_of_bar, reached, reached_at, is_stopped, encoder_limits, target_of, bytes_written};
 ghost use Rattle.std.specs.Io.KnownBytes.{Keeps};
 ghost use Rattle.cwr_fields.specs.Failures.{one_more_failure};
 ghost use Rattle.cwr_encode.specs.EncodeFaultTexts.{encode_fault_text};
@@ -99,7 +99,7 @@ impl<W: Target> Encoder<W> {
     /// An encoder that has written nothing yet. The transmission is to keep to the limits.
     pub fn new(writer: W, limits: Limits) -> Encoder<W>
         ensures represents { Encodes W.contents (W.contents writer) [] result }
-        ensures limits { limits_of result ≡ limits }
+        ensures limits { encoder_limits result ≡ limits }
         ensures unfailed { is_stopped result ≡ false }
         ensures writer { target_of result ≡ writer }
     {
@@ -152,10 +152,10 @@ impl<W: Target> Encoder<W> {
     pub fn open(&mut self, opening: &Record) -> Result<(), EncodeFault>
         ensures again { is_stopped self.old ≡ true → AnswersAgain result self.old self.new }
         ensures judged { is_stopped self.old ≡ false → (start : Option (List ℕ)) (records : List RecordValue) → Encodes W.contents start records self.old
-            → JudgesOpening (limits_of self.old) opening.now (map symbol_by_cells records) result }
+            → JudgesOpening (encoder_limits self.old) opening.now (map symbol_by_cells records) result }
         ensures unlimited { IsUnlimited result }
-        ensures adds { is_stopped self.old ≡ false → Adds W.contents W.failures (opening.now ∷ []) result self.old self.new }
-        ensures limits { limits_of self.new ≡ limits_of self.old }
+        ensures adds { is_stopped self.old ≡ false → AddsRecords W.contents W.failures (opening.now ∷ []) result self.old self.new }
+        ensures limits { encoder_limits self.new ≡ encoder_limits self.old }
     {
         if self.is_stopped() {
             return Err(self.fault());
@@ -182,9 +182,9 @@ impl<W: Target> Encoder<W> {
     pub fn group(&mut self, head: &Record) -> Result<(), EncodeFault>
         ensures again { is_stopped self.old ≡ true → AnswersAgain result self.old self.new }
         ensures judged { is_stopped self.old ≡ false → (start : Option (List ℕ)) (records : List RecordValue) → Encodes W.contents start records self.old
-            → JudgesGroup (limits_of self.old) head.now (map symbol_by_cells records) result }
-        ensures adds { is_stopped self.old ≡ false → Adds W.contents W.failures (head.now ∷ []) result self.old self.new }
-        ensures limits { limits_of self.new ≡ limits_of self.old }
+            → JudgesGroup (encoder_limits self.old) head.now (map symbol_by_cells records) result }
+        ensures adds { is_stopped self.old ≡ false → AddsRecords W.contents W.failures (head.now ∷ []) result self.old self.new }
+        ensures limits { encoder_limits self.new ≡ encoder_limits self.old }
     {
         if self.is_stopped() {
             return Err(self.fault());
@@ -203,14 +203,14 @@ impl<W: Target> Encoder<W> {
                 self.tally.step(symbol);
                 self.put(&shown, &[number])
             }
-            Err(bar) => Err(fault_of(bar)),
+            Err(bar) => Err(fault_of_bar(bar)),
         }
     }
 
     /// The type of the open group. `None` where none is open, and where a transaction is open that isn't whole.
     fn open_type(&self) -> Option<TransactionType>
         ensures { MatchOption result ((xs : List Symbol) → IsTallyOf self.now.tally xs → IsBetween xs → ¬ IsInGroup (reached xs))
-            (λ ty. (xs : List Symbol) → IsTallyOf self.now.tally xs → IsReady ty xs) }
+            (λ ty. (xs : List Symbol) → IsTallyOf self.now.tally xs → TakesTransactions ty xs) }
     {
         let stage = self.tally.stage();
         match stage {
@@ -243,9 +243,9 @@ impl<W: Target> Encoder<W> {
     pub fn transaction(&mut self, transaction: &Transaction) -> Result<(), EncodeFault>
         ensures again { is_stopped self.old ≡ true → AnswersAgain result self.old self.new }
         ensures judged { is_stopped self.old ≡ false → (start : Option (List ℕ)) (records : List RecordValue) → Encodes W.contents start records self.old
-            → JudgesTransaction (limits_of self.old) transaction.now (map symbol_by_cells records) result }
-        ensures adds { is_stopped self.old ≡ false → Adds W.contents W.failures transaction.now result self.old self.new }
-        ensures limits { limits_of self.new ≡ limits_of self.old }
+            → JudgesTransaction (encoder_limits self.old) transaction.now (map symbol_by_cells records) result }
+        ensures adds { is_stopped self.old ≡ false → AddsRecords W.contents W.failures transaction.now result self.old self.new }
+        ensures limits { encoder_limits self.new ≡ encoder_limits self.old }
     {
         if self.is_stopped() {
             return Err(self.fault());
@@ -271,10 +271,10 @@ impl<W: Target> Encoder<W> {
     pub fn end_group(&mut self, foot: &Record) -> Result<(), EncodeFault>
         ensures again { is_stopped self.old ≡ true → AnswersAgain result self.old self.new }
         ensures judged { is_stopped self.old ≡ false → (start : Option (List ℕ)) (records : List RecordValue) → Encodes W.contents start records self.old
-            → JudgesFoot (limits_of self.old) foot.now (map symbol_by_cells records) result }
+            → JudgesFoot (encoder_limits self.old) foot.now (map symbol_by_cells records) result }
         ensures unlimited { IsUnlimited result }
-        ensures adds { is_stopped self.old ≡ false → Adds W.contents W.failures (foot.now ∷ []) result self.old self.new }
-        ensures limits { limits_of self.new ≡ limits_of self.old }
+        ensures adds { is_stopped self.old ≡ false → AddsRecords W.contents W.failures (foot.now ∷ []) result self.old self.new }
+        ensures limits { encoder_limits self.new ≡ encoder_limits self.old }
     {
         if self.is_stopped() {
             return Err(self.fault());
@@ -300,10 +300,10 @@ impl<W: Target> Encoder<W> {
     fn end(&mut self) -> Result<(), EncodeFault>
         ensures again { is_stopped self.old ≡ true → AnswersAgain result self.old self.new }
         ensures judged { is_stopped self.old ≡ false → (start : Option (List ℕ)) (records : List RecordValue) → Encodes W.contents start records self.old
-            → JudgesEnd (limits_of self.old) (map symbol_by_cells records) result }
+            → JudgesEnd (encoder_limits self.old) (map symbol_by_cells records) result }
         ensures unlimited { IsUnlimited result }
-        ensures adds { is_stopped self.old ≡ false → Adds W.contents W.failures (trailer ∷ []) result self.old self.new }
-        ensures limits { limits_of self.new ≡ limits_of self.old }
+        ensures adds { is_stopped self.old ≡ false → AddsRecords W.contents W.failures (trailer ∷ []) result self.old self.new }
+        ensures limits { encoder_limits self.new ≡ encoder_limits self.old }
     {
         if self.is_stopped() {
             return Err(self.fault());
@@ -324,7 +324,7 @@ impl<W: Target> Encoder<W> {
     pub fn finish(self) -> (W, Result<u64, EncodeFault>)
         ensures again { is_stopped self ≡ true → (result.0 ≡ target_of self) × (result.1 ≡ Err (EncodeFault.Writer (bytes_written self))) }
         ensures judged { is_stopped self ≡ false → (start : Option (List ℕ)) (records : List RecordValue) → Encodes W.contents start records self
-            → JudgesEnd (limits_of self) (map symbol_by_cells records) result.1 }
+            → JudgesEnd (encoder_limits self) (map symbol_by_cells records) result.1 }
         ensures unlimited { IsUnlimited result.1 }
         ensures finishes { is_stopped self ≡ false → FinishesWriting W.contents W.failures self result.0 result.1 }
     {
@@ -358,8 +358,8 @@ fn is_in_group(reached: Reached) -> bool
 }
 
 /// The fault that a bar is.
-fn fault_of(bar: Bar) -> EncodeFault
-    ensures { result ≡ fault_of bar }
+fn fault_of_bar(bar: Bar) -> EncodeFault
+    ensures { result ≡ fault_of_bar bar }
 {
     match bar {
         Bar::Misplaced => EncodeFault::OutOfOrder,

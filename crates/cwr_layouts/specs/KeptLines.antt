@@ -18,6 +18,6 @@ abbrev pub kept_records : List ℕ → List Place → List RecordValue
 kept_records text places = map (record_at text) places
 
 -- the line stands in the text, and carries a record
-pub record IsKept (text : List ℕ) (p : Place) : Type 0 where
+pub record IsKeptLine (text : List ℕ) (p : Place) : Type 0 where
   pub within : p.start + line_width p.kind ≤ length text
   pub fits : IsRecord (record_at text p)

@@ -133,8 +133,8 @@ original_fields =
     []
 
 -- the text of a record that is carried as text
-abbrev pub carried_fields : List FieldLayout
-carried_fields = cell "carried text" 700 Text ∷ []
+abbrev pub carried_text_fields : List FieldLayout
+carried_text_fields = cell "carried text" 700 Text ∷ []
 
 -- the fields after the record type
 abbrev pub fields_after_type : Kind → List FieldLayout
@@ -313,21 +313,21 @@ fields_after_type Msg = in_transaction (
     cell "validation number" 3 Text ∷
     cell "message text" 150 Required ∷
     [])
-fields_after_type Opt = in_transaction carried_fields
-fields_after_type Owt = in_transaction carried_fields
-fields_after_type Npn = in_transaction carried_fields
-fields_after_type Npr = in_transaction carried_fields
-fields_after_type Nwn = in_transaction carried_fields
-fields_after_type Npa = in_transaction carried_fields
-fields_after_type Net = in_transaction carried_fields
-fields_after_type Now = in_transaction carried_fields
-fields_after_type Nct = in_transaction carried_fields
-fields_after_type Nvt = in_transaction carried_fields
-fields_after_type Nat = in_transaction carried_fields
-fields_after_type Ins = in_transaction carried_fields
-fields_after_type Ind = in_transaction carried_fields
-fields_after_type Ari = in_transaction carried_fields
-fields_after_type Xrf = in_transaction carried_fields
+fields_after_type Opt = in_transaction carried_text_fields
+fields_after_type Owt = in_transaction carried_text_fields
+fields_after_type Npn = in_transaction carried_text_fields
+fields_after_type Npr = in_transaction carried_text_fields
+fields_after_type Nwn = in_transaction carried_text_fields
+fields_after_type Npa = in_transaction carried_text_fields
+fields_after_type Net = in_transaction carried_text_fields
+fields_after_type Now = in_transaction carried_text_fields
+fields_after_type Nct = in_transaction carried_text_fields
+fields_after_type Nvt = in_transaction carried_text_fields
+fields_after_type Nat = in_transaction carried_text_fields
+fields_after_type Ins = in_transaction carried_text_fields
+fields_after_type Ind = in_transaction carried_text_fields
+fields_after_type Ari = in_transaction carried_text_fields
+fields_after_type Xrf = in_transaction carried_text_fields
 
 -- the fields of a kind, numbered from 1
 abbrev pub layout : Kind → List FieldLayout

@@ -4,7 +4,7 @@ ghost use Rattle.std.specs.Prelude.{◌≡◌, ◌+◌, ◌≤◌, List, [], ◌
 ghost use Rattle.std.specs.List.{AllByRecursion};
 ghost use Rattle.cwr_layouts.specs.Records.{RecordValue, IsRecord};
 ghost use Rattle.cwr_layouts.specs.Layouts.{line_width};
-ghost use Rattle.cwr_layouts.specs.KeptLines.{IsKept, kept_records, line_at};
+ghost use Rattle.cwr_layouts.specs.KeptLines.{IsKeptLine, kept_records, line_at};
 
 use crate::kinds::Kind;
 use crate::lookups::width;
@@ -55,13 +55,13 @@ impl Model for RecordList {
     ghost use Rattle.std.specs.Prelude.{List};
     ghost use Rattle.std.specs.List.{AllByRecursion};
     ghost use Rattle.cwr_layouts.specs.Records.{RecordValue};
-    ghost use Rattle.cwr_layouts.specs.KeptLines.{IsKept, kept_records};
+    ghost use Rattle.cwr_layouts.specs.KeptLines.{IsKeptLine, kept_records};
 
     ghost Value = { List RecordValue };
 
     ghost view = { λ l. kept_records l.text.items l.places.items };
 
-    ghost invariant = { λ l. AllByRecursion (IsKept l.text.items) l.places.items };
+    ghost invariant = { λ l. AllByRecursion (IsKeptLine l.text.items) l.places.items };
 }
 
 impl RecordList {

@@ -11,19 +11,19 @@ use Rattle.cwr_program.specs.declared.faults.Fault.TheVariants as faults
 
 -- A run without a fault ends well. An input that is refused or ends too early, and a limit that the result passes, end it
 -- otherwise, and the fault of a device or of memory is reported.
-abbrev pub EndsBy : Option ToolFault → Result Status Fault → Type 0
-EndsBy None ending = ending ≡ Ok statuses.Good
-EndsBy (Some tool_faults.Reader) ending = ending ≡ Err faults.Read
-EndsBy (Some (tool_faults.Writer written)) ending = ending ≡ Err faults.Write
-EndsBy (Some tool_faults.Memory) ending = ending ≡ Err faults.Memory
-EndsBy (Some (tool_faults.Refused refusal)) ending = ending ≡ Ok statuses.Refused
-EndsBy (Some (tool_faults.Truncated records)) ending = ending ≡ Ok statuses.Refused
-EndsBy (Some tool_faults.Output) ending = ending ≡ Err faults.Output
-EndsBy (Some (tool_faults.Limit limit)) ending = ending ≡ Ok statuses.Refused
+abbrev pub EndsAfterFault : Option ToolFault → Result Status Fault → Type 0
+EndsAfterFault None ending = ending ≡ Ok statuses.Good
+EndsAfterFault (Some tool_faults.Reader) ending = ending ≡ Err faults.Read
+EndsAfterFault (Some (tool_faults.Writer written)) ending = ending ≡ Err faults.Write
+EndsAfterFault (Some tool_faults.Memory) ending = ending ≡ Err faults.Memory
+EndsAfterFault (Some (tool_faults.Refused refusal)) ending = ending ≡ Ok statuses.Refused
+EndsAfterFault (Some (tool_faults.Truncated records)) ending = ending ≡ Ok statuses.Refused
+EndsAfterFault (Some tool_faults.Output) ending = ending ≡ Err faults.Output
+EndsAfterFault (Some (tool_faults.Limit limit)) ending = ending ≡ Ok statuses.Refused
 
 -- the verdict on an input that is good ends the run well, another one otherwise
 abbrev pub EndsAs : Result Verdict ToolFault → Result Status Fault → Type 0
 EndsAs (Ok (Good groups transactions records)) ending = ending ≡ Ok statuses.Good
 EndsAs (Ok (Refused refusal)) ending = ending ≡ Ok statuses.Refused
 EndsAs (Ok (Truncated records)) ending = ending ≡ Ok statuses.Refused
-EndsAs (Err fault) ending = EndsBy (Some fault) ending
+EndsAs (Err fault) ending = EndsAfterFault (Some fault) ending

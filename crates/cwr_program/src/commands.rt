@@ -1,7 +1,7 @@
 //! What each subcommand does, between its files and its lines.
 
 ghost use Rattle.std.specs.Prelude.{◌<◌, length};
-ghost use Rattle.cwr_program.specs.Endings.{EndsAs, EndsBy};
+ghost use Rattle.cwr_program.specs.Endings.{EndsAs, EndsAfterFault};
 
 use crate::faults::Fault;
 use crate::new_files::{NumberedFiles, Place, gathered};
@@ -192,7 +192,7 @@ fn ending<'a>(outcome: Result<Verdict, ToolFault>) -> Result<Status, Fault<'a>>
 
 /// What the end of a run means for the program, by the fault at which it stopped.
 fn ended_by<'a>(fault: Option<ToolFault>) -> Result<Status, Fault<'a>>
-    ensures { EndsBy fault result }
+    ensures { EndsAfterFault fault result }
 {
     match fault {
         None => Ok(Status::Good),

@@ -18,13 +18,13 @@ use Rattle.cwr_encode.specs.Sinks as sinks
 use Rattle.cwr_encode.specs.Sinks.{HasWritten, has_failed}
 use Rattle.cwr_encode.specs.Written.{IsPart}
 use Rattle.cwr_encode.specs.declared.encoders.Encoder.{Encoder}
-use Rattle.cwr_encode.specs.Encoders.{Encodes, is_stopped, limits_of, part_of}
+use Rattle.cwr_encode.specs.Encoders.{Encodes, is_stopped, encoder_limits, part_of}
 use Rattle.cwr_encode.proofs.PartLaws.{has_part}
 use Rattle.cwr_tools.specs.declared.joined.Joined.{Joined}
 use Rattle.cwr_tools.specs.declared.verdicts.ToolFault.{ToolFault}
 use Rattle.cwr_tools.specs.declared.verdicts.ToolFault.TheVariants.{Reader, Writer, Memory, Refused, Truncated, Limit, Output}
 use Rattle.cwr_tools.specs.Joins.{CountsInputFault, StopsBy, StopsJoin, TakesInput, TakeInputs, is_first, is_joined, joined_inputs, joined_records, WritesPart}
-use Rattle.cwr_tools.specs.Joined.{AddsInput, HasJoined, IsBetweenInputs, JoinsOn, writer_of}
+use Rattle.cwr_tools.specs.Joined.{AddsInput, HasJoined, IsBetweenInputs, JoinsOn, joined_writer}
 use Rattle.cwr_tools.proofs.JoinedItems.{next_joined}
 
 -- so many inputs were accepted and joined, and the others are as they were
@@ -38,13 +38,13 @@ pub record AreJoinedSoFar {R W : Type 0} (limits : Limits) (remaining : R → Op
   pub finished_too : count ≡ length finished
   pub inputs : List TransmissionValue
   pub taken : TakeInputs limits remaining failures earlier inputs finished
-  pub joined : HasJoined contents (contents (writer_of old)) (joined_inputs inputs) j
+  pub joined : HasJoined contents (contents (joined_writer old)) (joined_inputs inputs) j
   pub unfailed : is_stopped j.encoder ≡ false
-  pub quiet : counts (writer_of j) ≡ counts (writer_of old)
-  pub limits_are : limits_of j.encoder ≡ limits
+  pub quiet : counts (joined_writer j) ≡ counts (joined_writer old)
+  pub limits_are : encoder_limits j.encoder ≡ limits
 
 pub none_joined : {R W : Type 0} (limits : Limits) (remaining : R → Option (List ℕ)) (failures : R → ℕ) (contents : W → Option (List ℕ)) (counts : W → ℕ) (readers : List R) (j : Joined W)
-    → HasJoined contents (contents (writer_of j)) [] j → is_stopped j.encoder ≡ false → limits_of j.encoder ≡ limits → AreJoinedSoFar limits remaining failures contents counts 0 readers readers j j
+    → HasJoined contents (contents (joined_writer j)) [] j → is_stopped j.encoder ≡ false → encoder_limits j.encoder ≡ limits → AreJoinedSoFar limits remaining failures contents counts 0 readers readers j j
 none_joined limits remaining failures contents counts readers j joined unfailed same = record {
   earlier = [];
   finished = [];
@@ -89,7 +89,7 @@ first_is (v ∷ others) count e = ap (λ (n : ℕ). nat_eq n 0) e ∙ eqb-suc-ze
 pub between_inputs : {R W : Type 0} (limits : Limits) (remaining : R → Option (List ℕ)) (failures : R → ℕ) (contents : W → Option (List ℕ)) (counts : W → ℕ) (count : ℕ) (before now : List R) (old j : Joined W)
     → AreJoinedSoFar limits remaining failures contents counts count before now old j → IsBetweenInputs contents (nat_eq count 0) j
 between_inputs limits remaining failures contents counts count before now old j h = record {
-  start = contents (writer_of old);
+  start = contents (joined_writer old);
   inputs = h.inputs;
   each = taken_whole limits remaining failures h.earlier h.inputs h.finished h.taken;
   first_is = first_is h.inputs count (h.counted ∙ taken_many limits remaining failures h.earlier h.inputs h.finished h.taken);
@@ -132,7 +132,7 @@ one_joined {R = R} limits remaining failures contents counts count before now ol
       finished_too = omega (arith, h.finished_too, length-append h.finished (left ∷ []));
       inputs = h.inputs ++ b.0 ∷ [];
       taken = take_more limits remaining failures h.earlier h.inputs h.finished hand b.0 left h.taken (record { takes = b.1; quiet = quiet });
-      joined = subst (λ (l : List Item). HasJoined contents (contents (writer_of old)) l next) (sym (next_joined h.inputs b.0)) (b.2.more (contents (writer_of old)) (joined_inputs h.inputs) h.joined);
+      joined = subst (λ (l : List Item). HasJoined contents (contents (joined_writer old)) l next) (sym (next_joined h.inputs b.0)) (b.2.more (contents (joined_writer old)) (joined_inputs h.inputs) h.joined);
       unfailed = b.2.unfailed;
       quiet = b.2.quiet ∙ h.quiet;
       limits_are = b.2.limits ∙ h.limits_are;
@@ -145,14 +145,14 @@ written_whole contents start text sink unfailed h =
     subst (Appends start (contents (sinks.writer_of sink))) (sym (h.split ∙ ap (λ (l : List ℕ). h.bytes ++ l) (h.whole unfailed) ∙ append-nil h.bytes)) h.appended
 
 -- records that were accepted have a part
-has_part_of : {W : Type 0} (limits : Limits) (contents : W → Option (List ℕ)) (start : Option (List ℕ)) (records : List RecordValue) (e : Encoder W) → limits_of e ≡ limits → Encodes contents start records e → IsPart limits records (part_of records)
+has_part_of : {W : Type 0} (limits : Limits) (contents : W → Option (List ℕ)) (start : Option (List ℕ)) (records : List RecordValue) (e : Encoder W) → encoder_limits e ≡ limits → Encodes contents start records e → IsPart limits records (part_of records)
 has_part_of limits contents start records e same h = has_part limits records h.in_order (subst (λ (l : LimitValues). Continues (IsWithin l) (map symbol_of records)) same h.counted.within)
 
 -- which is written where the writer didn't fail
-part_written : {W : Type 0} (limits : Limits) (contents : W → Option (List ℕ)) (counts : W → ℕ) (items added : List Item) (old j next : Joined W) → limits_of j.encoder ≡ limits → HasJoined contents (contents (writer_of old)) items j
-    → JoinsOn contents counts added j next → WritesPart limits contents (records_in (items ++ added)) (writer_of old) (writer_of next)
+part_written : {W : Type 0} (limits : Limits) (contents : W → Option (List ℕ)) (counts : W → ℕ) (items added : List Item) (old j next : Joined W) → encoder_limits j.encoder ≡ limits → HasJoined contents (contents (joined_writer old)) items j
+    → JoinsOn contents counts added j next → WritesPart limits contents (records_in (items ++ added)) (joined_writer old) (joined_writer next)
 part_written limits contents counts items added old j next same h on =
-    let start = contents (writer_of old) in
+    let start = contents (joined_writer old) in
     let records : List RecordValue = records_in (items ++ added) in
     let encodes = (on.more start items h).encodes in
     record {
@@ -161,9 +161,9 @@ part_written limits contents counts items added old j next same h on =
       written = written_whole contents start (part_of records) next.encoder.sink on.unfailed encodes.written;
     }
 
-stops_by : {R W : Type 0} (limits : Limits) (contents : W → Option (List ℕ)) (counts : W → ℕ) (inputs : List TransmissionValue) (before after : Option (List ℕ)) (later : List R) (old j next : Joined W) (fault : ToolFault) → limits_of j.encoder ≡ limits
-    → HasJoined contents (contents (writer_of old)) (joined_inputs inputs) j → AddsInput limits contents counts (is_first inputs) before after (Err fault) j next
-    → StopsBy limits fault contents inputs before after later (writer_of old) (writer_of next)
+stops_by : {R W : Type 0} (limits : Limits) (contents : W → Option (List ℕ)) (counts : W → ℕ) (inputs : List TransmissionValue) (before after : Option (List ℕ)) (later : List R) (old j next : Joined W) (fault : ToolFault) → encoder_limits j.encoder ≡ limits
+    → HasJoined contents (contents (joined_writer old)) (joined_inputs inputs) j → AddsInput limits contents counts (is_first inputs) before after (Err fault) j next
+    → StopsBy limits fault contents inputs before after later (joined_writer old) (joined_writer next)
 stops_by limits contents counts inputs before after later old j next Reader same h a = record { given = a.0; stops = a.1; written = part_written limits contents counts (joined_inputs inputs) (filter (is_joined (is_first inputs)) a.0) old j next same h a.2 }
 stops_by limits contents counts inputs before after later old j next Memory same h a = record { given = a.0; stops = a.1; written = part_written limits contents counts (joined_inputs inputs) (filter (is_joined (is_first inputs)) a.0) old j next same h a.2 }
 stops_by limits contents counts inputs before after later old j next (Refused r) same h a = record { given = a.0; stops = a.1; written = part_written limits contents counts (joined_inputs inputs) (filter (is_joined (is_first inputs)) a.0) old j next same h a.2 }
@@ -172,11 +172,11 @@ stops_by limits contents counts inputs before after later old j next (Limit limi
   given = a.0;
   item = a.1;
   handed_out = a.2;
-  barred = a.4 (contents (writer_of old)) (joined_inputs inputs) h;
+  barred = a.4 (contents (joined_writer old)) (joined_inputs inputs) h;
   written = part_written limits contents counts (joined_inputs inputs) (filter (is_joined (is_first inputs)) a.0) old j next same h a.3;
 }
 stops_by limits contents counts inputs before after later old j next (Writer n) same h a =
-    let start = contents (writer_of old) in
+    let start = contents (joined_writer old) in
     let encodes = a.2.more start (joined_inputs inputs) h in
     let w = encodes.written in
     record {
@@ -189,7 +189,7 @@ stops_by limits contents counts inputs before after later old j next Output same
 pub stopped_in_hand : {R W : Type 0} (limits : Limits) (remaining : R → Option (List ℕ)) (failures : R → ℕ) (contents : W → Option (List ℕ)) (counts : W → ℕ) (count : ℕ) (before now : List R) (old j next : Joined W) (hand left : R) (fault : ToolFault)
     → AreJoinedSoFar limits remaining failures contents counts count before now old j → count < length now → hand ≡ get_or now count hand
     → AddsInput limits contents counts (nat_eq count 0) (remaining hand) (remaining left) (Err fault) j next → CountsInputFault fault (failures hand) (failures left)
-    → StopsJoin limits remaining failures contents before (slice_set now count left) (writer_of old) (writer_of next) (record { input = count + 1; fault = fault })
+    → StopsJoin limits remaining failures contents before (slice_set now count left) (joined_writer old) (joined_writer next) (record { input = count + 1; fault = fault })
 stopped_in_hand {R = R} limits remaining failures contents counts count before now old j next hand left fault h lt is a quiet =
     let at = next_hand h.finished h.others now count hand h.now_are h.finished_too lt is in
     let same = first_is h.inputs count (h.counted ∙ taken_many limits remaining failures h.earlier h.inputs h.finished h.taken) in

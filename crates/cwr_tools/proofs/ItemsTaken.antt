@@ -12,8 +12,8 @@ use Rattle.cwr_tools.specs.declared.verdicts.ToolFault.{ToolFault}
 use Rattle.cwr_tools.specs.declared.verdicts.ToolFault.TheVariants as tool_faults
 use Rattle.cwr_tools.specs.SplitOutputs.{FailsWith, HoldsOutput, Told, open_failures}
 use Rattle.cwr_tools.specs.SplitPlaces.{open_items}
-use Rattle.cwr_tools.specs.SplitItems.{MayTake, Takes}
-use Rattle.cwr_tools.specs.SplitSteps.{AddsTransaction, EndsGroup, FailsOpen, Finishes, MayAddTransaction, MayEndGroup, MayFinish}
+use Rattle.cwr_tools.specs.SplitItems.{MayTake, TakesItem}
+use Rattle.cwr_tools.specs.SplitSteps.{AddsTransaction, EndsGroup, FailsOpen, FinishesOutput, MayAddTransaction, MayEndGroup, MayFinish}
 use Rattle.cwr_tools.proofs.EndsTaken.{end_taken, foot_taken, may_end_group, may_finish}
 use Rattle.cwr_tools.proofs.HeadsTaken.{head_taken, opening_taken}
 use Rattle.cwr_tools.proofs.TransactionsTaken.{may_add, transaction_taken}
@@ -28,16 +28,16 @@ may_end_item told contents failures item r s now e may = may_end_group told cont
 pub may_finish_item : {O W : Type 0} (told : Told O) (contents : W → Option (List ℕ)) (failures : W → ℕ) (item : Item) (s : Splitting W) (now : O) → item ≡ Ended → MayTake told contents failures item s now → MayFinish told contents failures s now
 may_finish_item told contents failures item s now e may = may_finish told contents failures s now (subst (λ (i : Item). MayTake told contents failures i s now) e may)
 
-pub takes_opening : {O W : Type 0} (told : Told O) (contents : W → Option (List ℕ)) (failures : W → ℕ) (item : Item) (r : RecordValue) (s : Splitting W) (now : O) (u : Unit {0}) → item ≡ Opened r → Takes told contents failures item (Ok u) s (record s { opening = Some item }) now now
-takes_opening told contents failures item r s now u e = subst (λ (i : Item). Takes told contents failures i (Ok u) s (record s { opening = Some i }) now now) (sym e) (opening_taken told contents failures r s now)
+pub takes_opening : {O W : Type 0} (told : Told O) (contents : W → Option (List ℕ)) (failures : W → ℕ) (item : Item) (r : RecordValue) (s : Splitting W) (now : O) (u : Unit {0}) → item ≡ Opened r → TakesItem told contents failures item (Ok u) s (record s { opening = Some item }) now now
+takes_opening told contents failures item r s now u e = subst (λ (i : Item). TakesItem told contents failures i (Ok u) s (record s { opening = Some i }) now now) (sym e) (opening_taken told contents failures r s now)
 
-pub takes_head : {O W : Type 0} (told : Told O) (contents : W → Option (List ℕ)) (failures : W → ℕ) (item : Item) (r : RecordValue) (s : Splitting W) (now : O) (u : Unit {0}) → item ≡ GroupOpened r → Takes told contents failures item (Ok u) s (record s { head = Some item }) now now
-takes_head told contents failures item r s now u e = subst (λ (i : Item). Takes told contents failures i (Ok u) s (record s { head = Some i }) now now) (sym e) (head_taken told contents failures r s now)
+pub takes_head : {O W : Type 0} (told : Told O) (contents : W → Option (List ℕ)) (failures : W → ℕ) (item : Item) (r : RecordValue) (s : Splitting W) (now : O) (u : Unit {0}) → item ≡ GroupOpened r → TakesItem told contents failures item (Ok u) s (record s { head = Some item }) now now
+takes_head told contents failures item r s now u e = subst (λ (i : Item). TakesItem told contents failures i (Ok u) s (record s { head = Some i }) now now) (sym e) (head_taken told contents failures r s now)
 
 pub takes_transaction : {O W : Type 0} (told : Told O) (contents : W → Option (List ℕ)) (failures : W → ℕ) (item : Item) (t : List RecordValue) (s new : Splitting W) (now after : O) (result : Result (Unit {0}) ToolFault) → item ≡ Transaction t
-    → AddsTransaction told contents failures item result s new now after → Takes told contents failures item result s new now after
+    → AddsTransaction told contents failures item result s new now after → TakesItem told contents failures item result s new now after
 takes_transaction told contents failures item t s new now after (Ok u) e done =
-    subst (λ (i : Item). AddsTransaction told contents failures i (Ok u) s new now after → Takes told contents failures i (Ok u) s new now after) (sym e) (transaction_taken told contents failures t u s new now after) done
+    subst (λ (i : Item). AddsTransaction told contents failures i (Ok u) s new now after → TakesItem told contents failures i (Ok u) s new now after) (sym e) (transaction_taken told contents failures t u s new now after) done
 takes_transaction told contents failures item t s new now after (Err fault) e done = done
 
 -- a writer that fails is counted once it is given up
@@ -56,12 +56,12 @@ quiet_output contents failures limits had items None h = refl
 quiet_output contents failures limits had items (Some out) h = h.quiet
 
 pub takes_foot : {O W : Type 0} (told : Told O) (contents : W → Option (List ℕ)) (failures : W → ℕ) (item : Item) (r : RecordValue) (s new : Splitting W) (now : O) (result : Result (Unit {0}) ToolFault) → item ≡ GroupClosed r → MayTake told contents failures item s now
-    → EndsGroup contents failures result s new → Takes told contents failures item result s new now now
-takes_foot told contents failures item r s new now (Ok u) e may done = subst (λ (i : Item). Takes told contents failures i (Ok u) s new now now) (sym e) (foot_taken told contents failures r u s new now done)
+    → EndsGroup contents failures result s new → TakesItem told contents failures item result s new now now
+takes_foot told contents failures item r s new now (Ok u) e may done = subst (λ (i : Item). TakesItem told contents failures i (Ok u) s new now now) (sym e) (foot_taken told contents failures r u s new now done)
 takes_foot told contents failures item r s new now (Err fault) e may done =
     writer_failed told failures s.output new.output now fault (quiet_output contents failures s.limits (told.texts now) (open_items may.place) s.output may.holds.output) done
 
-pub takes_end : {O W : Type 0} (told : Told O) (contents : W → Option (List ℕ)) (failures : W → ℕ) (item : Item) (s new : Splitting W) (now after : O) (result : Result (Unit {0}) ToolFault) → item ≡ Ended → Finishes told contents failures result s new now after
-    → Takes told contents failures item result s new now after
-takes_end told contents failures item s new now after (Ok u) e done = subst (λ (i : Item). Takes told contents failures i (Ok u) s new now after) (sym e) (end_taken told contents failures u s new now after done)
+pub takes_end : {O W : Type 0} (told : Told O) (contents : W → Option (List ℕ)) (failures : W → ℕ) (item : Item) (s new : Splitting W) (now after : O) (result : Result (Unit {0}) ToolFault) → item ≡ Ended → FinishesOutput told contents failures result s new now after
+    → TakesItem told contents failures item result s new now after
+takes_end told contents failures item s new now after (Ok u) e done = subst (λ (i : Item). TakesItem told contents failures i (Ok u) s new now after) (sym e) (end_taken told contents failures u s new now after done)
 takes_end told contents failures item s new now after (Err fault) e done = done

@@ -19,7 +19,7 @@ use Rattle.cwr_judge.specs.Items.{is_transaction, item_records, opens_group, rec
 use Rattle.cwr_encode.specs.declared.encoders.Encoder.{Encoder}
 use Rattle.cwr_encode.specs.declared.encoders.EncodeFault.{EncodeFault}
 use Rattle.cwr_encode.specs.declared.encoders.EncodeFault.TheVariants as encode_faults
-use Rattle.cwr_encode.specs.Encoders.{Adds, Encodes, IsNoMistake, is_stopped, limits_of}
+use Rattle.cwr_encode.specs.Encoders.{AddsRecords, Encodes, IsNoMistake, is_stopped, encoder_limits}
 use Rattle.cwr_tools.specs.declared.joined.Joined.{Joined}
 use Rattle.cwr_tools.specs.declared.totals.Totals.{Totals}
 use Rattle.cwr_tools.specs.declared.verdicts.ToolFault.{ToolFault}
@@ -59,7 +59,7 @@ pub record HasRoomFor (c : Totals) (item : Item) : Type 0 where
   pub records : c.records + length (item_records item) ≤ 99999999
 
 pub room_for : {W : Type 0} (contents : W → Option (List ℕ)) (failures : W → ℕ) (item : Item) (j : Joined W) (new : Encoder W) (u : Unit {0}) → MayAdd contents (item ∷ []) j
-    → Adds contents failures (item_records item) (Ok u) j.encoder new → limits_of new ≡ limits_of j.encoder → HasRoomFor j.counts item
+    → AddsRecords contents failures (item_records item) (Ok u) j.encoder new → encoder_limits new ≡ encoder_limits j.encoder → HasRoomFor j.counts item
 room_for contents failures item j new u may adds same =
     let right = all_first may.items (item ∷ []) (all_first (may.items ++ item ∷ []) may.rest (subst (AllByRecursion IsRight) may.split (right_items may.value may.whole))) in
     let counted = may.joined.counted in
@@ -77,7 +77,7 @@ room_for contents failures item j new u may adds same =
 
 -- an item that begins a transmission is no mistake
 pub put_right : {W : Type 0} (contents : W → Option (List ℕ)) (item : Item) (j : Joined W) (answer : Result (Unit {0}) EncodeFault) → MayAdd contents (item ∷ []) j
-    → ((start : Option (List ℕ)) (records : List RecordValue) → Encodes contents start records j.encoder → JudgesItem (limits_of j.encoder) item (map symbol_of records) answer)
+    → ((start : Option (List ℕ)) (records : List RecordValue) → Encodes contents start records j.encoder → JudgesItem (encoder_limits j.encoder) item (map symbol_of records) answer)
     → IsNoMistake answer
 put_right contents item j answer may judged =
     let before = records_in may.items in
@@ -90,8 +90,8 @@ put_right contents item j answer may judged =
     no_mistake j.encoder.tally (map symbol_of before) item answer may.joined.encodes.counted (own_item may.value may.items item may.rest may.whole may.split last.0) more (judged may.start before may.joined.encodes)
 
 -- the item was joined
-pub put_on : {W : Type 0} (contents : W → Option (List ℕ)) (failures : W → ℕ) (item : Item) (old new : Joined W) (u : Unit {0}) → Adds contents failures (item_records item) (Ok u) old.encoder new.encoder
-    → limits_of new.encoder ≡ limits_of old.encoder → new.counts ≡ totals_with old.counts item → JoinsOn contents failures (item ∷ []) old new
+pub put_on : {W : Type 0} (contents : W → Option (List ℕ)) (failures : W → ℕ) (item : Item) (old new : Joined W) (u : Unit {0}) → AddsRecords contents failures (item_records item) (Ok u) old.encoder new.encoder
+    → encoder_limits new.encoder ≡ encoder_limits old.encoder → new.counts ≡ totals_with old.counts item → JoinsOn contents failures (item ∷ []) old new
 put_on contents failures item old new u adds same counts = record {
   more = λ start items h. record {
     encodes = subst (λ (l : List RecordValue). Encodes contents start l new.encoder) (sym (records_more items item)) (adds.0 start (records_in items) h.encodes);
@@ -112,14 +112,14 @@ item_barred limits Ended xs limit h = absurd h
 
 -- it was refused, or the writer failed
 pub put_fault : {W : Type 0} (contents : W → Option (List ℕ)) (failures : W → ℕ) (item : Item) (old new : Joined W) (other : EncodeFault) (fault : ToolFault)
-    → ((start : Option (List ℕ)) (records : List RecordValue) → Encodes contents start records old.encoder → JudgesItem (limits_of old.encoder) item (map symbol_of records) (Err other))
-    → Adds contents failures (item_records item) (Err other) old.encoder new.encoder → limits_of new.encoder ≡ limits_of old.encoder → new.counts ≡ old.counts → is_fault_of other fault
+    → ((start : Option (List ℕ)) (records : List RecordValue) → Encodes contents start records old.encoder → JudgesItem (encoder_limits old.encoder) item (map symbol_of records) (Err other))
+    → AddsRecords contents failures (item_records item) (Err other) old.encoder new.encoder → encoder_limits new.encoder ≡ encoder_limits old.encoder → new.counts ≡ old.counts → is_fault_of other fault
     → AddsItems contents failures (item ∷ []) (Err fault) old new
 put_fault {W = W} contents failures item old new (encode_faults.Limit limit) fault judged adds kept counts e =
     let same : new ≡ old = λ i. record { encoder = adds i; counts = counts i } in
-    let barred : IsBarredAfter contents (limits_of old.encoder) (item ∷ []) limit old = λ start items h.
-    subst (λ (ys : List Symbol). IsBarredFirst (limits_of old.encoder) (λ P. Continues P ys) (bars.Limit limit)) (symbols_more items item)
-    (item_barred (limits_of old.encoder) item (map symbol_of (records_in items)) limit (judged start (records_in items) h.encodes)) in
+    let barred : IsBarredAfter contents (encoder_limits old.encoder) (item ∷ []) limit old = λ start items h.
+    subst (λ (ys : List Symbol). IsBarredFirst (encoder_limits old.encoder) (λ P. Continues P ys) (bars.Limit limit)) (symbols_more items item)
+    (item_barred (encoder_limits old.encoder) item (map symbol_of (records_in items)) limit (judged start (records_in items) h.encodes)) in
     subst (λ (f : ToolFault). AddsItems contents failures (item ∷ []) (Err f) old new) (sym e) (barred, same)
 put_fault {W = W} contents failures item old new (encode_faults.Writer n) fault judged adds kept counts e =
     let fails : FailsOn contents failures (item ∷ []) n old new = record {

@@ -18,8 +18,8 @@ use Rattle.cwr_judge.specs.Items.{group_items, is_transaction, opens_group, reco
 use Rattle.cwr_decode.proofs.CountedItems.{all_given, groups_given, transactions_given}
 use Rattle.cwr_encode.specs.declared.encoders.EncodeFault.{EncodeFault}
 use Rattle.cwr_encode.specs.declared.encoders.EncodeFault.TheVariants as encode_faults
-use Rattle.cwr_encode.specs.Encoders.{IsNoMistake, IsUnlimited, limits_of, reached, reached_by}
-use Rattle.cwr_encode.specs.Finishing.{Completes, FinishesWriting, HasFront, JudgesEnd, MayEnd}
+use Rattle.cwr_encode.specs.Encoders.{IsNoMistake, IsUnlimited, encoder_limits, reached, reached_by}
+use Rattle.cwr_encode.specs.Finishing.{Completes, FinishesWriting, HasFront, JudgesEnd, IsBeforeTrailer}
 use Rattle.cwr_encode.proofs.Adding.{plain_symbol, reached-snoc}
 use Rattle.cwr_tools.specs.declared.joined.Joined.{Joined}
 use Rattle.cwr_tools.specs.declared.totals.Totals.{Totals}
@@ -28,7 +28,7 @@ use Rattle.cwr_tools.specs.declared.verdicts.JoinReport.{JoinReport}
 use Rattle.cwr_tools.specs.declared.verdicts.ToolFault.{ToolFault}
 use Rattle.cwr_tools.specs.declared.verdicts.ToolFault.TheVariants.{Writer}
 use Rattle.cwr_tools.specs.Joins.{AreJoined, CountsOutputFault, join_report, joined_inputs}
-use Rattle.cwr_tools.specs.Joined.{AreCounted, EndsJoin, EndsWithAll, HasJoined, HasJoinedAll, IsAnswerOf, writer_of}
+use Rattle.cwr_tools.specs.Joined.{AreCounted, EndsJoin, EndsWithAll, HasJoined, HasJoinedAll, IsAnswerOf, joined_writer}
 use Rattle.cwr_tools.specs.Splits.{join_of}
 use Rattle.cwr_tools.proofs.CountedTotals.{count_more}
 use Rattle.cwr_tools.proofs.ItemsAdded.{records_in-append, records_in_value}
@@ -77,16 +77,16 @@ reached_end (v ∷ others) each some =
 
 pub right_end : (limits : LimitValues) (xs : List Symbol) (answer : Result ℕ EncodeFault) → reached xs ≡ reached_by (Some (Plain kinds.Grt)) → JudgesEnd limits xs answer → IsNoMistake answer
 right_end limits xs (Ok n) e h = tt
-right_end limits xs (Err encode_faults.OutOfOrder) e h = absurd (h (subst MayEnd (sym e) tt))
+right_end limits xs (Err encode_faults.OutOfOrder) e h = absurd (h (subst IsBeforeTrailer (sym e) tt))
 right_end limits xs (Err encode_faults.WrongKind) e h = absurd (h.1 tt)
 right_end limits xs (Err encode_faults.Incomplete) e h = absurd (h.2 e)
 right_end limits xs (Err (encode_faults.Limit limit)) e h = tt
 right_end limits xs (Err (encode_faults.Writer n)) e h = tt
 
 pub no_mistake_at_end : {W : Type 0} (contents : W → Option (List ℕ)) (count : ℕ) (j : Joined W) (answer : Result ℕ EncodeFault) → (all : HasJoinedAll contents count j)
-    → JudgesEnd (limits_of j.encoder) (map symbol_of (records_in (joined_inputs all.inputs))) answer → IsNoMistake answer
+    → JudgesEnd (encoder_limits j.encoder) (map symbol_of (records_in (joined_inputs all.inputs))) answer → IsNoMistake answer
 no_mistake_at_end contents count j answer all judged =
-    right_end (limits_of j.encoder) (map symbol_of (records_in (joined_inputs all.inputs))) answer (reached_end all.inputs all.each (omega (arith, all.some, all.counted))) judged
+    right_end (encoder_limits j.encoder) (map symbol_of (records_in (joined_inputs all.inputs))) answer (reached_end all.inputs all.each (omega (arith, all.some, all.counted))) judged
 
 -- and few records came before it
 pub few_before_end : {W : Type 0} (contents : W → Option (List ℕ)) (count : ℕ) (j : Joined W) → HasJoinedAll contents count j → j.counts.records ≤ 99999999
@@ -129,12 +129,12 @@ ended_well contents failures count old new n f start inputs many some each h =
     let j = some_joined inputs (omega (arith, some, many)) in
     let whole = joined_whole inputs j.0 each j.1 in
     let w = f.1 start (records_in (joined_inputs inputs)) h.encodes in
-    let same = completes (limits_of old.encoder) inputs j.0 w.0 whole j.1 w.1 in
+    let same = completes (encoder_limits old.encoder) inputs j.0 w.0 whole j.1 w.1 in
     record {
       joined = j.0;
       joined_of = j.1;
       whole = whole;
-      within = fits (limits_of old.encoder) w.0 j.0 same w.1.within;
+      within = fits (encoder_limits old.encoder) w.0 j.0 same w.1.within;
       ends = (reported old.counts count inputs j.0 j.1 h.counted, subst (λ (v : TransmissionValue). Appends start (contents new) (canonical_text v)) same w.2.appended);
     }
 
@@ -145,12 +145,12 @@ ended_short contents failures count old new n fault f e start inputs many some e
     let j = some_joined inputs (omega (arith, some, many)) in
     let whole = joined_whole inputs j.0 each j.1 in
     let w = f.1 start (records_in (joined_inputs inputs)) h.encodes in
-    let same = completes (limits_of old.encoder) inputs j.0 w.0 whole j.1 w.1 in
+    let same = completes (encoder_limits old.encoder) inputs j.0 w.0 whole j.1 w.1 in
     record {
       joined = j.0;
       joined_of = j.1;
       whole = whole;
-      within = fits (limits_of old.encoder) w.0 j.0 same w.1.within;
+      within = fits (encoder_limits old.encoder) w.0 j.0 same w.1.within;
       ends = (refl, n, e, subst (λ (v : TransmissionValue). HasFront contents start new (canonical_text v) n) same w.2);
     }
 
@@ -159,7 +159,7 @@ pub ends_join : {W : Type 0} (contents : W → Option (List ℕ)) (failures : W 
 ends_join contents failures count old new (Ok n) result a f u =
     subst (EndsJoin contents failures count old new) (sym a) (f.0, ended_well contents failures count old new n f)
 ends_join contents failures count old new (Err (encode_faults.Writer n)) result a f u =
-    let counts : CountsOutputFault a.0 (failures (writer_of old)) (failures new) = subst (λ (fault : ToolFault). CountsOutputFault fault (failures (writer_of old)) (failures new)) (sym a.1) f.0 in
+    let counts : CountsOutputFault a.0 (failures (joined_writer old)) (failures new) = subst (λ (fault : ToolFault). CountsOutputFault fault (failures (joined_writer old)) (failures new)) (sym a.1) f.0 in
     subst (EndsJoin contents failures count old new) (sym a.2) (counts, ended_short contents failures count old new n a.0 f a.1)
 ends_join contents failures count old new (Err (encode_faults.Limit limit)) result a f u = absurd u
 ends_join contents failures count old new (Err encode_faults.OutOfOrder) result a f u = absurd a.1

@@ -13,7 +13,7 @@ use Rattle.cwr_tools.specs.declared.verdicts.JoinFault.{JoinFault}
 use Rattle.cwr_tools.specs.declared.verdicts.JoinReport.{JoinReport}
 use Rattle.cwr_tools.specs.declared.verdicts.ToolFault.{ToolFault}
 use Rattle.cwr_tools.specs.Joins.{AreJoined, CountsInputFault, FailsToWrite, Joins, StopsBy, TakesInput, TakeInputs, join_report}
-use Rattle.cwr_tools.specs.Joined.{AddsAll, EndsJoin, EndsWithAll, HasJoinedAll, writer_of}
+use Rattle.cwr_tools.specs.Joined.{AddsAll, EndsJoin, EndsWithAll, HasJoinedAll, joined_writer}
 use Rattle.cwr_tools.proofs.InputsJoined.{taken_many, taken_whole}
 
 -- as many readers as before
@@ -26,7 +26,7 @@ left_many limits remaining failures olds vs news h = absurd h
 pub ready_to_end : {R W : Type 0} (limits : Limits) (remaining : R → Option (List ℕ)) (failures : R → ℕ) (contents : W → Option (List ℕ)) (before after : List R) (old j : Joined W)
     → AreInRange limits → 0 < length before → AddsAll limits remaining failures contents before after old j → HasJoinedAll contents (length after) j
 ready_to_end limits remaining failures contents before after old j range some h = record {
-  start = contents (writer_of old);
+  start = contents (joined_writer old);
   inputs = h.inputs;
   counted = omega (arith, taken_many limits remaining failures before h.inputs after h.taken, left_many limits remaining failures before h.inputs after h.taken);
   range = subst AreInRange (sym h.limits_are) range;
@@ -91,13 +91,13 @@ taken_to_last limits remaining failures olds vs news some h = absurd h
 -- ---- the answers
 
 pub joins_end : {R W : Type 0} (limits : Limits) (remaining : R → Option (List ℕ)) (failures : R → ℕ) (contents : W → Option (List ℕ)) (counts : W → ℕ) (before after : List R) (old j : Joined W) (writer new : W) (result : Result JoinReport JoinFault)
-    → writer_of old ≡ writer → 0 < length before → AddsAll limits remaining failures contents before after old j → EndsJoin contents counts (length after) j new result
+    → joined_writer old ≡ writer → 0 < length before → AddsAll limits remaining failures contents before after old j → EndsJoin contents counts (length after) j new result
     → Joins limits remaining failures contents before after writer new result
 joins_end {R = R} {W = W} limits remaining failures contents counts before after old j writer new result same some h ends =
     by result (ends.1 start h.inputs (omega (arith, many, left)) (omega (arith, some, left)) (taken_whole limits remaining failures before h.inputs after h.taken) h.joined)
   where
     start : Option (List ℕ)
-    start = contents (writer_of old)
+    start = contents (joined_writer old)
 
     left : length before ≡ length after
     left = left_many limits remaining failures before h.inputs after h.taken

@@ -20,7 +20,7 @@ use Rattle.cwr_decode.specs.Runs.{HasReadAll, IsReadingOn}
 use Rattle.cwr_decode.proofs.FirstItems.{first_items}
 use Rattle.cwr_decode.proofs.ItemsMakeOneTransmission.{items_once}
 use Rattle.cwr_decode.proofs.ItemsReadSoFar.{all_items, all_taken, fewer_left, some_read}
-use Rattle.cwr_encode.specs.Encoders.{Encodes, is_stopped, limits_of}
+use Rattle.cwr_encode.specs.Encoders.{Encodes, is_stopped, encoder_limits}
 use Rattle.cwr_tools.specs.declared.joined.Joined.{Joined}
 use Rattle.cwr_tools.specs.declared.verdicts.ToolFault.{ToolFault}
 use Rattle.cwr_tools.specs.declared.verdicts.ToolFault.TheVariants as tool_faults
@@ -74,7 +74,7 @@ begun_by limits d before now given h =
 
 -- so one more may be joined
 pub may_add : {W : Type 0} (limits : Limits) (first : Bool) (d new : Standing) (before left after : Option (List ℕ)) (contents : W → Option (List ℕ)) (failures : W → ℕ) (count : ℕ) (old j : Joined W) (item : Item)
-    → IsBetweenInputs contents first old → limits_of old.encoder ≡ limits → (h : IsJoining limits first d before left contents failures count old j) → IsReadingOn limits new before after (h.given ++ item ∷ [])
+    → IsBetweenInputs contents first old → encoder_limits old.encoder ≡ limits → (h : IsJoining limits first d before left contents failures count old j) → IsReadingOn limits new before after (h.given ++ item ∷ [])
     → MayAdd contents (filter (is_joined first) (item ∷ [])) j
 may_add limits first d new before left after contents failures count old j item between same h reading =
     let own = filter (is_joined first) (item ∷ []) in
@@ -110,14 +110,14 @@ next_handed_out limits first d new before left after contents failures count old
 
 -- the item passes a limit, or the writer failed in it
 pub item_refused : {W : Type 0} (limits : Limits) (first : Bool) (d new : Standing) (before left after : Option (List ℕ)) (contents : W → Option (List ℕ)) (failures : W → ℕ) (count : ℕ) (old j next : Joined W) (item : Item) (fault : ToolFault)
-    → limits_of old.encoder ≡ limits → (h : IsJoining limits first d before left contents failures count old j) → IsReadingOn limits new before after (h.given ++ item ∷ [])
+    → encoder_limits old.encoder ≡ limits → (h : IsJoining limits first d before left contents failures count old j) → IsReadingOn limits new before after (h.given ++ item ∷ [])
     → AddsItems contents failures (filter (is_joined first) (item ∷ [])) (Err fault) j next → AddsInput limits contents failures first before after (Err fault) old next
 item_refused limits first d new before left after contents failures count old j next item (tool_faults.Limit limit) same h reading a =
     let kept = filter (is_joined first) h.given in
     let own = filter (is_joined first) (item ∷ []) in
     let barred : IsBarredAfter contents limits (filter (is_joined first) (h.given ++ item ∷ [])) limit old = λ start items k.
     subst (λ (l : LimitValues). IsBarredFirst l (λ P. Continues P (map symbol_of (records_in (items ++ filter (is_joined first) (h.given ++ item ∷ []))))) (bars.Limit limit)) (h.on.limits ∙ same)
-    (subst (λ (l : List Item). IsBarredFirst (limits_of j.encoder) (λ P. Continues P (map symbol_of (records_in l))) (bars.Limit limit)) (append_assoc items kept own ∙ ap (λ (l : List Item). items ++ l) (split_filter first h.given item))
+    (subst (λ (l : List Item). IsBarredFirst (encoder_limits j.encoder) (λ P. Continues P (map symbol_of (records_in l))) (bars.Limit limit)) (append_assoc items kept own ∙ ap (λ (l : List Item). items ++ l) (split_filter first h.given item))
     (a.0 start (items ++ kept) (h.on.more start items k))) in
     (h.given, item, (new, reading.read), subst (λ (x : Joined _). JoinsOn contents failures kept old x) (sym a.1) h.on, barred)
 item_refused limits first d new before left after contents failures count old j next item (tool_faults.Writer n) same h reading a =

@@ -11,7 +11,7 @@ use Rattle.cwr_values.specs.Rows.{canonical_text, records_of, trailer}
 use Rattle.cwr_judge.specs.Items.{group_items, records_in, value_items}
 use Rattle.std.specs.List.{flat_map}
 use Rattle.cwr_encode.specs.declared.encoders.EncodeFault.{EncodeFault}
-use Rattle.cwr_encode.specs.Encoders.{IsNoMistake, limits_of, reached}
+use Rattle.cwr_encode.specs.Encoders.{IsNoMistake, encoder_limits, reached}
 use Rattle.cwr_encode.specs.Finishing.{FinishesWriting, JudgesEnd}
 use Rattle.cwr_tools.specs.declared.split_output.SplitOutput.{SplitOutput}
 use Rattle.cwr_tools.specs.Outputs.{AddsText}
@@ -25,13 +25,13 @@ before_end v items e = append_cancel_right items (Opened v.opening ∷ flat_map 
 
 -- TRL is no mistake
 pub right_last : {W : Type 0} (contents : W → Option (List ℕ)) (out : SplitOutput W) (answer : Result ℕ EncodeFault) → (may : MayHandOver contents out)
-    → JudgesEnd (limits_of out.encoder) (map symbol_of (records_in may.items)) answer → IsNoMistake answer
+    → JudgesEnd (encoder_limits out.encoder) (map symbol_of (records_in may.items)) answer → IsNoMistake answer
 right_last contents out answer may judged =
     let v = may.ends.value in
     let whole = may.ends.whole in
     let same = before_end v may.items may.ends.items_are in
     let foot = reached_foot (flat_map group_items v.groups) (closed_end v.groups whole.each whole.some_group) (Opened v.opening) in
-    right_end (limits_of out.encoder) (map symbol_of (records_in may.items)) answer (ap (λ (l : List Item). reached (map symbol_of (records_in l))) same ∙ foot) judged
+    right_end (encoder_limits out.encoder) (map symbol_of (records_in may.items)) answer (ap (λ (l : List Item). reached (map symbol_of (records_in l))) same ∙ foot) judged
 
 -- the records of a transmission, by its items
 all_records : (w : TransmissionValue) (items : List Item) → value_items w ≡ items ++ Ended ∷ [] → records_of w ≡ records_in items ++ trailer ∷ []

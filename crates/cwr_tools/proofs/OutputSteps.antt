@@ -6,11 +6,11 @@ use Rattle.cwr_shape.specs.Ranges.{LimitValues}
 use Rattle.cwr_values.specs.declared.items.Item.{Item}
 use Rattle.cwr_judge.specs.Items.{AreFirstItems, records_in}
 use Rattle.cwr_values.specs.declared.items.Item.TheVariants.{Ended}
-use Rattle.cwr_encode.specs.Encoders.{Encodes, is_stopped, limits_of, target_of}
+use Rattle.cwr_encode.specs.Encoders.{Encodes, is_stopped, encoder_limits, target_of}
 use Rattle.cwr_tools.specs.declared.split_output.SplitOutput.{SplitOutput}
 use Rattle.cwr_tools.specs.declared.splitting.Splitting.{Splitting}
 use Rattle.cwr_tools.specs.SplitOutputs.{HoldsOutput, IsOutput, IsQuiet, MayEnd, MayHandOver, TakesOutput, Told, end_of, open_count}
-use Rattle.cwr_tools.specs.SplitSteps.{IsHandedOver, IsOpen, IsOutside, IsOutsideOpen, Finishes, MayEndGroup, MayEndHeld, MayFinish, holding, open_group, report_after}
+use Rattle.cwr_tools.specs.SplitSteps.{IsHandedOver, IsOpen, IsOutside, IsOutsideOpen, FinishesOutput, MayEndGroup, MayEndHeld, MayFinish, holding, has_open_group, report_after}
 
 -- ---- an output is open
 
@@ -29,11 +29,11 @@ already_open told contents failures s before out e = record {
   quiet = record { texts = refl; failures = refl; given_up = refl };
   held = λ items h. subst (HoldsOutput contents failures s.limits (told.texts before) items) e h;
   counted = sym (ap open_count e);
-  group = sym (ap open_group e);
+  group = sym (ap has_open_group e);
 }
 
 pub newly_open : {O W : Type 0} (told : Told O) (contents : W → Option (List ℕ)) (failures : W → ℕ) (s : Splitting W) (before after : O) (writer : W) (out : SplitOutput W) → s.output ≡ None
-    → IfSome (told.texts before) (λ _. contents writer ≡ Some []) → failures writer ≡ 0 → IsQuiet told before after → Encodes contents (contents writer) [] out.encoder → limits_of out.encoder ≡ s.limits → is_stopped out.encoder ≡ false
+    → IfSome (told.texts before) (λ _. contents writer ≡ Some []) → failures writer ≡ 0 → IsQuiet told before after → Encodes contents (contents writer) [] out.encoder → encoder_limits out.encoder ≡ s.limits → is_stopped out.encoder ≡ false
     → target_of out.encoder ≡ writer → out.transactions ≡ 0 → out.in_group ≡ false → IsOpen told contents failures s (holding s (Some out)) before after
 newly_open told contents failures s before after writer out e empty quiet same encodes limits unfailed target none outside = record {
   out = out;
@@ -50,7 +50,7 @@ newly_open told contents failures s before after writer out e empty quiet same e
         limits_are = limits;
       };
   counted = none ∙ sym (ap open_count e);
-  group = outside ∙ sym (ap open_group e);
+  group = outside ∙ sym (ap has_open_group e);
 }
 
 -- ---- its group ends
@@ -111,7 +111,7 @@ may_hand_over told contents failures s mid before out may outside e =
 
 pub finished : {O W : Type 0} (told : Told O) (contents : W → Option (List ℕ)) (failures : W → ℕ) (s mid : Splitting W) (before after : O) (out : SplitOutput W) (left : Option (SplitOutput W)) → mid ≡ holding s mid.output
     → IsOutsideOpen contents failures s.output mid.output → mid.output ≡ Some out → left ≡ None → TakesOutput told contents out before after
-    → Finishes told contents failures (Ok tt) s (record mid { output = left; report = record { outputs = mid.report.outputs + 1; transactions = mid.report.transactions } }) before after
+    → FinishesOutput told contents failures (Ok tt) s (record mid { output = left; report = record { outputs = mid.report.outputs + 1; transactions = mid.report.transactions } }) before after
 finished {W = W} told contents failures s mid before after out left same outside e gone taken =
     let was = was_open contents failures s.output mid.output out outside e in
     let ended : Splitting W → Option (SplitOutput W) → Splitting W = λ m o. record m { output = o; report = record { outputs = m.report.outputs + 1; transactions = m.report.transactions } } in (

@@ -13,7 +13,7 @@ use Rattle.cwr_tools.specs.declared.split_output.SplitOutput.{SplitOutput}
 use Rattle.cwr_tools.specs.SplitOutputs.{blank_end, open_count, open_end, open_front}
 use Rattle.cwr_tools.specs.SplitPlaces.{ArePartGroups, Between, Inside, open_items, part_group, total_in, value_of, with_group}
 use Rattle.cwr_tools.specs.SplitItems.{is_in_group}
-use Rattle.cwr_tools.specs.SplitSteps.{items_with, open_group}
+use Rattle.cwr_tools.specs.SplitSteps.{items_with, has_open_group}
 use Rattle.cwr_tools.proofs.OutputAdded.{head_first, head_once, opening_once}
 
 -- HDR, the closed groups, and of the open one GRH and these transactions
@@ -58,17 +58,17 @@ some_in [] part some = absurd (omega (arith, some))
 some_in (g ∷ gs) part some = omega (arith, part.0.0, sum_by-append (λ (g : GroupValue). length g.transactions) (g ∷ []) gs)
 
 -- an output that is open has no more to be written before a transaction than GRH
-front_written : {W : Type 0} (opening head : Item) (held : Option (SplitOutput W)) → 0 < open_count held → open_group held ≡ true → open_front opening head held ≡ []
+front_written : {W : Type 0} (opening head : Item) (held : Option (SplitOutput W)) → 0 < open_count held → has_open_group held ≡ true → open_front opening head held ≡ []
 front_written opening head None some e = absurd (omega (arith, some))
 front_written opening head (Some out) some e = ap₂ (λ (x y : List Item). x ++ y) (opening_once opening out some) (head_once head out e)
 
-front_head : {W : Type 0} (opening head : Item) (held : Option (SplitOutput W)) → 0 < open_count held → open_group held ≡ false → open_front opening head held ≡ head ∷ []
+front_head : {W : Type 0} (opening head : Item) (held : Option (SplitOutput W)) → 0 < open_count held → has_open_group held ≡ false → open_front opening head held ≡ head ∷ []
 front_head opening head None some e = absurd (omega (arith, some))
 front_head opening head (Some out) some e = ap₂ (λ (x y : List Item). x ++ y) (opening_once opening out some) (head_first head out e)
 
 -- with what is written before the next transaction, the group has its head
 pub with_front : {W : Type 0} (o : RecordValue) (closed : List GroupValue) (h : RecordValue) (cur : List (List RecordValue)) (held : Option (SplitOutput W)) → ArePartGroups closed → open_count held ≡ total_in closed + length cur
-    → open_group held ≡ is_in_group (Inside o closed h cur) → (total_in closed + length cur ≡ 0 → held ≡ None) → open_items (Inside o closed h cur) ++ open_front (Opened o) (GroupOpened h) held ≡ begun o closed h cur
+    → has_open_group held ≡ is_in_group (Inside o closed h cur) → (total_in closed + length cur ≡ 0 → held ≡ None) → open_items (Inside o closed h cur) ++ open_front (Opened o) (GroupOpened h) held ≡ begun o closed h cur
 with_front {W = W} o [] h [] held part count group none = ap (λ (x : Option (SplitOutput W)). open_front (Opened o) (GroupOpened h) x) (none refl)
 with_front o (g ∷ gs) h [] held part count group none =
     let some : 0 < open_count held = omega (arith, count, some_in (g ∷ gs) part (omega arith)) in
@@ -79,18 +79,18 @@ with_front o closed h (t ∷ ts) held part count group none =
 
 -- with the next transaction
 pub with_transaction : {W : Type 0} (o : RecordValue) (closed : List GroupValue) (h : RecordValue) (cur : List (List RecordValue)) (t : List RecordValue) (held : Option (SplitOutput W)) → ArePartGroups closed → open_count held ≡ total_in closed + length cur
-    → open_group held ≡ is_in_group (Inside o closed h cur) → (total_in closed + length cur ≡ 0 → held ≡ None)
+    → has_open_group held ≡ is_in_group (Inside o closed h cur) → (total_in closed + length cur ≡ 0 → held ≡ None)
     → items_with (open_items (Inside o closed h cur)) (Opened o) (GroupOpened h) (Transaction t) held ≡ begun o closed h (cur ++ t ∷ [])
 with_transaction o closed h cur t held part count group none =
     ap (λ (l : List Item). l ++ Transaction t ∷ []) (with_front o closed h cur held part count group none)
     ∙ sym (begun_more o closed h cur t)
 
 -- what ends the open group, if one is open
-end_not_open : {W : Type 0} (held : Option (SplitOutput W)) → open_group held ≡ false → open_end held ≡ []
+end_not_open : {W : Type 0} (held : Option (SplitOutput W)) → has_open_group held ≡ false → open_end held ≡ []
 end_not_open None e = refl
 end_not_open (Some out) e = ap (λ (b : Bool). if b then blank_end ∷ [] else []) e
 
-end_open : {W : Type 0} (held : Option (SplitOutput W)) → open_group held ≡ true → open_end held ≡ blank_end ∷ []
+end_open : {W : Type 0} (held : Option (SplitOutput W)) → has_open_group held ≡ true → open_end held ≡ blank_end ∷ []
 end_open None e = absurd (cc)
 end_open (Some out) e = ap (λ (b : Bool). if b then blank_end ∷ [] else []) e
 
@@ -98,7 +98,7 @@ closed_after : (o : RecordValue) (closed : List GroupValue) (g : GroupValue) →
 closed_after o closed g = items_closed o (closed ++ g ∷ []) (omega (arith, length-append closed (g ∷ [])))
 
 -- with it the items are those of the closed groups
-pub with_end : {W : Type 0} (o : RecordValue) (closed : List GroupValue) (h : RecordValue) (cur : List (List RecordValue)) (held : Option (SplitOutput W)) → open_group held ≡ is_in_group (Inside o closed h cur)
+pub with_end : {W : Type 0} (o : RecordValue) (closed : List GroupValue) (h : RecordValue) (cur : List (List RecordValue)) (held : Option (SplitOutput W)) → has_open_group held ≡ is_in_group (Inside o closed h cur)
     → open_items (Inside o closed h cur) ++ open_end held ≡ open_items (Between o (with_group closed h cur))
 with_end o [] h [] held group = end_not_open held group
 with_end o (g ∷ gs) h [] held group =

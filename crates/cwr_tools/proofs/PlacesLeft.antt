@@ -16,7 +16,7 @@ use Rattle.cwr_values.specs.declared.items.Item.TheVariants.{Opened, GroupOpened
 use Rattle.cwr_values.specs.Values.{GroupValue, TransmissionValue, FitsIn, IsGroup, IsRecordOf, IsTransmission, IsTransaction, type_of, outline_of_group}
 use Rattle.cwr_judge.specs.Items.{group_items, value_items}
 use Rattle.cwr_tools.specs.Splits.{split_of}
-use Rattle.cwr_tools.specs.SplitPlaces.{ArePartGroups, Place, Remains, RemainsBetween, RemainsInside, Between, Inside, Over, Start, group_of, last_of, part_group, parts_at, parts_in, place_after, place_in, total_in, value_of, with_group}
+use Rattle.cwr_tools.specs.SplitPlaces.{ArePartGroups, Place, Remains, RemainsBetween, RemainsInside, Between, Inside, Over, Start, group_value, last_of, part_group, parts_at, parts_in, split_place_after, place_in, total_in, value_of, with_group}
 use Rattle.cwr_tools.proofs.FrontsFit.{fits_back, fits_front, fits_rest}
 use Rattle.cwr_tools.proofs.SplitParts.{any_foot, empty_group, first_part, last_part, no_part}
 
@@ -102,8 +102,8 @@ went_on limits n v whole o closed h cur item rest p t ts e f other =
       right_after = p.right_after;
       part = p.part;
       few = omega (arith, p.few, other, length-append cur (t ∷ []));
-      within = subst (λ (l : List (List RecordValue)). FitsIn limits (value_of o (closed ++ group_of h l p.foot ∷ p.after))) same p.within;
-      split = p.split ∙ ap (λ (l : List (List RecordValue)). whole ++ split_of n (value_of o (closed ++ group_of h l p.foot ∷ p.after))) same;
+      within = subst (λ (l : List (List RecordValue)). FitsIn limits (value_of o (closed ++ group_value h l p.foot ∷ p.after))) same p.within;
+      split = p.split ∙ ap (λ (l : List (List RecordValue)). whole ++ split_of n (value_of o (closed ++ group_value h l p.foot ∷ p.after))) same;
     }
 
 each_later : {X : Type 0} (P : X → Type 0) (xs ys : List X) → AllByRecursion P (xs ++ ys) → AllByRecursion P ys
@@ -121,7 +121,7 @@ pub was_last : (limits : Limits) (n : ℕ) (v : TransmissionValue) (whole : List
 was_last limits n v whole o closed h cur item rest p t ts e f fits full =
     let with_it : List (List RecordValue) = cur ++ t ∷ [] in
     let part : TransmissionValue = value_of o (closed ++ part_group h with_it ∷ []) in
-    let left : TransmissionValue = value_of o (group_of h ts p.foot ∷ p.after) in
+    let left : TransmissionValue = value_of o (group_value h ts p.foot ∷ p.after) in
     let same : cur ++ p.todo ≡ with_it ++ ts = ap (λ (l : List (List RecordValue)). cur ++ l) e ∙ sym (append_assoc cur (t ∷ []) ts) in
     record {
       todo = ts;
@@ -136,8 +136,8 @@ was_last limits n v whole o closed h cur item rest p t ts e f fits full =
       right_after = p.right_after;
       part = tt;
       few = omega (arith, fits);
-      within = fits_back limits o closed p.after h with_it ts p.foot (subst (λ (l : List (List RecordValue)). FitsIn limits (value_of o (closed ++ group_of h l p.foot ∷ p.after))) same p.within);
-      split = p.split ∙ ap (λ (l : List (List RecordValue)). whole ++ split_of n (value_of o (closed ++ group_of h l p.foot ∷ p.after))) same
+      within = fits_back limits o closed p.after h with_it ts p.foot (subst (λ (l : List (List RecordValue)). FitsIn limits (value_of o (closed ++ group_value h l p.foot ∷ p.after))) same p.within);
+      split = p.split ∙ ap (λ (l : List (List RecordValue)). whole ++ split_of n (value_of o (closed ++ group_value h l p.foot ∷ p.after))) same
           ∙ ap (λ (l : List TransmissionValue). whole ++ l) (first_part n o closed h with_it ts p.foot p.after fits p.part (omega (arith, length-append cur (t ∷ []))) (omega (arith, full, length-append cur (t ∷ []))))
           ∙ sym (append_assoc whole (part ∷ []) (split_of n left));
     }
@@ -148,7 +148,7 @@ was_last limits n v whole o closed h cur item rest p t ts e f fits full =
 closed_none : (limits : Limits) (n : ℕ) (v : TransmissionValue) (whole : List TransmissionValue) (o : RecordValue) (closed : List GroupValue) (h : RecordValue) (item : Item) (rest : List Item)
     → (p : RemainsInside limits n v whole o closed h [] (item ∷ rest)) → p.todo ≡ [] → rest ≡ flat_map group_items p.after ++ Ended ∷ [] → closed ≡ [] → RemainsBetween limits n v whole o closed rest
 closed_none limits n v whole o closed h item rest p e f none =
-    let gone : closed ++ group_of h ([] ++ p.todo) p.foot ∷ p.after ≡ group_of h [] p.foot ∷ p.after = ap₂ (λ (c : List GroupValue) (l : List (List RecordValue)). c ++ group_of h l p.foot ∷ p.after) none e in
+    let gone : closed ++ group_value h ([] ++ p.todo) p.foot ∷ p.after ≡ group_value h [] p.foot ∷ p.after = ap₂ (λ (c : List GroupValue) (l : List (List RecordValue)). c ++ group_value h l p.foot ∷ p.after) none e in
     let fewer : closed ++ p.after ≡ p.after = ap (λ (c : List GroupValue). c ++ p.after) none in
     record {
       after = p.after;
@@ -159,13 +159,13 @@ closed_none limits n v whole o closed h item rest p e f none =
       part = p.part;
       few = omega (arith, p.few);
       within = subst (λ (l : List GroupValue). FitsIn limits (value_of o l)) (sym fewer)
-          (fits_rest limits o (group_of h [] p.foot) p.after (subst (λ (l : List GroupValue). FitsIn limits (value_of o l)) gone p.within));
+          (fits_rest limits o (group_value h [] p.foot) p.after (subst (λ (l : List GroupValue). FitsIn limits (value_of o l)) gone p.within));
       split = p.split ∙ ap (λ (l : List GroupValue). whole ++ split_of n (value_of o l)) gone ∙ ap (λ (l : List TransmissionValue). whole ++ l) (empty_group n o h p.foot p.after)
           ∙ ap (λ (l : List GroupValue). whole ++ split_of n (value_of o l)) (sym fewer);
     }
 
-outlines_same : (A B : List GroupValue) (h : RecordValue) (ts : List (List RecordValue)) (f e : RecordValue) → map outline_of_group (A ++ group_of h ts f ∷ B) ≡ map outline_of_group (A ++ group_of h ts e ∷ B)
-outlines_same A B h ts f e = map-append outline_of_group A (group_of h ts f ∷ B) ∙ sym (map-append outline_of_group A (group_of h ts e ∷ B))
+outlines_same : (A B : List GroupValue) (h : RecordValue) (ts : List (List RecordValue)) (f e : RecordValue) → map outline_of_group (A ++ group_value h ts f ∷ B) ≡ map outline_of_group (A ++ group_value h ts e ∷ B)
+outlines_same A B h ts f e = map-append outline_of_group A (group_value h ts f ∷ B) ∙ sym (map-append outline_of_group A (group_value h ts e ∷ B))
 
 closed_some : (limits : Limits) (n : ℕ) (v : TransmissionValue) (whole : List TransmissionValue) (o : RecordValue) (closed : List GroupValue) (h : RecordValue) (cur : List (List RecordValue)) (item : Item) (rest : List Item)
     → (p : RemainsInside limits n v whole o closed h cur (item ∷ rest)) → p.todo ≡ [] → rest ≡ flat_map group_items p.after ++ Ended ∷ [] → 0 < length cur → RemainsBetween limits n v whole o (closed ++ part_group h cur ∷ []) rest
@@ -182,8 +182,8 @@ closed_some limits n v whole o closed h cur item rest p e f some =
       few = omega (arith, p.few, sum_by-append (λ (g : GroupValue). length g.transactions) closed (part_group h cur ∷ []));
       within = subst (λ (l : List GroupValue). FitsIn limits (value_of o l)) joined
           (subst (λ (l : List GroupOutline). IsWithin limits l) (outlines_same closed p.after h cur p.foot (blank_record kinds.Grt))
-          (subst (λ (l : List (List RecordValue)). FitsIn limits (value_of o (closed ++ group_of h l p.foot ∷ p.after))) same p.within));
-      split = p.split ∙ ap (λ (l : List (List RecordValue)). whole ++ split_of n (value_of o (closed ++ group_of h l p.foot ∷ p.after))) same
+          (subst (λ (l : List (List RecordValue)). FitsIn limits (value_of o (closed ++ group_value h l p.foot ∷ p.after))) same p.within));
+      split = p.split ∙ ap (λ (l : List (List RecordValue)). whole ++ split_of n (value_of o (closed ++ group_value h l p.foot ∷ p.after))) same
           ∙ ap (λ (l : List TransmissionValue). whole ++ l) (any_foot n o closed p.after h cur p.foot (blank_record kinds.Grt))
           ∙ ap (λ (l : List GroupValue). whole ++ split_of n (value_of o l)) joined;
     }
@@ -217,7 +217,7 @@ after_foot limits n v whole o closed h (t ∷ ts) item rest p e f = closed_some 
 
 after_transaction : (limits : Limits) (n : ℕ) (v : TransmissionValue) (whole : List TransmissionValue) (o : RecordValue) (closed : List GroupValue) (h : RecordValue) (cur : List (List RecordValue)) (item : Item) (rest : List Item)
     → (p : RemainsInside limits n v whole o closed h cur (item ∷ rest)) (t : List RecordValue) (ts : List (List RecordValue)) → p.todo ≡ t ∷ ts → rest ≡ map Transaction ts ++ GroupClosed p.foot ∷ (flat_map group_items p.after ++ Ended ∷ [])
-    → 0 < n → Remains limits n v (whole ++ parts_at n (Inside o closed h cur) (Transaction t)) (place_after n (Inside o closed h cur) (Transaction t)) rest
+    → 0 < n → Remains limits n v (whole ++ parts_at n (Inside o closed h cur) (Transaction t)) (split_place_after n (Inside o closed h cur) (Transaction t)) rest
 after_transaction limits n v whole o closed h cur item rest p t ts e f some =
     let At = λ (b : Bool). Remains limits n v (whole ++ (if b then value_of o (closed ++ part_group h (cur ++ t ∷ []) ∷ []) ∷ [] else [])) (if b then Inside o [] h [] else Inside o closed h (cur ++ t ∷ [])) rest in
     elim (eqb_tells (total_in closed + length cur + 1) n) as (λ _. At ((total_in closed + length cur + 1) == n)) [
@@ -226,27 +226,27 @@ after_transaction limits n v whole o closed h cur item rest p t ts e f some =
     ]
 
 pub next_remains : (limits : Limits) (n : ℕ) (v : TransmissionValue) (whole : List TransmissionValue) (place : Place) (item : Item) (rest : List Item) → 0 < n → IsTransmission v → FitsIn limits v → Remains limits n v whole place (item ∷ rest)
-    → Remains limits n v (whole ++ parts_at n place item) (place_after n place item) rest
+    → Remains limits n v (whole ++ parts_at n place item) (split_place_after n place item) rest
 next_remains limits n v whole Start item rest some right fits h =
     let all : item ∷ rest ≡ Opened v.opening ∷ (flat_map group_items v.groups ++ Ended ∷ []) = h.0 in
     let is : item ≡ Opened v.opening = (cc) in
     let left : rest ≡ flat_map group_items v.groups ++ Ended ∷ [] = (cc) in
-    subst (λ (i : Item). Remains limits n v (whole ++ parts_at n Start i) (place_after n Start i) rest) (sym is)
+    subst (λ (i : Item). Remains limits n v (whole ++ parts_at n Start i) (split_place_after n Start i) rest) (sym is)
     (subst (λ (l : List TransmissionValue). RemainsBetween limits n v l v.opening [] rest) (sym (append-nil whole ∙ h.1)) (opened limits n v rest some right fits left))
 next_remains limits n v whole (Between o closed) item rest some right fits h = by (next_between h.after item rest h.rest_is)
   where
     by : ((h.after ≡ []) × (item ≡ Ended) × (rest ≡ [])) ⊎ ((g : GroupValue) × (gs : List GroupValue) × (h.after ≡ g ∷ gs) × (item ≡ GroupOpened g.head) × (rest ≡ map Transaction g.transactions ++ GroupClosed g.foot ∷ (flat_map group_items gs ++ Ended ∷ [])))
-        → Remains limits n v (whole ++ parts_at n (Between o closed) item) (place_after n (Between o closed) item) rest
-    by (inl e) = subst (λ (i : Item). Remains limits n v (whole ++ parts_at n (Between o closed) i) (place_after n (Between o closed) i) rest) (sym e.1) (e.2, ended limits n v whole o closed item rest h e.0 some)
-    by (inr g) = subst (λ (i : Item). Remains limits n v (whole ++ parts_at n (Between o closed) i) (place_after n (Between o closed) i) rest) (sym g.3)
+        → Remains limits n v (whole ++ parts_at n (Between o closed) item) (split_place_after n (Between o closed) item) rest
+    by (inl e) = subst (λ (i : Item). Remains limits n v (whole ++ parts_at n (Between o closed) i) (split_place_after n (Between o closed) i) rest) (sym e.1) (e.2, ended limits n v whole o closed item rest h e.0 some)
+    by (inr g) = subst (λ (i : Item). Remains limits n v (whole ++ parts_at n (Between o closed) i) (split_place_after n (Between o closed) i) rest) (sym g.3)
         (no_more limits n v whole (Inside o closed g.0.head []) rest (entered limits n v whole o closed item rest h g.0 g.1 g.2 g.4))
 next_remains limits n v whole (Inside o closed head cur) item rest some right fits h = by (next_inside h.todo h.foot (flat_map group_items h.after ++ Ended ∷ []) item rest h.rest_is)
   where
     by : ((h.todo ≡ []) × (item ≡ GroupClosed h.foot) × (rest ≡ flat_map group_items h.after ++ Ended ∷ [])) ⊎ ((t : List RecordValue) × (ts : List (List RecordValue)) × (h.todo ≡ t ∷ ts) × (item ≡ Transaction t) × (rest ≡ map Transaction ts ++ GroupClosed h.foot ∷ (flat_map group_items h.after ++ Ended ∷ [])))
-        → Remains limits n v (whole ++ parts_at n (Inside o closed head cur) item) (place_after n (Inside o closed head cur) item) rest
-    by (inl e) = subst (λ (i : Item). Remains limits n v (whole ++ parts_at n (Inside o closed head cur) i) (place_after n (Inside o closed head cur) i) rest) (sym e.1)
+        → Remains limits n v (whole ++ parts_at n (Inside o closed head cur) item) (split_place_after n (Inside o closed head cur) item) rest
+    by (inl e) = subst (λ (i : Item). Remains limits n v (whole ++ parts_at n (Inside o closed head cur) i) (split_place_after n (Inside o closed head cur) i) rest) (sym e.1)
         (no_more limits n v whole (Between o (with_group closed head cur)) rest (after_foot limits n v whole o closed head cur item rest h e.0 e.2))
-    by (inr t) = subst (λ (i : Item). Remains limits n v (whole ++ parts_at n (Inside o closed head cur) i) (place_after n (Inside o closed head cur) i) rest) (sym t.3)
+    by (inr t) = subst (λ (i : Item). Remains limits n v (whole ++ parts_at n (Inside o closed head cur) i) (split_place_after n (Inside o closed head cur) i) rest) (sym t.3)
         (after_transaction limits n v whole o closed head cur item rest h t.0 t.1 t.2 t.4 some)
 next_remains limits n v whole Over item rest some right fits h = absurd (let none : item ∷ rest ≡ [] = h.0 in cc)
 
@@ -256,8 +256,8 @@ remains_on : (limits : Limits) (n : ℕ) (v : TransmissionValue) (whole : List T
 remains_on limits n v whole place [] rest some right fits h = no_more limits n v whole place rest h
 remains_on limits n v whole place (item ∷ given) rest some right fits h =
     let next = next_remains limits n v whole place item (given ++ rest) some right fits h in
-    let later = remains_on limits n v (whole ++ parts_at n place item) (place_after n place item) given rest some right fits next in
-    subst (λ (l : List TransmissionValue). Remains limits n v l (place_in n (place_after n place item) given) rest) (append_assoc whole (parts_at n place item) (parts_in n (place_after n place item) given)) later
+    let later = remains_on limits n v (whole ++ parts_at n place item) (split_place_after n place item) given rest some right fits next in
+    subst (λ (l : List TransmissionValue). Remains limits n v l (place_in n (split_place_after n place item) given) rest) (append_assoc whole (parts_at n place item) (parts_in n (split_place_after n place item) given)) later
 
 pub remains_after : (limits : Limits) (n : ℕ) (v : TransmissionValue) (given rest : List Item) → 0 < n → IsTransmission v → FitsIn limits v → value_items v ≡ given ++ rest → Remains limits n v (parts_in n Start given) (place_in n Start given) rest
 remains_after limits n v given rest some right fits e = remains_on limits n v [] Start given rest some right fits (sym e, refl)
@@ -282,5 +282,5 @@ part_right limits n v whole o closed h cur item rest p t ts e =
       foot = blank_grt;
     } in (
       record { opening = p.opening; some_group = omega (arith, length-append closed (part_group h with_it ∷ [])); each = each_more IsGroup closed (part_group h with_it ∷ []) p.right (right, tt) },
-      fits_front limits o closed p.after h with_it ts p.foot (blank_record kinds.Grt) (subst (λ (l : List (List RecordValue)). FitsIn limits (value_of o (closed ++ group_of h l p.foot ∷ p.after))) same p.within),
+      fits_front limits o closed p.after h with_it ts p.foot (blank_record kinds.Grt) (subst (λ (l : List (List RecordValue)). FitsIn limits (value_of o (closed ++ group_value h l p.foot ∷ p.after))) same p.within),
     )

@@ -11,31 +11,31 @@ use Rattle.cwr_tools.specs.declared.verdicts.SplitReport.{SplitReport}
 use Rattle.cwr_tools.specs.Outputs.{AddsTexts}
 use Rattle.cwr_tools.specs.Splits.{split_of}
 use Rattle.cwr_tools.specs.SplitItems.{HasCounted}
-use Rattle.cwr_tools.specs.SplitPlaces.{Place, Remains, Between, Inside, Over, Start, open_total, parts_at, parts_in, place_after, place_in, total_in}
+use Rattle.cwr_tools.specs.SplitPlaces.{Place, Remains, Between, Inside, Over, Start, open_total, parts_at, parts_in, split_place_after, place_in, total_in}
 use Rattle.cwr_tools.proofs.PlacesLeft.{next_between, next_inside}
 
 -- ---- places
 
-pub place_more : (n : ℕ) (place : Place) (given : List Item) (item : Item) → place_in n place (given ++ item ∷ []) ≡ place_after n (place_in n place given) item
+pub place_more : (n : ℕ) (place : Place) (given : List Item) (item : Item) → place_in n place (given ++ item ∷ []) ≡ split_place_after n (place_in n place given) item
 place_more n place [] item = refl
-place_more n place (x ∷ given) item = place_more n (place_after n place x) given item
+place_more n place (x ∷ given) item = place_more n (split_place_after n place x) given item
 
 pub parts_more : (n : ℕ) (place : Place) (given : List Item) (item : Item) → parts_in n place (given ++ item ∷ []) ≡ parts_in n place given ++ parts_at n (place_in n place given) item
 parts_more n place [] item = append-nil (parts_at n place item)
 parts_more n place (x ∷ given) item =
-    ap (λ (l : List TransmissionValue). parts_at n place x ++ l) (parts_more n (place_after n place x) given item)
-    ∙ sym (append_assoc (parts_at n place x) (parts_in n (place_after n place x) given) (parts_at n (place_in n (place_after n place x) given) item))
+    ap (λ (l : List TransmissionValue). parts_at n place x ++ l) (parts_more n (split_place_after n place x) given item)
+    ∙ sym (append_assoc (parts_at n place x) (parts_in n (split_place_after n place x) given) (parts_at n (place_in n (split_place_after n place x) given) item))
 
 -- only TRL is the end
-pub over_after : (limits : Limits) (n : ℕ) (v : TransmissionValue) (whole : List TransmissionValue) (place : Place) (item : Item) (rest : List Item) → Remains limits n v whole place (item ∷ rest) → place_after n place item ≡ Over → item ≡ Ended
+pub over_after : (limits : Limits) (n : ℕ) (v : TransmissionValue) (whole : List TransmissionValue) (place : Place) (item : Item) (rest : List Item) → Remains limits n v whole place (item ∷ rest) → split_place_after n place item ≡ Over → item ≡ Ended
 over_after limits n v whole Start item rest h e =
     let is : item ≡ Opened v.opening = (let all : item ∷ rest ≡ Opened v.opening ∷ (flat_map group_items v.groups ++ Ended ∷ []) = h.0 in cc) in
-    absurd (let f : Between v.opening [] ≡ Over = sym (ap (place_after n Start) is) ∙ e in cc f)
+    absurd (let f : Between v.opening [] ≡ Over = sym (ap (split_place_after n Start) is) ∙ e in cc f)
 over_after limits n v whole (Between o closed) item rest h e = by (next_between h.after item rest h.rest_is)
   where
     by : ((h.after ≡ []) × (item ≡ Ended) × (rest ≡ [])) ⊎ ((g : GroupValue) × (gs : List GroupValue) × (h.after ≡ g ∷ gs) × (item ≡ GroupOpened g.head) × (rest ≡ map Transaction g.transactions ++ GroupClosed g.foot ∷ (flat_map group_items gs ++ Ended ∷ []))) → item ≡ Ended
     by (inl x) = x.1
-    by (inr g) = absurd (let f : Inside o closed g.0.head [] ≡ Over = sym (ap (place_after n (Between o closed)) g.3) ∙ e in cc f)
+    by (inr g) = absurd (let f : Inside o closed g.0.head [] ≡ Over = sym (ap (split_place_after n (Between o closed)) g.3) ∙ e in cc f)
 over_after limits n v whole (Inside o closed head cur) item rest h e = by (next_inside h.todo h.foot (flat_map group_items h.after ++ Ended ∷ []) item rest h.rest_is)
   where
     inside : (b : Bool) (t : List RecordValue) → (if b then Inside o [] head [] else Inside o closed head (cur ++ t ∷ [])) ≡ Over → item ≡ Ended
@@ -43,8 +43,8 @@ over_after limits n v whole (Inside o closed head cur) item rest h e = by (next_
     inside false t f = absurd (cc f)
 
     by : ((h.todo ≡ []) × (item ≡ GroupClosed h.foot) × (rest ≡ flat_map group_items h.after ++ Ended ∷ [])) ⊎ ((t : List RecordValue) × (ts : List (List RecordValue)) × (h.todo ≡ t ∷ ts) × (item ≡ Transaction t) × (rest ≡ map Transaction ts ++ GroupClosed h.foot ∷ (flat_map group_items h.after ++ Ended ∷ []))) → item ≡ Ended
-    by (inl x) = absurd (let f : place_after n (Inside o closed head cur) (GroupClosed h.foot) ≡ Over = sym (ap (place_after n (Inside o closed head cur)) x.1) ∙ e in cc f)
-    by (inr t) = inside ((total_in closed + length cur + 1) == n) t.0 (sym (ap (place_after n (Inside o closed head cur)) t.3) ∙ e)
+    by (inl x) = absurd (let f : split_place_after n (Inside o closed head cur) (GroupClosed h.foot) ≡ Over = sym (ap (split_place_after n (Inside o closed head cur)) x.1) ∙ e in cc f)
+    by (inr t) = inside ((total_in closed + length cur + 1) == n) t.0 (sym (ap (split_place_after n (Inside o closed head cur)) t.3) ∙ e)
 over_after limits n v whole Over item rest h e = absurd (let none : item ∷ rest ≡ [] = h.0 in cc)
 
 -- something is left before it

@@ -13,7 +13,7 @@ use Rattle.cwr_judge.specs.Items.{AreFirstItems, item_records, records_in, value
 use Rattle.cwr_encode.specs.declared.encoders.Encoder.{Encoder}
 use Rattle.cwr_encode.specs.declared.encoders.EncodeFault.{EncodeFault}
 use Rattle.cwr_encode.specs.declared.encoders.EncodeFault.TheVariants as encode_faults
-use Rattle.cwr_encode.specs.Encoders.{Adds, Encodes, IsNoMistake, is_stopped, limits_of}
+use Rattle.cwr_encode.specs.Encoders.{AddsRecords, Encodes, IsNoMistake, is_stopped, encoder_limits}
 use Rattle.cwr_fields.specs.Failures.{one_more_failure}
 use Rattle.cwr_tools.specs.declared.verdicts.ToolFault.{ToolFault}
 use Rattle.cwr_tools.specs.declared.verdicts.ToolFault.TheVariants as tool_faults
@@ -30,7 +30,7 @@ records_split v items item rest e =
 
 -- the answers for an item
 abbrev pub Judged : {W : Type 0} → (W → Option (List ℕ)) → Item → Encoder W → Result (Unit {0}) EncodeFault → Type 0
-Judged contents item e answer = (start : Option (List ℕ)) (records : List RecordValue) → Encodes contents start records e → JudgesItem (limits_of e) item (map symbol_of records) answer
+Judged contents item e answer = (start : Option (List ℕ)) (records : List RecordValue) → Encodes contents start records e → JudgesItem (encoder_limits e) item (map symbol_of records) answer
 
 -- it is no mistake
 pub right_item : {W : Type 0} (contents : W → Option (List ℕ)) (item : Item) (e : Encoder W) (answer : Result (Unit {0}) EncodeFault) → MayPut contents (item ∷ []) e → Judged contents item e answer → IsNoMistake answer
@@ -47,12 +47,12 @@ within : {W : Type 0} (contents : W → Option (List ℕ)) (item : Item) (e : En
 within contents item e limit may judged =
     let first = may.first in
     let before = records_in may.items in
-    let more : Continues (IsWithin (limits_of e)) (map symbol_of before ++ map symbol_of (item_records item))
-    = begins_more_within (limits_of e) first.value before (item_records item) (records_in first.rest) first.whole first.within (records_split first.value may.items item first.rest first.split) in
-    never_barred (limits_of e) (map symbol_of before ++ map symbol_of (item_records item)) limit more (item_barred (limits_of e) item (map symbol_of before) limit (judged may.start before may.encodes))
+    let more : Continues (IsWithin (encoder_limits e)) (map symbol_of before ++ map symbol_of (item_records item))
+    = begins_more_within (encoder_limits e) first.value before (item_records item) (records_in first.rest) first.whole first.within (records_split first.value may.items item first.rest first.split) in
+    never_barred (encoder_limits e) (map symbol_of before ++ map symbol_of (item_records item)) limit more (item_barred (encoder_limits e) item (map symbol_of before) limit (judged may.start before may.encodes))
 
 -- it was written
-pub item_put : {W : Type 0} (contents : W → Option (List ℕ)) (failures : W → ℕ) (item : Item) (old new : Encoder W) (u : Unit {0}) → Adds contents failures (item_records item) (Ok u) old new → limits_of new ≡ limits_of old
+pub item_put : {W : Type 0} (contents : W → Option (List ℕ)) (failures : W → ℕ) (item : Item) (old new : Encoder W) (u : Unit {0}) → AddsRecords contents failures (item_records item) (Ok u) old new → encoder_limits new ≡ encoder_limits old
     → PutsOn contents failures (item ∷ []) old new
 item_put contents failures item old new u adds same = record {
   more = λ start items h. subst (λ (l : List RecordValue). Encodes contents start l new) (sym (records_more items item)) (adds.0 start (records_in items) h);
@@ -63,7 +63,7 @@ item_put contents failures item old new u adds same = record {
 
 -- or the writer failed
 pub item_failed : {W : Type 0} (contents : W → Option (List ℕ)) (failures : W → ℕ) (item : Item) (old new : Encoder W) (other : EncodeFault) (fault : ToolFault) → MayPut contents (item ∷ []) old → Judged contents item old (Err other)
-    → Adds contents failures (item_records item) (Err other) old new → is_fault_of other fault → PutsItems contents failures (item ∷ []) (Err fault) old new
+    → AddsRecords contents failures (item_records item) (Err other) old new → is_fault_of other fault → PutsItems contents failures (item ∷ []) (Err fault) old new
 item_failed contents failures item old new (encode_faults.Limit limit) fault may judged adds e = absurd (within contents item old limit may judged)
 item_failed contents failures item old new (encode_faults.Writer n) fault may judged adds e =
     subst (λ (f : ToolFault). PutsItems contents failures (item ∷ []) (Err f) old new) (sym e) adds.3
@@ -112,7 +112,7 @@ may_then contents failures added more old new may p = record {
   start = may.start;
   items = may.items ++ added;
   encodes = p.more may.start may.items may.encodes;
-  first = subst (λ (l : _). AreFirstItems l ((may.items ++ added) ++ more)) (sym p.limits) (subst (AreFirstItems (limits_of old)) (sym (append_assoc may.items added more)) may.first);
+  first = subst (λ (l : _). AreFirstItems l ((may.items ++ added) ++ more)) (sym p.limits) (subst (AreFirstItems (encoder_limits old)) (sym (append_assoc may.items added more)) may.first);
 }
 
 -- ---- faults

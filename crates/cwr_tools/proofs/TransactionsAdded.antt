@@ -16,11 +16,11 @@ use Rattle.cwr_values.specs.Rows.{canonical_text}
 use Rattle.cwr_tools.specs.Outputs.{AddsText, given_up_with}
 use Rattle.cwr_tools.specs.Splitting.{CountsSplitOutput, CountsSplitWriter}
 use Rattle.cwr_tools.specs.SplitOutputs.{FailsWith, HoldsOutput, IsOutput, IsQuiet, MayEnd, PutsOn, Told, blank_end, end_of, front_of, open_count, open_failures, open_front}
-use Rattle.cwr_tools.specs.SplitSteps.{AddsTransaction, FailsOpen, Finishes, GoesOn, IsFilled, IsOpen, IsWritten, MayAddTransaction, MayFinish, MayWrite, has_all, items_with, open_group}
+use Rattle.cwr_tools.specs.SplitSteps.{AddsTransaction, FailsOpen, FinishesOutput, GoesOn, FillsOutput, IsOpen, IsWritten, MayAddTransaction, MayFinish, MayWrite, has_all, items_with, has_open_group}
 use Rattle.cwr_tools.proofs.OutputAdded.{head_first, opening_first}
 
 -- what is written before it, as it would be to the one that was open
-same_front : {W : Type 0} (opening head : Item) (held : Option (SplitOutput W)) (out : SplitOutput W) → out.transactions ≡ open_count held → out.in_group ≡ open_group held → front_of opening head out ≡ open_front opening head held
+same_front : {W : Type 0} (opening head : Item) (held : Option (SplitOutput W)) (out : SplitOutput W) → out.transactions ≡ open_count held → out.in_group ≡ has_open_group held → front_of opening head out ≡ open_front opening head held
 same_front opening head None out e f = ap₂ (λ (x y : List Item). x ++ y) (opening_first opening out e) (head_first head out f)
 same_front opening head (Some o) out e f = ap₂ (λ (n : ℕ) (b : Bool). (if n == 0 then opening ∷ [] else []) ++ (if b then [] else head ∷ [])) e f
 
@@ -179,12 +179,12 @@ fails_after told fault pending before mid after quiet f = record {
 }
 
 pub filled : {O W : Type 0} (told : Told O) (contents : W → Option (List ℕ)) (failures : W → ℕ) (item : Item) (s mid next new : Splitting W) (before between after : O) (answer : Result (Unit {0}) ToolFault) → IsOpen told contents failures s mid before between
-    → IsWritten contents failures item mid next → true ≡ has_all next.size next.output → Finishes told contents failures answer next new between after → AddsTransaction told contents failures item answer s new before after
+    → IsWritten contents failures item mid next → true ≡ has_all next.size next.output → FinishesOutput told contents failures answer next new between after → AddsTransaction told contents failures item answer s new before after
 filled told contents failures item s mid next new before between after (Err fault) p w e f = fails_after told fault (open_failures failures new.output) before between after p.quiet f
 filled {W = W} told contents failures item s mid next new before between after (Ok u) p w e f =
     let h = has_added told contents failures item s mid next before between p w in
-    let done = subst (λ (m : Splitting W). Finishes told contents failures (Ok u) m new between after) h.now f in
-    let whole : IsFilled told contents failures w.opening w.head item s new before after = record {
+    let done = subst (λ (m : Splitting W). FinishesOutput told contents failures (Ok u) m new between after) h.now f in
+    let whole : FillsOutput told contents failures w.opening w.head item s new before after = record {
       all = all_full (open_count s.output + 1) s.size (e ∙ test_is told contents failures w.opening w.head item s next before h);
       now = done.0;
       counts = record { failures = done.1.0.failures ∙ p.quiet.failures; given_up = done.1.0.given_up ∙ p.quiet.given_up };

@@ -12,9 +12,9 @@ use Rattle.cwr_values.specs.Values.{GroupValue, TransmissionValue, IsTransmissio
 use Rattle.cwr_judge.specs.Items.{value_items}
 use Rattle.cwr_tools.specs.declared.splitting.Splitting.{Splitting}
 use Rattle.cwr_tools.specs.SplitOutputs.{IsOutput, Told, blank_end}
-use Rattle.cwr_tools.specs.SplitPlaces.{ArePartGroups, Place, Inside, open_items, part_group, parts_at, place_after, total_in, value_of}
-use Rattle.cwr_tools.specs.SplitItems.{Holds, IsTaken, MayTake, is_in_group}
-use Rattle.cwr_tools.specs.SplitSteps.{AddsTransaction, GoesOn, IsFilled, MayAddTransaction, items_with}
+use Rattle.cwr_tools.specs.SplitPlaces.{ArePartGroups, Place, Inside, open_items, part_group, parts_at, split_place_after, total_in, value_of}
+use Rattle.cwr_tools.specs.SplitItems.{HoldsPlace, IsTaken, MayTake, is_in_group}
+use Rattle.cwr_tools.specs.SplitSteps.{AddsTransaction, GoesOn, FillsOutput, MayAddTransaction, items_with}
 use Rattle.cwr_tools.proofs.PlacesHeld.{begun, items_begun, items_of_part, with_transaction}
 use Rattle.cwr_tools.proofs.PlacesLeft.{part_right}
 use Rattle.cwr_tools.proofs.PlacesOfItems.{adds_none, at_item}
@@ -35,7 +35,7 @@ may_add told contents failures t s now may =
     let h : RecordValue = at.2 in
     let cur : List (List RecordValue) = at.3 in
     let p = at.5 in
-    let had = subst (λ (q : Place). Holds told contents failures q s now) at.4 may.holds in
+    let had = subst (λ (q : Place). HoldsPlace told contents failures q s now) at.4 may.holds in
     let part : TransmissionValue = value_of o (closed ++ part_group h (cur ++ t ∷ []) ∷ []) in
     let right = part_right s.limits s.size may.value may.whole o closed h cur (Transaction t) may.rest p t at.6 at.7 in
     let items : List Item = items_with (open_items (Inside o closed h cur)) (Opened o) (GroupOpened h) (Transaction t) s.output in
@@ -68,7 +68,7 @@ in_group_with o closed h (x ∷ cur) t = refl
 
 -- the open output continues with it
 went_on : {O W : Type 0} (told : Told O) (contents : W → Option (List ℕ)) (failures : W → ℕ) (o : RecordValue) (closed : List GroupValue) (h : RecordValue) (cur : List (List RecordValue)) (t : List RecordValue) (s new : Splitting W) (now after : O) → ArePartGroups closed
-    → Holds told contents failures (Inside o closed h cur) s now → GoesOn told contents failures (Opened o) (GroupOpened h) (Transaction t) s new now after
+    → HoldsPlace told contents failures (Inside o closed h cur) s now → GoesOn told contents failures (Opened o) (GroupOpened h) (Transaction t) s new now after
     → IsTaken told contents failures (Inside o closed h (cur ++ t ∷ [])) [] (Transaction t) s new now after
 went_on {W = W} told contents failures o closed h cur t s new now after part had g =
     let next : Splitting W = record s { output = Some g.out; report = record { outputs = s.report.outputs; transactions = s.report.transactions + 1 } } in
@@ -95,7 +95,7 @@ went_on {W = W} told contents failures o closed h cur t s new now after part had
 
 -- it is whole with it
 was_filled : {O W : Type 0} (told : Told O) (contents : W → Option (List ℕ)) (failures : W → ℕ) (o : RecordValue) (closed : List GroupValue) (h : RecordValue) (cur : List (List RecordValue)) (t : List RecordValue) (s new : Splitting W) (now after : O) → ArePartGroups closed
-    → IsTransmission (value_of o (closed ++ part_group h (cur ++ t ∷ []) ∷ [])) → Holds told contents failures (Inside o closed h cur) s now → IsFilled told contents failures (Opened o) (GroupOpened h) (Transaction t) s new now after
+    → IsTransmission (value_of o (closed ++ part_group h (cur ++ t ∷ []) ∷ [])) → HoldsPlace told contents failures (Inside o closed h cur) s now → FillsOutput told contents failures (Opened o) (GroupOpened h) (Transaction t) s new now after
     → IsTaken told contents failures (Inside o [] h []) (value_of o (closed ++ part_group h (cur ++ t ∷ []) ∷ []) ∷ []) (Transaction t) s new now after
 was_filled {W = W} told contents failures o closed h cur t s new now after part right had f =
     let next : Splitting W = record s { output = None; report = record { outputs = s.report.outputs + 1; transactions = s.report.transactions + 1 } } in
@@ -123,7 +123,7 @@ was_filled {W = W} told contents failures o closed h cur t s new now after part 
     })
 
 pub transaction_taken : {O W : Type 0} (told : Told O) (contents : W → Option (List ℕ)) (failures : W → ℕ) (t : List RecordValue) (u : Unit {0}) (s new : Splitting W) (now after : O) → AddsTransaction told contents failures (Transaction t) (Ok u) s new now after
-    → (may : MayTake told contents failures (Transaction t) s now) → IsTaken told contents failures (place_after s.size may.place (Transaction t)) (parts_at s.size may.place (Transaction t)) (Transaction t) s new now after
+    → (may : MayTake told contents failures (Transaction t) s now) → IsTaken told contents failures (split_place_after s.size may.place (Transaction t)) (parts_at s.size may.place (Transaction t)) (Transaction t) s new now after
 transaction_taken {W = W} told contents failures t u s new now after done may =
     let at = at_item s.limits s.size may.value may.whole may.place (Transaction t) may.rest may.remains in
     let o : RecordValue = at.0 in
@@ -131,19 +131,19 @@ transaction_taken {W = W} told contents failures t u s new now after done may =
     let h : RecordValue = at.2 in
     let cur : List (List RecordValue) = at.3 in
     let p = at.5 in
-    let had = subst (λ (q : Place). Holds told contents failures q s now) at.4 may.holds in
+    let had = subst (λ (q : Place). HoldsPlace told contents failures q s now) at.4 may.holds in
     let whole : TransmissionValue = value_of o (closed ++ part_group h (cur ++ t ∷ []) ∷ []) in
     let right = part_right s.limits s.size may.value may.whole o closed h cur (Transaction t) may.rest p t at.6 at.7 in
     let opening : done.0 ≡ Opened o = same_item s.opening done.0 (Opened o) done.2 had.opening in
     let head : done.1 ≡ GroupOpened h = same_item s.head done.1 (GroupOpened h) done.3 had.head in
     let Next = λ (b : Bool). IsTaken told contents failures (if b then Inside o [] h [] else Inside o closed h (cur ++ t ∷ [])) (if b then whole ∷ [] else []) (Transaction t) s new now after in
-    subst (λ (q : Place). IsTaken told contents failures (place_after s.size q (Transaction t)) (parts_at s.size q (Transaction t)) (Transaction t) s new now after) (sym at.4)
+    subst (λ (q : Place). IsTaken told contents failures (split_place_after s.size q (Transaction t)) (parts_at s.size q (Transaction t)) (Transaction t) s new now after) (sym at.4)
     (elim (done.4) as (λ _. Next ((total_in closed + length cur + 1) == s.size)) [
       | inl g ↦
           let on = subst (λ (i : Item). GoesOn told contents failures i (GroupOpened h) (Transaction t) s new now after) opening (subst (λ (i : Item). GoesOn told contents failures done.0 i (Transaction t) s new now after) head g) in
           subst Next (sym (not_full (total_in closed + length cur + 1) s.size (λ e. on.few (omega (arith, e, had.count))))) (went_on told contents failures o closed h cur t s new now after p.part had on)
       | inr f ↦
-          let all = subst (λ (i : Item). IsFilled told contents failures i (GroupOpened h) (Transaction t) s new now after) opening (subst (λ (i : Item). IsFilled told contents failures done.0 i (Transaction t) s new now after) head f) in
+          let all = subst (λ (i : Item). FillsOutput told contents failures i (GroupOpened h) (Transaction t) s new now after) opening (subst (λ (i : Item). FillsOutput told contents failures done.0 i (Transaction t) s new now after) head f) in
           subst Next (sym (eq-eqb (total_in closed + length cur + 1) s.size (omega (arith, all.all, had.count)))) (was_filled told contents failures o closed h cur t s new now after p.part right.0 had all)
     ])
   where

@@ -20,7 +20,7 @@ use Rattle.cwr_decode.specs.declared.readings.ReadFault.TheVariants as read_faul
 use Rattle.cwr_decode.specs.Runs.{TakesFront}
 use Rattle.cwr_encode.specs.declared.encoders.EncodeFault.{EncodeFault}
 use Rattle.cwr_encode.specs.declared.encoders.EncodeFault.TheVariants as encode_faults
-use Rattle.cwr_encode.specs.Encoders.{Encodes, JudgesOpening, JudgesGroup, JudgesTransaction, JudgesFoot, bytes_written, is_stopped, limits_of, target_of}
+use Rattle.cwr_encode.specs.Encoders.{Encodes, JudgesOpening, JudgesGroup, JudgesTransaction, JudgesFoot, bytes_written, is_stopped, encoder_limits, target_of}
 use Rattle.cwr_encode.specs.Finishing.{HasFront}
 use Rattle.cwr_tools.specs.declared.joined.Joined.{Joined}
 use Rattle.cwr_tools.specs.declared.totals.Totals.{Totals}
@@ -45,22 +45,22 @@ pub record HasJoined {W : Type 0} (contents : W → Option (List ℕ)) (start : 
   pub counted : AreCounted j.counts items
 
 -- the writer to which it writes
-abbrev pub writer_of : {W : Type 0} → Joined W → W
-writer_of j = target_of j.encoder
+abbrev pub joined_writer : {W : Type 0} → Joined W → W
+joined_writer j = target_of j.encoder
 
 -- whatever items were joined, these were joined more, and the writer didn't fail
 pub record JoinsOn {W : Type 0} (contents : W → Option (List ℕ)) (failures : W → ℕ) (added : List Item) (old new : Joined W) : Type 0 where
   pub more : (start : Option (List ℕ)) (items : List Item) → HasJoined contents start items old → HasJoined contents start (items ++ added) new
   pub unfailed : is_stopped new.encoder ≡ false
-  pub quiet : failures (writer_of new) ≡ failures (writer_of old)
-  pub limits : limits_of new.encoder ≡ limits_of old.encoder
+  pub quiet : failures (joined_writer new) ≡ failures (joined_writer old)
+  pub limits : encoder_limits new.encoder ≡ encoder_limits old.encoder
 
 -- whatever items were joined, the records of these were accepted more, and the writer failed; so many bytes are written in all
 pub record FailsOn {W : Type 0} (contents : W → Option (List ℕ)) (failures : W → ℕ) (added : List Item) (written : ℕ) (old new : Joined W) : Type 0 where
   pub more : (start : Option (List ℕ)) (items : List Item) → HasJoined contents start items old → Encodes contents start (records_in (items ++ added)) new.encoder
   pub counted : written ≡ bytes_written new.encoder
-  pub failed : failures (writer_of new) ≡ one_more_failure (failures (writer_of old))
-  pub limits : limits_of new.encoder ≡ limits_of old.encoder
+  pub failed : failures (joined_writer new) ≡ one_more_failure (failures (joined_writer old))
+  pub limits : encoder_limits new.encoder ≡ encoder_limits old.encoder
 
 -- whatever items were joined, with the records of these no transmission continues within the limit
 abbrev pub IsBarredAfter : {W : Type 0} → (W → Option (List ℕ)) → LimitValues → List Item → LimitKind → Joined W → Type 0
@@ -88,7 +88,7 @@ pub record MayAdd {W : Type 0} (contents : W → Option (List ℕ)) (added : Lis
   pub start : Option (List ℕ)
   pub items : List Item
   pub joined : HasJoined contents start items j
-  pub range : AreInRange (limits_of j.encoder)
+  pub range : AreInRange (encoder_limits j.encoder)
   pub value : TransmissionValue
   pub whole : IsTransmission value
   pub rest : List Item
@@ -97,7 +97,7 @@ pub record MayAdd {W : Type 0} (contents : W → Option (List ℕ)) (added : Lis
 -- The items are joined, or a limit refuses them and nothing changes, or the writer fails in them.
 abbrev pub AddsItems : {W : Type 0} → (W → Option (List ℕ)) → (W → ℕ) → List Item → Result (Unit {0}) ToolFault → Joined W → Joined W → Type 0
 AddsItems contents failures added (Ok u) old new = JoinsOn contents failures added old new
-AddsItems contents failures added (Err (Limit limit)) old new = IsBarredAfter contents (limits_of old.encoder) added limit old × (new ≡ old)
+AddsItems contents failures added (Err (Limit limit)) old new = IsBarredAfter contents (encoder_limits old.encoder) added limit old × (new ≡ old)
 AddsItems contents failures added (Err (Writer written)) old new = FailsOn contents failures added written old new
 AddsItems contents failures added (Err fault) old new = ⊥
 
@@ -112,16 +112,16 @@ pub record IsBetweenInputs {W : Type 0} (contents : W → Option (List ℕ)) (fi
   pub joined : HasJoined contents start (joined_inputs inputs) j
 
 -- the reading of an input stopped with that fault, after these items
-abbrev pub StopsReading : {W : Type 0} → Limits → (W → Option (List ℕ)) → (W → ℕ) → Bool → ReadFault → Option (List ℕ) → Option (List ℕ) → Joined W → Joined W → Type 0
-StopsReading limits contents failures first fault before after old new = (given : List Item) × StopsAfter limits fault before after given × JoinsOn contents failures (filter (is_joined first) given) old new
+abbrev pub StopsReadingInput : {W : Type 0} → Limits → (W → Option (List ℕ)) → (W → ℕ) → Bool → ReadFault → Option (List ℕ) → Option (List ℕ) → Joined W → Joined W → Type 0
+StopsReadingInput limits contents failures first fault before after old new = (given : List Item) × StopsAfter limits fault before after given × JoinsOn contents failures (filter (is_joined first) given) old new
 
 -- An input is accepted and joined, or its reading stops, an item of it passes a limit, or the writer fails in one.
 abbrev pub AddsInput : {W : Type 0} → Limits → (W → Option (List ℕ)) → (W → ℕ) → Bool → Option (List ℕ) → Option (List ℕ) → Result (Unit {0}) ToolFault → Joined W → Joined W → Type 0
 AddsInput limits contents failures first before after (Ok u) old new = (v : TransmissionValue) × TakesFront limits before v after × JoinsOn contents failures (filter (is_joined first) (value_items v)) old new
-AddsInput limits contents failures first before after (Err Reader) old new = StopsReading limits contents failures first read_faults.Reader before after old new
-AddsInput limits contents failures first before after (Err Memory) old new = StopsReading limits contents failures first read_faults.Memory before after old new
-AddsInput limits contents failures first before after (Err (Refused refusal)) old new = StopsReading limits contents failures first (read_faults.Refused refusal) before after old new
-AddsInput limits contents failures first before after (Err (Truncated records)) old new = StopsReading limits contents failures first (read_faults.Truncated records) before after old new
+AddsInput limits contents failures first before after (Err Reader) old new = StopsReadingInput limits contents failures first read_faults.Reader before after old new
+AddsInput limits contents failures first before after (Err Memory) old new = StopsReadingInput limits contents failures first read_faults.Memory before after old new
+AddsInput limits contents failures first before after (Err (Refused refusal)) old new = StopsReadingInput limits contents failures first (read_faults.Refused refusal) before after old new
+AddsInput limits contents failures first before after (Err (Truncated records)) old new = StopsReadingInput limits contents failures first (read_faults.Truncated records) before after old new
 AddsInput limits contents failures first before after (Err (Limit limit)) old new = (given : List Item) × (item : Item) × HasHandedOut limits before after (given ++ item ∷ [])
     × JoinsOn contents failures (filter (is_joined first) given) old new × IsBarredAfter contents limits (filter (is_joined first) (given ++ item ∷ [])) limit old
 AddsInput limits contents failures first before after (Err (Writer written)) old new = (given : List Item) × HasHandedOut limits before after given × FailsOn contents failures (filter (is_joined first) given) written old new
@@ -145,14 +145,14 @@ CountsAddFault (Err fault) old new = CountsInputFault fault old new
 pub record AddsAll {R W : Type 0} (limits : Limits) (remaining : R → Option (List ℕ)) (failures : R → ℕ) (contents : W → Option (List ℕ)) (before after : List R) (old new : Joined W) : Type 0 where
   pub inputs : List TransmissionValue
   pub taken : TakeInputs limits remaining failures before inputs after
-  pub joined : HasJoined contents (contents (writer_of old)) (joined_inputs inputs) new
+  pub joined : HasJoined contents (contents (joined_writer old)) (joined_inputs inputs) new
   pub unfailed : is_stopped new.encoder ≡ false
-  pub limits_are : limits_of new.encoder ≡ limits
+  pub limits_are : encoder_limits new.encoder ≡ limits
 
 -- all are, or a fault comes while one is in hand
 abbrev pub AddsInputs : {R W : Type 0} → Limits → (R → Option (List ℕ)) → (R → ℕ) → (W → Option (List ℕ)) → List R → List R → Result (Unit {0}) JoinFault → Joined W → Joined W → Type 0
 AddsInputs limits remaining failures contents before after (Ok u) old new = AddsAll limits remaining failures contents before after old new
-AddsInputs limits remaining failures contents before after (Err stopped) old new = StopsJoin limits remaining failures contents before after (writer_of old) (writer_of new) stopped
+AddsInputs limits remaining failures contents before after (Err stopped) old new = StopsJoin limits remaining failures contents before after (joined_writer old) (joined_writer new) stopped
 
 -- ---- the end
 
@@ -161,7 +161,7 @@ pub record HasJoinedAll {W : Type 0} (contents : W → Option (List ℕ)) (count
   pub start : Option (List ℕ)
   pub inputs : List TransmissionValue
   pub counted : length inputs ≡ count
-  pub range : AreInRange (limits_of j.encoder)
+  pub range : AreInRange (encoder_limits j.encoder)
   pub some : 0 < count
   pub each : AllByRecursion IsTransmission inputs
   pub joined : HasJoined contents start (joined_inputs inputs) j
@@ -177,11 +177,11 @@ pub record EndsWithAll {W : Type 0} (contents : W → Option (List ℕ)) (count 
   pub joined : TransmissionValue
   pub joined_of : AreJoined inputs joined
   pub whole : IsTransmission joined
-  pub within : FitsIn (limits_of old.encoder) joined
+  pub within : FitsIn (encoder_limits old.encoder) joined
   pub ends : MatchResult result (λ report. (report ≡ join_report count joined) × Appends start (contents new) (canonical_text joined))
       (λ stopped. (stopped.input ≡ count) × (written : ℕ) × (stopped.fault ≡ Writer written) × HasFront contents start new (canonical_text joined) written)
 
 abbrev pub EndsJoin : {W : Type 0} → (W → Option (List ℕ)) → (W → ℕ) → ℕ → Joined W → W → Result JoinReport JoinFault → Type 0
-EndsJoin contents failures count old new result = CountsJoinWriter result (failures (writer_of old)) (failures new)
+EndsJoin contents failures count old new result = CountsJoinWriter result (failures (joined_writer old)) (failures new)
     × ((start : Option (List ℕ)) (inputs : List TransmissionValue) → length inputs ≡ count → 0 < count → AllByRecursion IsTransmission inputs → HasJoined contents start (joined_inputs inputs) old
     → EndsWithAll contents count start inputs old new result)

@@ -11,9 +11,9 @@ use Rattle.cwr_tools.specs.declared.verdicts.SplitReport.{SplitReport}
 use Rattle.cwr_tools.specs.declared.verdicts.ToolFault.{ToolFault}
 use Rattle.cwr_tools.specs.Outputs.{AddsTexts}
 use Rattle.cwr_tools.specs.SplitOutputs.{CountsNone, FailsWith, HoldsOutput, Told, open_count, open_failures}
-use Rattle.cwr_tools.specs.SplitPlaces.{Place, Remains, Between, Inside, Over, open_items, open_total, parts_at, place_after}
+use Rattle.cwr_tools.specs.SplitPlaces.{Place, Remains, Between, Inside, Over, open_items, open_total, parts_at, split_place_after}
 use Rattle.cwr_tools.specs.Splitting.{Splits, SplitsAll}
-use Rattle.cwr_tools.specs.SplitSteps.{open_group}
+use Rattle.cwr_tools.specs.SplitSteps.{has_open_group}
 
 -- HDR is known from when it was handed out, and GRH in its group
 abbrev pub KnowsOpening : Place → Option Item → Type 0
@@ -36,12 +36,12 @@ HasCounted Over size report = Unit {0}
 HasCounted place size report = report.outputs * size + open_total place ≡ report.transactions
 
 -- what a split holds at a place
-pub record Holds {O W : Type 0} (told : Told O) (contents : W → Option (List ℕ)) (failures : W → ℕ) (place : Place) (s : Splitting W) (now : O) : Type 0 where
+pub record HoldsPlace {O W : Type 0} (told : Told O) (contents : W → Option (List ℕ)) (failures : W → ℕ) (place : Place) (s : Splitting W) (now : O) : Type 0 where
   pub opening : KnowsOpening place s.opening
   pub head : KnowsHead place s.head
   pub output : HoldsOutput contents failures s.limits (told.texts now) (open_items place) s.output
   pub count : open_count s.output ≡ open_total place
-  pub group : open_group s.output ≡ is_in_group place
+  pub group : has_open_group s.output ≡ is_in_group place
   pub none : open_total place ≡ 0 → s.output ≡ None
   pub counted : HasCounted place s.size s.report
 
@@ -55,12 +55,12 @@ pub record MayTake {O W : Type 0} (told : Told O) (contents : W → Option (List
   pub right : IsTransmission value
   pub within : FitsIn s.limits value
   pub remains : Remains s.limits s.size value whole place (item ∷ rest)
-  pub holds : Holds told contents failures place s now
+  pub holds : HoldsPlace told contents failures place s now
   pub room : s.report.transactions < 199999999
 
 -- it was taken: the split is at the next place, and these parts were handed over
 pub record IsTaken {O W : Type 0} (told : Told O) (contents : W → Option (List ℕ)) (failures : W → ℕ) (next : Place) (parts : List TransmissionValue) (item : Item) (old new : Splitting W) (before after : O) : Type 0 where
-  pub holds : Holds told contents failures next new after
+  pub holds : HoldsPlace told contents failures next new after
   pub texts : AddsTexts (told.texts before) (told.texts after) (map canonical_text parts)
   pub counts : CountsNone told before after
   pub limits : new.limits ≡ old.limits
@@ -68,9 +68,9 @@ pub record IsTaken {O W : Type 0} (told : Told O) (contents : W → Option (List
   pub outputs : new.report.outputs ≡ old.report.outputs + length parts
   pub transactions : new.report.transactions ≡ old.report.transactions + count_by is_transaction (item ∷ [])
 
-abbrev pub Takes : {O W : Type 0} → Told O → (W → Option (List ℕ)) → (W → ℕ) → Item → Result (Unit {0}) ToolFault → Splitting W → Splitting W → O → O → Type 0
-Takes told contents failures item (Ok u) old new before after = (may : MayTake told contents failures item old before) → IsTaken told contents failures (place_after old.size may.place item) (parts_at old.size may.place item) item old new before after
-Takes told contents failures item (Err fault) old new before after = FailsWith told fault (open_failures failures new.output) before after
+abbrev pub TakesItem : {O W : Type 0} → Told O → (W → Option (List ℕ)) → (W → ℕ) → Item → Result (Unit {0}) ToolFault → Splitting W → Splitting W → O → O → Type 0
+TakesItem told contents failures item (Ok u) old new before after = (may : MayTake told contents failures item old before) → IsTaken told contents failures (split_place_after old.size may.place item) (parts_at old.size may.place item) item old new before after
+TakesItem told contents failures item (Err fault) old new before after = FailsWith told fault (open_failures failures new.output) before after
 
 -- ---- a whole input
 

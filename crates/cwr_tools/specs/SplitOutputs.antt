@@ -10,7 +10,7 @@ use Rattle.cwr_values.specs.Values.{TransmissionValue, IsTransmission, FitsIn}
 use Rattle.cwr_values.specs.Rows.{canonical_text}
 use Rattle.cwr_judge.specs.Items.{AreFirstItems, records_in, value_items}
 use Rattle.cwr_encode.specs.declared.encoders.Encoder.{Encoder}
-use Rattle.cwr_encode.specs.Encoders.{Encodes, is_stopped, limits_of, target_of}
+use Rattle.cwr_encode.specs.Encoders.{Encodes, is_stopped, encoder_limits, target_of}
 use Rattle.cwr_tools.specs.declared.split_output.SplitOutput.{SplitOutput}
 use Rattle.cwr_tools.specs.declared.verdicts.ToolFault.{ToolFault}
 use Rattle.cwr_tools.specs.declared.verdicts.ToolFault.TheVariants.{Writer, Output}
@@ -24,14 +24,14 @@ pub record MayPut {W : Type 0} (contents : W → Option (List ℕ)) (added : Lis
   pub start : Option (List ℕ)
   pub items : List Item
   pub encodes : Encodes contents start (records_in items) e
-  pub first : AreFirstItems (limits_of e) (items ++ added)
+  pub first : AreFirstItems (encoder_limits e) (items ++ added)
 
 -- whatever items were written, these were written more, and the writer didn't fail
 pub record PutsOn {W : Type 0} (contents : W → Option (List ℕ)) (failures : W → ℕ) (added : List Item) (old new : Encoder W) : Type 0 where
   pub more : (start : Option (List ℕ)) (items : List Item) → Encodes contents start (records_in items) old → Encodes contents start (records_in (items ++ added)) new
   pub unfailed : is_stopped new ≡ false
   pub quiet : failures (target_of new) ≡ failures (target_of old)
-  pub limits : limits_of new ≡ limits_of old
+  pub limits : encoder_limits new ≡ encoder_limits old
 
 -- the items are written, or the writer fails in them
 abbrev pub PutsItems : {W : Type 0} → (W → Option (List ℕ)) → (W → ℕ) → List Item → Result (Unit {0}) ToolFault → Encoder W → Encoder W → Type 0
@@ -81,7 +81,7 @@ pub record IsOutput {W : Type 0} (contents : W → Option (List ℕ)) (failures 
   pub encodes : Encodes contents start (records_in items) out.encoder
   pub unfailed : is_stopped out.encoder ≡ false
   pub quiet : failures (target_of out.encoder) ≡ 0
-  pub limits_are : limits_of out.encoder ≡ limits
+  pub limits_are : encoder_limits out.encoder ≡ limits
 
 -- where none is open, no items were
 abbrev pub HoldsOutput : {W : Type 0} → (W → Option (List ℕ)) → (W → ℕ) → LimitValues → Option (List (List ℕ)) → List Item → Option (SplitOutput W) → Type 0
@@ -105,7 +105,7 @@ pub record MayHandOver {W : Type 0} (contents : W → Option (List ℕ)) (out : 
   pub start : Option (List ℕ)
   pub items : List Item
   pub encodes : Encodes contents start (records_in items) out.encoder
-  pub ends : MayEnd (limits_of out.encoder) items
+  pub ends : MayEnd (encoder_limits out.encoder) items
 
 -- ---- what outputs tell
 

@@ -14,12 +14,12 @@ use Rattle.cwr_tools.specs.Splits.{split_of}
 abbrev pub value_of : RecordValue → List GroupValue → TransmissionValue
 value_of o gs = record { opening = o; groups = gs }
 
-abbrev pub group_of : RecordValue → List (List RecordValue) → RecordValue → GroupValue
-group_of h ts f = record { head = h; transactions = ts; foot = f }
+abbrev pub group_value : RecordValue → List (List RecordValue) → RecordValue → GroupValue
+group_value h ts f = record { head = h; transactions = ts; foot = f }
 
 -- a group as it stands in a part, with a blank GRT
 abbrev pub part_group : RecordValue → List (List RecordValue) → GroupValue
-part_group h ts = group_of h ts (blank_record kinds.Grt)
+part_group h ts = group_value h ts (blank_record kinds.Grt)
 
 -- the groups of a part: each has a transaction and a blank GRT
 abbrev pub ArePartGroups : List GroupValue → Type 0
@@ -48,12 +48,12 @@ last_of o [] = []
 last_of o (g ∷ gs) = value_of o (g ∷ gs) ∷ []
 
 -- where it stands after an item
-abbrev pub place_after : ℕ → Place → Item → Place
-place_after n Start (Opened o) = Between o []
-place_after n (Between o closed) (GroupOpened h) = Inside o closed h []
-place_after n (Inside o closed h cur) (Transaction t) = if total_in closed + length cur + 1 == n then Inside o [] h [] else Inside o closed h (cur ++ t ∷ [])
-place_after n (Inside o closed h cur) (GroupClosed f) = Between o (with_group closed h cur)
-place_after n place item = Over
+abbrev pub split_place_after : ℕ → Place → Item → Place
+split_place_after n Start (Opened o) = Between o []
+split_place_after n (Between o closed) (GroupOpened h) = Inside o closed h []
+split_place_after n (Inside o closed h cur) (Transaction t) = if total_in closed + length cur + 1 == n then Inside o [] h [] else Inside o closed h (cur ++ t ∷ [])
+split_place_after n (Inside o closed h cur) (GroupClosed f) = Between o (with_group closed h cur)
+split_place_after n place item = Over
 
 -- the part that an item makes whole
 abbrev pub parts_at : ℕ → Place → Item → List TransmissionValue
@@ -87,8 +87,8 @@ pub record RemainsInside (limits : Limits) (n : ℕ) (v : TransmissionValue) (wh
   pub right_after : AllByRecursion IsGroup after
   pub part : ArePartGroups closed
   pub few : total_in closed + length cur < n
-  pub within : FitsIn limits (value_of o (closed ++ group_of h (cur ++ todo) foot ∷ after))
-  pub split : split_of n v ≡ whole ++ split_of n (value_of o (closed ++ group_of h (cur ++ todo) foot ∷ after))
+  pub within : FitsIn limits (value_of o (closed ++ group_value h (cur ++ todo) foot ∷ after))
+  pub split : split_of n v ≡ whole ++ split_of n (value_of o (closed ++ group_value h (cur ++ todo) foot ∷ after))
 
 -- what is left of a transmission, whose first parts are whole
 abbrev pub Remains : Limits → ℕ → TransmissionValue → List TransmissionValue → Place → List Item → Type 0
@@ -100,11 +100,11 @@ Remains limits n v whole Over rest = (rest ≡ []) × (split_of n v ≡ whole)
 -- where it stands after items, and the parts that they make whole
 abbrev pub place_in : ℕ → Place → List Item → Place
 place_in n place [] = place
-place_in n place (item ∷ items) = place_in n (place_after n place item) items
+place_in n place (item ∷ items) = place_in n (split_place_after n place item) items
 
 abbrev pub parts_in : ℕ → Place → List Item → List TransmissionValue
 parts_in n place [] = []
-parts_in n place (item ∷ items) = parts_at n place item ++ parts_in n (place_after n place item) items
+parts_in n place (item ∷ items) = parts_at n place item ++ parts_in n (split_place_after n place item) items
 
 -- the items of the open part, and how many transactions it has
 abbrev pub open_items : Place → List Item

@@ -23,9 +23,9 @@ abbrev pub holding : {W : Type 0} → Splitting W → Option (SplitOutput W) →
 holding s out = record s { output = out }
 
 -- whether a group is open in it
-abbrev pub open_group : {W : Type 0} → Option (SplitOutput W) → Bool
-open_group None = false
-open_group (Some out) = out.in_group
+abbrev pub has_open_group : {W : Type 0} → Option (SplitOutput W) → Bool
+has_open_group None = false
+has_open_group (Some out) = out.in_group
 
 -- how many outputs are open
 abbrev pub open_outputs : {W : Type 0} → Option (SplitOutput W) → ℕ
@@ -55,7 +55,7 @@ pub record IsOpen {O W : Type 0} (told : Told O) (contents : W → Option (List 
   pub quiet : IsQuiet told before after
   pub held : (items : List Item) → HoldsOutput contents failures old.limits (told.texts before) items old.output → IsOutput contents failures old.limits (told.texts before) items out
   pub counted : out.transactions ≡ open_count old.output
-  pub group : out.in_group ≡ open_group old.output
+  pub group : out.in_group ≡ has_open_group old.output
 
 abbrev pub OpensOutput : {O W : Type 0} → Told O → (W → Option (List ℕ)) → (W → ℕ) → Result (Unit {0}) ToolFault → Splitting W → Splitting W → O → O → Type 0
 OpensOutput told contents failures (Ok u) old new before after = IsOpen told contents failures old new before after
@@ -145,9 +145,9 @@ IsHandedOver told contents failures limits None before after = IsQuiet told befo
 IsHandedOver told contents failures limits (Some out) before after = CountsNone told before after × ((items : List Item) (w : TransmissionValue) → IsOutput contents failures limits (told.texts before) items out
     → IsTransmission w → value_items w ≡ items ++ end_of out ++ Ended ∷ [] → AddsText (told.texts before) (told.texts after) (canonical_text w))
 
-abbrev pub Finishes : {O W : Type 0} → Told O → (W → Option (List ℕ)) → (W → ℕ) → Result (Unit {0}) ToolFault → Splitting W → Splitting W → O → O → Type 0
-Finishes told contents failures (Ok u) old new before after = (new ≡ record old { output = None; report = report_after old.report old.output }) × IsHandedOver told contents failures old.limits old.output before after
-Finishes told contents failures (Err fault) old new before after = FailsWith told fault (open_failures failures new.output) before after
+abbrev pub FinishesOutput : {O W : Type 0} → Told O → (W → Option (List ℕ)) → (W → ℕ) → Result (Unit {0}) ToolFault → Splitting W → Splitting W → O → O → Type 0
+FinishesOutput told contents failures (Ok u) old new before after = (new ≡ record old { output = None; report = report_after old.report old.output }) × IsHandedOver told contents failures old.limits old.output before after
+FinishesOutput told contents failures (Err fault) old new before after = FailsWith told fault (open_failures failures new.output) before after
 
 -- ---- a transaction is added
 
@@ -182,7 +182,7 @@ pub record GoesOn {O W : Type 0} (told : Told O) (contents : W → Option (List 
   pub group : out.in_group ≡ true
 
 -- it is whole with it, and was handed over
-pub record IsFilled {O W : Type 0} (told : Told O) (contents : W → Option (List ℕ)) (failures : W → ℕ) (opening head item : Item) (old new : Splitting W) (before after : O) : Type 0 where
+pub record FillsOutput {O W : Type 0} (told : Told O) (contents : W → Option (List ℕ)) (failures : W → ℕ) (opening head item : Item) (old new : Splitting W) (before after : O) : Type 0 where
   pub all : open_count old.output + 1 ≡ old.size
   pub now : new ≡ record old { output = None; report = record { outputs = old.report.outputs + 1; transactions = old.report.transactions + 1 } }
   pub counts : CountsNone told before after
@@ -191,7 +191,7 @@ pub record IsFilled {O W : Type 0} (told : Told O) (contents : W → Option (Lis
 
 abbrev pub AddsTransaction : {O W : Type 0} → Told O → (W → Option (List ℕ)) → (W → ℕ) → Item → Result (Unit {0}) ToolFault → Splitting W → Splitting W → O → O → Type 0
 AddsTransaction told contents failures item (Ok u) old new before after = (opening : Item) × (head : Item) × (old.opening ≡ Some opening) × (old.head ≡ Some head)
-    × (GoesOn told contents failures opening head item old new before after ⊎ IsFilled told contents failures opening head item old new before after)
+    × (GoesOn told contents failures opening head item old new before after ⊎ FillsOutput told contents failures opening head item old new before after)
 AddsTransaction told contents failures item (Err fault) old new before after = FailsWith told fault (open_failures failures new.output) before after
 
 -- ---- the start, and an end before all was read

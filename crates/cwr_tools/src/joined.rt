@@ -7,9 +7,9 @@ ghost use Rattle.cwr_shape.specs.Ranges.{AreInRange};
 ghost use Rattle.cwr_values.specs.Values.{IsTransmission, symbol_of, TransmissionValue};
 ghost use Rattle.cwr_values.specs.declared.items.Item.{Item};
 ghost use Rattle.cwr_judge.specs.Items.{item_records};
-ghost use Rattle.cwr_encode.specs.Encoders.{Adds, Encodes, IsNoMistake, is_stopped, limits_of, target_of};
+ghost use Rattle.cwr_encode.specs.Encoders.{AddsRecords, Encodes, IsNoMistake, is_stopped, encoder_limits, target_of};
 ghost use Rattle.cwr_tools.specs.Joins.{is_joined, joined_inputs};
-ghost use Rattle.cwr_tools.specs.Joined.{AddsItems, EndsJoin, HasJoined, HasJoinedAll, IsAnswerOf, JudgesItem, MayAdd, is_fault_of, writer_of};
+ghost use Rattle.cwr_tools.specs.Joined.{AddsItems, EndsJoin, HasJoined, HasJoinedAll, IsAnswerOf, JudgesItem, MayAdd, is_fault_of, joined_writer};
 
 use crate::totals::Totals;
 use crate::verdicts::{JoinFault, JoinReport, ToolFault};
@@ -23,9 +23,9 @@ pub(crate) fn put_item<W: Target>(encoder: &mut Encoder<W>, item: &Item) -> Resu
     requires unfailed { is_stopped encoder.old ≡ false }
     requires not_ended { item.now ≢ Item.Ended }
     ensures judged { (start : Option (List ℕ)) (records : List RecordValue) → Encodes W.contents start records encoder.old
-        → JudgesItem (limits_of encoder.old) item.now (map symbol_of records) result }
-    ensures adds { Adds W.contents W.failures (item_records item.now) result encoder.old encoder.new }
-    ensures limits { limits_of encoder.new ≡ limits_of encoder.old }
+        → JudgesItem (encoder_limits encoder.old) item.now (map symbol_of records) result }
+    ensures adds { AddsRecords W.contents W.failures (item_records item.now) result encoder.old encoder.new }
+    ensures limits { encoder_limits encoder.new ≡ encoder_limits encoder.old }
 {
     match item {
         Item::Opened(opening) => encoder.open(opening),
@@ -96,9 +96,9 @@ impl<W: Target> Joined<W> {
     /// Nothing was joined.
     pub(crate) fn new(writer: W, limits: Limits) -> Joined<W>
         ensures joined { HasJoined W.contents (W.contents writer) [] result }
-        ensures limits { limits_of result.encoder ≡ limits }
+        ensures limits { encoder_limits result.encoder ≡ limits }
         ensures unfailed { is_stopped result.encoder ≡ false }
-        ensures writer { writer_of result ≡ writer }
+        ensures writer { joined_writer result ≡ writer }
         ensures range { AreInRange limits }
     {
         // Each limit is in its range.
@@ -152,7 +152,7 @@ impl<W: Target> Joined<W> {
 
     /// Gives the writer back, with what was written.
     pub(crate) fn abandon(self) -> W
-        ensures { result ≡ writer_of self }
+        ensures { result ≡ joined_writer self }
     {
         self.encoder.abandon()
     }

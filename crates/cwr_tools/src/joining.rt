@@ -1,9 +1,9 @@
 //! Joining transmissions.
 
 ghost use Rattle.std.specs.Prelude.{◌≡◌, ◌<◌, [], false, length};
-ghost use Rattle.cwr_encode.specs.Encoders.{is_stopped, limits_of};
+ghost use Rattle.cwr_encode.specs.Encoders.{is_stopped, encoder_limits};
 ghost use Rattle.cwr_tools.specs.Joins.{CountsJoinWriter, Joins, JoinsAccepted};
-ghost use Rattle.cwr_tools.specs.Joined.{AddsInput, AddsInputs, CountsAddFault, HasJoined, IsBetweenInputs, reading_fault, writer_of};
+ghost use Rattle.cwr_tools.specs.Joined.{AddsInput, AddsInputs, CountsAddFault, HasJoined, IsBetweenInputs, reading_fault, joined_writer};
 
 use crate::joined::Joined;
 use crate::verdicts::{JoinFault, JoinReport, ToolFault};
@@ -33,7 +33,7 @@ fn add_input<R: Source, W: Target>(
     joined: &mut Joined<W>,
 ) -> Result<(), ToolFault>
     requires unfailed { is_stopped joined.old.encoder ≡ false }
-    requires limits { limits_of joined.old.encoder ≡ limits }
+    requires limits { encoder_limits joined.old.encoder ≡ limits }
     requires between { IsBetweenInputs W.contents first joined.old }
     ensures adds { AddsInput limits W.contents W.failures first (R.remaining reader.old) (R.remaining reader.new) result joined.old joined.new }
     ensures failures { CountsAddFault result (R.failures reader.old) (R.failures reader.new) }
@@ -60,10 +60,10 @@ fn add_inputs<R: Source, W: Target>(
     joined: &mut Joined<W>,
 ) -> Result<(), JoinFault>
     requires unfailed { is_stopped joined.old.encoder ≡ false }
-    requires limits { limits_of joined.old.encoder ≡ limits }
-    requires empty { HasJoined W.contents (W.contents (writer_of joined.old)) [] joined.old }
+    requires limits { encoder_limits joined.old.encoder ≡ limits }
+    requires empty { HasJoined W.contents (W.contents (joined_writer joined.old)) [] joined.old }
     ensures joins { AddsInputs limits R.remaining R.failures W.contents readers.old readers.new result joined.old joined.new }
-    ensures writer_failures { CountsJoinWriter result (W.failures (writer_of joined.old)) (W.failures (writer_of joined.new)) }
+    ensures writer_failures { CountsJoinWriter result (W.failures (joined_writer joined.old)) (W.failures (joined_writer joined.new)) }
 {
     let mut i = 0;
     'inputs: while i < readers.len() {

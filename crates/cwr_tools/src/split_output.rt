@@ -3,7 +3,7 @@
 ghost use Rattle.std.specs.Prelude.{◌≡◌, ◌≢◌, ℕ, ◌+◌, ◌-◌, ◌<◌, ◌++◌, ◌∷◌, [], List, Option, Some, Ok, Err, OnOk, IfSome, false, true};
 ghost use Rattle.cwr_values.specs.declared.items.Item.{Item};
 ghost use Rattle.cwr_judge.specs.Items.{records_in};
-ghost use Rattle.cwr_encode.specs.Encoders.{Encodes, is_stopped, limits_of, target_of};
+ghost use Rattle.cwr_encode.specs.Encoders.{Encodes, is_stopped, encoder_limits, target_of};
 ghost use Rattle.cwr_tools.specs.SplitOutputs.{HandsOver, MayHandOver, MayPut, PutsItems, blank_end, end_of, front_of, opening_of, head_of, told_by};
 
 use crate::joined::{fault_of, put_item};
@@ -52,7 +52,7 @@ impl<W: Target> SplitOutput<W> {
     /// Nothing was written.
     pub(crate) fn new(writer: W, limits: Limits) -> SplitOutput<W>
         ensures encodes { Encodes W.contents (W.contents writer) [] result.encoder }
-        ensures limits { limits_of result.encoder ≡ limits }
+        ensures limits { encoder_limits result.encoder ≡ limits }
         ensures unfailed { is_stopped result.encoder ≡ false }
         ensures writer { target_of result.encoder ≡ writer }
         ensures none { result.transactions ≡ 0 }

@@ -4,9 +4,9 @@ ghost use Rattle.std.specs.Prelude.{◌≡◌, ◌≢◌, ℕ, ◌+◌, ◌<◌,
 ghost use Rattle.cwr_values.specs.declared.items.Item.{Item};
 ghost use Rattle.cwr_tools.specs.Outputs.{given_up_with};
 ghost use Rattle.cwr_tools.specs.SplitOutputs.{open_failures, told_by};
-ghost use Rattle.cwr_tools.specs.SplitItems.{MayTake, SplitsItems, Takes};
+ghost use Rattle.cwr_tools.specs.SplitItems.{MayTake, SplitsItems, TakesItem};
 ghost use Rattle.cwr_tools.specs.Splitting.{CountsSplitOutput, CountsSplitReader, CountsSplitWriter, Splits, SplitsAccepted};
-ghost use Rattle.cwr_tools.specs.SplitSteps.{AddsTransaction, EndsGroup, Finishes, GivesUp, MayAddTransaction, MayEndGroup, MayFinish, KeepsLent, MayWrite, OpensOutput, Writes, has_all, is_new, open_outputs};
+ghost use Rattle.cwr_tools.specs.SplitSteps.{AddsTransaction, EndsGroup, FinishesOutput, GivesUp, MayAddTransaction, MayEndGroup, MayFinish, KeepsLent, MayWrite, OpensOutput, Writes, has_all, is_new, open_outputs};
 
 use crate::joining::reading_fault;
 use crate::outputs::Outputs;
@@ -117,14 +117,14 @@ fn open_output<O: Outputs>(
     }
 }
 
-/// Finishes the open output, if there is one.
+/// FinishesOutput the open output, if there is one.
 fn finish_output<O: Outputs>(
     splitting: &mut Splitting<O::W>,
     outputs: &mut O,
 ) -> Result<(), ToolFault>
     requires room { splitting.old.report.outputs < 199999999 }
     requires may { MayFinish (told_by O.texts O.failures O.given_up) O.W.contents O.W.failures splitting.old outputs.old }
-    ensures finishes { Finishes (told_by O.texts O.failures O.given_up) O.W.contents O.W.failures result splitting.old splitting.new outputs.old outputs.new }
+    ensures finishes { FinishesOutput (told_by O.texts O.failures O.given_up) O.W.contents O.W.failures result splitting.old splitting.new outputs.old outputs.new }
     ensures lent { KeepsLent (O.lent outputs.old) splitting.old.output (O.lent outputs.new) splitting.new.output }
 {
     splitting.end_group()?;
@@ -157,14 +157,14 @@ fn add_transaction<O: Outputs>(
     Ok(())
 }
 
-/// Takes an item of the input.
+/// TakesItem an item of the input.
 fn take_item<O: Outputs>(
     splitting: &mut Splitting<O::W>,
     item: Item,
     outputs: &mut O,
 ) -> Result<(), ToolFault>
     requires { MayTake (told_by O.texts O.failures O.given_up) O.W.contents O.W.failures item splitting.old outputs.old }
-    ensures takes { Takes (told_by O.texts O.failures O.given_up) O.W.contents O.W.failures item result splitting.old splitting.new outputs.old outputs.new }
+    ensures takes { TakesItem (told_by O.texts O.failures O.given_up) O.W.contents O.W.failures item result splitting.old splitting.new outputs.old outputs.new }
     ensures lent { KeepsLent (O.lent outputs.old) splitting.old.output (O.lent outputs.new) splitting.new.output }
 {
     match &item {

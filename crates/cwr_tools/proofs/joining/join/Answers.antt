@@ -1,5 +1,5 @@
 use Rattle.std.specs.Prelude.{Err}
-use Rattle.cwr_tools.specs.Joined.{writer_of}
+use Rattle.cwr_tools.specs.Joined.{joined_writer}
 use Rattle.cwr_tools.proofs.AcceptedJoins.{joins_accepted}
 use Rattle.cwr_tools.proofs.JoinsWhole.{joins_end, ready_to_end}
 use Rattle.cwr_tools.proofs.joining.join.Goals as goal
@@ -18,5 +18,5 @@ returns-in-Ok-clause-accepted g c = joins_accepted c.args.limits g.R.Source.rema
     c.args.writer c.finish.result.0 c.finish.result.1 c.new-joined.ensures.writer c.requires c.in-Ok.ensures.joins c.finish.ensures)
 
 pub returns-in-Err-clause-accepted : goal.returns-in-Err-clause-accepted
-returns-in-Err-clause-accepted g c = joins_accepted c.args.limits g.R.Source.remaining g.R.Source.failures g.W.Target.contents c.args.readers.now c.add_inputs.new.readers (writer_of c.new-joined.result) (writer_of c.add_inputs.new.joined)
+returns-in-Err-clause-accepted g c = joins_accepted c.args.limits g.R.Source.remaining g.R.Source.failures g.W.Target.contents c.args.readers.now c.add_inputs.new.readers (joined_writer c.new-joined.result) (joined_writer c.add_inputs.new.joined)
     (Err c.in-Err.stopped) c.in-Err.ensures.joins

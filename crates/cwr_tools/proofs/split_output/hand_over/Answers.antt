@@ -3,7 +3,7 @@ use Rattle.std.specs.Prelude.{Result, Err}
 use Rattle.cwr_values.specs.Values.{symbol_of}
 use Rattle.cwr_judge.specs.Items.{records_in}
 use Rattle.cwr_encode.specs.declared.encoders.EncodeFault.{EncodeFault}
-use Rattle.cwr_encode.specs.Encoders.{limits_of}
+use Rattle.cwr_encode.specs.Encoders.{encoder_limits}
 use Rattle.cwr_encode.specs.Finishing.{FinishesWriting, JudgesEnd}
 use Rattle.cwr_tools.specs.SplitOutputs.{told_by}
 use Rattle.cwr_tools.proofs.OutputHandedOver.{handed_over, right_last}
@@ -13,7 +13,7 @@ pub fault_of-requires : goal.fault_of-requires
 fault_of-requires g c =
     let may = c.requires.may in
     right_last g.O.W.Target.contents c.args.output (Err c.in-Err.fault) may
-    (subst (λ (r : Result ℕ EncodeFault). JudgesEnd (limits_of c.args.output.encoder) (map symbol_of (records_in may.items)) r) c.in-Err.is
+    (subst (λ (r : Result ℕ EncodeFault). JudgesEnd (encoder_limits c.args.output.encoder) (map symbol_of (records_in may.items)) r) c.in-Err.is
     (c.finish-writer.ensures.judged c.requires.unfailed may.start (records_in may.items) may.encodes))
 
 pub returns-in-Ok-done-clause-hands_over : goal.returns-in-Ok-done-clause-hands_over

@@ -8,7 +8,7 @@ use Rattle.cwr_shape.proofs.FirstBarsOfKinds.{comes_any}
 use Rattle.cwr_values.specs.Values.{symbol_of}
 use Rattle.cwr_values.specs.Rows.{trailer}
 use Rattle.cwr_encode.specs.declared.encoders.EncodeFault.{EncodeFault}
-use Rattle.cwr_encode.specs.Finishing.{JudgesEnd, MayEnd}
+use Rattle.cwr_encode.specs.Finishing.{JudgesEnd, IsBeforeTrailer}
 use Rattle.cwr_encode.proofs.Adding.{adds_one, judged_taken, admitted, refused}
 use Rattle.cwr_encode.proofs.Comes.{trailer_last}
 use Rattle.cwr_encode.proofs.Ends.{end_numbers, end_judged}
@@ -28,7 +28,7 @@ returns-clause-judged g c = λ unfailed start records e.
     let xs : List Symbol = map symbol_of records in
     let may = admitted _ xs _ _ _ c.is_err.ensures.value c.if-is_err.false (c.admits.ensures.answer xs e.counted) in
     let last = trailer_last c.args.self.now.tally xs e.counted may in
-    judged_taken c.args.self.now.tally.limits xs (Plain Trl ∷ []) c.put.result _ c.put.ensures.fault (subst MayEnd (sym last) tt) tt last may
+    judged_taken c.args.self.now.tally.limits xs (Plain Trl ∷ []) c.put.result _ c.put.ensures.fault (subst IsBeforeTrailer (sym last) tt) tt last may
 
 pub returns-clause-adds : goal.returns-clause-adds
 returns-clause-adds g c = λ unfailed.
