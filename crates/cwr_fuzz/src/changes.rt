@@ -1,7 +1,7 @@
 //! Changes in a text.
 
 use crate::chances::Chance;
-use crate::lines::{Place, bytes_at, line_at, places, replaced, trimmed};
+use crate::lines::{LineSpan, bytes_at, line_at, places, replaced, trimmed};
 use crate::numbering::renumbered;
 use std::alloc::{AllocError, Global};
 
@@ -46,10 +46,10 @@ const CELLS: &[&[u8]] = &[
 ];
 
 /// A line of a text.
-fn some_place(places: &[Place], chance: &mut Chance) -> Place {
+fn some_place(places: &[LineSpan], chance: &mut Chance) -> LineSpan {
     match chance.one_of(places) {
         Some(place) => *place,
-        None => Place {
+        None => LineSpan {
             start: 0,
             length: 0,
         },
@@ -57,7 +57,7 @@ fn some_place(places: &[Place], chance: &mut Chance) -> Place {
 }
 
 /// The place of some lines that follow one another, mostly of one.
-fn some_lines(places: &[Place], chance: &mut Chance) -> Place {
+fn some_lines(places: &[LineSpan], chance: &mut Chance) -> LineSpan {
     let at = chance.below(places.len());
     let most = if chance.is_one_in(2) { 1 } else { 9 };
     let count = chance.below(most).saturating_add(1);
@@ -100,7 +100,7 @@ fn with_other_bytes(
 fn with_other_columns(
     alloc: Global,
     text: &[u8],
-    line: Place,
+    line: LineSpan,
     other: &[u8],
     chance: &mut Chance,
 ) -> Result<Vec<u8>, AllocError> {
@@ -115,7 +115,7 @@ fn with_other_columns(
 fn with_long_line(
     alloc: Global,
     text: &[u8],
-    line: Place,
+    line: LineSpan,
     chance: &mut Chance,
 ) -> Result<Vec<u8>, AllocError> {
     let short = trimmed(line_at(text, line));

@@ -2,7 +2,7 @@
 
 use crate::answers::{Wrong, canonical, joined, parts, report, unless, verdict};
 use crate::chances::Chance;
-use crate::lines::{Place, bytes_at, line_at, places, replaced};
+use crate::lines::{LineSpan, bytes_at, line_at, places, replaced};
 use crate::numbering::counted_in;
 use cwr_shape::Limits;
 use cwr_tools::Verdict;
@@ -32,7 +32,7 @@ fn check_cut(
     alloc: Global,
     limits: Limits,
     text: &[u8],
-    lines: &[Place],
+    lines: &[LineSpan],
     good: usize,
     chance: &mut Chance,
 ) -> Result<(), Wrong> {

@@ -4,7 +4,7 @@ use std::alloc::{AllocError, Global};
 
 /// Where a line stands in a text: its first byte, and how many there are, its line feed among them.
 #[derive(Clone, Copy, Debug, PartialEq, Eq)]
-pub struct Place {
+pub struct LineSpan {
     /// How many bytes stand before it.
     pub start: usize,
     /// How many bytes it has.
@@ -30,7 +30,7 @@ fn first_length(text: &[u8]) -> usize {
 }
 
 /// Where the lines of a text stand; the last may have no line feed.
-pub fn places(alloc: Global, text: &[u8]) -> Result<Vec<Place>, AllocError> {
+pub fn places(alloc: Global, text: &[u8]) -> Result<Vec<LineSpan>, AllocError> {
     let mut places = Vec::new(alloc);
     let mut start: usize = 0;
     for _ in 0..text.len() {
@@ -38,14 +38,14 @@ pub fn places(alloc: Global, text: &[u8]) -> Result<Vec<Place>, AllocError> {
         if length == 0 {
             break;
         }
-        places.push(Place { start, length })?;
+        places.push(LineSpan { start, length })?;
         start = start.saturating_add(length);
     }
     Ok(places)
 }
 
 /// The bytes of the line at a place.
-pub fn line_at(text: &[u8], place: Place) -> &[u8] {
+pub fn line_at(text: &[u8], place: LineSpan) -> &[u8] {
     bytes_at(text, place.start, place.length)
 }
 

@@ -4,37 +4,37 @@ use Rattle.std.specs.Prelude.{slice_get, nat_lt}
 use Rattle.std.specs.List.{AllByRecursion}
 use Rattle.std.proofs.lemmas.List.{map-append, length-map, length-append, length-drop, length-take-le, drop-append-le, take-append-le}
 use Rattle.std.proofs.Math.Seq.{drop-append_seam, take-length}
-use Rattle.cwr_layouts.specs.declared.record_lists.Place.{Place}
+use Rattle.cwr_layouts.specs.declared.record_lists.LineStart.{LineStart}
 use Rattle.cwr_layouts.specs.Layouts.{line_width}
 use Rattle.cwr_layouts.specs.Records.{RecordValue, IsRecord}
 use Rattle.cwr_layouts.specs.Carried.{record_in}
 use Rattle.cwr_layouts.specs.KeptLines.{IsKeptLine, kept_records, line_at, record_at}
 
 -- each of them is in order
-all_in_order : (text : List ℕ) (places : List Place) → AllByRecursion (IsKeptLine text) places → AllByRecursion IsRecord (kept_records text places)
+all_in_order : (text : List ℕ) (places : List LineStart) → AllByRecursion (IsKeptLine text) places → AllByRecursion IsRecord (kept_records text places)
 all_in_order text [] h = tt
 all_in_order text (p ∷ places) h = (h.0.fits, all_in_order text places h.1)
 
 -- a line stays where it is
-line_stays : (text more : List ℕ) (p : Place) → p.start + line_width p.kind ≤ length text → line_at (text ++ more) p ≡ line_at text p
+line_stays : (text more : List ℕ) (p : LineStart) → p.start + line_width p.kind ≤ length text → line_at (text ++ more) p ≡ line_at text p
 line_stays text more p h =
     ap (take (line_width p.kind)) (drop-append-le p.start text more (omega (arith, h)))
     ∙ take-append-le (line_width p.kind) (drop p.start text) more (omega (arith, h, length-drop p.start text))
 
-record_stays : (text more : List ℕ) (p : Place) → p.start + line_width p.kind ≤ length text → record_at (text ++ more) p ≡ record_at text p
+record_stays : (text more : List ℕ) (p : LineStart) → p.start + line_width p.kind ≤ length text → record_at (text ++ more) p ≡ record_at text p
 record_stays text more p h = ap (record_in p.kind) (line_stays text more p h)
 
-stays : (text more : List ℕ) (p : Place) → IsKeptLine text p → IsKeptLine (text ++ more) p
+stays : (text more : List ℕ) (p : LineStart) → IsKeptLine text p → IsKeptLine (text ++ more) p
 stays text more p h = record {
   within = omega (arith, h.within, length-append text more);
   fits = subst IsRecord (sym (record_stays text more p h.within)) h.fits;
 }
 
-all_stay : (text more : List ℕ) (places : List Place) → AllByRecursion (IsKeptLine text) places → AllByRecursion (IsKeptLine (text ++ more)) places
+all_stay : (text more : List ℕ) (places : List LineStart) → AllByRecursion (IsKeptLine text) places → AllByRecursion (IsKeptLine (text ++ more)) places
 all_stay text more [] h = tt
 all_stay text more (p ∷ places) h = (stays text more p h.0, all_stay text more places h.1)
 
-records_stay : (text more : List ℕ) (places : List Place) → AllByRecursion (IsKeptLine text) places → kept_records (text ++ more) places ≡ kept_records text places
+records_stay : (text more : List ℕ) (places : List LineStart) → AllByRecursion (IsKeptLine text) places → kept_records (text ++ more) places ≡ kept_records text places
 records_stay text more [] h = refl
 records_stay text more (p ∷ places) h = ap2 (record_stays text more p h.0.within) (records_stay text more places h.1)
   where
@@ -44,31 +44,31 @@ records_stay text more (p ∷ places) h = ap2 (record_stays text more p h.0.with
 -- ---- a line more
 
 -- the line that was added stands at the end
-last_line : (text line : List ℕ) (p : Place) → p.start ≡ length text → length line ≡ line_width p.kind → line_at (text ++ line) p ≡ line
+last_line : (text line : List ℕ) (p : LineStart) → p.start ≡ length text → length line ≡ line_width p.kind → line_at (text ++ line) p ≡ line
 last_line text line p at whole =
     ap (λ (n : ℕ). take (line_width p.kind) (drop n (text ++ line))) at ∙ ap (take (line_width p.kind)) (drop-append_seam text line)
     ∙ ap (λ (n : ℕ). take n line) (sym whole) ∙ take-length line
 
-last_record : (text line : List ℕ) (p : Place) (r : RecordValue) → p.start ≡ length text → length line ≡ line_width p.kind → r ≡ record_in p.kind line → record_at (text ++ line) p ≡ r
+last_record : (text line : List ℕ) (p : LineStart) (r : RecordValue) → p.start ≡ length text → length line ≡ line_width p.kind → r ≡ record_in p.kind line → record_at (text ++ line) p ≡ r
 last_record text line p r at whole e = ap (record_in p.kind) (last_line text line p at whole) ∙ sym e
 
-last_kept : (text line : List ℕ) (p : Place) (r : RecordValue) → p.start ≡ length text → length line ≡ line_width p.kind → r ≡ record_in p.kind line → IsRecord r → IsKeptLine (text ++ line) p
+last_kept : (text line : List ℕ) (p : LineStart) (r : RecordValue) → p.start ≡ length text → length line ≡ line_width p.kind → r ≡ record_in p.kind line → IsRecord r → IsKeptLine (text ++ line) p
 last_kept text line p r at whole e good = record {
   within = omega (arith, at, whole, length-append text line);
   fits = subst IsRecord (sym (last_record text line p r at whole e)) good;
 }
 
-and_last : (text : List ℕ) (places : List Place) (p : Place) → AllByRecursion (IsKeptLine text) places → IsKeptLine text p → AllByRecursion (IsKeptLine text) (places ++ p ∷ [])
+and_last : (text : List ℕ) (places : List LineStart) (p : LineStart) → AllByRecursion (IsKeptLine text) places → IsKeptLine text p → AllByRecursion (IsKeptLine text) (places ++ p ∷ [])
 and_last text [] p h k = (k, tt)
 and_last text (q ∷ places) p h k = (h.0, and_last text places p h.1 k)
 
 -- all are kept with it
-kept_with : (text line : List ℕ) (places : List Place) (p : Place) (r : RecordValue) → AllByRecursion (IsKeptLine text) places → p.start ≡ length text → length line ≡ line_width p.kind → r ≡ record_in p.kind line → IsRecord r
+kept_with : (text line : List ℕ) (places : List LineStart) (p : LineStart) (r : RecordValue) → AllByRecursion (IsKeptLine text) places → p.start ≡ length text → length line ≡ line_width p.kind → r ≡ record_in p.kind line → IsRecord r
     → AllByRecursion (IsKeptLine (text ++ line)) (places ++ p ∷ [])
 kept_with text line places p r h at whole e good = and_last (text ++ line) places p (all_stay text line places h) (last_kept text line p r at whole e good)
 
 -- and it is one record more
-records_with : (text line : List ℕ) (places : List Place) (p : Place) (r : RecordValue) → AllByRecursion (IsKeptLine text) places → p.start ≡ length text → length line ≡ line_width p.kind → r ≡ record_in p.kind line
+records_with : (text line : List ℕ) (places : List LineStart) (p : LineStart) (r : RecordValue) → AllByRecursion (IsKeptLine text) places → p.start ≡ length text → length line ≡ line_width p.kind → r ≡ record_in p.kind line
     → kept_records (text ++ line) (places ++ p ∷ []) ≡ kept_records text places ++ r ∷ []
 records_with text line places p r h at whole e =
     map-append (record_at (text ++ line)) places (p ∷ [])
@@ -78,7 +78,7 @@ records_with text line places p r h at whole e =
 -- ---- the list as it is shown
 
 -- its records are in order
-pub in_order : (text : List ℕ) (places : List Place) (records : List RecordValue) → AllByRecursion (IsKeptLine text) places → kept_records text places ≡ records → AllByRecursion IsRecord records
+pub in_order : (text : List ℕ) (places : List LineStart) (records : List RecordValue) → AllByRecursion (IsKeptLine text) places → kept_records text places ≡ records → AllByRecursion IsRecord records
 in_order text places records h e = subst (AllByRecursion IsRecord) e (all_in_order text places h)
 
 none_after : {X : Type 0} (xs : List X) (i : ℕ) → length xs ≤ i → None ≡ slice_get xs i
@@ -87,16 +87,16 @@ none_after (x ∷ xs) zero h = absurd (omega (arith, h))
 none_after (x ∷ xs) (suc i) h = none_after xs i (omega (arith, h))
 
 -- it has none after its last place
-pub none_there : (text : List ℕ) (places items : List Place) (records : List RecordValue) (i : ℕ) → false ≡ nat_lt i (length items) → items ≡ places → kept_records text places ≡ records → None ≡ slice_get records i
+pub none_there : (text : List ℕ) (places items : List LineStart) (records : List RecordValue) (i : ℕ) → false ≡ nat_lt i (length items) → items ≡ places → kept_records text places ≡ records → None ≡ slice_get records i
 none_there text places items records i h same e = none_after records i (omega (arith, ltb-false i (length items) (sym h), ap length same, ap length e, length-map places (record_at text)))
 
 -- with a record more
-pub shows_more : (text line added : List ℕ) (places more : List Place) (p : Place) (old : List RecordValue) (r : RecordValue) → AllByRecursion (IsKeptLine text) places → kept_records text places ≡ old
+pub shows_more : (text line added : List ℕ) (places more : List LineStart) (p : LineStart) (old : List RecordValue) (r : RecordValue) → AllByRecursion (IsKeptLine text) places → kept_records text places ≡ old
     → p.start ≡ length text → length line ≡ line_width p.kind → r ≡ record_in p.kind line → added ≡ text ++ line → more ≡ places ++ p ∷ [] → kept_records added more ≡ old ++ r ∷ []
 shows_more text line added places more p old r h e at whole carries a b =
     ap (λ (t : List ℕ). kept_records t more) a ∙ ap (kept_records (text ++ line)) b ∙ records_with text line places p r h at whole carries ∙ ap (λ (l : List RecordValue). l ++ r ∷ []) e
 
-pub keeps_more : (text line added : List ℕ) (places more : List Place) (p : Place) (r : RecordValue) → AllByRecursion (IsKeptLine text) places
+pub keeps_more : (text line added : List ℕ) (places more : List LineStart) (p : LineStart) (r : RecordValue) → AllByRecursion (IsKeptLine text) places
     → p.start ≡ length text → length line ≡ line_width p.kind → r ≡ record_in p.kind line → IsRecord r → added ≡ text ++ line → more ≡ places ++ p ∷ [] → AllByRecursion (IsKeptLine added) more
 keeps_more text line added places more p r h at whole carries good a b =
     subst (λ (t : List ℕ). AllByRecursion (IsKeptLine t) more) (sym a) (subst (AllByRecursion (IsKeptLine (text ++ line))) (sym b) (kept_with text line places p r h at whole carries good))

@@ -15,13 +15,13 @@ use std::marker::Model;
 
 /// Where a record's line begins, and its kind.
 #[derive(Clone, Copy)]
-struct Place {
+struct LineStart {
     kind: Kind,
     start: usize,
 }
 
 /// The line at a place of the text.
-fn line_at(text: &[u8], place: Place) -> &[u8]
+fn line_at(text: &[u8], place: LineStart) -> &[u8]
     requires { place.start + line_width place.kind ≤ length text.now }
     ensures { result.now ≡ line_at text.now place }
 {
@@ -48,7 +48,7 @@ fn make_first_room(text: &mut Vec<u8>) -> Result<(), AllocError>
 #[derive(Drop)]
 pub struct RecordList {
     text: Vec<u8>,
-    places: Vec<Place>,
+    places: Vec<LineStart>,
 }
 
 impl Model for RecordList {
@@ -102,7 +102,7 @@ impl RecordList {
         ensures fits { IsRecord next.now }
     {
         let line = next.whole_line();
-        let place = Place {
+        let place = LineStart {
             kind: next.kind(),
             start: self.text.as_slice().len(),
         };

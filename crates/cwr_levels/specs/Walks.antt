@@ -16,7 +16,7 @@ use Rattle.cwr_levels.specs.declared.rules.Rule.TheVariants.{V1, V2, V7, V8, V10
 use Rattle.cwr_levels.specs.declared.publishers.Publishers.{Publishers}
 use Rattle.cwr_levels.specs.declared.shares.Shares.{Shares}
 use Rattle.cwr_levels.specs.declared.shares.Sides.{Sides}
-use Rattle.cwr_levels.specs.declared.totals.Totals.{Totals}
+use Rattle.cwr_levels.specs.declared.totals.TransactionTotals.{TransactionTotals}
 use Rattle.cwr_levels.specs.declared.before.Before.{Before}
 use Rattle.cwr_levels.specs.Findings.{is_a, share_of, nearest, is_owner, is_party, is_author, is_territory, in_blocks, of_role, all_rules}
 
@@ -44,7 +44,7 @@ pub record SidesAddUpTo (parties : List RecordValue) (s : Sides) : Type 0 where
 -- ---- what the rules ask of all records
 
 -- the sums and counts over the records
-pub record AreTotals (t : List RecordValue) (x : Totals) : Type 0 where
+pub record AreTotals (t : List RecordValue) (x : TransactionTotals) : Type 0 where
   pub ownership : AddUpTo (filter is_owner t) x.ownership
   pub author : x.has_author ≡ list_any is_author t
   pub components : x.components ≡ capped (count_by (is_a kinds.Com) t)

@@ -15,7 +15,7 @@ use crate::publishers::Publishers;
 use crate::registered::Registered;
 use crate::rules::Rule;
 use crate::shares::{Sides, is_off};
-use crate::totals::Totals;
+use crate::totals::TransactionTotals;
 use cwr_fields::{is_spaces, iswc_ok};
 use cwr_layouts::{Kind, RecordRef};
 
@@ -75,7 +75,7 @@ fn names_another_party(shown: &RecordRef<'_>, before: &Before<'_>) -> bool
 /// Whether PWR names a publisher that the work hasn't.
 fn names_no_publisher(
     transaction: &Registered<'_>,
-    totals: &Totals,
+    totals: &TransactionTotals,
     publishers: &Publishers<'_>,
     shown: &RecordRef<'_>,
 ) -> bool
@@ -145,7 +145,7 @@ fn begins_block_over_whole(
 pub(crate) fn breaks(
     rule: Rule,
     transaction: &Registered<'_>,
-    totals: &Totals,
+    totals: &TransactionTotals,
     publishers: &Publishers<'_>,
     before: &Before<'_>,
     sequence: usize,

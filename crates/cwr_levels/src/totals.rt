@@ -41,7 +41,7 @@ fn is_author(shown: &RecordRef<'_>) -> bool
 
 /// Sums and counts over the records of a transaction.
 #[derive(Clone, Copy)]
-pub(crate) struct Totals {
+pub(crate) struct TransactionTotals {
     /// The shares of the owners.
     pub(crate) ownership: Shares,
     /// Whether some writer has written words or music.
@@ -52,12 +52,12 @@ pub(crate) struct Totals {
     pub(crate) publishers_end: usize,
 }
 
-impl Totals {
+impl TransactionTotals {
     /// Those over no record.
-    fn none() -> Totals
+    fn none() -> TransactionTotals
         ensures { AreTotals [] result }
     {
-        Totals {
+        TransactionTotals {
             ownership: Shares::none(),
             has_author: false,
             components: 0,
@@ -66,13 +66,13 @@ impl Totals {
     }
 
     /// With one more record, which stands after `sequence` others.
-    fn with(self, sequence: usize, shown: &RecordRef<'_>) -> Totals
+    fn with(self, sequence: usize, shown: &RecordRef<'_>) -> TransactionTotals
         requires { sequence + 1 < 2 ^ 64 }
         ensures { (rs : List RecordValue) → length rs ≡ sequence → AreTotals rs self → AreTotals (rs ++ shown.now ∷ []) result }
     {
         let author = is_author(shown);
         let component = is_of(shown, Kind::Com);
-        let totals = Totals {
+        let totals = TransactionTotals {
             ownership: self.ownership.with(shown, is_owner(shown)),
             has_author: self.has_author | author,
             components: self.components.saturating_add(u64::from(component)),
@@ -81,17 +81,17 @@ impl Totals {
         if !is_of(shown, Kind::Spu) {
             return totals;
         }
-        Totals {
+        TransactionTotals {
             publishers_end: sequence + 1,
             ..totals
         }
     }
 
     /// Those over the records of a transaction.
-    pub(crate) fn of(transaction: &Registered<'_>) -> Totals
+    pub(crate) fn of(transaction: &Registered<'_>) -> TransactionTotals
         ensures { AreTotals transaction.now result }
     {
-        let mut totals = Totals::none();
+        let mut totals = TransactionTotals::none();
         for sequence in 0..transaction.len() {
             let Some(shown) = transaction.record(sequence) else {
                 return totals;

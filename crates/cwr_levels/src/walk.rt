@@ -9,7 +9,7 @@ use crate::judging::breaks;
 use crate::publishers::Publishers;
 use crate::registered::Registered;
 use crate::rules::{Finding, Rule};
-use crate::totals::Totals;
+use crate::totals::TransactionTotals;
 use cwr_layouts::{Kind, RecordRef};
 use cwr_shape::Level;
 use cwr_values::Transaction;
@@ -64,7 +64,7 @@ fn add_findings_at(
     found: &mut Vec<Finding>,
     transaction: &Registered<'_>,
     start: usize,
-    totals: &Totals,
+    totals: &TransactionTotals,
     publishers: &Publishers<'_>,
     before: &Before<'_>,
     sequence: usize,
@@ -111,7 +111,7 @@ pub fn findings(alloc: Global, transaction: &Transaction) -> Result<Vec<Finding>
     ensures err { OnErr result (findings transaction.now ≢ []) }
 {
     let (registered, start) = Registered::of(transaction);
-    let totals = Totals::of(&registered);
+    let totals = TransactionTotals::of(&registered);
     let publishers = Publishers::among(alloc, &registered, totals.publishers_end);
     let mut found = Vec::new(alloc);
     let mut before = Before::none();

@@ -1,7 +1,7 @@
 -- What the files of a split count.
 use Rattle.std.specs.Prelude.{ℕ, Option, Some, None}
 use Rattle.cwr_program.specs.declared.new_files.NumberedFiles.{NumberedFiles}
-use Rattle.cwr_program.specs.declared.new_files.Place.{Place}
+use Rattle.cwr_program.specs.declared.new_files.NewFile.{NewFile}
 
 -- how many calls failed
 abbrev pub failed_calls_of : {R F D : Type 0} → NumberedFiles R F D → ℕ
@@ -12,9 +12,9 @@ abbrev pub given_up_of : {R F D : Type 0} → NumberedFiles R F D → ℕ
 given_up_of files = files.given_up
 
 -- one file is being written, or none
-abbrev pub written_at : Option Place → ℕ
+abbrev pub written_at : Option NewFile → ℕ
 written_at None = 0
-written_at (Some place) = 1
+written_at (Some file) = 1
 
 abbrev pub lent_of : {R F D : Type 0} → NumberedFiles R F D → ℕ
-lent_of files = written_at files.place
+lent_of files = written_at files.open_file

@@ -4,7 +4,7 @@ ghost use Rattle.std.specs.Prelude.{◌<◌, length};
 ghost use Rattle.cwr_program.specs.Endings.{EndsAs, EndsAfterFault};
 
 use crate::faults::Fault;
-use crate::new_files::{NumberedFiles, Place, gathered};
+use crate::new_files::{NewFile, NumberedFiles, gathered};
 use cwr_encode::{Sink, SinkFault};
 use cwr_fields::{Counted, Target};
 use cwr_shape::Limits;
@@ -124,9 +124,9 @@ fn created<'a, R: Files>(
     rt: &R,
     alloc: Global,
     out: &'a str,
-) -> Result<(Place, R::File), Fault<'a>> {
+) -> Result<(NewFile, R::File), Fault<'a>> {
     let name = out.to_string(alloc).map_err(|_| Fault::Memory)?;
-    match Place::create(rt, alloc, name) {
+    match NewFile::create(rt, alloc, name) {
         Ok(made) => Ok(made),
         Err(fault) if fault.kind() == io::ErrorKind::OutOfMemory => Err(Fault::Memory),
         Err(_) => Err(Fault::Open(out)),
@@ -143,18 +143,18 @@ fn join_to<'a, R: Files>(
 ) -> Result<Result<JoinReport, JoinFault>, Fault<'a>>
     requires { 0 < length readers.old }
 {
-    let (place, file) = created(rt, alloc, out)?;
+    let (made, file) = created(rt, alloc, out)?;
     let outcome = match gathered(alloc, file) {
         Ok(writer) => join(alloc, limits, readers, writer).1,
         Err(_) => {
-            place.discard(rt);
+            made.discard(rt);
             return Err(Fault::Memory);
         }
     };
     if outcome.is_ok() {
-        place.keep(rt).map_err(|_| Fault::Output)?;
+        made.keep(rt).map_err(|_| Fault::Output)?;
     } else {
-        place.discard(rt);
+        made.discard(rt);
     }
     Ok(outcome)
 }

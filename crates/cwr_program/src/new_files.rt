@@ -63,15 +63,15 @@ fn is_in_place<R: Files>(rt: &R, name: &str) -> io::Result<bool> {
     }
 }
 
-/// Where a file is written. What isn't a file of its own already, as a device, a pipe or a link, is written in place; else
+/// A file that is written. What isn't a file of its own already, as a device, a pipe or a link, is written in place; else
 /// the file has another name until it is whole, which nothing had before.
 #[derive(Debug, Drop)]
-pub(crate) struct Place {
+pub(crate) struct NewFile {
     name: String,
     part: Option<String>,
 }
 
-impl Place {
+impl NewFile {
     /// Makes the file that is written to be the file of that name.
     ///
     /// # Errors
@@ -81,14 +81,14 @@ impl Place {
         rt: &R,
         alloc: Global,
         name: String,
-    ) -> io::Result<(Place, R::File)> {
+    ) -> io::Result<(NewFile, R::File)> {
         if is_in_place(rt, name.as_str())? {
             let file = File::create(rt, name.as_str())?;
-            return Ok((Place { name, part: None }, file));
+            return Ok((NewFile { name, part: None }, file));
         }
         let (part, file) = create_part(rt, alloc, name.as_str())?;
         let part = Some(part);
-        Ok((Place { name, part }, file))
+        Ok((NewFile { name, part }, file))
     }
 
     /// Gives the file its name, now that it is whole. A file that had the name before is replaced.
@@ -115,8 +115,8 @@ pub(crate) struct NumberedFiles<'a, R: Files> {
     prefix: &'a str,
     /// How many were asked for.
     asked: u32,
-    /// Where the one is that is being written.
-    place: Option<Place>,
+    /// The one that is being written.
+    open_file: Option<NewFile>,
     failed_calls: u64,
     given_up: u64,
 }
@@ -129,7 +129,7 @@ impl<'a, R: Files> NumberedFiles<'a, R> {
             alloc,
             prefix,
             asked: 0,
-            place: None,
+            open_file: None,
             failed_calls: 0,
             given_up: 0,
         }
@@ -146,8 +146,8 @@ impl<'a, R: Files> NumberedFiles<'a, R> {
         let prefix = self.prefix;
         let number = self.asked;
         let name = format!(in self.alloc; "{prefix}{number:08}").ok()?;
-        let (place, file) = Place::create(self.rt, self.alloc, name).ok()?;
-        self.place = Some(place);
+        let (made, file) = NewFile::create(self.rt, self.alloc, name).ok()?;
+        self.open_file = Some(made);
         gathered(self.alloc, file).ok()
     }
 
@@ -157,8 +157,8 @@ impl<'a, R: Files> NumberedFiles<'a, R> {
         ensures given_up { given_up_of self.new ≡ given_up_of self.old }
         ensures lent { lent_of self.new ≡ 0 }
     {
-        let place = self.place.take()?;
-        place.keep(self.rt).ok()
+        let made = self.open_file.take()?;
+        made.keep(self.rt).ok()
     }
 
     /// Removes the file that was being written, if there is one.
@@ -167,8 +167,8 @@ impl<'a, R: Files> NumberedFiles<'a, R> {
         ensures given_up { given_up_of self.new ≡ given_up_of self.old }
         ensures lent { lent_of self.new ≡ 0 }
     {
-        if let Some(place) = self.place.take() {
-            place.discard(self.rt);
+        if let Some(made) = self.open_file.take() {
+            made.discard(self.rt);
         }
     }
 
@@ -197,7 +197,7 @@ impl<R: Files> Outputs for NumberedFiles<'_, R> {
     ghost lent = { lent_of };
 
     fn next(&mut self) -> Result<Counted<BufWriter<R::File>>, OutputFault> {
-        if self.place.is_some() || self.failed_calls == u64::MAX {
+        if self.open_file.is_some() || self.failed_calls == u64::MAX {
             return Err(self.count_failure());
         }
         match self.make() {

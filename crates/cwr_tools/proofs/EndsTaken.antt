@@ -13,7 +13,7 @@ use Rattle.cwr_tools.specs.declared.split_output.SplitOutput.{SplitOutput}
 use Rattle.cwr_tools.specs.declared.splitting.Splitting.{Splitting}
 use Rattle.cwr_tools.specs.Outputs.{AddsTexts}
 use Rattle.cwr_tools.specs.SplitOutputs.{CountsNone, HoldsOutput, Told, blank_end, end_of, open_count, open_end}
-use Rattle.cwr_tools.specs.SplitPlaces.{ArePartGroups, Place, RemainsBetween, Between, Inside, Over, last_of, open_items, parts_at, split_place_after, total_in, value_of, with_group}
+use Rattle.cwr_tools.specs.SplitPlaces.{ArePartGroups, SplitPlace, RemainsBetween, Between, Inside, Over, last_of, open_items, parts_at, split_place_after, total_in, value_of, with_group}
 use Rattle.cwr_tools.specs.SplitItems.{HoldsPlace, IsTaken, MayTake}
 use Rattle.cwr_tools.specs.SplitSteps.{EndsGroup, FinishesOutput, IsHandedOver, IsOutsideOpen, MayEndGroup, MayEndHeld, MayFinish, has_open_group, report_after}
 use Rattle.cwr_tools.proofs.FrontsFit.{fits_groups}
@@ -64,7 +64,7 @@ may_end_open {W = W} told contents failures o closed h cur v whole rest s now ha
 pub may_end_group : {O W : Type 0} (told : Told O) (contents : W → Option (List ℕ)) (failures : W → ℕ) (r : RecordValue) (s : Splitting W) (now : O) → MayTake told contents failures (GroupClosed r) s now → MayEndGroup contents s.output
 may_end_group told contents failures r s now may =
     let at = at_item s.limits s.size may.value may.whole may.place (GroupClosed r) may.rest may.remains in
-    let had = subst (λ (q : Place). HoldsPlace told contents failures q s now) at.4 may.holds in
+    let had = subst (λ (q : SplitPlace). HoldsPlace told contents failures q s now) at.4 may.holds in
     may_end_open told contents failures at.0 at.1 at.2 at.3 may.value may.whole may.rest s now had at.5 s.output refl
 
 -- the output without its open group
@@ -83,11 +83,11 @@ foot_taken {W = W} told contents failures r u s new now done may =
     let closed : List GroupValue = at.1 in
     let h : RecordValue = at.2 in
     let cur : List (List RecordValue) = at.3 in
-    let had = subst (λ (q : Place). HoldsPlace told contents failures q s now) at.4 may.holds in
+    let had = subst (λ (q : SplitPlace). HoldsPlace told contents failures q s now) at.4 may.holds in
     let out : Option (SplitOutput W) = new.output in
     let left = outside told contents failures s.limits (told.texts now) (open_items (Inside o closed h cur)) s.output out done.1 had.output in
     let total : total_in (with_group closed h cur) ≡ total_in closed + length cur = total_with closed h cur in
-    subst (λ (q : Place). IsTaken told contents failures (split_place_after s.size q (GroupClosed r)) (parts_at s.size q (GroupClosed r)) (GroupClosed r) s new now now) (sym at.4)
+    subst (λ (q : SplitPlace). IsTaken told contents failures (split_place_after s.size q (GroupClosed r)) (parts_at s.size q (GroupClosed r)) (GroupClosed r) s new now now) (sym at.4)
     (subst (λ (m : Splitting W). IsTaken told contents failures (Between o (with_group closed h cur)) [] (GroupClosed r) s m now now) (sym done.0) (record {
       holds = record {
         opening = had.opening;
@@ -125,7 +125,7 @@ may_finish_open told contents failures o closed v whole rest s now had p (Some o
 pub may_finish : {O W : Type 0} (told : Told O) (contents : W → Option (List ℕ)) (failures : W → ℕ) (s : Splitting W) (now : O) → MayTake told contents failures Ended s now → MayFinish told contents failures s now
 may_finish told contents failures s now may =
     let at = at_item s.limits s.size may.value may.whole may.place Ended may.rest may.remains in
-    let had = subst (λ (q : Place). HoldsPlace told contents failures q s now) at.2 may.holds in
+    let had = subst (λ (q : SplitPlace). HoldsPlace told contents failures q s now) at.2 may.holds in
     record {
       items = open_items (Between at.0 at.1);
       held = had.output;
@@ -135,7 +135,7 @@ may_finish told contents failures s now may =
 pub room_to_finish : {O W : Type 0} (told : Told O) (contents : W → Option (List ℕ)) (failures : W → ℕ) (s : Splitting W) (now : O) → MayTake told contents failures Ended s now → s.report.outputs < 199999999
 room_to_finish told contents failures s now may =
     let at = at_item s.limits s.size may.value may.whole may.place Ended may.rest may.remains in
-    let had = subst (λ (q : Place). HoldsPlace told contents failures q s now) at.2 may.holds in
+    let had = subst (λ (q : SplitPlace). HoldsPlace told contents failures q s now) at.2 may.holds in
     let counted : s.report.outputs * s.size + total_in at.1 ≡ s.report.transactions = had.counted in
     omega (arith, no_fewer s.report.outputs s.size may.some, counted, may.room)
 
@@ -170,9 +170,9 @@ pub end_taken : {O W : Type 0} (told : Told O) (contents : W → Option (List �
     → (may : MayTake told contents failures Ended s now) → IsTaken told contents failures (split_place_after s.size may.place Ended) (parts_at s.size may.place Ended) Ended s new now after
 end_taken {W = W} told contents failures u s new now after done may =
     let at = at_item s.limits s.size may.value may.whole may.place Ended may.rest may.remains in
-    let had = subst (λ (q : Place). HoldsPlace told contents failures q s now) at.2 may.holds in
+    let had = subst (λ (q : SplitPlace). HoldsPlace told contents failures q s now) at.2 may.holds in
     let last = last_handed_over told contents failures at.0 at.1 may.value may.whole (Ended ∷ may.rest) s now after had at.3 s.output refl done.1 in
-    subst (λ (q : Place). IsTaken told contents failures (split_place_after s.size q Ended) (parts_at s.size q Ended) Ended s new now after) (sym at.2)
+    subst (λ (q : SplitPlace). IsTaken told contents failures (split_place_after s.size q Ended) (parts_at s.size q Ended) Ended s new now after) (sym at.2)
     (subst (λ (m : Splitting W). IsTaken told contents failures Over (last_of at.0 at.1) Ended s m now after) (sym done.0) (record {
       holds = record { opening = tt; head = tt; output = refl; count = refl; group = refl; none = λ e. refl; counted = tt };
       texts = last.0;

@@ -6,7 +6,7 @@ use Rattle.cwr_values.specs.declared.items.Item.TheVariants.{Opened, GroupOpened
 use Rattle.cwr_values.specs.Values.{GroupValue}
 use Rattle.cwr_tools.specs.declared.splitting.Splitting.{Splitting}
 use Rattle.cwr_tools.specs.SplitOutputs.{HoldsOutput, Told}
-use Rattle.cwr_tools.specs.SplitPlaces.{Place, Between, Inside, Start, open_items, parts_at, split_place_after}
+use Rattle.cwr_tools.specs.SplitPlaces.{SplitPlace, Between, Inside, Start, open_items, parts_at, split_place_after}
 use Rattle.cwr_tools.specs.SplitItems.{HoldsPlace, IsTaken, MayTake}
 use Rattle.cwr_tools.proofs.PlacesOfItems.{adds_none, at_item}
 
@@ -16,9 +16,9 @@ pub opening_taken : {O W : Type 0} (told : Told O) (contents : W → Option (Lis
     → IsTaken told contents failures (split_place_after s.size may.place (Opened r)) (parts_at s.size may.place (Opened r)) (Opened r) s (record s { opening = Some (Opened r) }) now now
 opening_taken {W = W} told contents failures r s now may =
     let at : may.place ≡ Start = at_item s.limits s.size may.value may.whole may.place (Opened r) may.rest may.remains in
-    let had = subst (λ (p : Place). HoldsPlace told contents failures p s now) at may.holds in
+    let had = subst (λ (p : SplitPlace). HoldsPlace told contents failures p s now) at may.holds in
     let next : Splitting W = record s { opening = Some (Opened r) } in
-    subst (λ (p : Place). IsTaken told contents failures (split_place_after s.size p (Opened r)) (parts_at s.size p (Opened r)) (Opened r) s next now now) (sym at) (record {
+    subst (λ (p : SplitPlace). IsTaken told contents failures (split_place_after s.size p (Opened r)) (parts_at s.size p (Opened r)) (Opened r) s next now now) (sym at) (record {
       holds = record { opening = refl; head = tt; output = had.output; count = had.count; group = had.group; none = had.none; counted = had.counted };
       texts = adds_none (told.texts now) (told.texts now) refl;
       counts = record { failures = refl; given_up = refl };
@@ -40,9 +40,9 @@ head_taken {W = W} told contents failures r s now may =
     let at = at_item s.limits s.size may.value may.whole may.place (GroupOpened r) may.rest may.remains in
     let o : RecordValue = at.0 in
     let closed : List GroupValue = at.1 in
-    let had = subst (λ (p : Place). HoldsPlace told contents failures p s now) at.2 may.holds in
+    let had = subst (λ (p : SplitPlace). HoldsPlace told contents failures p s now) at.2 may.holds in
     let next : Splitting W = record s { head = Some (GroupOpened r) } in
-    subst (λ (p : Place). IsTaken told contents failures (split_place_after s.size p (GroupOpened r)) (parts_at s.size p (GroupOpened r)) (GroupOpened r) s next now now) (sym at.2) (record {
+    subst (λ (p : SplitPlace). IsTaken told contents failures (split_place_after s.size p (GroupOpened r)) (parts_at s.size p (GroupOpened r)) (GroupOpened r) s next now now) (sym at.2) (record {
       holds = record {
         opening = had.opening;
         head = refl;

@@ -16,7 +16,7 @@ use Rattle.cwr_values.specs.declared.items.Item.TheVariants.{Opened, GroupOpened
 use Rattle.cwr_values.specs.Values.{GroupValue, TransmissionValue, FitsIn, IsGroup, IsRecordOf, IsTransmission, IsTransaction, type_of, outline_of_group}
 use Rattle.cwr_judge.specs.Items.{group_items, value_items}
 use Rattle.cwr_tools.specs.Splits.{split_of}
-use Rattle.cwr_tools.specs.SplitPlaces.{ArePartGroups, Place, Remains, RemainsBetween, RemainsInside, Between, Inside, Over, Start, group_value, last_of, part_group, parts_at, parts_in, split_place_after, place_in, total_in, value_of, with_group}
+use Rattle.cwr_tools.specs.SplitPlaces.{ArePartGroups, SplitPlace, Remains, RemainsBetween, RemainsInside, Between, Inside, Over, Start, group_value, last_of, part_group, parts_at, parts_in, split_place_after, place_in, total_in, value_of, with_group}
 use Rattle.cwr_tools.proofs.FrontsFit.{fits_back, fits_front, fits_rest}
 use Rattle.cwr_tools.proofs.SplitParts.{any_foot, empty_group, first_part, last_part, no_part}
 
@@ -203,7 +203,7 @@ ended limits n v whole o closed item rest p e some =
 
 -- ---- any item
 
-no_more : (limits : Limits) (n : ℕ) (v : TransmissionValue) (whole : List TransmissionValue) (p : Place) (rest : List Item) → Remains limits n v whole p rest → Remains limits n v (whole ++ []) p rest
+no_more : (limits : Limits) (n : ℕ) (v : TransmissionValue) (whole : List TransmissionValue) (p : SplitPlace) (rest : List Item) → Remains limits n v whole p rest → Remains limits n v (whole ++ []) p rest
 no_more limits n v whole p rest h = subst (λ (l : List TransmissionValue). Remains limits n v l p rest) (sym (append-nil whole)) h
 
 pub after_foot : (limits : Limits) (n : ℕ) (v : TransmissionValue) (whole : List TransmissionValue) (o : RecordValue) (closed : List GroupValue) (h : RecordValue) (cur : List (List RecordValue)) (item : Item) (rest : List Item)
@@ -225,7 +225,7 @@ after_transaction limits n v whole o closed h cur item rest p t ts e f some =
       | inr k ↦ subst At (sym k.0) (no_more limits n v whole (Inside o closed h (cur ++ t ∷ [])) rest (went_on limits n v whole o closed h cur item rest p t ts e f k.1))
     ]
 
-pub next_remains : (limits : Limits) (n : ℕ) (v : TransmissionValue) (whole : List TransmissionValue) (place : Place) (item : Item) (rest : List Item) → 0 < n → IsTransmission v → FitsIn limits v → Remains limits n v whole place (item ∷ rest)
+pub next_remains : (limits : Limits) (n : ℕ) (v : TransmissionValue) (whole : List TransmissionValue) (place : SplitPlace) (item : Item) (rest : List Item) → 0 < n → IsTransmission v → FitsIn limits v → Remains limits n v whole place (item ∷ rest)
     → Remains limits n v (whole ++ parts_at n place item) (split_place_after n place item) rest
 next_remains limits n v whole Start item rest some right fits h =
     let all : item ∷ rest ≡ Opened v.opening ∷ (flat_map group_items v.groups ++ Ended ∷ []) = h.0 in
@@ -251,7 +251,7 @@ next_remains limits n v whole (Inside o closed head cur) item rest some right fi
 next_remains limits n v whole Over item rest some right fits h = absurd (let none : item ∷ rest ≡ [] = h.0 in cc)
 
 -- after any items
-remains_on : (limits : Limits) (n : ℕ) (v : TransmissionValue) (whole : List TransmissionValue) (place : Place) (given rest : List Item) → 0 < n → IsTransmission v → FitsIn limits v → Remains limits n v whole place (given ++ rest)
+remains_on : (limits : Limits) (n : ℕ) (v : TransmissionValue) (whole : List TransmissionValue) (place : SplitPlace) (given rest : List Item) → 0 < n → IsTransmission v → FitsIn limits v → Remains limits n v whole place (given ++ rest)
     → Remains limits n v (whole ++ parts_in n place given) (place_in n place given) rest
 remains_on limits n v whole place [] rest some right fits h = no_more limits n v whole place rest h
 remains_on limits n v whole place (item ∷ given) rest some right fits h =

@@ -8,13 +8,13 @@ use Rattle.cwr_values.specs.declared.items.Item.TheVariants.{Opened, GroupOpened
 use Rattle.cwr_values.specs.Values.{GroupValue, TransmissionValue}
 use Rattle.cwr_judge.specs.Items.{group_items}
 use Rattle.cwr_tools.specs.Outputs.{AddsTexts}
-use Rattle.cwr_tools.specs.SplitPlaces.{Place, Remains, RemainsBetween, RemainsInside, Between, Inside, Over, Start, with_group}
+use Rattle.cwr_tools.specs.SplitPlaces.{SplitPlace, Remains, RemainsBetween, RemainsInside, Between, Inside, Over, Start, with_group}
 use Rattle.cwr_tools.proofs.PlacesLeft.{after_foot, next_between, next_inside}
 
 -- ---- the place of an item
 
 -- what an item says of the place that it comes at
-abbrev pub AtItem : Limits → ℕ → TransmissionValue → List TransmissionValue → Item → List Item → Place → Type 0
+abbrev pub AtItem : Limits → ℕ → TransmissionValue → List TransmissionValue → Item → List Item → SplitPlace → Type 0
 AtItem limits n v whole (Opened r) rest place = place ≡ Start
 AtItem limits n v whole (GroupOpened r) rest place = (o : RecordValue) × (closed : List GroupValue) × (place ≡ Between o closed)
 AtItem limits n v whole (Transaction t) rest place = (o : RecordValue) × (closed : List GroupValue) × (h : RecordValue) × (cur : List (List RecordValue)) × (place ≡ Inside o closed h cur)
@@ -23,7 +23,7 @@ AtItem limits n v whole (GroupClosed r) rest place = (o : RecordValue) × (close
     × RemainsBetween limits n v whole o (with_group closed h cur) rest
 AtItem limits n v whole Ended rest place = (o : RecordValue) × (closed : List GroupValue) × (place ≡ Between o closed) × RemainsBetween limits n v whole o closed (Ended ∷ rest)
 
-pub at_item : (limits : Limits) (n : ℕ) (v : TransmissionValue) (whole : List TransmissionValue) (place : Place) (item : Item) (rest : List Item) → Remains limits n v whole place (item ∷ rest) → AtItem limits n v whole item rest place
+pub at_item : (limits : Limits) (n : ℕ) (v : TransmissionValue) (whole : List TransmissionValue) (place : SplitPlace) (item : Item) (rest : List Item) → Remains limits n v whole place (item ∷ rest) → AtItem limits n v whole item rest place
 at_item limits n v whole Start item rest h =
     let is : item ≡ Opened v.opening = (let all : item ∷ rest ≡ Opened v.opening ∷ (flat_map group_items v.groups ++ Ended ∷ []) = h.0 in cc) in
     subst (λ (i : Item). AtItem limits n v whole i rest Start) (sym is) refl

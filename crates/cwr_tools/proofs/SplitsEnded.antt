@@ -27,7 +27,7 @@ use Rattle.cwr_tools.specs.Outputs.{AddsTexts}
 use Rattle.cwr_tools.specs.Splits.{split_of}
 use Rattle.cwr_tools.specs.SplitItems.{HasCounted}
 use Rattle.cwr_tools.specs.SplitOutputs.{FailsWith, IsOutputFault, Told}
-use Rattle.cwr_tools.specs.SplitPlaces.{Place, Over, Start, open_total, parts_in, place_in}
+use Rattle.cwr_tools.specs.SplitPlaces.{SplitPlace, Over, Start, open_total, parts_in, place_in}
 use Rattle.cwr_tools.specs.Splitting.{HasFullRuns, Splits, SplitsAll}
 use Rattle.cwr_tools.specs.Verdicts.{StopsAfter}
 use Rattle.cwr_tools.proofs.PlacesLeft.{remains_after}
@@ -41,7 +41,7 @@ use Rattle.cwr_tools.proofs.SplittingOn.{Begun, IsSplitting, begun_so}
 full_runs : {O W : Type 0} (limits : Limits) (n : ℕ) (d : Standing) (before now : Option (List ℕ)) (told : Told O) (contents : W → Option (List ℕ)) (failures : W → ℕ) (count : ℕ) (begin : O) (s : Splitting W) (o : O) → 0 < n
     → (h : IsSplitting limits n d before now told contents failures count begin s o) → place_in n Start h.given ≢ Over → HasFullRuns limits n h.given (told.texts begin) (told.texts o)
 full_runs limits n d before now told contents failures count begin s o some h before_end =
-    let place : Place = place_in n Start h.given in
+    let place : SplitPlace = place_in n Start h.given in
     let parts : List TransmissionValue = parts_in n Start h.given in
     let first = subst (λ (l : LimitValues). AreFirstItems l h.given) h.reading.read.limits_are (first_items d h.reading.read.input h.given h.reading.read.stands) in
     let few : open_total place < n = few_open limits n first.value parts place first.rest some (remains_after limits n first.value h.given first.rest some first.whole first.within first.split) in
@@ -127,7 +127,7 @@ pub no_output_left : {O W : Type 0} (limits : Limits) (n : ℕ) (d : Standing) (
 no_output_left limits n d before left after told contents failures count begin s o some h read =
     let all = all_items limits before after h.given read in
     let taken = all_taken limits before after h.given all.value read (λ w whole are. items_once all.value w (sym all.given_are ∙ are)) in
-    let place : Place = place_in n Start h.given in
+    let place : SplitPlace = place_in n Start h.given in
     let remains = remains_after limits n all.value h.given [] some all.whole taken.accepted.within (sym all.given_are ∙ sym (append-nil h.given)) in
     let over : place ≡ Over = is_over limits n all.value (parts_in n Start h.given) place remains in
     h.holds.none (ap open_total over)

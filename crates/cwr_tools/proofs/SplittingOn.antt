@@ -21,7 +21,7 @@ use Rattle.cwr_tools.specs.declared.splitting.Splitting.{Splitting}
 use Rattle.cwr_tools.specs.Outputs.{AddsTexts}
 use Rattle.cwr_tools.specs.SplitItems.{HoldsPlace, IsTaken, MayTake}
 use Rattle.cwr_tools.specs.SplitOutputs.{CountsNone, Told}
-use Rattle.cwr_tools.specs.SplitPlaces.{Place, Remains, Over, Start, parts_at, parts_in, split_place_after, place_in}
+use Rattle.cwr_tools.specs.SplitPlaces.{SplitPlace, Remains, Over, Start, parts_at, parts_in, split_place_after, place_in}
 use Rattle.cwr_tools.specs.SplitSteps.{is_new}
 use Rattle.cwr_tools.proofs.PlacesLeft.{remains_after}
 use Rattle.cwr_tools.proofs.PlacesPassed.{adds_more, adds_nothing, over_after, parts_more, place_more}
@@ -109,14 +109,14 @@ few_handed_out limits n d new before left after told contents failures count beg
 
 pub item_taken : {O W : Type 0} (limits : Limits) (n : ℕ) (d new : Standing) (before left after : Option (List ℕ)) (told : Told O) (contents : W → Option (List ℕ)) (failures : W → ℕ) (count : ℕ) (begin : O) (s next : Splitting W) (o later : O) (item : Item)
     → 0 < n → (h : IsSplitting limits n d before left told contents failures count begin s o) → IsReadingOn limits new before after (h.given ++ item ∷ []) → LeavesRead (Ok (Some item)) new.state
-    → (place : Place) → place ≡ place_in n Start h.given → IsTaken told contents failures (split_place_after s.size place item) (parts_at s.size place item) item s next o later
+    → (place : SplitPlace) → place ≡ place_in n Start h.given → IsTaken told contents failures (split_place_after s.size place item) (parts_at s.size place item) item s next o later
     → IsSplitting limits n new before after told contents failures (count + 1) begin next later
 item_taken limits n d new before left after told contents failures count begin s next o later item some h reading leaves place at taken =
     let first = begun_so limits new before after h.given (item ∷ []) reading in
     let remains = remains_after limits n first.value h.given (item ∷ first.more) some first.whole first.within first.split in
-    let here : Place = place_in n Start h.given in
-    let place_is : split_place_after s.size place item ≡ place_in n Start (h.given ++ item ∷ []) = ap₂ (λ (k : ℕ) (p : Place). split_place_after k p item) h.size at ∙ sym (place_more n Start h.given item) in
-    let parts_are : parts_at s.size place item ≡ parts_at n here item = ap₂ (λ (k : ℕ) (p : Place). parts_at k p item) h.size at in
+    let here : SplitPlace = place_in n Start h.given in
+    let place_is : split_place_after s.size place item ≡ place_in n Start (h.given ++ item ∷ []) = ap₂ (λ (k : ℕ) (p : SplitPlace). split_place_after k p item) h.size at ∙ sym (place_more n Start h.given item) in
+    let parts_are : parts_at s.size place item ≡ parts_at n here item = ap₂ (λ (k : ℕ) (p : SplitPlace). parts_at k p item) h.size at in
     let all : parts_in n Start h.given ++ parts_at s.size place item ≡ parts_in n Start (h.given ++ item ∷ []) =
     ap (λ (l : List TransmissionValue). parts_in n Start h.given ++ l) parts_are ∙ sym (parts_more n Start h.given item) in
     record {
@@ -125,7 +125,7 @@ item_taken limits n d new before left after told contents failures count begin s
       handed_out = omega (arith, h.handed_out, length-append h.given (item ∷ []));
       size = taken.size ∙ h.size;
       limits_are = taken.limits ∙ h.limits_are;
-      holds = subst (λ (p : Place). HoldsPlace told contents failures p next later) place_is taken.holds;
+      holds = subst (λ (p : SplitPlace). HoldsPlace told contents failures p next later) place_is taken.holds;
       texts = subst (AddsTexts (told.texts begin) (told.texts later)) (sym (map-append canonical_text (parts_in n Start h.given) (parts_at s.size place item)) ∙ ap (map canonical_text) all)
           (adds_more (told.texts begin) (told.texts o) (told.texts later) (map canonical_text (parts_in n Start h.given)) (map canonical_text (parts_at s.size place item)) h.texts taken.texts);
       counts = record { failures = taken.counts.failures ∙ h.counts.failures; given_up = taken.counts.given_up ∙ h.counts.given_up };

@@ -12,7 +12,7 @@ use Rattle.cwr_values.specs.Values.{GroupValue, TransmissionValue, IsTransmissio
 use Rattle.cwr_judge.specs.Items.{value_items}
 use Rattle.cwr_tools.specs.declared.splitting.Splitting.{Splitting}
 use Rattle.cwr_tools.specs.SplitOutputs.{IsOutput, Told, blank_end}
-use Rattle.cwr_tools.specs.SplitPlaces.{ArePartGroups, Place, Inside, open_items, part_group, parts_at, split_place_after, total_in, value_of}
+use Rattle.cwr_tools.specs.SplitPlaces.{ArePartGroups, SplitPlace, Inside, open_items, part_group, parts_at, split_place_after, total_in, value_of}
 use Rattle.cwr_tools.specs.SplitItems.{HoldsPlace, IsTaken, MayTake, is_in_group}
 use Rattle.cwr_tools.specs.SplitSteps.{AddsTransaction, GoesOn, FillsOutput, MayAddTransaction, items_with}
 use Rattle.cwr_tools.proofs.PlacesHeld.{begun, items_begun, items_of_part, with_transaction}
@@ -35,7 +35,7 @@ may_add told contents failures t s now may =
     let h : RecordValue = at.2 in
     let cur : List (List RecordValue) = at.3 in
     let p = at.5 in
-    let had = subst (λ (q : Place). HoldsPlace told contents failures q s now) at.4 may.holds in
+    let had = subst (λ (q : SplitPlace). HoldsPlace told contents failures q s now) at.4 may.holds in
     let part : TransmissionValue = value_of o (closed ++ part_group h (cur ++ t ∷ []) ∷ []) in
     let right = part_right s.limits s.size may.value may.whole o closed h cur (Transaction t) may.rest p t at.6 at.7 in
     let items : List Item = items_with (open_items (Inside o closed h cur)) (Opened o) (GroupOpened h) (Transaction t) s.output in
@@ -72,7 +72,7 @@ went_on : {O W : Type 0} (told : Told O) (contents : W → Option (List ℕ)) (f
     → IsTaken told contents failures (Inside o closed h (cur ++ t ∷ [])) [] (Transaction t) s new now after
 went_on {W = W} told contents failures o closed h cur t s new now after part had g =
     let next : Splitting W = record s { output = Some g.out; report = record { outputs = s.report.outputs; transactions = s.report.transactions + 1 } } in
-    let place : Place = Inside o closed h (cur ++ t ∷ []) in
+    let place : SplitPlace = Inside o closed h (cur ++ t ∷ []) in
     let same = with_transaction o closed h cur t s.output part had.count had.group had.none ∙ sym (items_begun o closed h (cur ++ t ∷ []) (omega (arith, length-append cur (t ∷ [])))) in
     let out = subst (λ (l : List Item). IsOutput contents failures s.limits (told.texts now) l g.out) same (g.held (open_items (Inside o closed h cur)) had.output) in
     subst (λ (m : Splitting W). IsTaken told contents failures place [] (Transaction t) s m now after) (sym g.now) (record {
@@ -131,13 +131,13 @@ transaction_taken {W = W} told contents failures t u s new now after done may =
     let h : RecordValue = at.2 in
     let cur : List (List RecordValue) = at.3 in
     let p = at.5 in
-    let had = subst (λ (q : Place). HoldsPlace told contents failures q s now) at.4 may.holds in
+    let had = subst (λ (q : SplitPlace). HoldsPlace told contents failures q s now) at.4 may.holds in
     let whole : TransmissionValue = value_of o (closed ++ part_group h (cur ++ t ∷ []) ∷ []) in
     let right = part_right s.limits s.size may.value may.whole o closed h cur (Transaction t) may.rest p t at.6 at.7 in
     let opening : done.0 ≡ Opened o = same_item s.opening done.0 (Opened o) done.2 had.opening in
     let head : done.1 ≡ GroupOpened h = same_item s.head done.1 (GroupOpened h) done.3 had.head in
     let Next = λ (b : Bool). IsTaken told contents failures (if b then Inside o [] h [] else Inside o closed h (cur ++ t ∷ [])) (if b then whole ∷ [] else []) (Transaction t) s new now after in
-    subst (λ (q : Place). IsTaken told contents failures (split_place_after s.size q (Transaction t)) (parts_at s.size q (Transaction t)) (Transaction t) s new now after) (sym at.4)
+    subst (λ (q : SplitPlace). IsTaken told contents failures (split_place_after s.size q (Transaction t)) (parts_at s.size q (Transaction t)) (Transaction t) s new now after) (sym at.4)
     (elim (done.4) as (λ _. Next ((total_in closed + length cur + 1) == s.size)) [
       | inl g ↦
           let on = subst (λ (i : Item). GoesOn told contents failures i (GroupOpened h) (Transaction t) s new now after) opening (subst (λ (i : Item). GoesOn told contents failures done.0 i (Transaction t) s new now after) head g) in

@@ -11,32 +11,32 @@ use Rattle.cwr_tools.specs.declared.verdicts.SplitReport.{SplitReport}
 use Rattle.cwr_tools.specs.declared.verdicts.ToolFault.{ToolFault}
 use Rattle.cwr_tools.specs.Outputs.{AddsTexts}
 use Rattle.cwr_tools.specs.SplitOutputs.{CountsNone, FailsWith, HoldsOutput, Told, open_count, open_failures}
-use Rattle.cwr_tools.specs.SplitPlaces.{Place, Remains, Between, Inside, Over, open_items, open_total, parts_at, split_place_after}
+use Rattle.cwr_tools.specs.SplitPlaces.{SplitPlace, Remains, Between, Inside, Over, open_items, open_total, parts_at, split_place_after}
 use Rattle.cwr_tools.specs.Splitting.{Splits, SplitsAll}
 use Rattle.cwr_tools.specs.SplitSteps.{has_open_group}
 
 -- HDR is known from when it was handed out, and GRH in its group
-abbrev pub KnowsOpening : Place → Option Item → Type 0
+abbrev pub KnowsOpening : SplitPlace → Option Item → Type 0
 KnowsOpening (Between o closed) known = known ≡ Some (Opened o)
 KnowsOpening (Inside o closed h cur) known = known ≡ Some (Opened o)
 KnowsOpening place known = Unit {0}
 
-abbrev pub KnowsHead : Place → Option Item → Type 0
+abbrev pub KnowsHead : SplitPlace → Option Item → Type 0
 KnowsHead (Inside o closed h cur) known = known ≡ Some (GroupOpened h)
 KnowsHead place known = Unit {0}
 
 -- a group is open in the open part
-abbrev pub is_in_group : Place → Bool
+abbrev pub is_in_group : SplitPlace → Bool
 is_in_group (Inside o closed h (t ∷ ts)) = true
 is_in_group place = false
 
 -- the transactions that were written are those of the outputs that are done, each with its number of them, and of the open one
-abbrev pub HasCounted : Place → ℕ → SplitReport → Type 0
+abbrev pub HasCounted : SplitPlace → ℕ → SplitReport → Type 0
 HasCounted Over size report = Unit {0}
 HasCounted place size report = report.outputs * size + open_total place ≡ report.transactions
 
 -- what a split holds at a place
-pub record HoldsPlace {O W : Type 0} (told : Told O) (contents : W → Option (List ℕ)) (failures : W → ℕ) (place : Place) (s : Splitting W) (now : O) : Type 0 where
+pub record HoldsPlace {O W : Type 0} (told : Told O) (contents : W → Option (List ℕ)) (failures : W → ℕ) (place : SplitPlace) (s : Splitting W) (now : O) : Type 0 where
   pub opening : KnowsOpening place s.opening
   pub head : KnowsHead place s.head
   pub output : HoldsOutput contents failures s.limits (told.texts now) (open_items place) s.output
@@ -47,7 +47,7 @@ pub record HoldsPlace {O W : Type 0} (told : Told O) (contents : W → Option (L
 
 -- what it holds goes with what is left of some transmission that comes with this item next
 pub record MayTake {O W : Type 0} (told : Told O) (contents : W → Option (List ℕ)) (failures : W → ℕ) (item : Item) (s : Splitting W) (now : O) : Type 0 where
-  pub place : Place
+  pub place : SplitPlace
   pub value : TransmissionValue
   pub whole : List TransmissionValue
   pub rest : List Item
@@ -59,7 +59,7 @@ pub record MayTake {O W : Type 0} (told : Told O) (contents : W → Option (List
   pub room : s.report.transactions < 199999999
 
 -- it was taken: the split is at the next place, and these parts were handed over
-pub record IsTaken {O W : Type 0} (told : Told O) (contents : W → Option (List ℕ)) (failures : W → ℕ) (next : Place) (parts : List TransmissionValue) (item : Item) (old new : Splitting W) (before after : O) : Type 0 where
+pub record IsTaken {O W : Type 0} (told : Told O) (contents : W → Option (List ℕ)) (failures : W → ℕ) (next : SplitPlace) (parts : List TransmissionValue) (item : Item) (old new : Splitting W) (before after : O) : Type 0 where
   pub holds : HoldsPlace told contents failures next new after
   pub texts : AddsTexts (told.texts before) (told.texts after) (map canonical_text parts)
   pub counts : CountsNone told before after

@@ -3,7 +3,7 @@ use Rattle.std.specs.Prelude.{filter}
 use Rattle.cwr_levels.specs.Findings.{is_owner}
 use Rattle.cwr_levels.proofs.AddedShares.{owners_more}
 use Rattle.cwr_levels.proofs.CountedRecords.{author_more, byte_is, components_more, publishers_same, publishers_more}
-use Rattle.cwr_levels.proofs.totals.Totals.with.Goals as goal
+use Rattle.cwr_levels.proofs.totals.TransactionTotals.with.Goals as goal
 
 abbrev one_if : Bool → ℕ
 one_if b = cond b 1 0

@@ -2,7 +2,7 @@ use Rattle.std.proofs.Common.{List, take, sym, subst, ◌∙◌}
 use Rattle.cwr_layouts.specs.Records.{RecordValue}
 use Rattle.cwr_levels.specs.Walks.{AreTotals}
 use Rattle.cwr_levels.proofs.OneMore.{take_more, length_taken}
-use Rattle.cwr_levels.proofs.totals.Totals.of.Goals as goal
+use Rattle.cwr_levels.proofs.totals.TransactionTotals.of.Goals as goal
 
 pub loop-sequence-preserved : goal.loop-sequence-preserved
 loop-sequence-preserved c =
