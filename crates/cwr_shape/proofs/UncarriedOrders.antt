@@ -1,7 +1,7 @@
 -- Orders of records without carried ones are those that they were before these were taken.
 use Rattle.std.proofs.Common.{◌≡◌, Bool, true, false, not, cond, List, [], ◌∷◌, ◌++◌, refl, sym, ap, ap₂, subst, ◌∙◌, inl, inr, true≢false, append_assoc, append-nil}
 use Rattle.std.specs.Prelude.{◌↔◌}
-use Rattle.std.specs.List.{list_all}
+use Rattle.std.specs.List.{AllByRecursion, list_all}
 use Rattle.std.proofs.lemmas.Bool.{and_parts}
 use Rattle.std.proofs.lemmas.List.Folds.{list_all-append}
 use Rattle.cwr_fields.specs.declared.codes.TransactionType.{TransactionType}
@@ -10,7 +10,8 @@ use Rattle.cwr_layouts.specs.declared.kinds.Kind.TheVariants as kinds
 use Rattle.cwr_shape.specs.declared.symbols.Symbol.{Symbol}
 use Rattle.cwr_shape.specs.declared.symbols.Symbol.TheVariants.{Plain}
 use Rattle.cwr_shape.specs.Shapes.{Pattern, one_of, ◌then◌, many, carrying, Matches, is_carried_symbol, without_carried, IsShape, a, some, block, publisher, writer, tail_record, copy}
-use Rattle.cwr_shape.specs.UncarriedOrder.{IsUncarriedShape, AreFormer, is_former, uncarried_pattern}
+use Rattle.cwr_shape.specs.UncarriedOrder.{IsUncarriedShape, IsUncarriedGroup, IsUncarriedWhole, AreFormer, is_former, uncarried_pattern}
+use Rattle.cwr_shape.specs.Outlines.{GroupOutline, IsGroupOutline, IsWhole}
 use Rattle.cwr_shape.proofs.Matcher.{without-cons, empty_only}
 use Rattle.cwr_shape.proofs.HeadFirst.{rest_after_head}
 use Rattle.cwr_shape.proofs.PrefixFree.{only, matched_pass}
@@ -93,3 +94,14 @@ uncarried_exact ty xs = (
   λ m. (forth ty xs m, matched_pass (is_former ty) (uncarried_pattern ty) (are_former ty) xs m),
   λ m. back ty xs m.1 m.0,
 )
+
+-- what each of a list has, each has that follows from it
+all_follow : {X : Type 0} (P Q : X → Type 0) → ((x : X) → P x → Q x) → (xs : List X) → AllByRecursion P xs → AllByRecursion Q xs
+all_follow P Q f [] h = h
+all_follow P Q f (x ∷ xs) h = (f x h.0, all_follow P Q f xs h.1)
+
+group_kept : (g : GroupOutline) → IsUncarriedGroup g → IsGroupOutline g
+group_kept g h = (h.0, all_follow (IsUncarriedShape g.ty) (IsShape g.ty) (λ t m. ((uncarried_exact g.ty t).0 m).0) g.transactions h.1)
+
+pub whole_kept : (xs : List Symbol) → IsUncarriedWhole xs → IsWhole xs
+whole_kept xs h = (h.0, (h.1, all_follow IsUncarriedGroup IsGroupOutline group_kept h.0 h.2), h.3)

@@ -1,12 +1,13 @@
 -- The order of records without carried ones and without copies, for the law that each order that was one without them still is.
-use Rattle.std.specs.Prelude.{◌≡◌, Bool, true, false, not, List, [], ◌∷◌}
-use Rattle.std.specs.List.{list_all}
+use Rattle.std.specs.Prelude.{◌≡◌, ◌<◌, Bool, true, false, not, List, [], ◌∷◌, length}
+use Rattle.std.specs.List.{AllByRecursion, list_all}
 use Rattle.cwr_fields.specs.declared.codes.TransactionType.{TransactionType}
 use Rattle.cwr_fields.specs.declared.codes.TransactionType.TheVariants.{Agreement, NewWork, RevisedWork, Acknowledgement}
 use Rattle.cwr_layouts.specs.declared.kinds.Kind.{Kind}
 use Rattle.cwr_layouts.specs.declared.kinds.Kind.TheVariants as kinds
 use Rattle.cwr_shape.specs.declared.symbols.Symbol.{Symbol}
 use Rattle.cwr_shape.specs.declared.symbols.Symbol.TheVariants.{Plain}
+use Rattle.cwr_shape.specs.Outlines.{GroupOutline, symbols_of}
 use Rattle.cwr_shape.specs.Shapes.{Pattern, ◌then◌, many, Matches, is_carried_symbol, a, some, block, publisher, writer, tail_record}
 
 -- an agreement
@@ -37,3 +38,11 @@ is_former ty s = not (is_carried_symbol s)
 
 abbrev pub AreFormer : TransactionType → List Symbol → Type 0
 AreFormer ty xs = list_all (is_former ty) xs ≡ true
+
+-- one or more such transactions, each of the group's type
+abbrev pub IsUncarriedGroup : GroupOutline → Type 0
+IsUncarriedGroup g = (0 < length g.transactions) × AllByRecursion (IsUncarriedShape g.ty) g.transactions
+
+-- the symbols are those of a whole transmission, in which no record is carried, and no acknowledgement has a copy
+abbrev pub IsUncarriedWhole : List Symbol → Type 0
+IsUncarriedWhole xs = (groups : List GroupOutline) × (0 < length groups) × AllByRecursion IsUncarriedGroup groups × (xs ≡ symbols_of groups)

@@ -7,7 +7,7 @@ ghost use Rattle.cwr_shape.specs.declared.symbols.Symbol.{Symbol};
 ghost use Rattle.cwr_shape.specs.declared.stages.Stage.{Stage};
 ghost use Rattle.cwr_shape.specs.Left.{StandsAt, LeavesAt};
 ghost use Rattle.cwr_shape.specs.Shapes.{IsShape};
-ghost use Rattle.cwr_shape.specs.UncarriedOrder.{IsUncarriedShape, AreFormer};
+ghost use Rattle.cwr_shape.specs.UncarriedOrder.{IsUncarriedShape, IsUncarriedWhole, AreFormer};
 ghost use Rattle.cwr_fields.specs.declared.codes.TransactionType.{TransactionType};
 
 /// No whole transmission continues to another: after TRL nothing more belongs to it.
@@ -33,4 +33,9 @@ pub fn numbers_depend_on_records_before()
 /// and of an acknowledgement without a copy, are whole exactly where they are in the order that knows neither.
 pub fn orders_without_carried_records_are_kept()
     ensures { (ty : TransactionType) (xs : List Symbol) → IsUncarriedShape ty xs ↔ (IsShape ty xs × AreFormer ty xs) }
+{}
+
+/// Each transmission without carried records and copies that was whole in the order that knows neither still is.
+pub fn transmissions_without_carried_records_are_kept()
+    ensures { (xs : List Symbol) → IsUncarriedWhole xs → IsWhole xs }
 {}

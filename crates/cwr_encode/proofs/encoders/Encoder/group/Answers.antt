@@ -21,7 +21,7 @@ returns-in-Err-clause-judged g c = λ unfailed start records e.
     let xs : List Symbol = map symbol_of records in
     let kind = right_kind c.args.head.now c.view-shown.result Grh c.is_of.result c.view-shown.ensures.value c.is_of.ensures c.if-not-is_of.false in
     let may = may_begin xs c.reached.result c.may_begin_group.result (c.reached.ensures xs e.counted) c.may_begin_group.ensures c.if-not-may_begin_group.false in
-    subst (λ (f : EncodeFault). JudgesGroup c.args.self.now.tally.limits c.args.head.now xs (Err f)) (sym c.fault_of.ensures)
+    subst (λ (f : EncodeFault). JudgesGroup c.args.self.now.tally.limits c.args.head.now xs (Err f)) (sym c.fault_of_bar.ensures)
     (head_barred c.args.self.now.tally xs c.args.head.now c.symbol_of-symbol.result c.in-Err.bar e.counted may kind (c.symbol_of-symbol.ensures ∙ ap symbol_of c.view-shown.ensures.value) (c.in-Err.ensures.answer xs e.counted))
 
 pub returns-in-Ok-clause-judged : goal.returns-in-Ok-clause-judged
