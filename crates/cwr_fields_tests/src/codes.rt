@@ -17,6 +17,20 @@ fn is_one(ty: CellType, cell: &[u8]) -> bool {
     width_of(ty) == Some(cell.len()) && fits(ty, cell).is_ok()
 }
 
+/// Whether the cell is one of the table, is read as the member, and is what the member writes.
+fn reads_back<C: Cell + PartialEq>(table: Table, member: C, cell: &[u8]) -> bool
+    requires least { 0 < C.WIDTH }
+    requires most { C.WIDTH ≤ 3 }
+{
+    let mut written = [0; 3];
+    let width = C::WIDTH;
+    member.write(&mut written[..width]);
+    is_one(CellType::Code(table), cell)
+        && is_one(CellType::OptCode(table), cell)
+        && C::read(cell) == Some(member)
+        && &written[..width] == cell
+}
+
 /// Each cell is read as its member, which writes it back and prints its code. The other cell is none of the table.
 fn reads_table<C: Cell + Display + Debug + PartialEq, R: Abort + AllocGlobal>(
     rt: &R,
@@ -28,22 +42,12 @@ fn reads_table<C: Cell + Display + Debug + PartialEq, R: Abort + AllocGlobal>(
     requires most { C.WIDTH ≤ 3 }
 {
     for (member, text) in rows {
-        let cell = text.as_bytes();
-        assert!(rt; is_one(CellType::Code(table), cell), "{text}");
-        assert!(rt; is_one(CellType::OptCode(table), cell), "{text}");
-        assert_eq!(rt; C::read(cell), Some(*member), "{text}");
-        let mut written = [0; 3];
-        let width = C::WIDTH;
-        member.write(&mut written[..width]);
-        assert_eq!(rt; &written[..width], cell, "{text}");
+        assert!(rt; reads_back(table, *member, text.as_bytes()), "{text}");
         let printed = format!(in rt.alloc(); "{member}").expect(rt, "no memory");
         assert_eq!(rt; printed.as_str(), text.trim_end());
     }
-    assert!(rt;
-        !is_one(CellType::OptCode(table), other.as_bytes()),
-        "{other}"
-    );
-    assert_eq!(rt; C::read(other.as_bytes()), None, "{other}");
+    assert!(rt; !is_one(CellType::OptCode(table), other.as_bytes()));
+    assert!(rt; C::read(other.as_bytes()).is_none());
 }
 
 #[test]

@@ -64,24 +64,39 @@ fn shares(rt: HostRuntime) {
 
 #[test]
 fn days(rt: HostRuntime) {
+    for cell in [b"        ", b"00000000", b"20240229"] {
+        assert!(rt; reads_back::<DateCell>(cell));
+    }
+    for cell in [b"00010101", b"99991231"] {
+        assert!(rt; reads_back::<CivilDate>(cell));
+    }
+    assert!(rt; DateCell::read(b"20230229").is_none());
+    for cell in [b"00000101".as_slice(), b"00000000", b"2024022"] {
+        assert!(rt; CivilDate::read(cell).is_none());
+    }
+}
+
+#[test]
+fn days_that_are_none(rt: HostRuntime) {
     assert_eq!(rt; DateCell::read(b"00000000"), Some(DateCell::Zeros));
     assert_eq!(rt; DateCell::read(b"        "), Some(DateCell::Blank));
-    assert_ne!(rt; DateCell::read(b"00000000"), DateCell::read(b"        "));
-    assert!(rt; reads_back::<DateCell>(b"        "));
-    assert!(rt; reads_back::<DateCell>(b"00000000"));
-    assert!(rt; reads_back::<DateCell>(b"20240229"));
-    assert!(rt; reads_back::<CivilDate>(b"00010101"));
-    assert!(rt; reads_back::<CivilDate>(b"99991231"));
-    assert!(rt; DateCell::read(b"20230229").is_none());
-    assert!(rt; CivilDate::read(b"00000101").is_none());
-    assert!(rt; CivilDate::read(b"00000000").is_none());
-    assert!(rt; CivilDate::read(b"2024022").is_none());
+}
+
+#[test]
+fn days_from_numbers(rt: HostRuntime) {
     let leap = CivilDate::new(2024, 2, 29);
     assert_eq!(rt; CivilDate::read(b"20240229"), leap);
     assert_eq!(rt; leap.map(Date::from), Some(date(2024, 2, 29)));
-    assert_eq!(rt; CivilDate::try_from(date(2024, 2, 29)).ok(), leap);
-    assert_eq!(rt; CivilDate::try_from(date(0, 12, 31)), Err(OutOfRange));
     assert_eq!(rt; leap.map(DateCell::from), DateCell::read(b"20240229"));
+}
+
+#[test]
+fn days_of_the_calendar(rt: HostRuntime) {
+    assert_eq!(rt;
+        CivilDate::try_from(date(2024, 2, 29)).ok(),
+        CivilDate::new(2024, 2, 29)
+    );
+    assert_eq!(rt; CivilDate::try_from(date(0, 12, 31)), Err(OutOfRange));
 }
 
 #[test]

@@ -389,6 +389,7 @@ impl<'a> CutLine<'a> {
     }
 
     /// The record that the line's cells carry, where they are known to carry one: nothing is judged.
+    #[inline(always)]
     pub fn known_record(&self) -> RecordRef<'a>
         requires { IsSomeAnd (held_record self.now) IsRecord }
         ensures { held_record self.now ≡ Some result }
@@ -401,6 +402,7 @@ impl<'a> CutLine<'a> {
 
     /// Whether what stands after the last field is bad: it isn't all spaces, or the line is too long. A line of
     /// unknown kind has nothing after its last field.
+    #[inline(always)]
     pub fn excess(&self) -> bool
         ensures { result ≡ held_excess self.now }
     {

@@ -21,6 +21,7 @@ struct LineStart {
 }
 
 /// The line at a place of the text.
+#[inline(always)]
 fn line_at(text: &[u8], place: LineStart) -> &[u8]
     requires { place.start + line_width place.kind ≤ length text.now }
     ensures { result.now ≡ line_at text.now place }
@@ -76,6 +77,7 @@ impl RecordList {
     }
 
     /// How many records it has.
+    #[inline(always)]
     pub fn len(&self) -> usize
         ensures len { result ≡ length self.now }
         ensures fits { AllByRecursion IsRecord self.now }
@@ -84,6 +86,7 @@ impl RecordList {
     }
 
     /// Record `i`, from 0: a part of the buffer, nothing is copied. `None` where it has no such record.
+    #[inline(always)]
     pub fn record(&self, i: usize) -> Option<RecordRef<'_>>
         ensures value { result ≡ slice_get self.now i }
         ensures fits { AllByRecursion IsRecord self.now }

@@ -138,6 +138,7 @@ impl<'a> RecordRef<'a> {
     }
 
     /// The record that a whole line of the kind carries.
+    #[inline(always)]
     pub(crate) fn kept(kind: Kind, line: &'a [u8]) -> Self
         requires whole { length line.now ≡ line_width kind }
         requires fits { IsRecord (record_in kind line.now) }
@@ -147,6 +148,7 @@ impl<'a> RecordRef<'a> {
     }
 
     /// The record's kind.
+    #[inline(always)]
     pub fn kind(&self) -> Kind
         ensures value { result ≡ self.now.kind }
         ensures fits { IsRecord self.now }
@@ -156,6 +158,7 @@ impl<'a> RecordRef<'a> {
 
     /// The cell of field `j`, from 1, in its full width: a part of where the record is kept, nothing is copied. `None`
     /// where the kind has no field `j`, and where that is derived.
+    #[inline(always)]
     pub fn cell(&self, j: u8) -> Option<&'a [u8]>
         ensures value { option_map (λ cell. cell.now) result ≡ record_cell self.now j }
         ensures fits { IsRecord self.now }

@@ -20,6 +20,7 @@ pub(crate) struct Before<'a> {
 
 impl<'a> Before<'a> {
     /// Before the first record.
+    #[inline(always)]
     pub(crate) fn none() -> Before<'a>
         ensures { IsBefore [] result }
     {
@@ -31,6 +32,7 @@ impl<'a> Before<'a> {
     }
 
     /// With one more record.
+    #[inline(always)]
     pub(crate) fn with(self, shown: &RecordRef<'a>) -> Before<'a>
         ensures { (rs : List RecordValue) → IsBefore rs self.entry → IsBefore (rs ++ shown.now ∷ []) result }
     {

@@ -20,6 +20,7 @@ use cwr_fields::{is_spaces, iswc_ok};
 use cwr_layouts::{Kind, RecordRef};
 
 /// Whether the records begin with the header of a work.
+#[inline(always)]
 fn is_work(transaction: &Registered<'_>) -> bool
     ensures { result ≡ is_work transaction.now }
 {
@@ -27,6 +28,7 @@ fn is_work(transaction: &Registered<'_>) -> bool
 }
 
 /// Whether the records begin with the header of an agreement.
+#[inline(always)]
 fn is_agreement(transaction: &Registered<'_>) -> bool
     ensures { result ≡ is_agreement transaction.now }
 {
@@ -52,6 +54,7 @@ fn has_wrong_iswc(shown: &RecordRef<'_>) -> bool
 }
 
 /// Whether the number is that of a party, where there is one.
+#[inline(always)]
 fn is_number(number: &[u8], party: Option<&[u8]>) -> bool
     ensures { result ≡ is_number number.now (option_map (λ cell. cell.now) party.entry) }
 {
@@ -62,6 +65,7 @@ fn is_number(number: &[u8], party: Option<&[u8]>) -> bool
 }
 
 /// Whether a territory names another party than the nearest publisher or writer before it; also where there is none.
+#[inline(always)]
 fn names_another_party(shown: &RecordRef<'_>, before: &Before<'_>) -> bool
     ensures { (t : List RecordValue) (k : ℕ) → is_work t ≡ true → IsBefore (take k t) before.now → result ≡ breaks V2 t k shown.now }
 {
@@ -99,6 +103,7 @@ fn has_no_excerpt_type(transaction: &Registered<'_>) -> bool
 
 /// Whether the record is the header of a work, and the sum of its shares in a right is neither nothing nor about the
 /// whole.
+#[inline(always)]
 fn is_off_in(transaction: &Registered<'_>, sequence: usize, total: u64) -> bool
     ensures { (n : ℕ) → total ≡ capped n → result ≡ (is_work transaction.now && (sequence == 0) && is_off n) }
 {

@@ -9,6 +9,7 @@ ghost use Rattle.cwr_levels.specs.Findings.{is_a};
 use cwr_layouts::{Kind, RecordRef};
 
 /// Whether the record is of the kind.
+#[inline(always)]
 pub(crate) fn is_of(shown: &RecordRef<'_>, kind: Kind) -> bool
     ensures { result ≡ is_a kind shown.now }
 {
@@ -16,6 +17,7 @@ pub(crate) fn is_of(shown: &RecordRef<'_>, kind: Kind) -> bool
 }
 
 /// The cell of field `j`, from 1, and no bytes where the record carries none there.
+#[inline(always)]
 pub(crate) fn cell<'a>(shown: &RecordRef<'a>, j: u8) -> &'a [u8]
     ensures value { result.now ≡ unwrap_or (record_cell shown.now j) [] }
     ensures fits { IsRecord shown.now }
@@ -27,6 +29,7 @@ pub(crate) fn cell<'a>(shown: &RecordRef<'a>, j: u8) -> &'a [u8]
 }
 
 /// The number that the digits of a cell write, and 0 of a blank cell.
+#[inline(always)]
 pub(crate) fn number_of(cell: &[u8]) -> u64
     requires { length cell.now ≤ 8 }
     ensures value { result ≡ number_of cell.now }

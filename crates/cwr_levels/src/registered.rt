@@ -9,6 +9,7 @@ use cwr_values::Transaction;
 use std::marker::Model;
 
 /// Whether a record is one that stands before a copy.
+#[inline(always)]
 fn stands_before_copy(shown: &RecordRef<'_>) -> bool
     ensures { result ≡ stands_before_copy shown.now }
 {
@@ -64,6 +65,7 @@ impl<'a> Registered<'a> {
     }
 
     /// How many there are.
+    #[inline(always)]
     pub(crate) fn len(&self) -> usize
         ensures len { result ≡ length self.now }
     {
@@ -71,6 +73,7 @@ impl<'a> Registered<'a> {
     }
 
     /// Record `i`, from 0. `None` where there is none.
+    #[inline(always)]
     pub(crate) fn record(&self, i: usize) -> Option<RecordRef<'a>>
         ensures value { result ≡ slice_get self.now i }
     {
@@ -82,6 +85,7 @@ impl<'a> Registered<'a> {
     }
 
     /// The kind of the first, if there is one.
+    #[inline(always)]
     pub(crate) fn kind(&self) -> Option<Kind>
         ensures value { result ≡ option_map (λ r. r.kind) (slice_get self.now 0) }
     {

@@ -80,6 +80,7 @@ impl Shares {
 }
 
 /// Whether the sum is neither nothing nor about the whole.
+#[inline(always)]
 pub(crate) fn is_off(total: u64) -> bool
     ensures { (n : ℕ) → total ≡ capped n → result ≡ is_off n }
 {

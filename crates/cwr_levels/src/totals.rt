@@ -11,6 +11,7 @@ use crate::shares::Shares;
 use cwr_layouts::{Kind, RecordRef};
 
 /// Whether the record owns shares of a work.
+#[inline(always)]
 fn is_owner(shown: &RecordRef<'_>) -> bool
     ensures { result ≡ is_owner shown.now }
 {
@@ -21,6 +22,7 @@ fn is_owner(shown: &RecordRef<'_>) -> bool
 }
 
 /// Whether the designation is that of someone who has written words or music.
+#[inline(always)]
 fn names_author(designation: &[u8]) -> bool
     ensures { result ≡ names_author designation.now }
 {
@@ -30,6 +32,7 @@ fn names_author(designation: &[u8]) -> bool
 }
 
 /// Whether the record is a writer who has written words or music.
+#[inline(always)]
 fn is_author(shown: &RecordRef<'_>) -> bool
     ensures { result ≡ is_author shown.now }
 {
@@ -54,6 +57,7 @@ pub(crate) struct TransactionTotals {
 
 impl TransactionTotals {
     /// Those over no record.
+    #[inline(always)]
     fn none() -> TransactionTotals
         ensures { AreTotals [] result }
     {
@@ -66,6 +70,7 @@ impl TransactionTotals {
     }
 
     /// With one more record, which stands after `sequence` others.
+    #[inline(always)]
     fn with(self, sequence: usize, shown: &RecordRef<'_>) -> TransactionTotals
         requires { sequence + 1 < 2 ^ 64 }
         ensures { (rs : List RecordValue) → length rs ≡ sequence → AreTotals rs self → AreTotals (rs ++ shown.now ∷ []) result }

@@ -16,6 +16,7 @@ use cwr_values::Transaction;
 use std::alloc::{AllocError, Global};
 
 /// The rules that a record of the kind can break, in their order.
+#[inline(always)]
 fn rules_on(kind: Kind) -> &'static [Rule]
     ensures { result.now ≡ rules_on kind }
 {
@@ -49,6 +50,7 @@ fn field_of(rule: Rule, kind: Kind) -> u8
 }
 
 /// How much a finding rejects.
+#[inline(always)]
 fn level_of(rule: Rule) -> Level
     ensures { result ≡ level_of_rule rule }
 {

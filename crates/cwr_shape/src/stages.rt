@@ -84,6 +84,7 @@ fn header_step(ty: TransactionType, symbol: Symbol) -> Option<TransactionStep>
 }
 
 /// The step after a record that may stand after the writers.
+#[inline(always)]
 fn tail_step(symbol: Symbol) -> Option<TransactionStep>
     ensures { result ≡ tail_step symbol }
 {
@@ -193,6 +194,7 @@ impl TransactionStep {
     }
 
     /// Whether the transaction may end here.
+    #[inline(always)]
     fn may_end(self) -> bool
         ensures { result ≡ may_end self }
     {
@@ -333,6 +335,7 @@ impl Stage {
 
     /// What must still come, at least, before a transmission can end: one completion has exactly these three numbers,
     /// and none has a lower one in any of them.
+    #[inline(always)]
     pub fn needs(self) -> Needs
         ensures value { result ≡ needs_at self }
         ensures least { (xs : List Symbol) → StandsAt xs self → AreNeeds xs result }

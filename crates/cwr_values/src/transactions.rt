@@ -94,6 +94,7 @@ impl Transaction {
     }
 
     /// How many records it has, its header counted.
+    #[inline(always)]
     pub fn len(&self) -> usize
         ensures len { result ≡ length self.now }
         ensures begun { IsBegun self.now }
@@ -102,6 +103,7 @@ impl Transaction {
     }
 
     /// Record `i`, from 0: it is borrowed, nothing is copied. `None` where it has no such record.
+    #[inline(always)]
     pub fn record(&self, i: usize) -> Option<RecordRef<'_>>
         ensures value { result ≡ slice_get self.now i }
         ensures begun { IsBegun self.now }
