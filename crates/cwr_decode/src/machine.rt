@@ -314,7 +314,7 @@ impl Machine {
         requires { self.old.line.ended ≢ LineEnd.Open }
         ensures { FindsLine result self.old self.new }
     {
-        let cut = self.line.cut();
+        let cut = self.line.cut_looked_through();
         let found = find_cut(&mut self.tally, &mut self.held, &mut self.expected, &cut);
         match found {
             Found::Added => self.begin_line(),

@@ -115,6 +115,15 @@ fn begins_whole(piece: &[u8], width: usize) -> bool
     is_plain(&piece[..width])
 }
 
+/// Whether a line is known to have no control byte: it ended by its line feed, and the bytes that were taken have none.
+#[inline(always)]
+fn is_known_plain(text: &[u8], count: usize, ended: LineEnd) -> bool
+    requires { count ≤ length text.now }
+    ensures { IsTrue result → (ended ≡ LineEnd.Line) × IsTrue (is_plain (take count text.now)) }
+{
+    matches!(ended, LineEnd::Line) && is_plain(&text[..count])
+}
+
 /// One line of a text, taken piece by piece. It holds 1,024 bytes at most, and takes no memory.
 ///
 /// A line that ended is kept filled up with spaces to the width of its kind, so that each of its cells is a part of
@@ -286,6 +295,18 @@ impl LineBuf {
             ended: self.ended,
             plain: false,
         }
+    }
+
+    /// The same cells, for a line that is to be judged: what was taken is looked through for control bytes. The spaces that
+    /// it was filled up with are none.
+    #[inline(always)]
+    pub fn cut_looked_through(&self) -> CutLine<'_>
+        requires { self.now.ended ≢ LineEnd.Open }
+        ensures { result ≡ self.now }
+    {
+        let cut = self.cut();
+        let plain = is_known_plain(cut.text, cut.count, cut.ended);
+        CutLine { plain, ..cut }
     }
 }
 
