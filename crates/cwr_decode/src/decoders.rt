@@ -6,11 +6,15 @@ ghost use Rattle.cwr_decode.specs.Decoding.{StandsAfter, accepted_records, final
 ghost use Rattle.cwr_decode.specs.Machines.{Empties, WaitsOutside, held_list, end_input};
 ghost use Rattle.cwr_decode.specs.Readings.{FeedsOn};
 ghost use Rattle.cwr_decode.specs.Represents.{IsRight, RepresentsSome, Represents, items_out};
+ghost use Rattle.cwr_decode.specs.LastReads.{stage_of_records};
+ghost use Rattle.cwr_shape.specs.Stages.{stage_after};
+ghost use Rattle.cwr_shape.specs.Tallies.{IsTallyOf};
+ghost use Rattle.cwr_shape.specs.declared.symbols.Symbol.{Symbol};
 ghost use Rattle.cwr_values.specs.declared.items.Item.{Item};
 
 use crate::machine::{Machine, State};
 use crate::outcomes::{Outcome, Step};
-use cwr_shape::Limits;
+use cwr_shape::{Limits, Stage};
 use cwr_values::{Item, Transaction};
 use std::alloc::Global;
 use std::marker::Model;
@@ -50,6 +54,14 @@ impl Decoder {
         ensures { result ≡ accepted_records self.now }
     {
         self.machine.records()
+    }
+
+    /// How far the accepted records have come.
+    pub fn stage(&self) -> Stage
+        ensures value { result ≡ stage_of_records self.now }
+        ensures named { (xs : List Symbol) → IsTallyOf self.now.tally xs → result ≡ stage_after xs }
+    {
+        self.machine.stage()
     }
 
     /// How many bytes of the line that is read or waits are held, its line feed not counted, and how many records of

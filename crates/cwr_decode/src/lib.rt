@@ -3,6 +3,7 @@
 
 mod decoders;
 mod endings;
+mod last_bytes;
 pub mod laws;
 mod machine;
 mod outcomes;
@@ -13,7 +14,8 @@ mod whole;
 pub use cwr_judge::Refusal;
 pub use decoders::Decoder;
 pub use endings::{End, end_of};
+pub use last_bytes::LastBytes;
 pub use outcomes::{Outcome, Step};
 pub use piecewise::read_pieces;
-pub use readings::{ReadFault, Reading};
+pub use readings::{LastRead, ReadFault, Reading};
 pub use whole::read_all;

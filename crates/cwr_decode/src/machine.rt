@@ -3,6 +3,7 @@
 ghost use Rattle.std.specs.Prelude.{List, ◌∷◌, ◌++◌, [], ◌≡◌, ◌≢◌, ◌<◌, length, true, false, None, Some, IsTrue, IsFalse, IsSomeAnd, IsNone, IfSome, OnOk, OnErr};
 ghost use Rattle.cwr_layouts.specs.Held.{IsHeld, Takes, held_record};
 ghost use Rattle.cwr_shape.specs.Ranges.{AreInRange};
+ghost use Rattle.cwr_shape.specs.Stages.{stage_after};
 ghost use Rattle.cwr_shape.specs.Tallies.{IsAdmitted, IsTallyOf};
 ghost use Rattle.cwr_shape.specs.declared.symbols.Symbol.{Symbol};
 ghost use Rattle.cwr_judge.specs.Items.{stands_in_transaction};
@@ -16,7 +17,7 @@ use crate::outcomes::{Outcome, Step};
 use cwr_fields::SpelledPair;
 use cwr_judge::{LineFault, Refusal, judge, judge_quickly};
 use cwr_layouts::{CutLine, Kind, LineBuf, LineEnd, RecordRef, Taken};
-use cwr_shape::{Limits, Place, Symbol, Tally, level};
+use cwr_shape::{Limits, Place, Stage, Symbol, Tally, level};
 use cwr_values::{Item, PushFault, Transaction};
 use std::alloc::{AllocError, Global};
 use std::marker::Model;
@@ -221,6 +222,14 @@ impl Machine {
         ensures { result ≡ self.now.tally.counts.records }
     {
         self.tally.records()
+    }
+
+    /// How far the accepted records have come.
+    pub fn stage(&self) -> Stage
+        ensures value { result ≡ self.now.tally.stage }
+        ensures named { (xs : List Symbol) → IsTallyOf self.now.tally xs → result ≡ stage_after xs }
+    {
+        self.tally.stage()
     }
 
     /// Whether the end of the input was taken.

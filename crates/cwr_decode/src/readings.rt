@@ -5,13 +5,15 @@ ghost use Rattle.cwr_decode.specs.Decoding.{HasWaiting, accepted_records, final_
 ghost use Rattle.cwr_decode.specs.Represents.{RepresentsSome, Represents};
 ghost use Rattle.cwr_decode.specs.Machines.{WaitsOutside, again};
 ghost use Rattle.cwr_decode.specs.Readings.{answer_of, CountsQuickly, CountsReader, FeedsOn, Reads, ReadsQuickly};
+ghost use Rattle.cwr_decode.specs.LastReads.{HoldsLast, ReadsLast, stage_of_records};
 
 use crate::decoders::Decoder;
+use crate::last_bytes::LastBytes;
 use crate::machine::State;
 use crate::outcomes::Outcome;
 use cwr_fields::Source;
 use cwr_judge::Refusal;
-use cwr_shape::Limits;
+use cwr_shape::{Limits, Stage};
 use cwr_values::{Item, Transaction};
 use std::alloc::Global;
 use std::error::Error;
@@ -46,19 +48,30 @@ impl Display for ReadFault {
 
 impl Error for ReadFault {}
 
-/// The items of a transmission, which are read one at a time from a lent reader.
-pub struct Reading<'a, R: Source, D: Drop = Decoder> {
-    reader: &'a mut R,
-    decoder: D,
+/// What was read last, and how far that came.
+#[derive(Drop)]
+pub struct LastRead {
+    /// How far the accepted records have come.
+    pub stage: Stage,
+    /// The last bytes that the reader lost.
+    pub bytes: LastBytes,
 }
 
-impl<R: Source, D: Drop> Drop for Reading<'_, R, D> {
+/// The items of a transmission, which are read one at a time from a lent reader. The last bytes that were read are held.
+pub struct Reading<'a, R: Source, D: Drop = Decoder, L: Drop = LastBytes> {
+    reader: &'a mut R,
+    decoder: D,
+    last: L,
+}
+
+impl<R: Source, D: Drop, L: Drop> Drop for Reading<'_, R, D, L> {
     fn drop(self)
         ensures { self.exit.0.now ≡ self.entry.reader.now }
     {
         let Reading {
             reader: _,
             decoder: _,
+            last: _,
         } = self;
     }
 }
@@ -89,17 +102,19 @@ enum Quick {
 }
 
 /// Feeds what the reader shows next by quick tests, up to the next transaction. What these leave is consumed later.
-fn pull_quickly<R: Source>(decoder: &mut Decoder, reader: &mut R) -> Quick
+fn pull_quickly<R: Source>(decoder: &mut Decoder, last: &mut LastBytes, reader: &mut R) -> Quick
     requires reading { decoder.old.state ≡ State.Reading }
     requires fresh { decoder.old.finished ≡ false }
     ensures reads { ReadsQuickly result decoder.old (R.remaining reader.old) decoder.new (R.remaining reader.new) }
     ensures failures { CountsQuickly result (R.failures reader.old) (R.failures reader.new) }
+    ensures last { ReadsLast (R.remaining reader.old) (R.remaining reader.new) last.old last.new }
 {
     let piece = match reader.fill() {
         Ok(piece) => piece,
         Err(_) => return Quick::Failed,
     };
     let (used, found) = decoder.feed_quickly(piece);
+    last.keep(&piece[..used]);
     reader.consume(used);
     match found {
         Some(whole) => Quick::Whole(whole),
@@ -108,7 +123,11 @@ fn pull_quickly<R: Source>(decoder: &mut Decoder, reader: &mut R) -> Quick
 }
 
 /// Feeds what the reader shows next, or the end of the input. `None` where more is needed.
-fn pull<R: Source>(decoder: &mut Decoder, reader: &mut R) -> Option<Result<Option<Item>, ReadFault>>
+fn pull<R: Source>(
+    decoder: &mut Decoder,
+    last: &mut LastBytes,
+    reader: &mut R,
+) -> Option<Result<Option<Item>, ReadFault>>
     requires reading { decoder.old.state ≡ State.Reading }
     requires fresh { decoder.old.finished ≡ false }
     ensures stood { IfNone result (RepresentsSome decoder.old) }
@@ -116,6 +135,7 @@ fn pull<R: Source>(decoder: &mut Decoder, reader: &mut R) -> Option<Result<Optio
     ensures reads { IfSome result (λ answer. Reads decoder.old (R.remaining reader.old) answer decoder.new (R.remaining reader.new)) }
     ensures same { IfNone result (R.failures reader.new ≡ R.failures reader.old) }
     ensures failures { IfSome result (λ answer. CountsReader answer (R.failures reader.old) (R.failures reader.new)) }
+    ensures last { ReadsLast (R.remaining reader.old) (R.remaining reader.new) last.old last.new }
 {
     let piece = match reader.fill() {
         Ok(piece) => piece,
@@ -125,20 +145,26 @@ fn pull<R: Source>(decoder: &mut Decoder, reader: &mut R) -> Option<Result<Optio
         return answer(decoder.finish().outcome);
     }
     let step = decoder.feed(piece);
+    last.keep(&piece[..step.used]);
     reader.consume(step.used);
     answer(step.outcome)
 }
 
 /// Reads on, where the decoder needs more.
-fn read_on<R: Source>(decoder: &mut Decoder, reader: &mut R) -> Result<Option<Item>, ReadFault>
+fn read_on<R: Source>(
+    decoder: &mut Decoder,
+    last: &mut LastBytes,
+    reader: &mut R,
+) -> Result<Option<Item>, ReadFault>
     requires reading { decoder.old.state ≡ State.Reading }
     requires fresh { decoder.old.finished ≡ false }
     ensures reads { Reads decoder.old (R.remaining reader.old) result decoder.new (R.remaining reader.new) }
     ensures failures { CountsReader result (R.failures reader.old) (R.failures reader.new) }
+    ensures last { ReadsLast (R.remaining reader.old) (R.remaining reader.new) last.old last.new }
 {
     let mut pieces: u64 = 0;
     loop {
-        if let Some(reported) = pull(decoder, reader) {
+        if let Some(reported) = pull(decoder, last, reader) {
             return reported;
         }
         pieces += 1;
@@ -181,10 +207,12 @@ impl<'a, R: Source> Reading<'a, R> {
         ensures limits { limits_of result.decoder ≡ limits }
         ensures open { final_answer result.decoder ≡ None }
         ensures fresh { has_ended result.decoder ≡ false }
+        ensures last { HoldsLast [] result.last }
     {
         Reading {
             reader,
             decoder: Decoder::new(alloc, limits),
+            last: LastBytes::new(),
         }
     }
 
@@ -209,14 +237,27 @@ impl<'a, R: Source> Reading<'a, R> {
         ensures input_ended { has_ended self.old.decoder ≡ true → self.new.reader.now ≡ self.old.reader.now }
         // Nor is it where a record waits that is an item of its own.
         ensures alone { WaitsOutside self.old.decoder → self.new.reader.now ≡ self.old.reader.now }
+        // The last bytes that the reader lost are held.
+        ensures last { ReadsLast (R.remaining self.old.reader.now) (R.remaining self.new.reader.now) self.old.last self.new.last }
     {
         if let Some(reported) = settle(&mut self.decoder) {
             return reported;
         }
-        match pull_quickly(&mut self.decoder, self.reader) {
+        match pull_quickly(&mut self.decoder, &mut self.last, self.reader) {
             Quick::Whole(whole) => Ok(Some(Item::Transaction(whole))),
             Quick::Failed => Err(ReadFault::Reader),
-            Quick::Nothing => read_on(&mut self.decoder, self.reader),
+            Quick::Nothing => read_on(&mut self.decoder, &mut self.last, self.reader),
+        }
+    }
+
+    /// What was read last, and how far the accepted records have come. After a refusal the bytes end with the refused line.
+    pub fn last_read(&self) -> LastRead
+        ensures stage { result.stage ≡ stage_of_records self.now.decoder }
+        ensures bytes { (read : List ℕ) → HoldsLast read self.now.last → HoldsLast read result.bytes }
+    {
+        LastRead {
+            stage: self.decoder.stage(),
+            bytes: self.last.copied(),
         }
     }
 }

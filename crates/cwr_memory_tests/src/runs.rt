@@ -2,6 +2,7 @@
 
 use crate::outputs::{Nowhere, Numbered};
 use crate::works::{TWO_GROUPS_WITH_A_FINDING, largest, refused, text_of};
+use cwr_explain::explain;
 use cwr_fields::Counted;
 use cwr_tools::{JoinFault, JoinReport, SplitReport, ToolFault, Verdict, check, join, show, split};
 use cwr_worked::texts::{ONE_ACKNOWLEDGEMENT, TWO_GROUPS, WORK_OF_ELEVEN};
@@ -17,7 +18,7 @@ const fn good(groups: u32, transactions: u32, records: u32) -> Verdict {
     }
 }
 
-/// Checks and shows a text. Each answers the verdict.
+/// Checks, shows and explains a text. Each answers the verdict.
 fn check_verdict(
     rt: &(impl Abort + AllocGlobal),
     lines: &[&[u8]],
@@ -28,7 +29,15 @@ fn check_verdict(
     let (_, checked) = check(rt.alloc(), largest(), &mut reader, Counted::new(Nowhere));
     let mut again = Counted::new(text.as_slice());
     let (_, shown) = show(rt.alloc(), largest(), &mut again, Counted::new(Nowhere));
-    for outcome in [checked, shown] {
+    let mut third = Counted::new(text.as_slice());
+    let (_, explained) = explain(
+        rt.alloc(),
+        largest(),
+        "it",
+        &mut third,
+        Counted::new(Nowhere),
+    );
+    for outcome in [checked, shown, explained] {
         if outcome == Err(ToolFault::Memory) {
             return Err(refused());
         }

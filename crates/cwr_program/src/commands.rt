@@ -6,6 +6,7 @@ ghost use Rattle.cwr_program.specs.Endings.{EndsAs, EndsAfterFault};
 use crate::faults::Fault;
 use crate::new_files::{NewFile, NumberedFiles, gathered};
 use cwr_encode::{Sink, SinkFault};
+use cwr_explain::explain;
 use cwr_fields::{Counted, Target};
 use cwr_shape::Limits;
 use cwr_tools::{
@@ -70,6 +71,18 @@ pub(crate) fn show_input<'a, I: Read + Drop, O: Write + Drop>(
 ) -> Result<Status, Fault<'a>> {
     let lines = lines_to(alloc, output)?;
     ending(show(alloc, limits, &mut bytes_of(alloc, input), lines).1)
+}
+
+/// Checks a transmission, whose input has that name, and writes the lines and what explains them to the output.
+pub(crate) fn explain_input<'a, I: Read + Drop, O: Write + Drop>(
+    alloc: Global,
+    limits: Limits,
+    name: &str,
+    input: I,
+    output: O,
+) -> Result<Status, Fault<'a>> {
+    let lines = lines_to(alloc, output)?;
+    ending(explain(alloc, limits, name, &mut bytes_of(alloc, input), lines).1)
 }
 
 /// Hands on the lines that were put, where they could be.

@@ -3,7 +3,9 @@
 ghost use Rattle.std.specs.Prelude.{◌≡◌, ◌≢◌, ◌≤◌};
 ghost use Rattle.clap.specs.Values.{kind_of};
 
-use crate::commands::{Status, check_input, join_files, opened, show_input, split_file};
+use crate::commands::{
+    Status, check_input, explain_input, join_files, opened, show_input, split_file,
+};
 use crate::faults::Fault;
 use crate::words::{Task, Work, task_of};
 use clap::error::ErrorKind;
@@ -11,6 +13,9 @@ use std::convert::AsStr;
 use std::io;
 use std::io::{Read, Write};
 use std::rt::Files;
+
+/// What an input without a file is called.
+const STANDARD_INPUT: &str = "standard input";
 
 /// Runs what the words ask for, the program's name first. The answer is the exit status.
 pub fn run<R: Files + AllocGlobal, S: AsStr, I: Read + Drop, O: Write + Drop, E: Write + Drop>(
@@ -102,6 +107,10 @@ fn perform<'a, R: Files + AllocGlobal, I: Read + Drop, O: Write + Drop>(
         Work::Check(Some(name)) => check_input(rt.alloc(), limits, opened(rt, name)?, output),
         Work::Show(None) => show_input(rt.alloc(), limits, input, output),
         Work::Show(Some(name)) => show_input(rt.alloc(), limits, opened(rt, name)?, output),
+        Work::Explain(None) => explain_input(rt.alloc(), limits, STANDARD_INPUT, input, output),
+        Work::Explain(Some(name)) => {
+            explain_input(rt.alloc(), limits, name, opened(rt, name)?, output)
+        }
         Work::Split {
             transactions,
             file,

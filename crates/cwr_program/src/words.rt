@@ -21,6 +21,8 @@ pub enum Work<'a> {
     Check(Option<&'a str>),
     /// Its records are shown.
     Show(Option<&'a str>),
+    /// It is checked, and what is found is explained.
+    Explain(Option<&'a str>),
     /// A transmission is cut into parts.
     Split {
         /// The transactions of a part; the last may have fewer.
@@ -53,6 +55,9 @@ const CHECK: &str = "check";
 
 /// The name of the subcommand that shows.
 const SHOW: &str = "show";
+
+/// The name of the subcommand that explains.
+const EXPLAIN: &str = "explain";
 
 /// The name of the subcommand that splits.
 const SPLIT: &str = "split";
@@ -160,11 +165,14 @@ The last line on standard output:
 Before it `cwr check` writes a line for each finding in a transaction, and `cwr show` each record with its cells:
   FINDING group G transaction T record S field F level L rule V
 
+After it `cwr explain` writes, indented, what a refusal speaks of, what stands there and what may.
+
 Before REFUSED and TRUNCATED `cwr join` writes the number of the input.
 
 Exit status: 0 good, 1 refused, truncated or a limit, 2 a wrong command line (or help), 3 a file, a device or memory failed
 
 Examples: cwr check works.cwr
+          cwr explain works.cwr
           cwr split -n 1000 works.cwr part-
           cwr join whole.cwr part-00000001 part-00000002";
 
@@ -179,6 +187,11 @@ fn command<'a>(alloc: Global) -> Result<Command<'a>, AllocError> {
             alloc,
             SHOW,
             "Shows the records of a transmission, and judges it",
+        )?)?
+        .subcommand(over_one(
+            alloc,
+            EXPLAIN,
+            "Judges a transmission, and explains what is wrong with it",
         )?)?
         .subcommand(splitting(alloc)?)?
         .subcommand(joining(alloc)?)
@@ -208,10 +221,13 @@ fn limits_of(matches: &ArgMatches<'_>) -> Option<Limits>
 
 /// The work of a subcommand over one transmission.
 fn work_over<'a>(name: &str, file: Option<&'a str>) -> Work<'a>
-    ensures { result ≡ (if bytes_eq name.now (codes "show") then Work.Show file.entry else Work.Check file.entry) }
+    ensures { result ≡ (if bytes_eq name.now (codes "show") then Work.Show file.entry
+        else (if bytes_eq name.now (codes "explain") then Work.Explain file.entry else Work.Check file.entry)) }
 {
     if name == SHOW {
         Work::Show(file)
+    } else if name == EXPLAIN {
+        Work::Explain(file)
     } else {
         Work::Check(file)
     }

@@ -61,6 +61,25 @@ fn missing_file(rt: HostRuntime) {
     );
 }
 
+/// What is written of a line in lower case.
+const EXPLAINED: &[u8] = b"REFUSED record 1 field 1 level E unknown kind
+  where     standard input, line 1, bytes 1 to 3 of the line, byte 1 of the file
+  field     record type
+  found     \"hdr\"
+  expected  HDR
+  level     E: the entire file is rejected
+  note      record types are in capital letters
+";
+
+#[test]
+fn explained_input(rt: HostRuntime) {
+    let words = ["cwr", "explain"];
+    let ran = run_over(&rt, words.as_slice(), b"hdr\n".as_slice());
+    assert_eq!(rt; ran.status, 1);
+    assert_eq!(rt; ran.output.as_slice(), EXPLAINED);
+    assert!(rt; ran.error.is_empty());
+}
+
 #[test]
 fn words_that_are_answered_by_a_text(rt: HostRuntime) {
     for word in ["frobnicate", "--help", "help", "--version", "-"] {

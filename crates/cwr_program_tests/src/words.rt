@@ -31,6 +31,7 @@ fn limits_are_the_largest_without_options(rt: HostRuntime) -> Result<(), Fail> {
     check_task(&rt, &["cwr"], Work::Check(None), LARGEST)?;
     check_task(&rt, &["cwr", "check"], Work::Check(None), LARGEST)?;
     check_task(&rt, &["cwr", "show"], Work::Show(None), LARGEST)?;
+    check_task(&rt, &["cwr", "explain"], Work::Explain(None), LARGEST)?;
     let file = Some("a.cwr");
     check_task(&rt, &["cwr", "show", "a.cwr"], Work::Show(file), LARGEST)?;
     check_task(&rt, &["cwr", "check", "a.cwr"], Work::Check(file), LARGEST)

@@ -61,6 +61,13 @@ stops_after limits old new before left after given fault B C h r same = (
   by (inl live) = run_right limits old new before left after given (Err fault) h.read live r
   by (inr ended) = absurd (no_fault old.state fault B C ended.0 same)
 
+-- and that was the decoder
+pub stops_decoder : (limits : Limits) (old new : Standing) (before left after : Option (List ℕ)) (given : List Item) (fault : ReadFault) (B C : Type 0)
+    (h : IsReadingOn limits old before left given) (r : Reads old left (Err fault) new after) (same : IfSome (again old.state) (λ o. (Some (Err fault) ≡ answer_of o) × B × C))
+    → (stops_after limits old new before left after given fault B C h r same).0.decoder ≡ new
+unfolding stops_after
+stops_decoder limits old new before left after given fault B C h r same = refl
+
 -- memory was refused after them
 pub lacks_after : (limits : Limits) (d : Standing) (before now : Option (List ℕ)) (given : List Item) → IsReadingOn limits d before now given → StopsAfter limits faults.Memory before now given
 lacks_after limits d before now given h = (record { decoder = d; given = given; read = h.read; leaves = λ other. absurd (other refl); right = any before }, refl)

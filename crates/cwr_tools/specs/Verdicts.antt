@@ -1,11 +1,14 @@
 -- The verdict on the bytes that a reader has, and the items that were handed out before it.
-use Rattle.std.specs.Prelude.{◌≡◌, ℕ, ◌+◌, List, [], ◌∷◌, count_by, length, Option, Result, Ok, Err, if◌then◌else◌}
+use Rattle.std.specs.Prelude.{◌≡◌, ℕ, ◌+◌, List, [], ◌∷◌, count_by, length, Option, IfSome, Result, Ok, Err, if◌then◌else◌}
+use Rattle.std.specs.Io.KnownBytes.{Consumes}
 use Rattle.cwr_shape.specs.declared.limits.Limits.{Limits}
 use Rattle.cwr_values.specs.declared.items.Item.{Item}
 use Rattle.cwr_values.specs.Values.{TransmissionValue}
 use Rattle.cwr_decode.specs.declared.readings.ReadFault.{ReadFault}
 use Rattle.cwr_decode.specs.declared.readings.ReadFault.TheVariants as read_faults
 use Rattle.cwr_judge.specs.Items.{item_records, opens_group, is_transaction, value_items}
+use Rattle.cwr_decode.specs.declared.readings.LastRead.{LastRead}
+use Rattle.cwr_decode.specs.LastReads.{HoldsLast, stage_of_records}
 use Rattle.cwr_decode.specs.Runs.{TakesFront, StopsRun}
 use Rattle.cwr_tools.specs.declared.verdicts.Verdict.{Verdict}
 use Rattle.cwr_tools.specs.declared.verdicts.Verdict.TheVariants.{Good, Refused, Truncated}
@@ -42,3 +45,14 @@ IsVerdictOf read_faults.Reader result = result ≡ Err Reader
 IsVerdictOf (read_faults.Refused refusal) result = result ≡ Ok (Refused refusal)
 IsVerdictOf (read_faults.Truncated records) result = result ≡ Ok (Truncated records)
 IsVerdictOf read_faults.Memory result = result ≡ Err Memory
+
+-- the decoder stopped so at that stage; where the text's bytes are known, the last of those that it was fed are held
+abbrev pub StopsAt : Limits → ReadFault → Option (List ℕ) → Option (List ℕ) → LastRead → Type 0
+StopsAt limits fault before after last = (stop : StopsRun limits fault before after) × (last.stage ≡ stage_of_records stop.decoder) × IfSome before (λ text. HoldsLast stop.read.input last.bytes)
+
+-- what was read last where a text has the verdict: the last of the bytes that the reader lost, and where the text isn't good the
+-- stage of its accepted records
+abbrev pub IsReadLast : Limits → Option (List ℕ) → Option (List ℕ) → Verdict → LastRead → Type 0
+IsReadLast limits before after (Good groups transactions records) last = (read : List ℕ) × Consumes before after read × HoldsLast read last.bytes
+IsReadLast limits before after (Refused refusal) last = StopsAt limits (read_faults.Refused refusal) before after last
+IsReadLast limits before after (Truncated records) last = StopsAt limits (read_faults.Truncated records) before after last

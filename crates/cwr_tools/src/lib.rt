@@ -15,7 +15,7 @@ mod splitting;
 mod totals;
 mod verdicts;
 
-pub use checking::check;
+pub use checking::{check, check_with_last};
 pub use joining::join;
 pub use outcomes::{put_join_outcome, put_split_outcome};
 pub use outputs::{OutputFault, Outputs};

@@ -1,18 +1,18 @@
 //! Whole runs over a text: the lines of its items, and the line of the verdict.
 
-ghost use Rattle.std.specs.Prelude.{◌≡◌, ◌≤◌, [], false, length};
+ghost use Rattle.std.specs.Prelude.{◌≡◌, ◌≤◌, [], false, length, IfOk, IsSomeAnd};
 ghost use Rattle.cwr_encode.specs.Sinks.{HasWritten, has_failed, writer_of};
 ghost use Rattle.cwr_levels.specs.declared.lines.TheConstants.{LONGEST_REPORT_LINE};
 ghost use Rattle.cwr_levels.specs.Putting.{PutsText};
 ghost use Rattle.cwr_tools.specs.Texts.{verdict_line};
-ghost use Rattle.cwr_tools.specs.Verdicts.{IsVerdictOf};
+ghost use Rattle.cwr_tools.specs.Verdicts.{IsReadLast, IsVerdictOf};
 ghost use Rattle.cwr_tools.specs.Reports.{CountsReaderFault, CountsWriterFault, PutsReport, Reports, lines_in};
 
 use crate::item_lines::{Report, put_item, writer_fault};
 use crate::record_lines::RecordLines;
 use crate::totals::Totals;
 use crate::verdicts::{ToolFault, Verdict};
-use cwr_decode::{ReadFault, Reading};
+use cwr_decode::{LastRead, ReadFault, Reading};
 use cwr_encode::{Sink, SinkFault};
 use cwr_fields::{Source, Target};
 use cwr_levels::{good_line, refusal_line, truncated_line};
@@ -32,18 +32,20 @@ fn verdict_of(fault: ReadFault) -> Result<Verdict, ToolFault>
 }
 
 /// Reads a transmission item by item, up to its end or to where it is refused or ends too early, and puts the lines of
-/// each item.
+/// each item. Then `last` gets what was read last.
 fn put_items<R: Source, W: Target>(
     report: Report,
     alloc: Global,
     limits: Limits,
     reader: &mut R,
+    last: &mut Option<LastRead>,
     sink: &mut Sink<W>,
 ) -> Result<Verdict, ToolFault>
     requires unfailed { has_failed sink.old ≡ false }
     requires empty { HasWritten W.contents (W.contents (writer_of sink.old)) [] sink.old }
     ensures puts { PutsReport (lines_in report) (λ verdict. []) limits (R.remaining reader.old) (R.remaining reader.new) W.contents W.failures result sink.old sink.new }
     ensures failures { CountsReaderFault result (R.failures reader.old) (R.failures reader.new) }
+    ensures last { IfOk result (λ verdict. IsSomeAnd last.new (IsReadLast limits (R.remaining reader.old) (R.remaining reader.new) verdict)) }
 {
     let mut reading = Reading::new(alloc, limits, reader);
     let mut counts = Totals::new();
@@ -54,8 +56,14 @@ fn put_items<R: Source, W: Target>(
                 put_item(report, alloc, &counts, &item, &mut lines, sink)?;
                 counts.count(&item);
             }
-            Ok(None) => return Ok(counts.good()),
-            Err(fault) => return verdict_of(fault),
+            Ok(None) => {
+                *last = Some(reading.last_read());
+                return Ok(counts.good());
+            }
+            Err(fault) => {
+                *last = Some(reading.last_read());
+                return verdict_of(fault);
+            }
         }
     }
 }
@@ -75,20 +83,22 @@ fn put_verdict<W: Target>(verdict: &Verdict, sink: &mut Sink<W>) -> Result<(), S
     }
 }
 
-/// Reads a transmission, and puts the lines of its items and the line of the verdict.
+/// Reads a transmission, and puts the lines of its items and the line of the verdict. Then `last` gets what was read last.
 fn put_report<R: Source, W: Target>(
     report: Report,
     alloc: Global,
     limits: Limits,
     reader: &mut R,
+    last: &mut Option<LastRead>,
     sink: &mut Sink<W>,
 ) -> Result<Verdict, ToolFault>
     requires unfailed { has_failed sink.old ≡ false }
     requires empty { HasWritten W.contents (W.contents (writer_of sink.old)) [] sink.old }
     ensures puts { PutsReport (lines_in report) verdict_line limits (R.remaining reader.old) (R.remaining reader.new) W.contents W.failures result sink.old sink.new }
     ensures failures { CountsReaderFault result (R.failures reader.old) (R.failures reader.new) }
+    ensures last { IfOk result (λ verdict. IsSomeAnd last.new (IsReadLast limits (R.remaining reader.old) (R.remaining reader.new) verdict)) }
 {
-    let verdict = put_items(report, alloc, limits, reader, sink)?;
+    let verdict = put_items(report, alloc, limits, reader, last, sink)?;
     match put_verdict(&verdict, sink) {
         Ok(()) => Ok(verdict),
         Err(fault) => Err(writer_fault(fault)),
@@ -96,20 +106,22 @@ fn put_report<R: Source, W: Target>(
 }
 
 /// Reads a transmission, and writes the lines of its items and the line of the verdict, which it has the writer hand on.
-/// The writer comes back.
+/// The writer comes back, and `last` gets what was read last.
 pub(crate) fn write_report<R: Source, W: Target>(
     report: Report,
     alloc: Global,
     limits: Limits,
     reader: &mut R,
+    last: &mut Option<LastRead>,
     writer: W,
 ) -> (W, Result<Verdict, ToolFault>)
     ensures reported { Reports (lines_in report) limits (R.remaining reader.old) (R.remaining reader.new) W.contents writer result.0 result.1 }
     ensures reader_failures { CountsReaderFault result.1 (R.failures reader.old) (R.failures reader.new) }
     ensures writer_failures { CountsWriterFault result.1 (W.failures writer) (W.failures result.0) }
+    ensures last { IfOk result.1 (λ verdict. IsSomeAnd last.new (IsReadLast limits (R.remaining reader.old) (R.remaining reader.new) verdict)) }
 {
     let mut sink = Sink::new(writer);
-    let put = put_report(report, alloc, limits, reader, &mut sink);
+    let put = put_report(report, alloc, limits, reader, last, &mut sink);
     let written = sink.written();
     let mut writer = sink.into_inner();
     match put {

@@ -30,5 +30,5 @@ pub fn show<R: Source, W: Target + Drop>(
     ensures reader_failures { CountsReaderFault result.1 (R.failures reader.old) (R.failures reader.new) }
     ensures writer_failures { CountsWriterFault result.1 (W.failures writer) (W.failures result.0) }
 {
-    write_report(Report::Records, alloc, limits, reader, writer)
+    write_report(Report::Records, alloc, limits, reader, &mut None, writer)
 }

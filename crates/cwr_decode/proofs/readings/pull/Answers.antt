@@ -1,7 +1,9 @@
-use Rattle.std.proofs.Common.{take, length, sym, ◌∙◌, arith}
+use Rattle.std.proofs.Common.{[], take, length, sym, ◌∙◌, arith}
 use Rattle.std.proofs.lemmas.Bool.{eqb-true, eqb-false}
 use Rattle.std.proofs.lemmas.List.{length-take-le}
+use Rattle.std.proofs.KnownBytes.{Consumes-kept, Consumes-nil}
 use Rattle.cwr_decode.proofs.FromReader.{consumes_taken, needs_more}
+use Rattle.cwr_decode.proofs.LastHeld.{reads_nothing}
 use Rattle.cwr_decode.proofs.FedFromReader.{at_end, feeds_called, reads_failed, reads_fed, reads_finished, same_fed, same_finished, reported_none, reported_some}
 use Rattle.cwr_decode.proofs.readings.pull.Goals as goal
 
@@ -34,3 +36,13 @@ returns-clause-reads g c = reported_some c.answer-2.result _ (λ answer e.
     c.feed-step.ensures.some c.requires.fresh c.in-Ok.ensures.front c.feed-step.ensures.used
     (consumes_taken _ _ _ c.in-Ok.piece.now c.feed-step.result.used c.fill.follows.holds-at-none.0 c.in-Ok.ensures.front c.feed-step.ensures.used c.consume.ensures.bytes)
     c.feed-step.ensures.represents c.feed-step.ensures.right c.feed-step.ensures.leaves c.feed-step.ensures.empties (same_fed _ _ _ _ c.feed-step.ensures.again) c.feed-step.ensures.memory c.feed-step.ensures.input_ended c.feed-step.ensures.limits)
+
+pub returns-then-is_empty-clause-last : goal.returns-then-is_empty-clause-last
+returns-then-is_empty-clause-last g c = reads_nothing _ _ c.args.last.now (Consumes-kept _ _ _ [] (Consumes-nil _) c.fill.follows.holds-at-none.0)
+
+pub returns-clause-last : goal.returns-clause-last
+returns-clause-last g c = record {
+  bytes = take c.feed-step.result.used c.in-Ok.piece.now;
+  consumed = consumes_taken _ _ _ c.in-Ok.piece.now c.feed-step.result.used c.fill.follows.holds-at-none.0 c.in-Ok.ensures.front c.feed-step.ensures.used c.consume.ensures.bytes;
+  held = c.keep.ensures;
+}

@@ -39,3 +39,22 @@ returns-in-None-clause-reads g c =
       kept = f.grows way.input way.given way.stands;
       limits = f.limits;
     }
+
+pub returns-in-Some-clause-last : goal.returns-in-Some-clause-last
+returns-in-Some-clause-last g c =
+    let f : Feeds c.args.decoder.now c.in-Ok.piece.now c.feed_quickly-used.result.0 (outcomes.Item (items.Transaction c.in-Some.whole)) c.feed_quickly-used.new.self =
+    subst (λ (o : Option (List RecordValue)). IfSome o (λ whole. Feeds c.args.decoder.now c.in-Ok.piece.now c.feed_quickly-used.result.0 (outcomes.Item (items.Transaction whole)) c.feed_quickly-used.new.self)) c.in-Some.is c.feed_quickly-used.ensures.some in
+    record {
+      bytes = take c.feed_quickly-used.result.0 c.in-Ok.piece.now;
+      consumed = consumes_taken _ _ _ c.in-Ok.piece.now c.feed_quickly-used.result.0 c.fill.follows.holds-at-none.0 c.in-Ok.ensures.front f.within c.consume.ensures.bytes;
+      held = c.keep.ensures;
+    }
+
+pub returns-in-None-clause-last : goal.returns-in-None-clause-last
+returns-in-None-clause-last g c =
+    let f = c.feed_quickly-used.ensures.none (subst (λ (o : Option (List RecordValue)). IsNone o) (sym c.in-None.is) refl) in
+    record {
+      bytes = take c.feed_quickly-used.result.0 c.in-Ok.piece.now;
+      consumed = consumes_taken _ _ _ c.in-Ok.piece.now c.feed_quickly-used.result.0 c.fill.follows.holds-at-none.0 c.in-Ok.ensures.front f.within c.consume.ensures.bytes;
+      held = c.keep.ensures;
+    }

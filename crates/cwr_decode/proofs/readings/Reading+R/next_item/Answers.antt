@@ -1,5 +1,6 @@
 use Rattle.std.proofs.Common.{None, inr, ap, refl, arith}
 use Rattle.cwr_decode.specs.Machines.{again}
+use Rattle.cwr_decode.proofs.LastHeld.{reads_both}
 use Rattle.cwr_decode.proofs.FromReader.{reads_after, wants_more, wants_waiting}
 use Rattle.cwr_decode.proofs.readings.Reading+R.next_item.Goals as goal
 
@@ -26,3 +27,6 @@ returns-in-Nothing-clause-memory g c = λ is live.
     let on = c.in_default.ensures.continues None in
     let fed = c.in-Nothing.ensures.reads in
     inr (omega (arith, on.kept, fed.kept, wants_more c.pull_quickly.new.decoder c.read_on.new.decoder _ fed.reading (c.read_on.ensures.reads.memory is (ap again fed.reading))))
+
+pub returns-in-Nothing-clause-last : goal.returns-in-Nothing-clause-last
+returns-in-Nothing-clause-last g c = reads_both _ _ _ _ _ _ c.in-Nothing.ensures.last c.read_on.ensures.last

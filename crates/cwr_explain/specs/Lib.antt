@@ -1,0 +1,4 @@
+pub mod LinesAtEnd
+pub mod Coming
+pub mod Explained
+pub mod Laws

@@ -1,0 +1,116 @@
+//! What may stand in a cell, in words.
+
+use cwr_fields::{
+    AgreementType, CellType, Coded, CompositeType, DistributionCategory, ExcerptType,
+    InclusionExclusion, MessageLevel, PostTermCollectionStatus, PriorRoyaltyStatus, PublisherType,
+    RecordingFormat, RecordingTechnique, Role, SalesManufactureClause, SenderType, Table,
+    TitleType, TransactionStatus, TransactionType, VersionType, WriterDesignation,
+};
+use cwr_layouts::{Field, Kind};
+use std::alloc::AllocError;
+use std::fmt::Write;
+
+/// Adds the codes of a table.
+fn add_codes<C: Coded>(text: &mut String) -> Result<(), AllocError> {
+    for (_, code) in C::list() {
+        text.push(' ')?;
+        text.push_str(code)?;
+    }
+    Ok(())
+}
+
+/// Adds the codes of senders.
+fn add_senders(text: &mut String) -> Result<(), AllocError> {
+    let [first, second, third, fourth] = [
+        SenderType::Publisher,
+        SenderType::Society,
+        SenderType::AdministrativeAgency,
+        SenderType::Writer,
+    ];
+    write!(text, " {first} {second} {third} {fourth}, or two digits")
+}
+
+/// Adds the codes of a table.
+fn add_table(text: &mut String, table: Table) -> Result<(), AllocError> {
+    text.push_str("a code, one of:")?;
+    match table {
+        Table::Sender => add_senders(text),
+        Table::TransactionType => add_codes::<TransactionType>(text),
+        Table::AgreementType => add_codes::<AgreementType>(text),
+        Table::Role => add_codes::<Role>(text),
+        Table::Prior => add_codes::<PriorRoyaltyStatus>(text),
+        Table::PostTerm => add_codes::<PostTermCollectionStatus>(text),
+        Table::Sales => add_codes::<SalesManufactureClause>(text),
+        Table::Sign => add_codes::<InclusionExclusion>(text),
+        Table::Category => add_codes::<DistributionCategory>(text),
+        Table::Version => add_codes::<VersionType>(text),
+        Table::Composite => add_codes::<CompositeType>(text),
+        Table::Excerpt => add_codes::<ExcerptType>(text),
+        Table::Publisher => add_codes::<PublisherType>(text),
+        Table::Designation => add_codes::<WriterDesignation>(text),
+        Table::Title => add_codes::<TitleType>(text),
+        Table::Status => add_codes::<TransactionStatus>(text),
+        Table::Message => add_codes::<MessageLevel>(text),
+        Table::Recording => add_codes::<RecordingFormat>(text),
+        Table::Technique => add_codes::<RecordingTechnique>(text),
+    }
+}
+
+/// Adds what a cell of the field may hold.
+pub(crate) fn add_cell_type(text: &mut String, place: &Field) -> Result<(), AllocError> {
+    let width = place.width;
+    match place.ty {
+        CellType::Text => text.push_str("text without control bytes"),
+        CellType::Required => text.push_str("text without control bytes, and not blank"),
+        CellType::Number => write!(text, "{width} digits"),
+        CellType::OptNumber => write!(text, "{width} digits, or spaces"),
+        CellType::Date => text.push_str("a date, YYYYMMDD"),
+        CellType::OptDate => text.push_str("a date, YYYYMMDD, or zeros or spaces for none"),
+        CellType::Time => text.push_str("a time, HHMMSS, from 000000 to 235959"),
+        CellType::OptTime => text.push_str("a time, HHMMSS, from 000000 to 235959, or spaces"),
+        CellType::OptDuration => text.push_str(
+            "a duration, HHMMSS, from 000000 to 995959, or spaces",
+        ),
+        CellType::Share => text.push_str(
+            "a share in hundredths of a percent, five digits from 00000 to 10000, or spaces",
+        ),
+        CellType::Flag => text.push_str("Y, N, U or a space"),
+        CellType::Code(table) => add_table(text, table),
+        CellType::OptCode(table) => {
+            add_table(text, table)?;
+            text.push_str(", or spaces")
+        }
+        CellType::Constant(word) => {
+            let letters = str_of(word.text());
+            write!(text, "{letters}, and nothing else")
+        }
+    }
+}
+
+/// The letters of a word of the format.
+fn str_of(word: &'static [u8]) -> &'static str {
+    match std::str::from_utf8(word) {
+        Ok(letters) => letters,
+        Err(_) => "",
+    }
+}
+
+/// What is counted in field `j` of a kind, from 1, where that is a number of the file's own.
+pub(crate) fn number_rule(kind: Kind, j: u8) -> &'static str {
+    match (kind, j) {
+        (Kind::Grh, _) => "the group's number in the file, from 1",
+        (Kind::Grt, 2) => "the number of the group that it ends",
+        (Kind::Grt, 3) => "the transactions of the group",
+        (Kind::Grt, _) => "the records of the group, GRH and GRT counted",
+        (Kind::Trl, 2) => "the groups of the file",
+        (Kind::Trl, 3) => "the transactions of the file",
+        (Kind::Trl, _) => "all records of the file, HDR and TRL counted",
+        (_, 2) => "the transaction's number in its group, from 0",
+        _ => "the record's number in its transaction, from 0",
+    }
+}
+
+/// The letters of a kind.
+pub(crate) fn letters_of(kind: Kind) -> &'static str {
+    str_of(cwr_layouts::letters(kind))
+}

@@ -1,0 +1,200 @@
+//! Checking a transmission, and explaining what was found.
+
+ghost use Rattle.cwr_tools.specs.Reports.{CountsReaderFault, CountsWriterFault};
+ghost use Rattle.cwr_explain.specs.Explained.{AddsWords, Explains, IsAnswerTo, ReadsOnly, TakesMore, WritesOnly};
+
+use crate::causes::{Refused, add_trailing, add_truncated, kind_of};
+use crate::lines_at_end::line_at_end;
+use crate::trailing::{Trailing, read_trailing};
+use cwr_decode::{LastRead, Refusal};
+use cwr_encode::Sink;
+use cwr_fields::{Source, Target};
+use cwr_layouts::LONGEST_LINE;
+use cwr_shape::Limits;
+use cwr_tools::{ToolFault, Verdict, check_with_last};
+use std::alloc::{AllocError, Global};
+
+/// What the reader has after a run.
+#[derive(Clone, Copy, Debug)]
+enum Beyond {
+    /// After a transmission: these bytes.
+    Trailing(Trailing),
+    /// After a refused line that had no line feed: whether it goes on.
+    GoesOn(bool),
+    /// Nobody asked.
+    Unasked,
+}
+
+/// Whether the reader shows a byte more.
+fn has_more<R: Source>(reader: &mut R) -> Result<bool, ToolFault>
+    ensures taken { TakesMore (R.remaining reader.old) (R.remaining reader.new) }
+    ensures failures { ReadsOnly result (R.failures reader.old) (R.failures reader.new) }
+{
+    match reader.fill() {
+        Ok(piece) => Ok(!piece.is_empty()),
+        Err(_) => Err(ToolFault::Reader),
+    }
+}
+
+/// Looks at what the reader has after the run: all of it after a transmission, and whether there is a byte after a refused
+/// line of 1,024 bytes.
+fn look_beyond<R: Source>(
+    reader: &mut R,
+    verdict: &Verdict,
+    last: &LastRead,
+) -> Result<Beyond, ToolFault>
+    ensures taken { TakesMore (R.remaining reader.old) (R.remaining reader.new) }
+    ensures failures { ReadsOnly result (R.failures reader.old) (R.failures reader.new) }
+{
+    let line = line_at_end(&last.bytes);
+    match verdict {
+        Verdict::Good { .. } => Ok(Beyond::Trailing(read_trailing(reader)?)),
+        Verdict::Refused(_) if !line.ended && line.bytes.len() == LONGEST_LINE => Ok(Beyond::GoesOn(
+            has_more(reader)?,
+        )),
+        _ => Ok(Beyond::Unasked),
+    }
+}
+
+/// The lines that explain a refusal.
+fn add_refused(
+    alloc: Global,
+    text: &mut String,
+    limits: &Limits,
+    name: &str,
+    refusal: &Refusal,
+    last: &LastRead,
+    is_too_long: bool,
+) -> Result<(), AllocError> {
+    let line = line_at_end(&last.bytes);
+    let refused = Refused {
+        name,
+        refusal,
+        line,
+        kind: kind_of(line.bytes),
+        is_too_long,
+    };
+    refused.add(alloc, text, limits, last.stage)
+}
+
+/// The lines that explain a verdict.
+fn explanation(
+    alloc: Global,
+    limits: &Limits,
+    name: &str,
+    verdict: &Verdict,
+    last: &LastRead,
+    beyond: Beyond,
+) -> Result<String, AllocError> {
+    let mut text = String::new(alloc);
+    match verdict {
+        Verdict::Good { .. } => {
+            if let Beyond::Trailing(found) = beyond {
+                add_trailing(&mut text, name, &found)?;
+            }
+        }
+        Verdict::Refused(refusal) => {
+            let is_too_long = matches!(beyond, Beyond::GoesOn(true));
+            add_refused(alloc, &mut text, limits, name, refusal, last, is_too_long)?;
+        }
+        Verdict::Truncated { records } => add_truncated(alloc, &mut text, name, *records, last)?,
+    }
+    Ok(text)
+}
+
+/// Writes a text, and has the writer hand it on.
+fn write_text<W: Target>(writer: W, text: &str) -> (W, Result<(), ToolFault>)
+    ensures words { AddsWords W.contents writer result.0 }
+    ensures failures { WritesOnly result.1 (W.failures writer) (W.failures result.0) }
+{
+    let mut sink = Sink::new(writer);
+    let put = sink.put(text.as_bytes());
+    let written = sink.written();
+    let mut writer = sink.into_inner();
+    match put {
+        Err(fault) => (
+            writer,
+            Err(ToolFault::Writer {
+                written: fault.written,
+            }),
+        ),
+        Ok(()) => match writer.flush() {
+            Ok(()) => (writer, Ok(())),
+            Err(_) => (writer, Err(ToolFault::Writer { written })),
+        },
+    }
+}
+
+/// The lines that explain the verdict, once it was looked what the reader has after it.
+fn explained<R: Source>(
+    alloc: Global,
+    limits: &Limits,
+    name: &str,
+    reader: &mut R,
+    verdict: &Verdict,
+    last: &LastRead,
+) -> Result<String, ToolFault>
+    ensures taken { TakesMore (R.remaining reader.old) (R.remaining reader.new) }
+    ensures failures { ReadsOnly result (R.failures reader.old) (R.failures reader.new) }
+{
+    let beyond = look_beyond(reader, verdict, last)?;
+    match explanation(alloc, limits, name, verdict, last, beyond) {
+        Ok(text) => Ok(text),
+        Err(_) => Err(ToolFault::Memory),
+    }
+}
+
+/// Writes the lines that explain the verdict.
+fn add_explanation<R: Source, W: Target>(
+    alloc: Global,
+    limits: &Limits,
+    name: &str,
+    reader: &mut R,
+    verdict: Verdict,
+    last: &LastRead,
+    writer: W,
+) -> (W, Result<Verdict, ToolFault>)
+    ensures words { AddsWords W.contents writer result.0 }
+    ensures taken { TakesMore (R.remaining reader.old) (R.remaining reader.new) }
+    ensures answered { IsAnswerTo verdict result.1 }
+    ensures reader_failures { CountsReaderFault result.1 (R.failures reader.old) (R.failures reader.new) }
+    ensures writer_failures { CountsWriterFault result.1 (W.failures writer) (W.failures result.0) }
+{
+    match explained(alloc, limits, name, reader, &verdict, last) {
+        Err(fault) => (writer, Err(fault)),
+        Ok(text) => {
+            let (writer, written) = write_text(writer, text.as_str());
+            match written {
+                Ok(()) => (writer, Ok(verdict)),
+                Err(fault) => (writer, Err(fault)),
+            }
+        }
+    }
+}
+
+/// Checks a transmission as `check` does, and writes what that writes. Then it writes lines that explain the verdict: of a
+/// refusal where it is, what stands there and what may; of an input that ends too early what may come next; of a transmission
+/// what stands after it. `name` is that of the input in these lines.
+///
+/// Where a device or memory fails after the verdict, the lines of `check` are written.
+pub fn explain<R: Source, W: Target + Drop>(
+    alloc: Global,
+    limits: Limits,
+    name: &str,
+    reader: &mut R,
+    writer: W,
+) -> (W, Result<Verdict, ToolFault>)
+    ensures explains { Explains limits (R.remaining reader.old) (R.remaining reader.new) W.contents writer result.0 result.1 }
+    // No failure is passed over: a device failed only where that is the answer.
+    ensures reader_failures { CountsReaderFault result.1 (R.failures reader.old) (R.failures reader.new) }
+    ensures writer_failures { CountsWriterFault result.1 (W.failures writer) (W.failures result.0) }
+{
+    let (writer, checked, last) = check_with_last(alloc, limits, reader, writer);
+    match checked {
+        Err(fault) => (writer, Err(fault)),
+        Ok(verdict) => match last {
+            None => (writer, Ok(verdict)),
+            Some(last) => add_explanation(alloc, &limits, name, reader, verdict, &last, writer),
+        },
+    }
+}

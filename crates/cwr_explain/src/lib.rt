@@ -1,0 +1,17 @@
+//! What a check found, explained: which bytes, what stands there, and what may.
+#![tactic(auto)]
+
+mod causes;
+mod expected;
+mod explaining;
+pub mod laws;
+mod lines_at_end;
+mod next_symbols;
+mod openings;
+mod texts;
+mod trailing;
+
+pub use explaining::explain;
+pub use lines_at_end::{LineAtEnd, line_at_end};
+pub use next_symbols::{coming, may_come};
+pub use trailing::{Trailing, read_trailing};
