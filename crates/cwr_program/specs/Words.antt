@@ -1,17 +1,33 @@
 -- What the words of a subcommand ask for.
-use Rattle.std.specs.Prelude.{◌≡◌, ℕ, List, Some, codes}
+use Rattle.std.specs.Prelude.{◌≡◌, ℕ, Bool, true, false, List, map, Option, Some, option_map, codes}
+use Rattle.std.specs.Str.{bytes_eq}
 use Rattle.std.specs.Int.NonZero.{non_zero_u32_get}
 use Rattle.std.specs.Str.Parse.{digits_value, without_leading_plus}
 use Rattle.clap.specs.declared.parser.matches.Found.{Found}
-use Rattle.clap.specs.Words.{one_text, first_value}
+use Rattle.clap.specs.Words.{one_text, first_value, matched_of, raw_values}
 use Rattle.cwr_program.specs.declared.words.Work.{Work}
-use Rattle.cwr_program.specs.declared.words.Work.TheVariants.{Check, Show, Split, Join}
+use Rattle.cwr_program.specs.declared.words.Work.TheVariants.{Check, Show, Explain, Split, Join}
 
 -- a split into parts of so many transactions as N says, of the file FILE to files whose names begin with PREFIX
 abbrev pub IsSplitOf : Found → Work → Type 0
 IsSplitOf found (Check file) = ⊥
 IsSplitOf found (Show file) = ⊥
+IsSplitOf found (Explain file) = ⊥
 IsSplitOf found (Split transactions file prefix) =
     ((text : List ℕ) → one_text found (codes "N") ≡ Some text → non_zero_u32_get transactions ≡ digits_value 10 (without_leading_plus text))
     × (first_value found (codes "FILE") ≡ Some file.now) × (first_value found (codes "PREFIX") ≡ Some prefix.now)
 IsSplitOf found (Join out files) = ⊥
+
+-- a join of the files FILE, in their order, to the file OUT
+abbrev pub IsJoinOf : Found → Work → Type 0
+IsJoinOf found (Join out files) = (first_value found (codes "OUT") ≡ Some out.now) × (option_map raw_values (matched_of found (codes "FILE")) ≡ Some (map (λ name. name.now) files.items))
+IsJoinOf found work = ⊥
+
+-- Work of the subcommand of that name: one transmission is checked, shown or explained, that of the first file that FILE names, if
+-- it names one; one is split, or some are joined.
+abbrev pub IsWorkOf : List ℕ → Found → Work → Type 0
+IsWorkOf name found (Check file) = (bytes_eq name (codes "show") ≡ false) × (bytes_eq name (codes "explain") ≡ false) × (option_map (λ f. f.now) file ≡ first_value found (codes "FILE"))
+IsWorkOf name found (Show file) = (bytes_eq name (codes "show") ≡ true) × (option_map (λ f. f.now) file ≡ first_value found (codes "FILE"))
+IsWorkOf name found (Explain file) = (bytes_eq name (codes "explain") ≡ true) × (option_map (λ f. f.now) file ≡ first_value found (codes "FILE"))
+IsWorkOf name found (Split transactions file prefix) = (bytes_eq name (codes "split") ≡ true) × IsSplitOf found (Split transactions file prefix)
+IsWorkOf name found (Join out files) = (bytes_eq name (codes "join") ≡ true) × IsJoinOf found (Join out files)

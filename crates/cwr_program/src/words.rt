@@ -5,7 +5,7 @@ ghost use Rattle.std.specs.Str.{bytes_eq};
 ghost use Rattle.std.specs.Str.Parse.{digits_value, without_leading_plus};
 ghost use Rattle.clap.specs.Words.{found_of, has_subcommand, one_text};
 ghost use Rattle.cwr_shape.specs.Ranges.{limit_values};
-ghost use Rattle.cwr_program.specs.Words.{IsSplitOf};
+ghost use Rattle.cwr_program.specs.Words.{IsJoinOf, IsSplitOf, IsWorkOf};
 
 use clap::error::ErrorKind;
 use clap::{Arg, ArgMatches, Command, Error, value_parser};
@@ -220,10 +220,10 @@ fn limits_of(matches: &ArgMatches<'_>) -> Option<Limits>
 }
 
 /// The work of a subcommand over one transmission.
-fn work_over<'a>(name: &str, file: Option<&'a str>) -> Work<'a>
-    ensures { result ≡ (if bytes_eq name.now (codes "show") then Work.Show file.entry
-        else (if bytes_eq name.now (codes "explain") then Work.Explain file.entry else Work.Check file.entry)) }
+fn work_over<'a>(name: &str, given: &ArgMatches<'a>) -> Work<'a>
+    ensures { IsWorkOf name.now (found_of given.now) result }
 {
+    let file = given.get_str(FILE);
     if name == SHOW {
         Work::Show(file)
     } else if name == EXPLAIN {
@@ -246,7 +246,9 @@ fn split_in<'a>(given: &ArgMatches<'a>) -> Option<Work<'a>>
 }
 
 /// The work of a join. `None` where a word is missing.
-fn join_in<'a>(alloc: Global, given: &ArgMatches<'a>) -> Result<Option<Work<'a>>, AllocError> {
+fn join_in<'a>(alloc: Global, given: &ArgMatches<'a>) -> Result<Option<Work<'a>>, AllocError>
+    ensures { IfOk result (λ found. IfSome found (λ work. IsJoinOf (found_of given.now) work)) }
+{
     match (given.get_str(OUT), given.get_strs(FILE)) {
         (Some(out), Some(names)) => Ok(Some(Work::Join {
             out,
@@ -262,14 +264,14 @@ fn work_in<'a>(
     name: &str,
     given: &ArgMatches<'a>,
 ) -> Result<Option<Work<'a>>, AllocError>
-    ensures { bytes_eq name.now (codes "split") ≡ true → IfOk result (λ found. IfSome found (λ work. IsSplitOf (found_of given.now) work)) }
+    ensures { IfOk result (λ found. IfSome found (λ work. IsWorkOf name.now (found_of given.now) work)) }
 {
     if name == SPLIT {
         Ok(split_in(given))
     } else if name == JOIN {
         join_in(alloc, given)
     } else {
-        Ok(Some(work_over(name, given.get_str(FILE))))
+        Ok(Some(work_over(name, given)))
     }
 }
 

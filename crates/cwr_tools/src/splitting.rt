@@ -117,7 +117,7 @@ fn open_output<O: Outputs>(
     }
 }
 
-/// FinishesOutput the open output, if there is one.
+/// Finishes the open output, if there is one.
 fn finish_output<O: Outputs>(
     splitting: &mut Splitting<O::W>,
     outputs: &mut O,
@@ -157,7 +157,7 @@ fn add_transaction<O: Outputs>(
     Ok(())
 }
 
-/// TakesItem an item of the input.
+/// Takes an item of the input.
 fn take_item<O: Outputs>(
     splitting: &mut Splitting<O::W>,
     item: Item,
