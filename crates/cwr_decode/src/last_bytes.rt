@@ -1,6 +1,6 @@
 //! The last bytes that were read.
 
-ghost use Rattle.std.specs.Prelude.{◌≡◌, ◌+◌, ◌≤◌, ℕ, List, [], ◌++◌, length};
+ghost use Rattle.std.specs.Prelude.{◌≡◌, ◌+◌, ◌-◌, ◌≤◌, ℕ, List, [], ◌++◌, drop, length};
 ghost use Rattle.cwr_decode.specs.LastReads.{HoldsLast, bytes_read, last_held};
 
 use arrayvec::ArrayVec;
@@ -10,6 +10,18 @@ const LINE_AND_FEED: usize = 1025;
 
 /// The most bytes that are held.
 const MOST_HELD: usize = 4096;
+
+/// The end of a text, as many bytes as a line takes at most. It is apart from its callers, which pay nothing for its buffer.
+#[inline(never)]
+fn line_end(text: &[u8]) -> ArrayVec<u8, LINE_AND_FEED>
+    requires { LINE_AND_FEED ≤ length text.now }
+    ensures { result.items ≡ drop (length text.now - LINE_AND_FEED) text.now }
+{
+    let from = text.len() - LINE_AND_FEED;
+    let mut end = ArrayVec::new();
+    let _fits = end.try_extend_from_slice(&text[from..]);
+    end
+}
 
 /// The last bytes that were read, at least 1,025 of them or all, and how many were read. So the line that was read last is
 /// held whole.
@@ -58,15 +70,15 @@ impl LastBytes {
     }
 
     /// Holds no more bytes than one line takes.
+    #[inline(never)]
     fn shorten(&mut self)
         requires { LINE_AND_FEED ≤ length (last_held self.old) }
         ensures held { (read : List ℕ) → HoldsLast read self.old → HoldsLast read self.new }
         ensures short { length (last_held self.new) ≤ LINE_AND_FEED }
     {
-        let from = self.held.len() - LINE_AND_FEED;
-        let mut end = ArrayVec::new();
-        let _fits = end.try_extend_from_slice(&self.held.as_slice()[from..]);
-        self.held = end;
+        let end = line_end(self.held.as_slice());
+        self.held.clear();
+        let _fits = self.held.try_extend_from_slice(end.as_slice());
     }
 
     /// Holds the end of a long piece, and nothing before it.
