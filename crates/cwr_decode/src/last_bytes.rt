@@ -77,7 +77,7 @@ impl LastBytes {
         ensures short { length (last_held self.new) ≤ LINE_AND_FEED }
     {
         let end = line_end(self.held.as_slice());
-        self.held.clear();
+        self.held.truncate(0);
         let _fits = self.held.try_extend_from_slice(end.as_slice());
     }
 
@@ -87,7 +87,7 @@ impl LastBytes {
         ensures { (read : List ℕ) → HoldsLast read self.old → HoldsLast (read ++ bytes.now) self.new }
     {
         let from = bytes.len() - LINE_AND_FEED;
-        self.held.clear();
+        self.held.truncate(0);
         let _fits = self.held.try_extend_from_slice(&bytes[from..]);
         self.read = self.read.saturating_add(bytes.len() as u64);
     }
