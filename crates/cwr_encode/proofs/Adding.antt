@@ -14,7 +14,7 @@ use Rattle.cwr_shape.specs.Outlines.{IsWithin, Continues}
 use Rattle.cwr_shape.specs.Tallies as tallies
 use Rattle.cwr_shape.specs.Tallies.{MayCome, Answers}
 use Rattle.cwr_shape.proofs.OneMore.{last_or-snoc}
-use Rattle.cwr_shape.proofs.FirstBarsOfKinds.{comes_unbarred}
+use Rattle.cwr_shape.proofs.WhatMayCome.{comes_unbarred}
 use Rattle.cwr_values.specs.Values.{symbol_of, symbol_by}
 use Rattle.cwr_values.specs.Rows.{canonical_line}
 use Rattle.cwr_values.specs.Begins.{numbers_after, row_after, rows_after, rows_so_far}

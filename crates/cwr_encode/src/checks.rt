@@ -22,7 +22,7 @@ pub(crate) fn group_may_end(stage: Stage) -> bool
 }
 
 /// The first limit that is passed with a transaction of so many records more, and GRT and TRL.
-pub(crate) fn passed(tally: &Tally, records: usize) -> Option<LimitKind>
+pub(crate) fn limit_passed(tally: &Tally, records: usize) -> Option<LimitKind>
     ensures value { result ≡ passed_with tally.now records }
     ensures kept { KeepsTally tally.now }
 {

@@ -14,7 +14,7 @@ ghost use Rattle.cwr_fields.specs.Failures.{one_more_failure};
 ghost use Rattle.cwr_encode.specs.EncodeFaultTexts.{encode_fault_text};
 ghost use Rattle.cwr_encode.specs.Finishing.{FinishesWriting, JudgesEnd};
 
-use crate::checks::{count_all, group_may_end, passed};
+use crate::checks::{count_all, group_may_end, limit_passed};
 use crate::rows::{put_row, put_transaction};
 use crate::sinks::Sink;
 use cwr_fields::{Target, TransactionType};
@@ -259,7 +259,7 @@ impl<W: Target> Encoder<W> {
         if !transaction.complete() {
             return Err(EncodeFault::Incomplete);
         }
-        if let Some(limit) = passed(&self.tally, transaction.len()) {
+        if let Some(limit) = limit_passed(&self.tally, transaction.len()) {
             return Err(EncodeFault::Limit(limit));
         }
         let number = self.number(transaction.kind(), 2);

@@ -15,7 +15,7 @@ struct Spelled {
 
 /// The digits of a number, written one by one.
 #[inline(never)]
-fn written(number: u64) -> [u8; 8]
+fn eight_digits(number: u64) -> [u8; 8]
     ensures { result ≡ digits 8 number }
 {
     let mut text = [b'0'; 8];
@@ -36,7 +36,7 @@ fn one_digit(number: u64) -> [u8; 8]
 
 /// The digits of the next number, where the last one isn't a nine.
 #[inline(always)]
-fn counted(text: [u8; 8], number: u64) -> [u8; 8]
+fn next_digits(text: [u8; 8], number: u64) -> [u8; 8]
     requires spells { text ≡ digits 8 number }
     requires last { slice_index text 7 ≢ 57 }
     ensures { result ≡ digits 8 (number + 1) }
@@ -66,25 +66,25 @@ impl Spelled {
     {
         Spelled {
             number: 0,
-            text: written(0),
+            text: eight_digits(0),
         }
     }
 
     /// The digits of a number, which is mostly the next one.
     #[inline(always)]
-    fn turned(self, number: u64) -> [u8; 8]
+    fn digits_for(self, number: u64) -> [u8; 8]
         ensures { result ≡ digits 8 number }
     {
         if number == self.number {
             return self.text;
         }
         if self.number < number && number - self.number == 1 && self.text[7] != b'9' {
-            return counted(self.text, self.number);
+            return next_digits(self.text, self.number);
         }
         if number < 10 {
             return one_digit(number);
         }
-        written(number)
+        eight_digits(number)
     }
 
     /// Takes another number, and answers whether the cell is its last eight digits.
@@ -93,7 +93,7 @@ impl Spelled {
         requires { length cell.now ≡ 8 }
         ensures { IsTrue result → cell.now ≡ digits 8 number }
     {
-        let text = self.turned(number);
+        let text = self.digits_for(number);
         *self = Spelled { number, text };
         are_same(cell, text.as_slice())
     }

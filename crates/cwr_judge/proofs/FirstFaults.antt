@@ -33,7 +33,7 @@ use Rattle.cwr_shape.specs.Ranges.{LimitValues}
 use Rattle.cwr_shape.specs.Numbers.{symbol_kind, number_in, IsNumberAt}
 use Rattle.cwr_shape.specs.Candidates.{candidates, role_in, type_in}
 use Rattle.cwr_shape.specs.Tallies.{IsBarred, IsBarredAmong}
-use Rattle.cwr_shape.proofs.FirstBarsOfKinds.{comes_any}
+use Rattle.cwr_shape.proofs.WhatMayCome.{comes_any}
 use Rattle.cwr_judge.specs.Judged.{named_symbol, bar_reason, IsTextFault, IsGoodNextCell, IsFaultBy, IsGoodAt, HasReasonAt, MayComeOf, IsWrongAt, barred, IsFirstWrong, IsFirstBy, IsFirstFault}
 use Rattle.cwr_judge.proofs.NumberCells.{one_number, at_place}
 use Rattle.cwr_judge.proofs.NextLines.{numbers_next, number_next, some_number}

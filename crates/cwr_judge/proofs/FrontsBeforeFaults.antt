@@ -21,7 +21,7 @@ use Rattle.cwr_shape.specs.declared.reasons.Reason.{Reason}
 use Rattle.cwr_shape.specs.Ranges.{LimitValues}
 use Rattle.cwr_shape.specs.Candidates.{candidates, role_in, type_in, parties_of, groups_of}
 use Rattle.cwr_shape.specs.Tallies.{open_type, counts_of, MayCome}
-use Rattle.cwr_shape.proofs.FirstBarsOfKinds.{comes_any}
+use Rattle.cwr_shape.proofs.WhatMayCome.{comes_any}
 use Rattle.cwr_values.specs.Begins.{numbers_after}
 use Rattle.cwr_judge.specs.GoodFronts.{HasGoodFront}
 use Rattle.cwr_judge.specs.Judged as judged

@@ -26,7 +26,7 @@ use Rattle.cwr_shape.specs.Numbers.{symbol_kind, number_in, IsNumberAt}
 use Rattle.cwr_shape.specs.Tallies.{MayCome, open_type, counts_of, is_header_of}
 use Rattle.cwr_shape.specs.Counting.{expected_numbers, expected_inside}
 use Rattle.cwr_shape.proofs.NumbersAreCounted.{numbers_counted}
-use Rattle.cwr_shape.proofs.FirstBarsOfKinds.{comes_any}
+use Rattle.cwr_shape.proofs.WhatMayCome.{comes_any}
 use Rattle.cwr_values.specs.Values.{symbol_of}
 use Rattle.cwr_judge.specs.Judged.{HasNumbers, IsNext}
 use Rattle.cwr_judge.proofs.NumberCells.{one_number, known_of, symbol_kind-of}

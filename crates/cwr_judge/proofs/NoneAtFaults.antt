@@ -28,7 +28,7 @@ use Rattle.cwr_shape.specs.declared.tallies.Bar.TheVariants as bars
 use Rattle.cwr_shape.specs.Ranges.{LimitValues}
 use Rattle.cwr_shape.specs.Candidates.{candidates, role_in, type_in, parties_of, groups_of}
 use Rattle.cwr_shape.specs.Tallies.{open_type, counts_of, MayCome, IsBarred, IsBarredAmong}
-use Rattle.cwr_shape.proofs.FirstBarsOfKinds.{comes_any, comes_unbarred}
+use Rattle.cwr_shape.proofs.WhatMayCome.{comes_any, comes_unbarred}
 use Rattle.cwr_values.specs.Begins.{numbers_after}
 use Rattle.cwr_judge.specs.GoodFronts.{HasGoodFront}
 use Rattle.cwr_judge.specs.Judged as judged

@@ -24,7 +24,7 @@ use Rattle.cwr_shape.specs.Outlines.{Continues}
 use Rattle.cwr_shape.specs.Left.{Any}
 use Rattle.cwr_shape.specs.Numbers.{symbol_kind, IsNumberAt}
 use Rattle.cwr_shape.specs.Tallies.{MayCome, IsBarred}
-use Rattle.cwr_shape.proofs.FirstBarsOfKinds.{comes_any, comes_unbarred}
+use Rattle.cwr_shape.proofs.WhatMayCome.{comes_any, comes_unbarred}
 use Rattle.cwr_values.specs.Values.{symbol_of, symbol_by}
 use Rattle.cwr_judge.specs.Judged.{HasNumberAt, HasNumbers, Lacks, IsNext}
 

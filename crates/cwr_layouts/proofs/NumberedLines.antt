@@ -1,5 +1,5 @@
 -- The line of a record's row is the line that the record is kept in, with the numbers put in.
-use Rattle.std.proofs.Common.{◌≡◌, ℕ, ◌+◌, ◌≤◌, Bool, true, false, not, cond, List, [], ◌∷◌, ◌++◌, length, map, take, drop, filter, refl, sym, ap, ap₂, ◌∙◌, arith, lit≤, true≢false, append_assoc, take-add}
+use Rattle.std.proofs.Common.{◌≡◌, ℕ, ◌+◌, ◌≤◌, Bool, true, false, not, cond, List, [], ◌∷◌, ◌++◌, length, map, take, drop, filter, refl, sym, ap, ap₂, ◌∙◌, arith, true≢false, append_assoc, take-add}
 use Rattle.std.specs.Prelude.{slice_get, slice_index, unwrap_or, if◌then◌else◌}
 use Rattle.std.specs.List.{concat, list_all, zip}
 use Rattle.std.proofs.lemmas.Bool.{and_parts}
@@ -17,6 +17,7 @@ use Rattle.cwr_layouts.specs.Records.{RecordValue, rest_if, row_cells, row_of, f
 use Rattle.cwr_layouts.specs.Carried.{carried_cells, record_in}
 use Rattle.cwr_layouts.specs.Numbered.{numbered_part, with_part}
 use Rattle.cwr_layouts.proofs.GoodLinesAreRows.{carried_in}
+use Rattle.cwr_layouts.proofs.NumbersOfKinds.{numbered_inside, letters_long, line_width_least}
 
 -- the text of some fields, with numbers in the place of their derived cells
 abbrev filled_in : List FieldLayout → List ℕ → List ℕ → List ℕ
@@ -142,103 +143,6 @@ numbered_filled Xrf ns line h = sym (inside_filled (drop 2 (fields_after_type Xr
 -- the line that a record is kept in, with numbers put in, is the full line of its row
 pub full_line-numbered : (kind : Kind) (ns line : List ℕ) → length line ≡ line_width kind → full_line (row_of ns (record_in kind line)) ≡ letters kind ++ numbered_part kind ns line
 full_line-numbered kind ns line h = full_filled kind line ns ∙ ap (λ (x : List ℕ). letters kind ++ x) (sym (numbered_filled kind ns line h))
-
--- ---- facts for each kind
-
--- a record inside a transaction
-pub numbered_inside : (kind : Kind) (ns line : List ℕ) → (kind ≡ Hdr → ⊥) → (kind ≡ Grh → ⊥) → (kind ≡ Grt → ⊥) → (kind ≡ Trl → ⊥)
-    → numbered_part kind ns line ≡ digits 8 (slice_index ns 0) ++ (digits 8 (slice_index ns 1) ++ drop 19 line)
-numbered_inside Hdr ns line a b c d = absurd (a refl)
-numbered_inside Grh ns line a b c d = absurd (b refl)
-numbered_inside Grt ns line a b c d = absurd (c refl)
-numbered_inside Trl ns line a b c d = absurd (d refl)
-numbered_inside kind ns line a b c d = refl
-
--- a kind is named by three bytes
-letters_long : (kind : Kind) → length (letters kind) ≡ 3
-letters_long Hdr = refl
-letters_long Grh = refl
-letters_long Grt = refl
-letters_long Trl = refl
-letters_long Agr = refl
-letters_long Ter = refl
-letters_long Ipa = refl
-letters_long Nwr = refl
-letters_long Rev = refl
-letters_long Spu = refl
-letters_long Opu = refl
-letters_long Spt = refl
-letters_long Swr = refl
-letters_long Owr = refl
-letters_long Swt = refl
-letters_long Pwr = refl
-letters_long Alt = refl
-letters_long Ewt = refl
-letters_long Ver = refl
-letters_long Per = refl
-letters_long Rec = refl
-letters_long Orn = refl
-letters_long Com = refl
-letters_long Ack = refl
-letters_long Msg = refl
-letters_long Opt = refl
-letters_long Owt = refl
-letters_long Npn = refl
-letters_long Npr = refl
-letters_long Nwn = refl
-letters_long Npa = refl
-letters_long Net = refl
-letters_long Now = refl
-letters_long Nct = refl
-letters_long Nvt = refl
-letters_long Nat = refl
-letters_long Ins = refl
-letters_long Ind = refl
-letters_long Ari = refl
-letters_long Xrf = refl
-
--- no line is narrower than that of TRL
-pub line_width_least : (kind : Kind) → 24 ≤ line_width kind
-line_width_least Hdr = lit≤ tt
-line_width_least Grh = lit≤ tt
-line_width_least Grt = lit≤ tt
-line_width_least Trl = lit≤ tt
-line_width_least Agr = lit≤ tt
-line_width_least Ter = lit≤ tt
-line_width_least Ipa = lit≤ tt
-line_width_least Nwr = lit≤ tt
-line_width_least Rev = lit≤ tt
-line_width_least Spu = lit≤ tt
-line_width_least Opu = lit≤ tt
-line_width_least Spt = lit≤ tt
-line_width_least Swr = lit≤ tt
-line_width_least Owr = lit≤ tt
-line_width_least Swt = lit≤ tt
-line_width_least Pwr = lit≤ tt
-line_width_least Alt = lit≤ tt
-line_width_least Ewt = lit≤ tt
-line_width_least Ver = lit≤ tt
-line_width_least Per = lit≤ tt
-line_width_least Rec = lit≤ tt
-line_width_least Orn = lit≤ tt
-line_width_least Com = lit≤ tt
-line_width_least Ack = lit≤ tt
-line_width_least Msg = lit≤ tt
-line_width_least Opt = lit≤ tt
-line_width_least Owt = lit≤ tt
-line_width_least Npn = lit≤ tt
-line_width_least Npr = lit≤ tt
-line_width_least Nwn = lit≤ tt
-line_width_least Npa = lit≤ tt
-line_width_least Net = lit≤ tt
-line_width_least Now = lit≤ tt
-line_width_least Nct = lit≤ tt
-line_width_least Nvt = lit≤ tt
-line_width_least Nat = lit≤ tt
-line_width_least Ins = lit≤ tt
-line_width_least Ind = lit≤ tt
-line_width_least Ari = lit≤ tt
-line_width_least Xrf = lit≤ tt
 
 -- ---- what the code sets, one number after another
 

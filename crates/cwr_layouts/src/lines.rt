@@ -418,7 +418,7 @@ impl<'a> CutLine<'a> {
         let Some(kind) = self.kind else {
             unreachable!()
         };
-        RecordRef::kept(kind, &self.text[..width(kind)])
+        RecordRef::of_line(kind, &self.text[..width(kind)])
     }
 
     /// Whether what stands after the last field is bad: it isn't all spaces, or the line is too long. A line of

@@ -92,7 +92,10 @@ impl RecordList {
         ensures fits { AllByRecursion IsRecord self.now }
     {
         match self.places.get(i) {
-            Some(place) => Some(RecordRef::kept(place.kind, line_at(self.text.as_slice(), *place))),
+            Some(place) => Some(RecordRef::of_line(
+                place.kind,
+                line_at(self.text.as_slice(), *place),
+            )),
             None => None,
         }
     }

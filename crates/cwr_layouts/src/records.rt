@@ -139,7 +139,7 @@ impl<'a> RecordRef<'a> {
 
     /// The record that a whole line of the kind carries.
     #[inline(always)]
-    pub(crate) fn kept(kind: Kind, line: &'a [u8]) -> Self
+    pub(crate) fn of_line(kind: Kind, line: &'a [u8]) -> Self
         requires whole { length line.now ≡ line_width kind }
         requires fits { IsRecord (record_in kind line.now) }
         ensures { result ≡ record_in kind line.now }

@@ -31,6 +31,7 @@ use Rattle.cwr_shape.proofs.StageStands.{stands_leaves, next_exact, next_stands}
 use Rattle.cwr_shape.proofs.PrefixFree.{among_passes}
 use Rattle.cwr_shape.proofs.OneMore.{counts-snoc}
 use Rattle.cwr_shape.proofs.LimitsByNeeds.{kept_within}
+use Rattle.cwr_shape.proofs.WhatMayCome.{goes_any}
 use Rattle.cwr_shape.proofs.FirstBars.{Next, record_sum, group_sum, transaction_sum, room_comes, comes_room}
 
 -- ---- some symbols
@@ -155,10 +156,6 @@ record MovesTo (t : TallyValue) (xs ss : List Symbol) (best : Symbol) : Type 0 w
 stage_on : (t : TallyValue) (xs : List Symbol) (s : Symbol) → IsTallyOf t xs → Continues Any (xs ++ s ∷ []) → (o : Option Stage) → o ≡ next_stage t.stage s → (next : Stage) × (next_stage t.stage s ≡ Some next) × StandsAt (xs ++ s ∷ []) next
 stage_on t xs s st g None e = absurd (true≢false (sym ((next_exact xs t.stage s None e st.stands).1 g)))
 stage_on t xs s st g (Some next) e = (next, sym e, next_stands xs t.stage s (Some next) e st.stands)
-
--- any transmission
-goes_any : {P : List GroupOutline → Type 0} (xs : List Symbol) → Continues P xs → Continues Any xs
-goes_any xs g = (g.0, g.1, tt, g.3)
 
 record Both (t : TallyValue) (xs : List Symbol) (s best : Symbol) : Type 0 where
   next : Stage
@@ -289,16 +286,3 @@ pub one_symbol : (kind : Kind) → (kind ≡ kinds.Ipa → ⊥) → (kind ≡ ki
 one_symbol kinds.Ipa h k = absurd (h refl)
 one_symbol kinds.Grh h k = absurd (k refl)
 one_symbol kind h k = refl
-
--- ---- what may come
-
--- some transmission continues with what may come
-pub comes_any : (limits : LimitValues) (xs : List Symbol) (s : Symbol) → MayCome limits xs s → Continues Any (xs ++ s ∷ [])
-comes_any limits xs s m = goes_any (xs ++ s ∷ []) m
-
--- and what is barred may not come
-pub comes_unbarred : (limits : LimitValues) (xs : List Symbol) (s : Symbol) (bar : Bar) → IsBarred limits xs s bar → ¬ MayCome limits xs s
-comes_unbarred limits xs s Misplaced b m = b (comes_any limits xs s m)
-comes_unbarred limits xs s (Limit Records) b m = b.1 (m.0, m.1, m.2.0, m.3)
-comes_unbarred limits xs s (Limit Groups) b m = b.1 (m.0, m.1, m.2.1, m.3)
-comes_unbarred limits xs s (Limit Transaction) b m = b.2 (m.0, m.1, m.2.2, m.3)

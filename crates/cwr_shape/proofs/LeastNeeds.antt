@@ -22,7 +22,8 @@ use Rattle.cwr_shape.specs.Left.{is_stage, is_inside, StandsAt}
 use Rattle.cwr_shape.specs.Tallies.{is_header_of, type_after}
 use Rattle.cwr_shape.specs.Needs.{is_later_of, later_records, first_transaction, transaction_to_come, AreNeeds, needs_at}
 use Rattle.cwr_shape.proofs.Matcher.{symbol_text, same_text}
-use Rattle.cwr_shape.proofs.StagePatterns.{all_symbols, of_each, next_is_stage}
+use Rattle.cwr_shape.proofs.AllSymbols.{all_symbols, of_each}
+use Rattle.cwr_shape.proofs.StagePatterns.{next_is_stage}
 use Rattle.cwr_shape.proofs.StageRuns.{run, run_first}
 use Rattle.cwr_shape.proofs.StageStands.{stands_leaves}
 use Rattle.cwr_shape.proofs.WaysToEnd.{way_out, ends, way_out_has, runs_whole, whole_runs}

@@ -2,260 +2,31 @@
 use Rattle.std.proofs.Common.{◌≡◌, Bool, true, false, cond, not, ◌&&◌, ◌||◌, List, [], ◌∷◌, ◌++◌, Option, Some, None, refl, sym, ap, subst, ◌∙◌, true≢false, append_assoc, append-nil}
 use Rattle.std.specs.List.{list_all}
 use Rattle.std.proofs.lemmas.Bool.{and_parts}
-use Rattle.cwr_fields.specs.declared.codes.Role.{Role}
 use Rattle.cwr_fields.specs.declared.codes.Role.TheVariants.{Assignor, Acquirer}
 use Rattle.cwr_fields.specs.declared.codes.TransactionType.{TransactionType}
 use Rattle.cwr_fields.specs.declared.codes.TransactionType.TheVariants.{Agreement, NewWork, RevisedWork, Acknowledgement}
 use Rattle.cwr_shape.specs.declared.symbols.Symbol.{Symbol}
 use Rattle.cwr_shape.specs.declared.stages.Stage.{Stage}
 use Rattle.cwr_shape.specs.declared.stages.Stage.TheVariants as stages
-use Rattle.cwr_shape.specs.declared.stages.TransactionStep.{TransactionStep}
-use Rattle.cwr_shape.specs.declared.stages.TransactionStep.TheVariants as steps
 use Rattle.cwr_shape.specs.Steps.{next_stage}
 use Rattle.cwr_shape.specs.Stages.{is_grh, is_writer, latest, group_of, stage_by, stage_of, stage_after}
 use Rattle.cwr_shape.specs.Left.{is_stage}
 use Rattle.cwr_shape.specs.Shapes.{is_carried_symbol, without_carried}
 use Rattle.cwr_shape.proofs.Matcher.{without-snoc}
-use Rattle.cwr_shape.proofs.StagePatterns.{all_symbols, of_each, next_is_stage}
+use Rattle.cwr_shape.proofs.AllSymbols.{all_symbols, of_each}
+use Rattle.cwr_shape.proofs.StagePatterns.{next_is_stage}
 use Rattle.cwr_shape.proofs.StageRuns.{run, run_first}
 use Rattle.cwr_shape.proofs.OneMore.{latest-snoc, last_or-snoc}
-use Rattle.cwr_shape.proofs.SymbolsNameStages.{same_type, same_step, same_stage, same_stage_sound, same_bool, same_bool_sound, other_writer, side, name_of, named, type_next, writer_next, side_next, type_more, writer_more, side-snoc}
+use Rattle.cwr_shape.proofs.SymbolsNameStages.{same_stage, same_stage_sound, same_bool, same_bool_sound, other_writer, side, name_of, named, type_next, writer_next, side_next, type_more, writer_more, side-snoc}
+use Rattle.cwr_shape.proofs.StagesKeepNames.{side_of, fits, agrees, stays, keeps, both_keep, all_keep, all_stages_keep}
 
 -- ---- what a stage says of the symbols that stand there, without the carried ones
-
-abbrev side_of : Role → Stage → Bool
-side_of role (stages.Within ty steps.Both) = true
-side_of Assignor (stages.Within ty (steps.OneSide Assignor)) = true
-side_of Acquirer (stages.Within ty (steps.OneSide Acquirer)) = true
-side_of role stage = false
-
-abbrev writer_fits : TransactionStep → Bool → Bool
-writer_fits steps.Writer o = not o
-writer_fits steps.OtherWriter o = o
-writer_fits step o = true
-
-abbrev fits : Stage → TransactionType → Bool → Bool
-fits (stages.Within t step) ty o = same_type t ty && writer_fits step o
-fits stage ty o = true
 
 record Seen (xs : List Symbol) (stage : Stage) : Type 0 where
   pub name : stage ≡ stage_of xs
   pub fit : fits stage (group_of (latest is_grh xs)) (other_writer (latest is_writer xs)) ≡ true
   pub assignor : side Assignor xs ≡ side_of Assignor stage
   pub acquirer : side Acquirer xs ≡ side_of Acquirer stage
-
--- the stage that the table comes to, and what it says
-unfoldable agrees : Option Stage → Symbol → TransactionType → Bool → Bool → Bool → Bool
-agrees None s ty o a b = true
-agrees (Some to) s ty o a b = same_stage to (name_of s ty o a b) && fits to ty o && same_bool a (side_of Assignor to) && same_bool b (side_of Acquirer to)
-
--- the table stays at the stage, or has no stage
-unfoldable stays : Stage → Option Stage → Bool
-stays stage None = true
-stays stage (Some to) = same_stage to stage
-
-unfoldable keeps : Stage → TransactionType → Bool → Symbol → Bool
-keeps stage ty o s =
-    cond (is_carried_symbol s) (stays stage (next_stage stage s)) (
-    not (fits stage ty o)
-    || agrees (next_stage stage s) s (type_next s ty) (writer_next s o) (side_next Assignor s (side_of Assignor stage)) (side_next Acquirer s (side_of Acquirer stage))
-    )
-
--- for both last writers
-abbrev both_keep : Stage → TransactionType → Bool
-both_keep stage ty = list_all (λ o. list_all (keeps stage ty o) all_symbols) (true ∷ false ∷ [])
-
--- for each type of the group
-unfoldable all_keep : Stage → Bool
-all_keep stage = list_all (both_keep stage) (Agreement ∷ NewWork ∷ RevisedWork ∷ Acknowledgement ∷ [])
-
-start_keeps : all_keep stages.Start ≡ true
-unfolding all_keep keeps stays agrees same_stage same_step same_type same_bool name_of
-start_keeps = refl
-
-opened_keeps : all_keep stages.Opened ≡ true
-unfolding all_keep keeps stays agrees same_stage same_step same_type same_bool name_of
-opened_keeps = refl
-
-closed_keeps : all_keep stages.Closed ≡ true
-unfolding all_keep keeps stays agrees same_stage same_step same_type same_bool name_of
-closed_keeps = refl
-
-ended_keeps : all_keep stages.Ended ≡ true
-unfolding all_keep keeps stays agrees same_stage same_step same_type same_bool name_of
-ended_keeps = refl
-
-agreement_ingroup_keeps : all_keep (stages.Within Agreement steps.InGroup) ≡ true
-unfolding all_keep keeps stays agrees same_stage same_step same_type same_bool name_of
-agreement_ingroup_keeps = refl
-
-agreement_agreed_keeps : all_keep (stages.Within Agreement steps.Agreed) ≡ true
-unfolding all_keep keeps stays agrees same_stage same_step same_type same_bool name_of
-agreement_agreed_keeps = refl
-
-agreement_territories_keeps : all_keep (stages.Within Agreement steps.Territories) ≡ true
-unfolding all_keep keeps stays agrees same_stage same_step same_type same_bool name_of
-agreement_territories_keeps = refl
-
-agreement_side_assignor_keeps : all_keep (stages.Within Agreement (steps.OneSide Assignor)) ≡ true
-unfolding all_keep keeps stays agrees same_stage same_step same_type same_bool name_of
-agreement_side_assignor_keeps = refl
-
-agreement_side_acquirer_keeps : all_keep (stages.Within Agreement (steps.OneSide Acquirer)) ≡ true
-unfolding all_keep keeps stays agrees same_stage same_step same_type same_bool name_of
-agreement_side_acquirer_keeps = refl
-
-agreement_both_keeps : all_keep (stages.Within Agreement steps.Both) ≡ true
-unfolding all_keep keeps stays agrees same_stage same_step same_type same_bool name_of
-agreement_both_keeps = refl
-
-newwork_ingroup_keeps : all_keep (stages.Within NewWork steps.InGroup) ≡ true
-unfolding all_keep keeps stays agrees same_stage same_step same_type same_bool name_of
-newwork_ingroup_keeps = refl
-
-newwork_work_keeps : all_keep (stages.Within NewWork steps.Work) ≡ true
-unfolding all_keep keeps stays agrees same_stage same_step same_type same_bool name_of
-newwork_work_keeps = refl
-
-newwork_controlled_keeps : all_keep (stages.Within NewWork steps.Controlled) ≡ true
-unfolding all_keep keeps stays agrees same_stage same_step same_type same_bool name_of
-newwork_controlled_keeps = refl
-
-newwork_other_keeps : all_keep (stages.Within NewWork steps.Other) ≡ true
-unfolding all_keep keeps stays agrees same_stage same_step same_type same_bool name_of
-newwork_other_keeps = refl
-
-newwork_writer_keeps : all_keep (stages.Within NewWork steps.Writer) ≡ true
-unfolding all_keep keeps stays agrees same_stage same_step same_type same_bool name_of
-newwork_writer_keeps = refl
-
-newwork_otherwriter_keeps : all_keep (stages.Within NewWork steps.OtherWriter) ≡ true
-unfolding all_keep keeps stays agrees same_stage same_step same_type same_bool name_of
-newwork_otherwriter_keeps = refl
-
-newwork_tail_keeps : all_keep (stages.Within NewWork steps.Tail) ≡ true
-unfolding all_keep keeps stays agrees same_stage same_step same_type same_bool name_of
-newwork_tail_keeps = refl
-
-revisedwork_ingroup_keeps : all_keep (stages.Within RevisedWork steps.InGroup) ≡ true
-unfolding all_keep keeps stays agrees same_stage same_step same_type same_bool name_of
-revisedwork_ingroup_keeps = refl
-
-revisedwork_work_keeps : all_keep (stages.Within RevisedWork steps.Work) ≡ true
-unfolding all_keep keeps stays agrees same_stage same_step same_type same_bool name_of
-revisedwork_work_keeps = refl
-
-revisedwork_controlled_keeps : all_keep (stages.Within RevisedWork steps.Controlled) ≡ true
-unfolding all_keep keeps stays agrees same_stage same_step same_type same_bool name_of
-revisedwork_controlled_keeps = refl
-
-revisedwork_other_keeps : all_keep (stages.Within RevisedWork steps.Other) ≡ true
-unfolding all_keep keeps stays agrees same_stage same_step same_type same_bool name_of
-revisedwork_other_keeps = refl
-
-revisedwork_writer_keeps : all_keep (stages.Within RevisedWork steps.Writer) ≡ true
-unfolding all_keep keeps stays agrees same_stage same_step same_type same_bool name_of
-revisedwork_writer_keeps = refl
-
-revisedwork_otherwriter_keeps : all_keep (stages.Within RevisedWork steps.OtherWriter) ≡ true
-unfolding all_keep keeps stays agrees same_stage same_step same_type same_bool name_of
-revisedwork_otherwriter_keeps = refl
-
-revisedwork_tail_keeps : all_keep (stages.Within RevisedWork steps.Tail) ≡ true
-unfolding all_keep keeps stays agrees same_stage same_step same_type same_bool name_of
-revisedwork_tail_keeps = refl
-
-acknowledgement_ingroup_keeps : all_keep (stages.Within Acknowledgement steps.InGroup) ≡ true
-unfolding all_keep keeps stays agrees same_stage same_step same_type same_bool name_of
-acknowledgement_ingroup_keeps = refl
-
-acknowledgement_acked_keeps : all_keep (stages.Within Acknowledgement steps.Acked) ≡ true
-unfolding all_keep keeps stays agrees same_stage same_step same_type same_bool name_of
-acknowledgement_acked_keeps = refl
-
-acknowledgement_agreed_keeps : all_keep (stages.Within Acknowledgement steps.Agreed) ≡ true
-unfolding all_keep keeps stays agrees same_stage same_step same_type same_bool name_of
-acknowledgement_agreed_keeps = refl
-
-acknowledgement_territories_keeps : all_keep (stages.Within Acknowledgement steps.Territories) ≡ true
-unfolding all_keep keeps stays agrees same_stage same_step same_type same_bool name_of
-acknowledgement_territories_keeps = refl
-
-acknowledgement_side_assignor_keeps : all_keep (stages.Within Acknowledgement (steps.OneSide Assignor)) ≡ true
-unfolding all_keep keeps stays agrees same_stage same_step same_type same_bool name_of
-acknowledgement_side_assignor_keeps = refl
-
-acknowledgement_side_acquirer_keeps : all_keep (stages.Within Acknowledgement (steps.OneSide Acquirer)) ≡ true
-unfolding all_keep keeps stays agrees same_stage same_step same_type same_bool name_of
-acknowledgement_side_acquirer_keeps = refl
-
-acknowledgement_both_keeps : all_keep (stages.Within Acknowledgement steps.Both) ≡ true
-unfolding all_keep keeps stays agrees same_stage same_step same_type same_bool name_of
-acknowledgement_both_keeps = refl
-
-acknowledgement_work_keeps : all_keep (stages.Within Acknowledgement steps.Work) ≡ true
-unfolding all_keep keeps stays agrees same_stage same_step same_type same_bool name_of
-acknowledgement_work_keeps = refl
-
-acknowledgement_controlled_keeps : all_keep (stages.Within Acknowledgement steps.Controlled) ≡ true
-unfolding all_keep keeps stays agrees same_stage same_step same_type same_bool name_of
-acknowledgement_controlled_keeps = refl
-
-acknowledgement_other_keeps : all_keep (stages.Within Acknowledgement steps.Other) ≡ true
-unfolding all_keep keeps stays agrees same_stage same_step same_type same_bool name_of
-acknowledgement_other_keeps = refl
-
-acknowledgement_writer_keeps : all_keep (stages.Within Acknowledgement steps.Writer) ≡ true
-unfolding all_keep keeps stays agrees same_stage same_step same_type same_bool name_of
-acknowledgement_writer_keeps = refl
-
-acknowledgement_otherwriter_keeps : all_keep (stages.Within Acknowledgement steps.OtherWriter) ≡ true
-unfolding all_keep keeps stays agrees same_stage same_step same_type same_bool name_of
-acknowledgement_otherwriter_keeps = refl
-
-acknowledgement_tail_keeps : all_keep (stages.Within Acknowledgement steps.Tail) ≡ true
-unfolding all_keep keeps stays agrees same_stage same_step same_type same_bool name_of
-acknowledgement_tail_keeps = refl
-
-all_stages_keep : (stage : Stage) → is_stage stage ≡ true → all_keep stage ≡ true
-all_stages_keep stages.Start h = start_keeps
-all_stages_keep stages.Opened h = opened_keeps
-all_stages_keep stages.Closed h = closed_keeps
-all_stages_keep stages.Ended h = ended_keeps
-all_stages_keep (stages.Within Agreement steps.InGroup) h = agreement_ingroup_keeps
-all_stages_keep (stages.Within Agreement steps.Agreed) h = agreement_agreed_keeps
-all_stages_keep (stages.Within Agreement steps.Territories) h = agreement_territories_keeps
-all_stages_keep (stages.Within Agreement (steps.OneSide Assignor)) h = agreement_side_assignor_keeps
-all_stages_keep (stages.Within Agreement (steps.OneSide Acquirer)) h = agreement_side_acquirer_keeps
-all_stages_keep (stages.Within Agreement steps.Both) h = agreement_both_keeps
-all_stages_keep (stages.Within NewWork steps.InGroup) h = newwork_ingroup_keeps
-all_stages_keep (stages.Within NewWork steps.Work) h = newwork_work_keeps
-all_stages_keep (stages.Within NewWork steps.Controlled) h = newwork_controlled_keeps
-all_stages_keep (stages.Within NewWork steps.Other) h = newwork_other_keeps
-all_stages_keep (stages.Within NewWork steps.Writer) h = newwork_writer_keeps
-all_stages_keep (stages.Within NewWork steps.OtherWriter) h = newwork_otherwriter_keeps
-all_stages_keep (stages.Within NewWork steps.Tail) h = newwork_tail_keeps
-all_stages_keep (stages.Within RevisedWork steps.InGroup) h = revisedwork_ingroup_keeps
-all_stages_keep (stages.Within RevisedWork steps.Work) h = revisedwork_work_keeps
-all_stages_keep (stages.Within RevisedWork steps.Controlled) h = revisedwork_controlled_keeps
-all_stages_keep (stages.Within RevisedWork steps.Other) h = revisedwork_other_keeps
-all_stages_keep (stages.Within RevisedWork steps.Writer) h = revisedwork_writer_keeps
-all_stages_keep (stages.Within RevisedWork steps.OtherWriter) h = revisedwork_otherwriter_keeps
-all_stages_keep (stages.Within RevisedWork steps.Tail) h = revisedwork_tail_keeps
-all_stages_keep (stages.Within Acknowledgement steps.InGroup) h = acknowledgement_ingroup_keeps
-all_stages_keep (stages.Within Acknowledgement steps.Acked) h = acknowledgement_acked_keeps
-all_stages_keep (stages.Within Acknowledgement steps.Agreed) h = acknowledgement_agreed_keeps
-all_stages_keep (stages.Within Acknowledgement steps.Territories) h = acknowledgement_territories_keeps
-all_stages_keep (stages.Within Acknowledgement (steps.OneSide Assignor)) h = acknowledgement_side_assignor_keeps
-all_stages_keep (stages.Within Acknowledgement (steps.OneSide Acquirer)) h = acknowledgement_side_acquirer_keeps
-all_stages_keep (stages.Within Acknowledgement steps.Both) h = acknowledgement_both_keeps
-all_stages_keep (stages.Within Acknowledgement steps.Work) h = acknowledgement_work_keeps
-all_stages_keep (stages.Within Acknowledgement steps.Controlled) h = acknowledgement_controlled_keeps
-all_stages_keep (stages.Within Acknowledgement steps.Other) h = acknowledgement_other_keeps
-all_stages_keep (stages.Within Acknowledgement steps.Writer) h = acknowledgement_writer_keeps
-all_stages_keep (stages.Within Acknowledgement steps.OtherWriter) h = acknowledgement_otherwriter_keeps
-all_stages_keep (stages.Within Acknowledgement steps.Tail) h = acknowledgement_tail_keeps
-all_stages_keep stage h = absurd (true≢false (sym h))
 
 here : {X : Type 0} (test : X → Bool) (x : X) (xs : List X) → list_all test (x ∷ xs) ≡ true → test x ≡ true
 here test x xs h = (and_parts (test x) (list_all test xs) h).0

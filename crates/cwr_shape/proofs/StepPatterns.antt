@@ -16,7 +16,7 @@ use Rattle.cwr_shape.specs.Steps.{header_step, step_on, may_end}
 use Rattle.cwr_shape.specs.Left.{left_of, is_inside, StandsAtStep, ContinuesIn}
 use Rattle.cwr_shape.proofs.Matcher.{nullable, nullable_sound, nullable_complete, after, after_all, is_dead, dead_sound, accepts_sound}
 use Rattle.cwr_shape.proofs.NormalForms.{same_list, same, same_sound, seq, contains, insert, alt, both, carry, norm, norm_alike, follows}
-use Rattle.cwr_shape.proofs.StagePatterns.{all_symbols, of_each}
+use Rattle.cwr_shape.proofs.AllSymbols.{all_symbols, of_each}
 use Rattle.cwr_shape.proofs.StepNames.{first_named, on_named}
 
 -- what the pattern leaves is what is left at the step; no step, and nothing is

@@ -134,7 +134,7 @@ impl TransactionStep {
 
     /// The step after one more record of the transaction that isn't carried as text.
     #[inline(always)]
-    fn ordered(self, symbol: Symbol) -> Option<TransactionStep>
+    fn after_ordered(self, symbol: Symbol) -> Option<TransactionStep>
         ensures { result ≡ ordered_step self symbol }
     {
         match (self, symbol) {
@@ -172,7 +172,7 @@ impl TransactionStep {
     }
 
     /// The step after a record that is carried as text: after the header of an agreement or a work it stays as it is.
-    fn carried(self) -> Option<TransactionStep>
+    fn after_carried(self) -> Option<TransactionStep>
         ensures { result ≡ carried_step self }
     {
         match self {
@@ -187,9 +187,9 @@ impl TransactionStep {
         ensures { result ≡ step_on self symbol }
     {
         if symbol.is_carried() {
-            self.carried()
+            self.after_carried()
         } else {
-            self.ordered(symbol)
+            self.after_ordered(symbol)
         }
     }
 

@@ -5,7 +5,8 @@ use Rattle.cwr_layouts.specs.declared.kinds.Kind.{Kind}
 use Rattle.cwr_layouts.specs.declared.kinds.Kind.TheVariants.{Grt, Trl}
 use Rattle.cwr_layouts.specs.Layouts.{line_width}
 use Rattle.cwr_layouts.specs.Numbered.{numbered_part}
-use Rattle.cwr_layouts.proofs.NumberedLines.{set_at_ends, set_in_group_head, set_inside, line_width_least}
+use Rattle.cwr_layouts.proofs.NumberedLines.{set_at_ends, set_in_group_head, set_inside}
+use Rattle.cwr_layouts.proofs.NumbersOfKinds.{line_width_least}
 use Rattle.cwr_layouts.proofs.canonical_lines.set_numbers.Goals as goal
 
 pub returns-in-Grh : goal.returns-in-Grh

@@ -4,7 +4,7 @@ use Rattle.cwr_layouts.specs.declared.kinds.Kind.TheVariants.{Trl}
 use Rattle.cwr_shape.specs.declared.symbols.Symbol.{Symbol}
 use Rattle.cwr_shape.specs.declared.symbols.Symbol.TheVariants.{Plain}
 use Rattle.cwr_shape.specs.Tallies as tallies
-use Rattle.cwr_shape.proofs.FirstBarsOfKinds.{comes_any}
+use Rattle.cwr_shape.proofs.WhatMayCome.{comes_any}
 use Rattle.cwr_values.specs.Values.{symbol_of}
 use Rattle.cwr_values.specs.Rows.{trailer}
 use Rattle.cwr_encode.specs.declared.encoders.EncodeFault.{EncodeFault}

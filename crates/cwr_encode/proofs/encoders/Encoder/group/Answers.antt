@@ -5,7 +5,7 @@ use Rattle.cwr_shape.specs.declared.symbols.Symbol.{Symbol}
 use Rattle.cwr_shape.specs.Outlines.{IsWithin, Continues}
 use Rattle.cwr_shape.specs.Numbers.{symbol_kind}
 use Rattle.cwr_shape.specs.Tallies as tallies
-use Rattle.cwr_shape.proofs.FirstBarsOfKinds.{comes_any}
+use Rattle.cwr_shape.proofs.WhatMayCome.{comes_any}
 use Rattle.cwr_values.specs.Values.{symbol_of}
 use Rattle.cwr_encode.specs.declared.encoders.EncodeFault.{EncodeFault}
 use Rattle.cwr_encode.specs.Encoders.{JudgesGroup, reached_by}

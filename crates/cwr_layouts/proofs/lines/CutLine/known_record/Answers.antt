@@ -7,8 +7,8 @@ use Rattle.cwr_layouts.proofs.CellParts.{filled_now}
 use Rattle.cwr_layouts.proofs.HeldRecords.{known_fits, known_kind, record_held, filled_wide}
 use Rattle.cwr_layouts.proofs.lines.CutLine.known_record.Goals as goal
 
-pub slice_bounds-kept-end : goal.slice_bounds-kept-end
-slice_bounds-kept-end c =
+pub slice_bounds-of_line-end : goal.slice_bounds-of_line-end
+slice_bounds-of_line-end c =
     let l = c.self.inside in
     let filled : IsFilled l.text.now (Some c.in-Some.kind) c.args.self.now =
     filled_now l.text.now l.count l.has_return l.kind l.ended c.in-Some.kind c.args.self.now c.self.invariant.0 c.self.view_is c.in-Some.is in
@@ -16,11 +16,11 @@ slice_bounds-kept-end c =
     subst (λ (n : ℕ). n ≤ length l.text.now) (sym c.width.ensures) (filled_wide l.text.now c.in-Some.kind c.args.self.now filled) in
     sym (length-take-le c.width.result l.text.now wide)
 
-pub kept-requires-clause-whole : goal.kept-requires-clause-whole
-kept-requires-clause-whole c = sym (slice_bounds-kept-end c) ∙ c.width.ensures
+pub of_line-requires-clause-whole : goal.of_line-requires-clause-whole
+of_line-requires-clause-whole c = sym (slice_bounds-of_line-end c) ∙ c.width.ensures
 
-pub kept-requires-clause-fits : goal.kept-requires-clause-fits
-kept-requires-clause-fits c =
+pub of_line-requires-clause-fits : goal.of_line-requires-clause-fits
+of_line-requires-clause-fits c =
     let l = c.self.inside in
     let filled : IsFilled l.text.now (Some c.in-Some.kind) c.args.self.now =
     filled_now l.text.now l.count l.has_return l.kind l.ended c.in-Some.kind c.args.self.now c.self.invariant.0 c.self.view_is c.in-Some.is in
@@ -32,4 +32,4 @@ returns c =
     let filled : IsFilled l.text.now (Some c.in-Some.kind) c.args.self.now =
     filled_now l.text.now l.count l.has_return l.kind l.ended c.in-Some.kind c.args.self.now c.self.invariant.0 c.self.view_is c.in-Some.is in
     record_held l.text.now c.in-Some.kind c.args.self.now filled
-    ∙ ap (λ (x : RecordValue). Some x) (sym (c.kept.ensures ∙ ap (λ (n : ℕ). record_in c.in-Some.kind (take n l.text.now)) c.width.ensures))
+    ∙ ap (λ (x : RecordValue). Some x) (sym (c.of_line.ensures ∙ ap (λ (n : ℕ). record_in c.in-Some.kind (take n l.text.now)) c.width.ensures))

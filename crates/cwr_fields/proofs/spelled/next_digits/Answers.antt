@@ -1,6 +1,6 @@
 use Rattle.std.proofs.Common.{arith}
 use Rattle.cwr_fields.proofs.NextDigits.{last_digit, one_more}
-use Rattle.cwr_fields.proofs.spelled.counted.Goals as goal
+use Rattle.cwr_fields.proofs.spelled.next_digits.Goals as goal
 
 pub overflow_add-next : goal.overflow_add-next
 overflow_add-next c = rw (last_digit c.args.text c.args.number c.requires.spells) (omega arith)
