@@ -1,16 +1,70 @@
 //! Tests of encoders.
 
-use crate::devices::{largest, narrow_writer, stuck_writer};
+use crate::devices::{Narrow, largest, narrow_writer, stuck_writer};
 use crate::worked_values::{
     ACKNOWLEDGED, NEW_AND_REVISED, OF_ELEVEN, WorkedGroup, record, transaction,
 };
 use cwr_encode::{EncodeFault, Encoder};
-use cwr_fields::Target;
+use cwr_fields::{Counted, Target};
 use cwr_shape::{LimitKind, Limits};
 use cwr_worked::lines::*;
 use cwr_worked::texts::{ONE_ACKNOWLEDGEMENT, TWO_GROUPS, WORK_OF_ELEVEN, canonical};
 use std::process::Abort;
-use std::test::Fail;
+
+/// A call of an encoder with what worked lines carry.
+#[derive(Clone, Copy)]
+enum Call<'a> {
+    /// The record that opens the transmission.
+    Open(&'a [u8]),
+    /// That which opens a group.
+    Group(&'a [u8]),
+    /// A transaction.
+    Transaction(&'a [&'a [u8]]),
+    /// A GRT in which nothing is set.
+    EndGroup,
+}
+
+/// Makes the call.
+fn make_call<W: Target>(
+    rt: &(impl Abort + AllocGlobal),
+    call: Call<'_>,
+    encoder: &mut Encoder<W>,
+) -> Result<(), EncodeFault> {
+    match call {
+        Call::Open(line) => encoder.open(&record(rt, line)),
+        Call::Group(line) => encoder.group(&record(rt, line)),
+        Call::Transaction(lines) => encoder.transaction(&transaction(rt, lines)),
+        Call::EndGroup => encoder.end_group(&record(rt, b"GRT")),
+    }
+}
+
+/// Makes calls in turn, each of which gives the answer beside it. The encoder comes back.
+fn check_calls(
+    rt: &(impl Abort + AllocGlobal),
+    limits: Limits,
+    room: usize,
+    calls: &[(Call<'_>, Result<(), EncodeFault>)],
+) -> Encoder<Counted<Narrow>> {
+    let mut encoder = Encoder::new(narrow_writer(rt, 4096, room), limits);
+    for (call, answer) in calls {
+        assert_eq!(rt; make_call(rt, *call, &mut encoder), *answer);
+    }
+    encoder
+}
+
+/// Finishes the encoder, which answers so and has written so many bytes: the first ones of the text.
+fn check_finish(
+    rt: &impl Abort,
+    encoder: Encoder<Counted<Narrow>>,
+    finished: Result<u64, EncodeFault>,
+    text: &[u8],
+    written: usize,
+) {
+    let (writer, answer) = encoder.finish();
+    assert_eq!(rt; answer, finished);
+    let kept = writer.into_inner().text;
+    assert_eq!(rt; text.get(..written), Some(kept.as_slice()));
+}
 
 /// Writes all but TRL.
 fn write_groups<W: Target>(
@@ -18,13 +72,13 @@ fn write_groups<W: Target>(
     groups: &[WorkedGroup<'_>],
     encoder: &mut Encoder<W>,
 ) -> Result<(), EncodeFault> {
-    encoder.open(&record(rt, HDR))?;
+    make_call(rt, Call::Open(HDR), encoder)?;
     for (head, transactions) in groups {
-        encoder.group(&record(rt, head))?;
+        make_call(rt, Call::Group(head), encoder)?;
         for lines in *transactions {
-            encoder.transaction(&transaction(rt, lines))?;
+            make_call(rt, Call::Transaction(lines), encoder)?;
         }
-        encoder.end_group(&record(rt, b"GRT"))?;
+        make_call(rt, Call::EndGroup, encoder)?;
     }
     Ok(())
 }
@@ -87,84 +141,84 @@ fn a_writer_that_cannot_hand_on(rt: HostRuntime) {
 #[test]
 fn an_encoder_that_is_abandoned(rt: HostRuntime) {
     let text = canonical(rt.alloc(), ONE_ACKNOWLEDGEMENT).expect(&rt, "no memory");
-    let mut encoder = Encoder::new(narrow_writer(&rt, 4096, 9999), largest(&rt));
-    let head = record(&rt, GRH_ACK);
-    assert_eq!(rt; encoder.open(&head), Err(EncodeFault::WrongKind));
-    assert_eq!(rt; encoder.open(&record(&rt, HDR)), Ok(()));
-    assert_eq!(rt; encoder.group(&head), Ok(()));
+    let calls = [
+        (Call::Open(GRH_ACK), Err(EncodeFault::WrongKind)),
+        (Call::Open(HDR), Ok(())),
+        (Call::Group(GRH_ACK), Ok(())),
+    ];
+    let encoder = check_calls(&rt, largest(&rt), 9999, &calls);
     let kept = encoder.abandon().into_inner().text;
     assert_eq!(rt; text.as_slice().get(..133), Some(kept.as_slice()));
 }
 
 #[test]
-fn a_writer_that_fails_in_hdr(rt: HostRuntime) -> Result<(), Fail> {
+fn a_writer_that_fails_in_hdr(rt: HostRuntime) {
     let failed = EncodeFault::Writer { written: 50 };
-    let mut encoder = Encoder::new(narrow_writer(&rt, 4096, 50), largest(&rt));
-    assert_eq!(rt; encoder.open(&record(&rt, HDR)), Err(failed));
-    assert_eq!(rt; encoder.open(&record(&rt, HDR)), Err(failed));
-    let (writer, answer) = encoder.finish();
-    assert_eq!(rt; answer, Err(failed));
-    let kept = writer.into_inner().text;
-    assert_eq!(rt; HDR.get(..50), Some(kept.as_slice()));
-    Ok(())
+    let calls = [
+        (Call::Open(HDR), Err(failed)),
+        (Call::Open(HDR), Err(failed)),
+    ];
+    let encoder = check_calls(&rt, largest(&rt), 50, &calls);
+    check_finish(&rt, encoder, Err(failed), HDR, 50);
 }
 
 #[test]
-fn calls_that_are_refused(rt: HostRuntime) -> Result<(), Fail> {
-    let opening = record(&rt, HDR);
-    let works = record(&rt, GRH_NWR);
-    let foot = record(&rt, b"GRT");
-    let mut encoder = Encoder::new(narrow_writer(&rt, 4096, 9999), Limits::new(5, 1, 1)?);
-    assert_eq!(rt; encoder.group(&works), Err(EncodeFault::OutOfOrder));
-    assert_eq!(rt; encoder.open(&works), Err(EncodeFault::WrongKind));
-    assert_eq!(rt; encoder.open(&opening), Ok(()));
-    assert_eq!(rt;
-        encoder.group(&works),
-        Err(EncodeFault::Limit(LimitKind::Records))
+fn calls_that_are_refused(rt: HostRuntime) {
+    let text = canonical(rt.alloc(), ONE_ACKNOWLEDGEMENT).expect(&rt, "no memory");
+    let limits = Limits::new(5, 1, 1).expect(&rt, "no limits");
+    let too_many = EncodeFault::Limit(LimitKind::Records);
+    let calls = [
+        (Call::Group(GRH_NWR), Err(EncodeFault::OutOfOrder)),
+        (Call::Open(GRH_NWR), Err(EncodeFault::WrongKind)),
+        (Call::Open(HDR), Ok(())),
+        (Call::Group(GRH_NWR), Err(too_many)),
+        (Call::Group(GRH_ACK), Ok(())),
+        (Call::EndGroup, Err(EncodeFault::Incomplete)),
+        (
+            Call::Transaction(&[NWR_0, SWR_0_1]),
+            Err(EncodeFault::WrongKind),
+        ),
+    ];
+    let encoder = check_calls(&rt, limits, 9999, &calls);
+    check_finish(
+        &rt,
+        encoder,
+        Err(EncodeFault::OutOfOrder),
+        text.as_slice(),
+        133,
     );
-    assert_eq!(rt; encoder.group(&record(&rt, GRH_ACK)), Ok(()));
-    assert_eq!(rt; encoder.end_group(&foot), Err(EncodeFault::Incomplete));
-    let work = transaction(&rt, &[NWR_0, SWR_0_1]);
-    assert_eq!(rt; encoder.transaction(&work), Err(EncodeFault::WrongKind));
-    let (writer, answer) = encoder.finish();
-    assert_eq!(rt; answer, Err(EncodeFault::OutOfOrder));
-    assert_eq!(rt; writer.into_inner().text.len(), 133);
-    Ok(())
 }
 
 #[test]
-fn whole_transactions(rt: HostRuntime) -> Result<(), Fail> {
-    let mut encoder = Encoder::new(narrow_writer(&rt, 4096, 9999), Limits::new(8, 1, 2)?);
-    assert_eq!(rt; encoder.open(&record(&rt, HDR)), Ok(()));
-    assert_eq!(rt; encoder.group(&record(&rt, GRH_NWR)), Ok(()));
-    let begun = transaction(&rt, &[NWR_0]);
-    assert_eq!(rt; encoder.transaction(&begun), Err(EncodeFault::Incomplete));
-    let long = transaction(&rt, &[NWR_0, SWR_0_1, SWR_0_1]);
-    assert_eq!(rt;
-        encoder.transaction(&long),
-        Err(EncodeFault::Limit(LimitKind::Transaction))
-    );
-    let work = transaction(&rt, &[NWR_0, SWR_0_1]);
-    assert_eq!(rt; encoder.transaction(&work), Ok(()));
-    assert_eq!(rt; encoder.transaction(&work), Ok(()));
-    assert_eq!(rt;
-        encoder.transaction(&work),
-        Err(EncodeFault::Limit(LimitKind::Records))
-    );
-    let other = transaction(&rt, &[ACK_0]);
-    assert_eq!(rt; encoder.transaction(&other), Err(EncodeFault::WrongKind));
-    assert_eq!(rt; encoder.end_group(&record(&rt, b"GRT")), Ok(()));
-    let (_, answer) = encoder.finish();
+fn whole_transactions(rt: HostRuntime) {
+    let limits = Limits::new(8, 1, 2).expect(&rt, "no limits");
+    let work: &[&[u8]] = &[NWR_0, SWR_0_1];
+    let too_long = EncodeFault::Limit(LimitKind::Transaction);
+    let too_many = EncodeFault::Limit(LimitKind::Records);
+    let calls = [
+        (Call::Open(HDR), Ok(())),
+        (Call::Group(GRH_NWR), Ok(())),
+        (Call::Transaction(&[NWR_0]), Err(EncodeFault::Incomplete)),
+        (Call::Transaction(&[NWR_0, SWR_0_1, SWR_0_1]), Err(too_long)),
+        (Call::Transaction(work), Ok(())),
+        (Call::Transaction(work), Ok(())),
+        (Call::Transaction(work), Err(too_many)),
+        (Call::Transaction(&[ACK_0]), Err(EncodeFault::WrongKind)),
+        (Call::EndGroup, Ok(())),
+    ];
+    let (_, answer) = check_calls(&rt, limits, 9999, &calls).finish();
     assert_eq!(rt; answer, Ok(1086));
-    Ok(())
 }
 
 #[test]
-fn transmissions_without_a_group(rt: HostRuntime) -> Result<(), Fail> {
-    let mut encoder = Encoder::new(narrow_writer(&rt, 4096, 9999), largest(&rt));
-    assert_eq!(rt; encoder.open(&record(&rt, HDR)), Ok(()));
-    let (writer, answer) = encoder.finish();
-    assert_eq!(rt; answer, Err(EncodeFault::Incomplete));
-    assert_eq!(rt; writer.into_inner().text.len(), 103);
-    Ok(())
+fn transmissions_without_a_group(rt: HostRuntime) {
+    let text = canonical(rt.alloc(), ONE_ACKNOWLEDGEMENT).expect(&rt, "no memory");
+    let encoder = check_calls(&rt, largest(&rt), 9999, &[(Call::Open(HDR), Ok(()))]);
+    check_finish(
+        &rt,
+        encoder,
+        Err(EncodeFault::Incomplete),
+        text.as_slice(),
+        103,
+    );
 }
