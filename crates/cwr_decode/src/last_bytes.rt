@@ -58,7 +58,7 @@ impl LastBytes {
     }
 
     /// The same bytes.
-    pub(crate) fn copied(&self) -> LastBytes
+    pub(crate) fn copy(&self) -> LastBytes
         ensures { (read : List ℕ) → HoldsLast read self.now → HoldsLast read result }
     {
         let mut held = ArrayVec::new();
@@ -116,7 +116,7 @@ impl LastBytes {
     pub(crate) fn keep(&mut self, bytes: &[u8])
         ensures { (read : List ℕ) → HoldsLast read self.old → HoldsLast (read ++ bytes.now) self.new }
     {
-        if bytes.len() > MOST_HELD - LINE_AND_FEED {
+        if bytes.len() >= LINE_AND_FEED {
             return self.hold_end(bytes);
         }
         self.make_room(bytes.len());

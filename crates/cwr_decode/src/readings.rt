@@ -257,7 +257,7 @@ impl<'a, R: Source> Reading<'a, R> {
     {
         LastRead {
             stage: self.decoder.stage(),
-            bytes: self.last.copied(),
+            bytes: self.last.copy(),
         }
     }
 }

@@ -1,28 +1,12 @@
 //! Tests of what a check takes of its reader, and of writers that fail.
 
+use crate::failing::Stuck;
 use cwr_fields::Counted;
 use cwr_shape::Limits;
 use cwr_tools::{ToolFault, Verdict, check};
 use cwr_worked::texts::{ONE_ACKNOWLEDGEMENT, canonical};
-use std::io::{self, ErrorKind, Write};
+use std::io;
 use std::test::Fail;
-
-/// A writer that takes all texts, and can't hand them on.
-#[derive(Drop)]
-struct Stuck {
-    taken: usize,
-}
-
-impl Write for Stuck {
-    fn write(&mut self, text: &[u8]) -> io::Result<usize> {
-        self.taken = self.taken.saturating_add(text.len());
-        Ok(text.len())
-    }
-
-    fn flush(&mut self) -> io::Result<()> {
-        Err(io::Error::from(ErrorKind::Other))
-    }
-}
 
 /// The verdict on the transmission of one acknowledgement.
 const GOOD: Verdict = Verdict::Good {

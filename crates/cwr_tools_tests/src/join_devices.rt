@@ -1,43 +1,12 @@
 //! Tests of joins whose reader or writer fails.
 
+use crate::failing::{FailsAtEnd, Stuck};
 use cwr_fields::Counted;
 use cwr_shape::Limits;
 use cwr_tools::{JoinFault, ToolFault, join};
 use cwr_worked::texts::{ONE_ACKNOWLEDGEMENT, canonical};
-use std::io::{self, BufReader, ErrorKind, Read, Write};
+use std::io::BufReader;
 use std::test::Fail;
-
-/// A writer that takes all texts, and can't hand them on.
-#[derive(Drop)]
-struct Stuck {
-    taken: usize,
-}
-
-impl Write for Stuck {
-    fn write(&mut self, text: &[u8]) -> io::Result<usize> {
-        self.taken = self.taken.saturating_add(text.len());
-        Ok(text.len())
-    }
-
-    fn flush(&mut self) -> io::Result<()> {
-        Err(io::Error::from(ErrorKind::Other))
-    }
-}
-
-/// A reader that fails once all is read.
-#[derive(Drop)]
-struct FailsAtEnd<'a> {
-    left: &'a [u8],
-}
-
-impl Read for FailsAtEnd<'_> {
-    fn read(&mut self, buf: &mut [u8]) -> io::Result<usize> {
-        if self.left.is_empty() {
-            return Err(io::Error::from(ErrorKind::Other));
-        }
-        self.left.read(buf)
-    }
-}
 
 #[test]
 fn join_whose_writer_is_full(rt: HostRuntime) -> Result<(), Fail> {

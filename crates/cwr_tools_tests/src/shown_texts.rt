@@ -1,11 +1,12 @@
 //! Tests of the text that a show writes on a worked text.
 
+use crate::failing::FailsAtEnd;
 use cwr_fields::Counted;
 use cwr_shape::Limits;
 use cwr_tools::{ToolFault, Verdict, show};
 use cwr_worked::lines::*;
 use cwr_worked::texts::{ONE_ACKNOWLEDGEMENT, canonical};
-use std::io::{self, BufReader, ErrorKind, Read, Write};
+use std::io::{self, BufReader, Write};
 use std::process::Abort;
 use std::test::Fail;
 
@@ -181,21 +182,6 @@ fn writer_that_is_full(rt: HostRuntime) -> Result<(), Fail> {
     assert_eq!(rt; outcome, Err(ToolFault::Writer { written: 40 }));
     assert!(rt; OPENING.as_bytes().starts_with(place.as_slice()));
     Ok(())
-}
-
-/// A reader that fails once all is read.
-#[derive(Drop)]
-struct FailsAtEnd<'a> {
-    left: &'a [u8],
-}
-
-impl Read for FailsAtEnd<'_> {
-    fn read(&mut self, buf: &mut [u8]) -> io::Result<usize> {
-        if self.left.is_empty() {
-            return Err(io::Error::from(ErrorKind::Other));
-        }
-        self.left.read(buf)
-    }
 }
 
 #[test]

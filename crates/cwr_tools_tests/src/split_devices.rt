@@ -2,13 +2,14 @@
 
 ghost use Rattle.std.specs.Prelude.{◌<◌};
 
+use crate::failing::FailsAtEnd;
 use crate::outputs::{Mishap, Shelf};
 use crate::works::{NEW, NEW_AND_REVISED, REVISED, REVISED_FIRST};
 use cwr_fields::Counted;
 use cwr_shape::Limits;
 use cwr_tools::{ToolFault, split};
 use cwr_worked::texts::{TWO_GROUPS, canonical};
-use std::io::{self, BufReader, ErrorKind, Read};
+use std::io::BufReader;
 use std::process::Abort;
 use std::test::Fail;
 
@@ -99,21 +100,6 @@ fn writers_that_are_full(rt: HostRuntime) -> Result<(), Fail> {
         check_full(&rt, 2, room, 1, REVISED)?;
     }
     Ok(())
-}
-
-/// A reader that fails once all is read.
-#[derive(Drop)]
-struct FailsAtEnd<'a> {
-    left: &'a [u8],
-}
-
-impl Read for FailsAtEnd<'_> {
-    fn read(&mut self, buf: &mut [u8]) -> io::Result<usize> {
-        if self.left.is_empty() {
-            return Err(io::Error::from(ErrorKind::Other));
-        }
-        self.left.read(buf)
-    }
 }
 
 #[test]
