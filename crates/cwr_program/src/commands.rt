@@ -4,7 +4,7 @@ ghost use Rattle.std.specs.Prelude.{◌<◌, length};
 ghost use Rattle.cwr_program.specs.Endings.{EndsAs, EndsAfterFault};
 
 use crate::faults::Fault;
-use crate::new_files::{NewFile, NumberedFiles, gathered};
+use crate::new_files::{NewFile, NumberedFiles, with_buffer};
 use cwr_encode::{Sink, SinkFault};
 use cwr_explain::explain;
 use cwr_fields::{Counted, Target};
@@ -34,7 +34,7 @@ pub enum Status {
 }
 
 /// The file of that name, to be read.
-pub(crate) fn opened<'a, R: Files>(rt: &R, name: &'a str) -> Result<R::File, Fault<'a>> {
+pub(crate) fn open_input<'a, R: Files>(rt: &R, name: &'a str) -> Result<R::File, Fault<'a>> {
     File::open(rt, name).map_err(|_| Fault::Open(name))
 }
 
@@ -43,7 +43,7 @@ fn lines_to<'a, O: Write + Drop>(
     alloc: Global,
     output: O,
 ) -> Result<Counted<BufWriter<O>>, Fault<'a>> {
-    gathered(alloc, output).map_err(|_| Fault::Memory)
+    with_buffer(alloc, output).map_err(|_| Fault::Memory)
 }
 
 /// The bytes of the input. `Counted` has the one buffer: a `BufReader` of none hands each read on, and takes no memory.
@@ -107,7 +107,7 @@ pub(crate) fn split_file<'a, R: Files + AllocGlobal, O: Write + Drop>(
     output: O,
 ) -> Result<Status, Fault<'a>> {
     let alloc = rt.alloc();
-    let mut reader = bytes_of(alloc, opened(rt, file)?);
+    let mut reader = bytes_of(alloc, open_input(rt, file)?);
     let mut sink = Sink::new(lines_to(alloc, output)?);
     let mut files = NumberedFiles::new(rt, alloc, prefix);
     let outcome = split(alloc, limits, &mut reader, transactions.get(), &mut files);
@@ -117,14 +117,14 @@ pub(crate) fn split_file<'a, R: Files + AllocGlobal, O: Write + Drop>(
 }
 
 /// The files of these names, to be read, in their order.
-fn opened_all<'a, R: Files>(
+fn open_inputs<'a, R: Files>(
     rt: &R,
     alloc: Global,
     names: &[&'a str],
 ) -> Result<Vec<Counted<BufReader<R::File>>>, Fault<'a>> {
     let mut readers = Vec::new(alloc);
     for name in names {
-        let file = opened(rt, name)?;
+        let file = open_input(rt, name)?;
         readers
             .push(bytes_of(alloc, file))
             .map_err(|_| Fault::Memory)?;
@@ -133,7 +133,7 @@ fn opened_all<'a, R: Files>(
 }
 
 /// Makes the file that a join is written to.
-fn created<'a, R: Files>(
+fn create_output<'a, R: Files>(
     rt: &R,
     alloc: Global,
     out: &'a str,
@@ -156,8 +156,8 @@ fn join_to<'a, R: Files>(
 ) -> Result<Result<JoinReport, JoinFault>, Fault<'a>>
     requires { 0 < length readers.old }
 {
-    let (made, file) = created(rt, alloc, out)?;
-    let outcome = match gathered(alloc, file) {
+    let (made, file) = create_output(rt, alloc, out)?;
+    let outcome = match with_buffer(alloc, file) {
         Ok(writer) => join(alloc, limits, readers, writer).1,
         Err(_) => {
             made.discard(rt);
@@ -182,7 +182,7 @@ pub(crate) fn join_files<'a, R: Files + AllocGlobal, O: Write + Drop>(
 ) -> Result<Status, Fault<'a>> {
     let alloc = rt.alloc();
     let mut sink = Sink::new(lines_to(alloc, output)?);
-    let mut readers = opened_all(rt, alloc, names)?;
+    let mut readers = open_inputs(rt, alloc, names)?;
     if readers.is_empty() {
         return Ok(Status::CommandLine);
     }

@@ -17,7 +17,7 @@ use std::rt::Files;
 const GATHERED: usize = 65_536;
 
 /// A writer that gathers what it is given before it writes. What is left is written when it is dropped.
-pub(crate) fn gathered<O: Write + Drop>(
+pub(crate) fn with_buffer<O: Write + Drop>(
     alloc: Global,
     output: O,
 ) -> Result<Counted<BufWriter<O>>, AllocError>
@@ -148,7 +148,7 @@ impl<'a, R: Files> NumberedFiles<'a, R> {
         let name = format!(in self.alloc; "{prefix}{number:08}").ok()?;
         let (made, file) = NewFile::create(self.rt, self.alloc, name).ok()?;
         self.open_file = Some(made);
-        gathered(self.alloc, file).ok()
+        with_buffer(self.alloc, file).ok()
     }
 
     /// Gives the file that was written its name. `None` where that fails.

@@ -4,7 +4,7 @@ ghost use Rattle.std.specs.Prelude.{◌≡◌, ◌≢◌, ◌≤◌};
 ghost use Rattle.clap.specs.Values.{kind_of};
 
 use crate::commands::{
-    Status, check_input, explain_input, join_files, opened, show_input, split_file,
+    Status, check_input, explain_input, join_files, open_input, show_input, split_file,
 };
 use crate::faults::Fault;
 use crate::words::{Task, Work, task_of};
@@ -104,12 +104,12 @@ fn perform<'a, R: Files + AllocGlobal, I: Read + Drop, O: Write + Drop>(
     let limits = task.limits;
     match task.work {
         Work::Check(None) => check_input(rt.alloc(), limits, input, output),
-        Work::Check(Some(name)) => check_input(rt.alloc(), limits, opened(rt, name)?, output),
+        Work::Check(Some(name)) => check_input(rt.alloc(), limits, open_input(rt, name)?, output),
         Work::Show(None) => show_input(rt.alloc(), limits, input, output),
-        Work::Show(Some(name)) => show_input(rt.alloc(), limits, opened(rt, name)?, output),
+        Work::Show(Some(name)) => show_input(rt.alloc(), limits, open_input(rt, name)?, output),
         Work::Explain(None) => explain_input(rt.alloc(), limits, STANDARD_INPUT, input, output),
         Work::Explain(Some(name)) => {
-            explain_input(rt.alloc(), limits, name, opened(rt, name)?, output)
+            explain_input(rt.alloc(), limits, name, open_input(rt, name)?, output)
         }
         Work::Split {
             transactions,

@@ -5,7 +5,7 @@ ghost use Rattle.std.specs.Str.{bytes_eq};
 ghost use Rattle.std.specs.Str.Parse.{digits_value, without_leading_plus};
 ghost use Rattle.clap.specs.Words.{found_of, has_subcommand, one_text};
 ghost use Rattle.cwr_shape.specs.Ranges.{limit_values};
-ghost use Rattle.cwr_program.specs.Words.{IsJoinOf, IsSplitOf, IsWorkOf};
+ghost use Rattle.cwr_program.specs.Words.{IsAskedBy, IsJoinOf, IsSplitOf, IsWorkOf};
 
 use clap::error::ErrorKind;
 use clap::{Arg, ArgMatches, Command, Error, value_parser};
@@ -278,8 +278,9 @@ fn work_in<'a>(
 /// What is asked for. `None` where a word is missing or out of its range.
 fn task_in<'a>(alloc: Global, matches: &ArgMatches<'a>) -> Result<Option<Task<'a>>, AllocError>
     // Without a subcommand it is a check of standard input within the largest limits.
-    ensures { has_subcommand matches.now ≡ false
+    ensures without { has_subcommand matches.now ≡ false
         → result ≡ Ok (Some (record { work = Work.Check None; limits = limit_values 99999999 99999 999999 })) }
+    ensures asked { IfOk result (λ found. IfSome found (λ task. has_subcommand matches.now ≡ true → IsAskedBy matches.now task)) }
 {
     let Some((name, given)) = matches.subcommand() else {
         return Ok(Some(Task {

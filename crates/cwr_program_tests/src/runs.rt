@@ -4,15 +4,9 @@ use cwr_program::run;
 use cwr_worked::texts::{ONE_ACKNOWLEDGEMENT, TWO_ACKNOWLEDGEMENTS, canonical};
 use std::io;
 use std::io::{Read, Write};
+use std::process::Abort;
+use std::rt::Files;
 use std::test::Fail;
-
-/// What a run answered and wrote.
-#[derive(Drop)]
-struct Ran {
-    status: u8,
-    output: Vec<u8>,
-    error: Vec<u8>,
-}
 
 /// A reader that fails.
 #[derive(Drop)]
@@ -38,27 +32,45 @@ impl Write for Stuck {
     }
 }
 
-fn run_over<I: Read + Drop>(rt: &HostRuntime, words: &[&str], input: I) -> Ran {
+/// Runs with the words over the input: it answers the status, and writes just these texts to the output and to standard
+/// error.
+fn check_run<R: Files + AllocGlobal + Abort, I: Read + Drop>(
+    rt: &R,
+    words: &[&str],
+    input: I,
+    status: u8,
+    texts: (&[u8], &[u8]),
+) {
     let mut output = Vec::new(rt.alloc());
     let mut error = Vec::new(rt.alloc());
-    let status = run(rt, words, input, &mut output, &mut error);
-    Ran {
-        status,
-        output,
-        error,
-    }
+    assert_eq!(rt; run(rt, words, input, &mut output, &mut error), status);
+    assert_eq!(rt; (output.as_slice(), error.as_slice()), texts);
 }
+
+/// What standard error has after a run with the words, whose answer the status says and which writes nothing else.
+fn error_of<R: Files + AllocGlobal + Abort>(rt: &R, words: &[&str], status: u8) -> Vec<u8> {
+    let mut output = Vec::new(rt.alloc());
+    let mut error = Vec::new(rt.alloc());
+    assert_eq!(rt; run(rt, words, Failing, &mut output, &mut error), status);
+    assert!(rt; output.is_empty());
+    error
+}
+
+/// The words are answered by a text on standard error.
+fn check_refused_words<R: Files + AllocGlobal + Abort>(rt: &R, words: &[&str]) {
+    assert!(rt; !error_of(rt, words, 2).is_empty());
+}
+
+/// What is written of a file that can't be opened.
+const NO_FILE: &[u8] = b"cwr: cannot open no/such/file.cwr\n";
+
+/// What is written of an input without a byte.
+const EMPTY: &[u8] = b"TRUNCATED records 0\n";
 
 #[test]
 fn missing_file(rt: HostRuntime) {
     let words = ["cwr", "check", "no/such/file.cwr"];
-    let ran = run_over(&rt, words.as_slice(), io::empty());
-    assert_eq!(rt; ran.status, 3);
-    assert!(rt; ran.output.is_empty());
-    assert_eq!(rt;
-        ran.error.as_slice(),
-        b"cwr: cannot open no/such/file.cwr\n".as_slice()
-    );
+    check_run(&rt, &words, Failing, 3, (b"", NO_FILE));
 }
 
 /// What is written of a line in lower case.
@@ -74,20 +86,13 @@ const EXPLAINED: &[u8] = b"REFUSED record 1 field 1 level E unknown kind
 #[test]
 fn explained_input(rt: HostRuntime) {
     let words = ["cwr", "explain"];
-    let ran = run_over(&rt, words.as_slice(), b"hdr\n".as_slice());
-    assert_eq!(rt; ran.status, 1);
-    assert_eq!(rt; ran.output.as_slice(), EXPLAINED);
-    assert!(rt; ran.error.is_empty());
+    check_run(&rt, &words, b"hdr\n".as_slice(), 1, (EXPLAINED, b""));
 }
 
 #[test]
 fn words_that_are_answered_by_a_text(rt: HostRuntime) {
     for word in ["frobnicate", "--help", "help", "--version", "-"] {
-        let words = ["cwr", word];
-        let ran = run_over(&rt, words.as_slice(), io::empty());
-        assert_eq!(rt; ran.status, 2, "at {word}");
-        assert!(rt; ran.output.is_empty(), "at {word}");
-        assert!(rt; !ran.error.is_empty(), "at {word}");
+        check_refused_words(&rt, &["cwr", word]);
     }
 }
 
@@ -98,9 +103,14 @@ fn has(text: &[u8], part: &[u8]) -> bool {
 
 #[test]
 fn version_and_help(rt: HostRuntime) {
-    let version = run_over(&rt, ["cwr", "--version"].as_slice(), Failing);
-    assert_eq!(rt; version.error.as_slice(), b"cwr 0.1.0\n".as_slice());
-    let help = run_over(&rt, ["cwr", "--help"].as_slice(), Failing);
+    check_run(
+        &rt,
+        &["cwr", "--version"],
+        Failing,
+        2,
+        (b"", b"cwr 0.1.0\n"),
+    );
+    let help = error_of(&rt, &["cwr", "--help"], 2);
     for part in [
         "GOOD groups G transactions T records R",
         "REFUSED record R field F level L REASON",
@@ -112,39 +122,32 @@ fn version_and_help(rt: HostRuntime) {
         "Exit status: 0 good, 1 refused, truncated or a limit",
         "Examples: cwr check works.cwr",
     ] {
-        assert!(rt; has(help.error.as_slice(), part.as_bytes()), "at {part}");
+        assert!(rt; has(help.as_slice(), part.as_bytes()), "at {part}");
     }
 }
 
 #[test]
 fn file_in_place_of_a_subcommand(rt: HostRuntime) {
-    let there = run_over(&rt, ["cwr", "/proc/version"].as_slice(), Failing);
-    assert_eq!(rt; there.status, 2);
-    assert!(rt;
-        there
-            .error
-            .as_slice()
-            .ends_with(b"\nTo check that file: cwr check /proc/version\n")
-    );
-    let missing = run_over(&rt, ["cwr", "/no/such/file.cwr"].as_slice(), Failing);
-    assert_eq!(rt; missing.status, 2);
-    assert!(rt; !has(missing.error.as_slice(), b"To check that file"));
+    let there = error_of(&rt, &["cwr", "/proc/version"], 2);
+    let hint = b"\nTo check that file: cwr check /proc/version\n";
+    assert!(rt; there.as_slice().ends_with(hint));
+    let missing = error_of(&rt, &["cwr", "/no/such/file.cwr"], 2);
+    assert!(rt; !has(missing.as_slice(), b"To check that file"));
 }
 
 #[test]
 fn input_that_is_empty(rt: HostRuntime) {
-    let all = ["cwr", "check", "/dev/null"];
-    for count in 0..4 {
-        // Where a file is named, standard input isn't read.
-        let ran = if count < 3 {
-            run_over(&rt, &all[..count], io::empty())
-        } else {
-            run_over(&rt, &all[..count], Failing)
-        };
-        assert_eq!(rt; ran.status, 1, "at {count} words");
-        assert_eq!(rt; ran.output.as_slice(), b"TRUNCATED records 0\n".as_slice());
-        assert!(rt; ran.error.is_empty(), "at {count} words");
+    for words in [["cwr"].as_slice(), ["cwr", "check"].as_slice()] {
+        check_run(&rt, words, io::empty(), 1, (EMPTY, b""));
     }
+    // Where a file is named, standard input isn't read.
+    check_run(
+        &rt,
+        &["cwr", "check", "/dev/null"],
+        Failing,
+        1,
+        (EMPTY, b""),
+    );
 }
 
 /// What is shown at the end of one acknowledgement.
@@ -155,20 +158,32 @@ const SHOWN_LAST: &[u8] = b"  12 processing date: 20240110
 GOOD groups 1 transactions 1 records 5
 ";
 
+/// What a show of the input writes begins and ends so.
+fn check_shown<R: Files + AllocGlobal + Abort, I: Read + Drop>(
+    rt: &R,
+    words: &[&str],
+    input: I,
+    status: u8,
+    ends: (&[u8], &[u8]),
+) {
+    let mut output = Vec::new(rt.alloc());
+    let mut error = Vec::new(rt.alloc());
+    assert_eq!(rt; run(rt, words, input, &mut output, &mut error), status);
+    assert!(rt;
+        output
+            .as_slice()
+            .starts_with(b"1 HDR\n  2 sender type: PB\n")
+    );
+    assert!(rt; output.as_slice().ends_with(ends.0));
+    assert_eq!(rt; error.as_slice(), ends.1);
+}
+
 #[test]
 fn records_are_shown(rt: HostRuntime) -> Result<(), Fail> {
     let text = canonical(rt.alloc(), ONE_ACKNOWLEDGEMENT)?;
     let words = ["cwr", "show", "--records", "5"];
     for count in [2, 4] {
-        let ran = run_over(&rt, &words[..count], text.as_slice());
-        assert_eq!(rt; ran.status, 0, "at {count} words");
-        assert!(rt;
-            ran.output
-                .as_slice()
-                .starts_with(b"1 HDR\n  2 sender type: PB\n")
-        );
-        assert!(rt; ran.output.as_slice().ends_with(SHOWN_LAST));
-        assert!(rt; ran.error.is_empty(), "at {count} words");
+        check_shown(&rt, &words[..count], text.as_slice(), 0, (SHOWN_LAST, b""));
     }
     Ok(())
 }
@@ -176,20 +191,9 @@ fn records_are_shown(rt: HostRuntime) -> Result<(), Fail> {
 #[test]
 fn records_of_a_file_are_shown(rt: HostRuntime) {
     // Where a file is named, standard input isn't read.
-    let empty = run_over(&rt, ["cwr", "show", "/dev/null"].as_slice(), Failing);
-    assert_eq!(rt; empty.status, 1);
-    assert_eq!(rt;
-        empty.output.as_slice(),
-        b"TRUNCATED records 0\n".as_slice()
-    );
+    check_run(&rt, &["cwr", "show", "/dev/null"], Failing, 1, (EMPTY, b""));
     let words = ["cwr", "show", "no/such/file.cwr"];
-    let missing = run_over(&rt, words.as_slice(), io::empty());
-    assert_eq!(rt; missing.status, 3);
-    assert!(rt; missing.output.is_empty());
-    assert_eq!(rt;
-        missing.error.as_slice(),
-        b"cwr: cannot open no/such/file.cwr\n".as_slice()
-    );
+    check_run(&rt, &words, Failing, 3, (b"", NO_FILE));
 }
 
 /// A reader that gives what it has, and then fails.
@@ -211,23 +215,21 @@ impl Read for FailsAtEnd<'_> {
 fn records_before_a_fault_are_shown(rt: HostRuntime) -> Result<(), Fail> {
     let text = canonical(rt.alloc(), ONE_ACKNOWLEDGEMENT)?;
     let left = text.as_slice().get(..333).unwrap_or(b"");
-    let ran = run_over(&rt, ["cwr", "show"].as_slice(), FailsAtEnd { left });
-    assert_eq!(rt; ran.status, 3);
-    assert!(rt;
-        ran.output
-            .as_slice()
-            .ends_with(b"  13 transaction status: AS\n4 GRT\n")
+    let last = b"  13 transaction status: AS\n4 GRT\n";
+    let words = ["cwr", "show"];
+    check_shown(
+        &rt,
+        &words,
+        FailsAtEnd { left },
+        3,
+        (last, b"cwr: read fault\n"),
     );
-    assert_eq!(rt; ran.error.as_slice(), b"cwr: read fault\n".as_slice());
     Ok(())
 }
 
 #[test]
 fn reader_that_fails(rt: HostRuntime) {
-    let ran = run_over(&rt, ["cwr"].as_slice(), Failing);
-    assert_eq!(rt; ran.status, 3);
-    assert!(rt; ran.output.is_empty());
-    assert_eq!(rt; ran.error.as_slice(), b"cwr: read fault\n".as_slice());
+    check_run(&rt, &["cwr"], Failing, 3, (b"", b"cwr: read fault\n"));
 }
 
 #[test]
@@ -282,11 +284,7 @@ fn limits_out_of_their_range(rt: HostRuntime) {
         ("--transaction", "4294967297"),
     ];
     for (option, number) in table {
-        let words = ["cwr", "check", option, number, "/dev/null"];
-        let ran = run_over(&rt, words.as_slice(), Failing);
-        assert_eq!(rt; ran.status, 2, "at {option} {number}");
-        assert!(rt; ran.output.is_empty(), "at {option} {number}");
-        assert!(rt; !ran.error.is_empty(), "at {option} {number}");
+        check_refused_words(&rt, &["cwr", "check", option, number, "/dev/null"]);
     }
 }
 
@@ -300,10 +298,7 @@ fn limits_at_the_ends_of_their_range(rt: HostRuntime) {
         "--transaction=999999",
     ];
     for words in [LEAST.as_slice(), largest.as_slice()] {
-        let ran = run_over(&rt, words, io::empty());
-        assert_eq!(rt; ran.status, 1);
-        assert_eq!(rt; ran.output.as_slice(), b"TRUNCATED records 0\n".as_slice());
-        assert!(rt; ran.error.is_empty());
+        check_run(&rt, words, io::empty(), 1, (EMPTY, b""));
     }
     let words = [
         "cwr",
@@ -316,24 +311,16 @@ fn limits_at_the_ends_of_their_range(rt: HostRuntime) {
         "--records",
         "5",
     ];
-    let ran = run_over(&rt, words.as_slice(), Failing);
-    assert_eq!(rt; ran.status, 1);
-    assert_eq!(rt; ran.output.as_slice(), b"TRUNCATED records 0\n".as_slice());
+    check_run(&rt, &words, Failing, 1, (EMPTY, b""));
 }
 
 #[test]
 fn transmission_within_the_least_limits(rt: HostRuntime) -> Result<(), Fail> {
     let text = canonical(rt.alloc(), ONE_ACKNOWLEDGEMENT)?;
     assert_eq!(rt; text.len(), 359);
+    let good = b"GOOD groups 1 transactions 1 records 5\n";
     for count in [1, 2, 4, 8] {
-        let words = LEAST.get(..count).ok_or("too few words")?;
-        let ran = run_over(&rt, words, text.as_slice());
-        assert_eq!(rt; ran.status, 0, "at {count} words");
-        assert_eq!(rt;
-            ran.output.as_slice(),
-            b"GOOD groups 1 transactions 1 records 5\n".as_slice()
-        );
-        assert!(rt; ran.error.is_empty(), "at {count} words");
+        check_run(&rt, &LEAST[..count], text.as_slice(), 0, (good, b""));
     }
     Ok(())
 }
@@ -342,65 +329,49 @@ fn transmission_within_the_least_limits(rt: HostRuntime) -> Result<(), Fail> {
 fn transmission_that_passes_a_limit(rt: HostRuntime) -> Result<(), Fail> {
     let text = canonical(rt.alloc(), TWO_ACKNOWLEDGEMENTS)?;
     assert_eq!(rt; text.len(), 520);
+    let limited = b"REFUSED record 4 field 1 level E limit records\n";
+    let good = b"GOOD groups 1 transactions 2 records 6\n";
     let words = ["cwr", "check", "--records", "5"];
-    let ran = run_over(&rt, words.as_slice(), text.as_slice());
-    assert_eq!(rt; ran.status, 1);
-    assert!(rt; ran.output.as_slice().starts_with(b"REFUSED record "));
-    assert!(rt; ran.output.as_slice().ends_with(b" limit records\n"));
-    assert!(rt; ran.error.is_empty());
+    check_run(&rt, &words, text.as_slice(), 1, (limited, b""));
     let words = ["cwr", "check", "--records", "6"];
-    let ran = run_over(&rt, words.as_slice(), text.as_slice());
-    assert_eq!(rt; ran.status, 0);
-    assert_eq!(rt;
-        ran.output.as_slice(),
-        b"GOOD groups 1 transactions 2 records 6\n".as_slice()
-    );
+    check_run(&rt, &words, text.as_slice(), 0, (good, b""));
     Ok(())
 }
 
 #[test]
 fn split_of_an_input_without_transactions(rt: HostRuntime) {
     let words = ["cwr", "split", "-n", "3", "/dev/null", "no/such/part-"];
-    let ran = run_over(&rt, words.as_slice(), Failing);
-    assert_eq!(rt; ran.status, 1);
-    assert_eq!(rt; ran.output.as_slice(), b"TRUNCATED records 0\n".as_slice());
-    assert_eq!(rt; ran.error.as_slice(), b"".as_slice());
+    check_run(&rt, &words, Failing, 1, (EMPTY, b""));
     let words = ["cwr", "split", "-n", "3", "no/such/file.cwr", "part-"];
-    let ran = run_over(&rt, words.as_slice(), Failing);
-    assert_eq!(rt; ran.status, 3);
-    assert_eq!(rt; ran.output.as_slice(), b"".as_slice());
-    assert_eq!(rt;
-        ran.error.as_slice(),
-        b"cwr: cannot open no/such/file.cwr\n".as_slice()
-    );
+    check_run(&rt, &words, Failing, 3, (b"", NO_FILE));
 }
 
 #[test]
 fn join_of_inputs_that_are_not_there_or_empty(rt: HostRuntime) {
     let words = ["cwr", "join", "/dev/null", "/dev/null", "/dev/null"];
-    let ran = run_over(&rt, words.as_slice(), Failing);
-    assert_eq!(rt; ran.status, 1);
-    assert_eq!(rt;
-        ran.output.as_slice(),
-        b"input 1: TRUNCATED records 0\n".as_slice()
+    check_run(
+        &rt,
+        &words,
+        Failing,
+        1,
+        (b"input 1: TRUNCATED records 0\n", b""),
     );
-    assert_eq!(rt; ran.error.as_slice(), b"".as_slice());
     // Inputs are opened in their order, and OUT after them.
-    let words = ["cwr", "join", "no/such/out", "/dev/null", "no/such/file"];
-    let ran = run_over(&rt, words.as_slice(), Failing);
-    assert_eq!(rt; ran.status, 3);
-    assert_eq!(rt; ran.output.as_slice(), b"".as_slice());
-    assert_eq!(rt;
-        ran.error.as_slice(),
-        b"cwr: cannot open no/such/file\n".as_slice()
-    );
+    let words = [
+        "cwr",
+        "join",
+        "no/such/out",
+        "/dev/null",
+        "no/such/file.cwr",
+    ];
+    check_run(&rt, &words, Failing, 3, (b"", NO_FILE));
     let words = ["cwr", "join", "no/such/out", "/dev/null"];
-    let ran = run_over(&rt, words.as_slice(), Failing);
-    assert_eq!(rt; ran.status, 3);
-    assert_eq!(rt; ran.output.as_slice(), b"".as_slice());
-    assert_eq!(rt;
-        ran.error.as_slice(),
-        b"cwr: cannot open no/such/out\n".as_slice()
+    check_run(
+        &rt,
+        &words,
+        Failing,
+        3,
+        (b"", b"cwr: cannot open no/such/out\n"),
     );
 }
 
@@ -411,9 +382,6 @@ fn split_and_join_without_their_words(rt: HostRuntime) {
         ["cwr", "join", "/dev/null"].as_slice(),
         ["cwr", "split", "-n", "0", "/dev/null", "part-"].as_slice(),
     ] {
-        let ran = run_over(&rt, words, Failing);
-        assert_eq!(rt; ran.status, 2);
-        assert!(rt; ran.output.is_empty());
-        assert!(rt; !ran.error.is_empty());
+        check_refused_words(&rt, words);
     }
 }
