@@ -7,12 +7,13 @@ use Rattle.std.proofs.lemmas.List.{drop_all, length-take-le}
 use Rattle.cwr_layouts.specs.declared.kinds.Kind.{Kind}
 use Rattle.cwr_layouts.specs.declared.kinds.Kind.TheVariants as kinds
 use Rattle.cwr_layouts.specs.Records.{RecordValue}
+use Rattle.cwr_levels.specs.declared.rules.Rule.{Rule}
 use Rattle.cwr_levels.specs.Findings.{is_a, is_party}
 use Rattle.cwr_levels.proofs.KindTests.{is_of_kind, is_of_no_kind}
 use Rattle.cwr_levels.proofs.OneMore.{drop_more, length_taken, take_more}
 use Rattle.cwr_tools.specs.declared.places.Places.{Places}
-use Rattle.cwr_tools.specs.FindingNotes.{is_header, last_place, parties_from, places, places_from}
-use Rattle.cwr_tools.specs.OtherRecords.{AreListed}
+use Rattle.cwr_tools.specs.FindingNotes.{is_header, last_place, others, parties_from, places, places_from}
+use Rattle.cwr_tools.specs.OtherRecords.{AreListed, is_other}
 
 -- ---- one record more
 
@@ -65,6 +66,12 @@ last_more p t i r e h = sym (ap (last_or None) (taken_by p t i r true e h) ∙ l
 
 pub last_same : (p : RecordValue → Bool) (t : List RecordValue) (i : ℕ) (r : RecordValue) (o : Option ℕ) → slice_get t i ≡ Some r → p r ≡ false → o ≡ last_place p (take i t) → o ≡ last_place p (take (i + 1) t)
 last_same p t i r o e h l = l ∙ sym (ap (last_or None) (taken_by p t i r false e h ∙ append-nil (places p (take i t))))
+
+-- ---- what a rule on a header speaks of
+
+pub at_rule : (rule other : Rule) (t : List RecordValue) (k : ℕ) (r : RecordValue) (x : Places) → rule ≡ other → (AreListed (places (is_other other) t) x → AreListed (others other t k r) x)
+    → AreListed (places (is_other rule) t) x → AreListed (others rule t k r) x
+at_rule rule other t k r x e h l = subst (λ (q : Rule). AreListed (others q t k r) x) (sym e) (h (subst (λ (q : Rule). AreListed (places (is_other q) t) x) e l))
 
 -- ---- headers
 

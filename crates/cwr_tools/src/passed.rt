@@ -78,9 +78,10 @@ impl Passed {
     {
         self.begin_before(place);
         for at in self.at..place {
-            if let Some(shown) = transaction.record(at) {
-                self.pass(&shown);
-            }
+            let Some(shown) = transaction.record(at) else {
+                return;
+            };
+            self.pass(&shown);
         }
     }
 }
