@@ -1,5 +1,5 @@
 -- What is put under a finding, one text after another.
-use Rattle.std.proofs.Common.{◌≡◌, ℕ, ◌+◌, false, List, [], ◌∷◌, ◌++◌, length, take, Option, Some, None, refl, sym, ap, subst, ◌∙◌, append-nil}
+use Rattle.std.proofs.Common.{◌≡◌, ℕ, ◌+◌, false, List, [], ◌++◌, Option, Some, None, refl, sym, ap, subst, ◌∙◌, append-nil}
 use Rattle.std.specs.Prelude.{Result, Ok, Err, IsErr, slice_get}
 use Rattle.std.specs.List.{flat_map}
 use Rattle.std.specs.Option.{option_to_list}
@@ -7,7 +7,7 @@ use Rattle.cwr_layouts.specs.Records.{RecordValue}
 use Rattle.cwr_levels.specs.declared.rules.Rule.{Rule}
 use Rattle.cwr_levels.specs.declared.rules.Finding.{Finding}
 use Rattle.cwr_encode.specs.declared.sinks.Sink.{Sink}
-use Rattle.cwr_encode.specs.Sinks.{writer_of, has_failed, HasWritten, Puts}
+use Rattle.cwr_encode.specs.Sinks.{has_failed, HasWritten, Puts}
 use Rattle.cwr_encode.proofs.Numbered.{puts_as, puts_both, puts_cut}
 use Rattle.cwr_tools.specs.FindingNotes.{finding_notes, noted_at, noted_cells, notes_on}
 

@@ -1,6 +1,6 @@
 -- The shares of owners in the right of a rule, added up one by one.
 use Prim.Native.String.{String}
-use Rattle.std.proofs.Common.{◌≡◌, ℕ, ◌+◌, ◌*◌, ◌<◌, ◌≤◌, ◌^◌, Bool, true, false, cond, List, [], ◌∷◌, ◌++◌, length, take, refl, sym, ap, subst, ◌∙◌, arith}
+use Rattle.std.proofs.Common.{◌≡◌, ℕ, ◌+◌, Bool, true, false, cond, List, [], ◌∷◌, take, refl, sym, ap, ◌∙◌, arith}
 use Rattle.std.specs.Prelude.{filter, ◌||◌, Some, slice_get}
 use Rattle.std.specs.List.{sum_by}
 use Rattle.std.proofs.lemmas.Bool.{or_left, or_right, or_from}
@@ -13,7 +13,6 @@ use Rattle.cwr_levels.specs.declared.rules.Rule.{Rule}
 use Rattle.cwr_levels.specs.declared.rules.Rule.TheVariants.{V3, V4}
 use Rattle.cwr_levels.specs.Fields.{IsField}
 use Rattle.cwr_levels.specs.Findings.{is_a, is_owner, ownership, share_of}
-use Rattle.cwr_levels.proofs.KindTests.{is_of_kind, is_of_no_kind}
 use Rattle.cwr_levels.proofs.NamedCells.{named_cell}
 use Rattle.cwr_levels.proofs.NumberCells.{share_is_number}
 use Rattle.cwr_levels.proofs.OneMore.{take_more}

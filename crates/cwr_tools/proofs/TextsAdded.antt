@@ -1,5 +1,5 @@
 -- Texts that are added at the end of a text, one after another.
-use Rattle.std.proofs.Common.{◌≡◌, ℕ, List, ◌++◌, ap, ap₂, ◌∙◌, append_assoc}
+use Rattle.std.proofs.Common.{◌≡◌, ℕ, List, ◌++◌, ap₂, ◌∙◌, append_assoc}
 
 -- after what was there before, the text was added
 pub record Adds (before text after : List ℕ) : Type 0 where

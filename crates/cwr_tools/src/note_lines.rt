@@ -6,11 +6,11 @@ ghost use Rattle.cwr_layouts.specs.Views.{field_view};
 ghost use Rattle.cwr_tools.specs.FindingNotes.{head_lines, level_words, more_line, named_line, noted_cells, noted_line, number_of_field, rule_words, value_words, where_line};
 
 use crate::record_lines::{LONGEST, Text, push, push_number};
+use arrayvec::ArrayVec;
 use cwr_fields::{is_spaces, trimmed};
 use cwr_layouts::{Field, Kind, RecordRef, field, fields, letters};
 use cwr_levels::{Finding, Rule};
 use cwr_shape::Level;
-use arrayvec::ArrayVec;
 use std::marker::Model;
 
 /// The most bytes of the line of a cell: none comes near.
@@ -22,17 +22,26 @@ fn rule_words(rule: Rule) -> &'static str
     ensures short { length result.now ≤ 200 }
 {
     match rule {
-        Rule::V1 => "a work code (iswc) is blank, or T, nine digits and the check digit that belongs to them",
-        Rule::V2 => "the interested party number of SPT is that of the nearest SPU before it, and that of SWT is that of the nearest SWR",
-        Rule::V3 => "the pr shares of SPU, OPU, SWR and OWR add up to 0, or to 9994 to 10006 (hundredths of a percent)",
-        Rule::V4 => "the mr shares of SPU, OPU, SWR and OWR add up to 0, or to 9994 to 10006 (hundredths of a percent)",
-        Rule::V5 => "the sr shares of SPU, OPU, SWR and OWR add up to 0, or to 9994 to 10006 (hundredths of a percent)",
-        Rule::V6 => "someone has written the words or the music: one of the SWR and OWR has designation A, C or CA",
-        Rule::V7 => "the publisher interested party number of PWR is the interested party number of an SPU of the work",
-        Rule::V8 => "only an excerpt has EWT: where one stands, the excerpt type of the work isn't blank",
+        Rule::V1 =>
+            "a work code (iswc) is blank, or T, nine digits and the check digit that belongs to them",
+        Rule::V2 =>
+            "the interested party number of SPT is that of the nearest SPU before it, and that of SWT is that of the nearest SWR",
+        Rule::V3 =>
+            "the pr shares of SPU, OPU, SWR and OWR add up to 0, or to 9994 to 10006 (hundredths of a percent)",
+        Rule::V4 =>
+            "the mr shares of SPU, OPU, SWR and OWR add up to 0, or to 9994 to 10006 (hundredths of a percent)",
+        Rule::V5 =>
+            "the sr shares of SPU, OPU, SWR and OWR add up to 0, or to 9994 to 10006 (hundredths of a percent)",
+        Rule::V6 =>
+            "someone has written the words or the music: one of the SWR and OWR has designation A, C or CA",
+        Rule::V7 =>
+            "the publisher interested party number of PWR is the interested party number of an SPU of the work",
+        Rule::V8 =>
+            "only an excerpt has EWT: where one stands, the excerpt type of the work isn't blank",
         Rule::V9 => "the composite component count is blank, or it is the number of COM records",
         Rule::V10 => "an agreement doesn't end before it starts",
-        Rule::V11 => "in one block the AS records, and so the AC records, have shares of at most 10006 (hundredths of a percent) in each right",
+        Rule::V11 =>
+            "in one block the AS records, and so the AC records, have shares of at most 10006 (hundredths of a percent) in each right",
     }
 }
 

@@ -1,5 +1,4 @@
-use Rattle.std.proofs.Common.{◌+◌, ◌∙◌, arith}
-use Rattle.cwr_encode.proofs.PutRows.{found_within}
+use Rattle.std.proofs.Common.{◌∙◌}
 use Rattle.cwr_tools.proofs.RecordsPut.{puts_set}
 use Rattle.cwr_tools.proofs.NotesPut.{noted_none, noted_some, puts_nothing}
 use Rattle.cwr_tools.proofs.finding_notes.put_noted.Goals as goal

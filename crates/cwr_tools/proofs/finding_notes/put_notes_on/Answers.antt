@@ -1,4 +1,4 @@
-use Rattle.std.proofs.Common.{ℕ, List, ◌+◌, ◌++◌, length, ap, take, ◌∙◌}
+use Rattle.std.proofs.Common.{ℕ, ◌+◌, length, ap, take, ◌∙◌}
 use Rattle.std.specs.List.{flat_map}
 use Rattle.cwr_tools.specs.FindingNotes.{head_lines, most_others, noted_at, others, tail_lines}
 use Rattle.cwr_tools.proofs.NotesPut.{three_broken, three_cut, three_put}

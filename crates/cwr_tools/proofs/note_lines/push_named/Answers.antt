@@ -1,7 +1,7 @@
 use Rattle.std.proofs.Common.{◌≡◌, ℕ, ◌+◌, ◌≤◌, ◌++◌, List, length, Some, None, sym, ap, ap₂, ◌∙◌, arith, append-nil}
 use Rattle.std.specs.Prelude.{option_map}
 use Rattle.cwr_layouts.specs.declared.kinds.Kind.{Kind}
-use Rattle.cwr_layouts.specs.Layouts.{FieldLayout, field_placed}
+use Rattle.cwr_layouts.specs.Layouts.{field_placed}
 use Rattle.cwr_layouts.specs.Carried.{record_cell}
 use Rattle.cwr_layouts.specs.Views.{field_view}
 use Rattle.cwr_tools.specs.FindingNotes.{noted_line, number_of_field}

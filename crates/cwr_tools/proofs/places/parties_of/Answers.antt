@@ -1,4 +1,4 @@
-use Rattle.std.proofs.Common.{◌≡◌, ℕ, List, [], ◌∷◌, ◌++◌, sym, subst, ◌∙◌, true≢false, arith}
+use Rattle.std.proofs.Common.{ℕ, List, [], ◌∷◌, ◌++◌, sym, subst, ◌∙◌, true≢false, arith}
 use Rattle.cwr_tools.specs.OtherRecords.{AreListed}
 use Rattle.cwr_tools.proofs.OtherPlaces.{both_true, end_of_block, not_both, one_over, one_party}
 use Rattle.cwr_tools.proofs.places.parties_of.Goals as goal

@@ -1,4 +1,4 @@
-use Rattle.std.proofs.Common.{sym, refl, ap, ◌∙◌}
+use Rattle.std.proofs.Common.{ap}
 use Rattle.cwr_levels.proofs.AddedShares.{share_is_short}
 use Rattle.cwr_tools.specs.FindingNotes.{right_of}
 use Rattle.cwr_tools.proofs.OwnedShares.{read_share, third_right}
