@@ -9,7 +9,7 @@ use Rattle.cwr_shape.specs.declared.limits.Limits.{Limits}
 use Rattle.cwr_tools.specs.declared.verdicts.Verdict.{Verdict}
 use Rattle.cwr_tools.specs.declared.verdicts.ToolFault.{ToolFault}
 use Rattle.cwr_tools.specs.declared.verdicts.ToolFault.TheVariants as faults
-use Rattle.cwr_tools.specs.Reports.{CountsReaderFault, CountsWriterFault, Reports, lines_of_findings}
+use Rattle.cwr_tools.specs.Reports.{CountsReaderFault, CountsWriterFault, Reports, lines_of_explained}
 use Rattle.cwr_explain.specs.declared.trailing.Trailing.{Trailing}
 use Rattle.cwr_explain.specs.Explained.{AddsWords, Explains, IsAnswerAfter, IsAnswerTo, IsTrailing, ReadsOnly, TakesMore, TakesPiece, WritesOnly}
 
@@ -41,7 +41,7 @@ same_trailing left after found is_all begins h = record { more = h.more; consume
 
 -- a check and words after it
 pub explains_after : {W : Type 0} (limits : Limits) (before left after : Option (List ℕ)) (contents : W → Option (List ℕ)) (old between new : W) (checked result : Result Verdict ToolFault)
-    → Reports lines_of_findings limits before left contents old between checked → AddsWords contents between new → TakesMore left after → IsAnswerAfter checked result → Explains limits before after contents old new result
+    → Reports lines_of_explained limits before left contents old between checked → AddsWords contents between new → TakesMore left after → IsAnswerAfter checked result → Explains limits before after contents old new result
 explains_after limits before left after contents old between new checked result r w t a = record {
   between = between;
   left = left;

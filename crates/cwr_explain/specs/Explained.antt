@@ -7,7 +7,7 @@ use Rattle.cwr_tools.specs.declared.verdicts.Verdict.{Verdict}
 use Rattle.cwr_tools.specs.declared.verdicts.ToolFault.{ToolFault}
 use Rattle.cwr_tools.specs.declared.verdicts.ToolFault.TheVariants.{Reader, Writer, Memory}
 use Rattle.cwr_explain.specs.declared.trailing.Trailing.{Trailing}
-use Rattle.cwr_tools.specs.Reports.{Reports, lines_of_findings}
+use Rattle.cwr_tools.specs.Reports.{Reports, lines_of_explained}
 
 -- words were written after what the writer had
 abbrev pub AddsWords : {W : Type 0} → (W → Option (List ℕ)) → W → W → Type 0
@@ -61,7 +61,7 @@ pub record Explains {W : Type 0} (limits : Limits) (before after : Option (List 
   pub between : W
   pub left : Option (List ℕ)
   pub checked : Result Verdict ToolFault
-  pub reported : Reports lines_of_findings limits before left contents old between checked
+  pub reported : Reports lines_of_explained limits before left contents old between checked
   pub words : List ℕ
   pub written : Appends (contents between) (contents new) words
   pub more : List ℕ

@@ -11,7 +11,7 @@ use cwr_encode::Sink;
 use cwr_fields::{Source, Target};
 use cwr_layouts::LONGEST_LINE;
 use cwr_shape::Limits;
-use cwr_tools::{ToolFault, Verdict, check_with_last};
+use cwr_tools::{ToolFault, Verdict, check_explained};
 use std::alloc::{AllocError, Global};
 
 /// What the reader has after a run.
@@ -189,7 +189,7 @@ pub fn explain<R: Source, W: Target + Drop>(
     ensures reader_failures { CountsReaderFault result.1 (R.failures reader.old) (R.failures reader.new) }
     ensures writer_failures { CountsWriterFault result.1 (W.failures writer) (W.failures result.0) }
 {
-    let (writer, checked, last) = check_with_last(alloc, limits, reader, writer);
+    let (writer, checked, last) = check_explained(alloc, limits, reader, writer);
     match checked {
         Err(fault) => (writer, Err(fault)),
         Ok(verdict) => match last {

@@ -165,7 +165,8 @@ The last line on standard output:
 Before it `cwr check` writes a line for each finding in a transaction, and `cwr show` each record with its cells:
   FINDING group G transaction T record S field F level L rule V
 
-After it `cwr explain` writes, indented, what a refusal speaks of, what stands there and what may.
+Indented, `cwr explain` writes under each finding the rule in words and the cells that it speaks of, and after the last
+line what a refusal speaks of, what stands there and what may.
 
 Before REFUSED and TRUNCATED `cwr join` writes the number of the input.
 

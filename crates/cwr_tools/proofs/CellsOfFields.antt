@@ -132,7 +132,7 @@ some_before None found cell e = absurd (cc e)
 some_before (Some f) found cell e = (f, refl)
 
 -- the field of a cell that is carried is the field of that number
-carried_field : (r : RecordValue) (j : ℕ) (p : ℕ × FieldLayout) (cell : List ℕ) → Some cell ≡ record_cell r j → Some p ≡ field_placed r.kind j → carried_at r.kind j ≡ Some p.1
+pub carried_field : (r : RecordValue) (j : ℕ) (p : ℕ × FieldLayout) (cell : List ℕ) → Some cell ≡ record_cell r j → Some p ≡ field_placed r.kind j → carried_at r.kind j ≡ Some p.1
 carried_field r j p cell e place =
     let there = some_before (carried_at r.kind j) _ cell (sym e) in
     let at : field_at r.kind j ≡ Some there.0 = (open_some (field_at r.kind j) there.0 there.1).0 in

@@ -1,19 +1,16 @@
 -- What was read last, from item to item and at the end of a run.
-use Rattle.std.proofs.Common.{◌≡◌, ℕ, List, [], ◌++◌, Option, Some, None, refl, sym, subst, ◌∙◌, append-nil}
-use Rattle.std.specs.Prelude.{Result, Ok, Err, IfOk, IfSome, IsSomeAnd}
-use Rattle.std.specs.Result.{IsErrAnd}
+use Rattle.std.proofs.Common.{◌≡◌, ℕ, List, [], ◌++◌, Option, Some, None, sym, subst, ◌∙◌}
+use Rattle.std.specs.Prelude.{Result, Err, IfOk, IfSome, IsSomeAnd}
 use Rattle.std.specs.Io.KnownBytes.{Consumes}
 use Rattle.std.proofs.KnownBytes.{Consumes-nil}
 use Rattle.std.proofs.lemmas.List.{append_cancel_right}
 use Rattle.cwr_shape.specs.declared.limits.Limits.{Limits}
-use Rattle.cwr_shape.specs.declared.stages.Stage.{Stage}
 use Rattle.cwr_values.specs.declared.items.Item.{Item}
 use Rattle.cwr_decode.specs.declared.last_bytes.LastBytes.{LastBytes}
 use Rattle.cwr_decode.specs.declared.readings.LastRead.{LastRead}
 use Rattle.cwr_decode.specs.declared.readings.ReadFault.{ReadFault}
 use Rattle.cwr_decode.specs.declared.readings.ReadFault.TheVariants as faults
 use Rattle.cwr_decode.specs.LastReads.{HoldsLast, ReadsLast, stage_of_records}
-use Rattle.cwr_decode.specs.Runs.{StopsRun}
 use Rattle.cwr_decode.proofs.LastHeld.{reads_on}
 use Rattle.cwr_tools.specs.declared.verdicts.Verdict.{Verdict}
 use Rattle.cwr_tools.specs.declared.verdicts.Verdict.TheVariants.{Good}

@@ -11,6 +11,7 @@ use Rattle.cwr_tools.specs.declared.item_lines.Report.{Report}
 use Rattle.cwr_tools.specs.declared.item_lines.Report.TheVariants as reports
 use Rattle.cwr_tools.specs.declared.totals.Totals.{Totals}
 use Rattle.cwr_tools.specs.Texts.{check_lines, finding_lines, finding_lines_in, record_lines, numbered_records, show_lines}
+use Rattle.cwr_tools.specs.FindingNotes.{explained_findings, explained_in, explained_lines}
 use Rattle.cwr_tools.specs.Reports.{lines_at, lines_in}
 use Rattle.cwr_tools.proofs.CountedTotals.{IsCount}
 
@@ -25,39 +26,47 @@ numbered_records-append n (r ∷ records) more =
 
 -- ---- findings
 
--- the finding lines of items, which stand at these places of a list
-abbrev findings_from : List Item → ℕ → List Item → List ℕ
-findings_from all n items = flat_map (λ p. finding_lines (take p.0 all) p.1) (enumerate_from n items)
+-- the lines of items, which stand at these places of a list, by the items before each
+abbrev lines_from : (List Item → Item → List ℕ) → List Item → ℕ → List Item → List ℕ
+lines_from line all n items = flat_map (λ p. line (take p.0 all) p.1) (enumerate_from n items)
 
 -- go by the items before them
-same_fronts : (items : List Item) (n : ℕ) (all more : List Item) → ((k : ℕ) → k < n + length items → take k all ≡ take k more) → findings_from all n items ≡ findings_from more n items
-same_fronts [] n all more h = refl
-same_fronts (item ∷ items) n all more h =
-    ap₂ (λ (before : List Item) (l : List ℕ). finding_lines before item ++ l) (h n (omega arith)) (same_fronts items (n + 1) all more (λ k lt. h k (omega (arith, lt))))
+same_fronts : (line : List Item → Item → List ℕ) (items : List Item) (n : ℕ) (all more : List Item) → ((k : ℕ) → k < n + length items → take k all ≡ take k more) → lines_from line all n items ≡ lines_from line more n items
+same_fronts line [] n all more h = refl
+same_fronts line (item ∷ items) n all more h =
+    ap₂ (λ (before : List Item) (l : List ℕ). line before item ++ l) (h n (omega arith)) (same_fronts line items (n + 1) all more (λ k lt. h k (omega (arith, lt))))
 
 enumerate_from-snoc : {X : Type 0} (n : ℕ) (xs : List X) (x : X) → enumerate_from n (xs ++ x ∷ []) ≡ enumerate_from n xs ++ (n + length xs, x) ∷ []
 enumerate_from-snoc {X = X} n [] x = ap (λ (m : ℕ). (m, x) ∷ []) (omega arith)
 enumerate_from-snoc {X = X} n (y ∷ xs) x =
     ap (λ (l : List (ℕ × X)). (n, y) ∷ l) (enumerate_from-snoc (n + 1) xs x ∙ ap (λ (m : ℕ). enumerate_from (n + 1) xs ++ (m, x) ∷ []) (omega arith))
 
+lines_from-snoc : (line : List Item → Item → List ℕ) (given : List Item) (item : Item) → lines_from line (given ++ item ∷ []) 0 (given ++ item ∷ []) ≡ lines_from line given 0 given ++ line given item
+lines_from-snoc line given item =
+    let all : List Item = given ++ item ∷ [] in
+    let one : (ℕ × Item) → List ℕ = λ p. line (take p.0 all) p.1 in
+    ap (flat_map one) (enumerate_from-snoc 0 given item)
+    ∙ flat_map-append one (enumerate_from 0 given) ((0 + length given, item) ∷ [])
+    ∙ ap₂ (λ (xs ys : List ℕ). xs ++ ys)
+    (same_fronts line given 0 all given (λ k lt. take-append-le k given (item ∷ []) (omega (arith, lt))))
+    (append-nil (line (take (0 + length given) all) item)
+    ∙ ap (λ (before : List Item). line before item) (ap (λ (n : ℕ). take n all) (omega arith) ∙ take-append_seam given (item ∷ [])))
+
 check_lines-snoc : (given : List Item) (item : Item) → check_lines (given ++ item ∷ []) ≡ check_lines given ++ finding_lines given item
 unfolding check_lines
-check_lines-snoc given item =
-    let all : List Item = given ++ item ∷ [] in
-    let line : (ℕ × Item) → List ℕ = λ p. finding_lines (take p.0 all) p.1 in
-    ap (flat_map line) (enumerate_from-snoc 0 given item)
-    ∙ flat_map-append line (enumerate_from 0 given) ((0 + length given, item) ∷ [])
-    ∙ ap₂ (λ (xs ys : List ℕ). xs ++ ys)
-    (same_fronts given 0 all given (λ k lt. take-append-le k given (item ∷ []) (omega (arith, lt))))
-    (append-nil (finding_lines (take (0 + length given) all) item)
-    ∙ ap (λ (before : List Item). finding_lines before item) (ap (λ (n : ℕ). take n all) (omega arith) ∙ take-append_seam given (item ∷ [])))
+check_lines-snoc given item = lines_from-snoc finding_lines given item
 
--- ---- both
+explained_lines-snoc : (given : List Item) (item : Item) → explained_lines (given ++ item ∷ []) ≡ explained_lines given ++ explained_findings given item
+unfolding explained_lines
+explained_lines-snoc given item = lines_from-snoc explained_findings given item
+
+-- ---- all of them
 
 -- no items have no lines
 pub lines_none : (report : Report) → (lines_in report).lines [] ≡ []
-unfolding check_lines show_lines
+unfolding check_lines explained_lines show_lines
 lines_none reports.Findings = refl
+lines_none reports.Explained = refl
 lines_none reports.Records = refl
 
 pub lines_more : (report : Report) (c : Totals) (given : List Item) (item : Item) → IsCount c given
@@ -66,6 +75,10 @@ unfolding show_lines
 lines_more reports.Findings c given item k =
     check_lines-snoc given item
     ∙ ap₂ (λ (group sequence : ℕ). check_lines given ++ finding_lines_in group sequence item) (sym k.groups) (sym k.in_group)
+lines_more reports.Explained c given item k =
+    explained_lines-snoc given item
+    ∙ ap₂ (λ (group sequence : ℕ). explained_lines given ++ explained_in group sequence (length (records_in given) + 1) item) (sym k.groups) (sym k.in_group)
+    ∙ ap (λ (n : ℕ). explained_lines given ++ explained_in c.groups c.in_group (n + 1) item) (sym k.records)
 lines_more reports.Records c given item k =
     ap (numbered_records 1) (flat_map-append item_records given (item ∷ []) ∙ ap (λ (l : List RecordValue). records_in given ++ l) (append-nil (item_records item)))
     ∙ numbered_records-append 1 (records_in given) (item_records item)

@@ -13,7 +13,6 @@ use Rattle.cwr_shape.proofs.TransactionNumbers.{types_after-append, walks_transa
 use Rattle.cwr_values.specs.declared.items.Item.{Item}
 use Rattle.cwr_values.specs.declared.items.Item.TheVariants.{Opened, GroupOpened, Transaction, GroupClosed, Ended}
 use Rattle.cwr_values.specs.Values.{GroupValue, TransmissionValue, IsGroup, IsTransaction, IsTransmission, symbol_of, type_of}
-use Rattle.cwr_values.specs.Rows.{trailer}
 use Rattle.cwr_judge.specs.Items.{group_items, records_in, value_items}
 use Rattle.cwr_encode.proofs.Adding.{plain_symbol}
 use Rattle.cwr_encode.proofs.Groups.{head_symbol}

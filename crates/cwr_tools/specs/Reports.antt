@@ -23,6 +23,7 @@ use Rattle.cwr_tools.specs.declared.totals.Totals.{Totals}
 use Rattle.cwr_tools.specs.declared.item_lines.Report.{Report}
 use Rattle.cwr_tools.specs.declared.item_lines.Report.TheVariants as reports
 use Rattle.cwr_tools.specs.Texts.{check_lines, finding_lines_in, good_verdict, numbered_records, show_lines, verdict_line}
+use Rattle.cwr_tools.specs.FindingNotes.{explained_in, explained_lines}
 use Rattle.cwr_tools.specs.Verdicts.{StopsAfter, IsRightVerdict}
 
 -- the lines of items, in order, and for which items they take memory
@@ -38,6 +39,10 @@ has_findings item = false
 -- the findings in each transaction
 abbrev pub lines_of_findings : ItemLines
 lines_of_findings = record { lines = check_lines; take_memory = has_findings }
+
+-- the same, and lines under each finding
+abbrev pub lines_of_explained : ItemLines
+lines_of_explained = record { lines = explained_lines; take_memory = has_findings }
 
 -- the records with their cells
 abbrev pub lines_of_records : ItemLines
@@ -100,11 +105,13 @@ JudgesCanonical of limits before after contents old new verdict = (v : Transmiss
 -- what is written of the items
 abbrev pub lines_in : Report → ItemLines
 lines_in reports.Findings = lines_of_findings
+lines_in reports.Explained = lines_of_explained
 lines_in reports.Records = lines_of_records
 
 -- the lines of one item more, after items with these numbers
 abbrev pub lines_at : Report → Totals → Item → List ℕ
 lines_at reports.Findings counts item = finding_lines_in counts.groups counts.in_group item
+lines_at reports.Explained counts item = explained_in counts.groups counts.in_group (counts.records + 1) item
 lines_at reports.Records counts item = numbered_records (counts.records + 1) (item_records item)
 
 -- The lines of an item are put, or the writer fails in them. Where memory for them is refused none of them is put.

@@ -2,7 +2,7 @@
 
 ghost use Rattle.std.specs.Prelude.{IfOk, IsSomeAnd};
 ghost use Rattle.cwr_tools.specs.Verdicts.{IsReadLast};
-ghost use Rattle.cwr_tools.specs.Reports.{CountsReaderFault, CountsWriterFault, JudgesAccepted, JudgesCanonical, Reports, lines_of_findings};
+ghost use Rattle.cwr_tools.specs.Reports.{CountsReaderFault, CountsWriterFault, JudgesAccepted, JudgesCanonical, Reports, lines_of_explained, lines_of_findings};
 
 use crate::item_lines::Report;
 use crate::reporting::write_report;
@@ -35,22 +35,24 @@ pub fn check<R: Source, W: Target + Drop>(
     write_report(Report::Findings, alloc, limits, reader, &mut None, writer)
 }
 
-/// Checks a transmission as `check` does. Beside its answer comes what was read last, where there is a verdict: the stage of
-/// the accepted records, and the last bytes that the reader lost, of a refused line all.
-pub fn check_with_last<R: Source, W: Target + Drop>(
+/// Checks a transmission as `check` does, and writes what that writes, with lines under each finding: where its record stands, the
+/// rule in words, how much it rejects, and the cells that it speaks of. These lines begin with two spaces. Beside its answer comes
+/// what was read last, where there is a verdict: the stage of the accepted records, and the last bytes that the reader lost, of a
+/// refused line all.
+pub fn check_explained<R: Source, W: Target + Drop>(
     alloc: Global,
     limits: Limits,
     reader: &mut R,
     writer: W,
 ) -> (W, Result<Verdict, ToolFault>, Option<LastRead>)
-    ensures reported { Reports lines_of_findings limits (R.remaining reader.old) (R.remaining reader.new) W.contents writer result.0 result.1 }
+    ensures reported { Reports lines_of_explained limits (R.remaining reader.old) (R.remaining reader.new) W.contents writer result.0 result.1 }
     ensures reader_failures { CountsReaderFault result.1 (R.failures reader.old) (R.failures reader.new) }
     ensures writer_failures { CountsWriterFault result.1 (W.failures writer) (W.failures result.0) }
     ensures last { IfOk result.1 (λ verdict. IsSomeAnd result.2 (IsReadLast limits (R.remaining reader.old) (R.remaining reader.new) verdict)) }
 {
     let mut last = None;
     let (writer, outcome) = write_report(
-        Report::Findings,
+        Report::Explained,
         alloc,
         limits,
         reader,

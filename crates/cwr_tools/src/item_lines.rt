@@ -7,8 +7,10 @@ ghost use Rattle.cwr_values.specs.Rows.{trailer};
 ghost use Rattle.std.specs.List.{flat_map};
 ghost use Rattle.cwr_levels.specs.Lines.{finding_line};
 ghost use Rattle.cwr_tools.specs.Texts.{finding_lines_in, numbered_records, record_lines};
+ghost use Rattle.cwr_tools.specs.FindingNotes.{explained_in};
 ghost use Rattle.cwr_tools.specs.Reports.{ItemLines, PutsLines, has_findings, lines_at, lines_in};
 
+use crate::finding_notes::put_all_explained;
 use crate::record_lines::RecordLines;
 use crate::totals::Totals;
 use crate::verdicts::ToolFault;
@@ -24,6 +26,8 @@ use std::alloc::Global;
 pub(crate) enum Report {
     /// The findings in each transaction.
     Findings,
+    /// The findings in each transaction, and under each the rule and the cells that it speaks of.
+    Explained,
     /// Each record with its cells.
     Records,
 }
@@ -149,6 +153,32 @@ fn put_findings<W: Target>(
     }
 }
 
+/// Puts the lines of an item's findings and the lines under them, where it is the transaction of that sequence in the group of that
+/// ID. Its first record is on that line of the file.
+fn put_explained_findings<W: Target>(
+    alloc: Global,
+    group: u32,
+    sequence: u32,
+    first: u64,
+    item: &Item,
+    sink: &mut Sink<W>,
+) -> Result<(), ToolFault>
+    requires unfailed { has_failed sink.old ≡ false }
+    requires few { first + length (item_records item.now) ≤ 100000000 }
+    ensures { PutsLines W.contents W.failures (has_findings item.now) (explained_in group sequence first item.now) result sink.old sink.new }
+{
+    let Item::Transaction(transaction) = item else {
+        return Ok(());
+    };
+    let Ok(found) = findings(alloc, transaction) else {
+        return Err(ToolFault::Memory);
+    };
+    match put_all_explained(group, sequence, first, transaction, found.as_slice(), sink) {
+        Ok(()) => Ok(()),
+        Err(fault) => Err(writer_fault(fault)),
+    }
+}
+
 /// Puts the lines of an item that comes after items with these numbers. Those of a record are made in the buffer.
 pub(crate) fn put_item<W: Target>(
     report: Report,
@@ -164,6 +194,10 @@ pub(crate) fn put_item<W: Target>(
 {
     match report {
         Report::Findings => put_findings(alloc, counts.groups, counts.in_group, item, sink),
+        Report::Explained => {
+            let first = u64::from(counts.records) + 1;
+            put_explained_findings(alloc, counts.groups, counts.in_group, first, item, sink)
+        }
         Report::Records => {
             match put_records(u64::from(counts.records) + 1, item, lines, sink) {
                 Ok(()) => Ok(()),

@@ -2,11 +2,15 @@
 #![tactic(auto)]
 
 mod checking;
+mod finding_notes;
 mod item_lines;
 mod joined;
 mod joining;
+mod note_lines;
 mod outcomes;
 mod outputs;
+mod passed;
+mod places;
 mod record_lines;
 mod reporting;
 mod showing;
@@ -15,7 +19,7 @@ mod splitting;
 mod totals;
 mod verdicts;
 
-pub use checking::{check, check_with_last};
+pub use checking::{check, check_explained};
 pub use joining::join;
 pub use outcomes::{put_join_outcome, put_split_outcome};
 pub use outputs::{OutputFault, Outputs};

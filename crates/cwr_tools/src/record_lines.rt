@@ -18,13 +18,14 @@ const LONGEST_HEAD: usize = 25;
 const LONGEST_CELL_LINE: usize = 750;
 
 /// The most bytes of the lines of a record, of which no kind has more than 28 fields.
-const LONGEST: usize = LONGEST_HEAD + 28 * LONGEST_CELL_LINE;
+pub(crate) const LONGEST: usize = LONGEST_HEAD + 28 * LONGEST_CELL_LINE;
 
-type Text = ArrayVec<u8, LONGEST>;
+/// The lines of a record.
+pub(crate) type Text = ArrayVec<u8, LONGEST>;
 
 /// Appends bytes for which there is room.
 #[inline(always)]
-fn push(text: &mut Text, bytes: &[u8])
+pub(crate) fn push(text: &mut Text, bytes: &[u8])
     requires { length text.old.items + length bytes.now ≤ LONGEST }
     ensures value { text.new.items ≡ text.old.items ++ bytes.now }
     ensures len { length text.new.items ≡ length text.old.items + length bytes.now }
@@ -34,7 +35,7 @@ fn push(text: &mut Text, bytes: &[u8])
 
 /// Appends a number in plain decimals.
 #[inline(always)]
-fn push_number(text: &mut Text, number: u64)
+pub(crate) fn push_number(text: &mut Text, number: u64)
     requires { length text.old.items + 20 ≤ LONGEST }
     ensures value { text.new.items ≡ text.old.items ++ decimal number }
     ensures len { length text.new.items ≤ length text.old.items + 20 }

@@ -1,0 +1,10 @@
+use Rattle.std.proofs.Common.{◌≤◌, take}
+use Rattle.cwr_tools.specs.FindingNotes.{places}
+use Rattle.cwr_tools.specs.OtherRecords.{AreListed, is_other}
+use Rattle.cwr_tools.proofs.places.places_of.Given as goal
+
+abbrev pub invariant-loop-at : goal.invariant-loop-at
+invariant-loop-at l = record {
+  found : AreListed (places (is_other l.rule) (take l.at l.transaction)) l.found;
+  few : l.found.count ≤ l.at;
+}

@@ -1,0 +1,215 @@
+//! The places of records in a transaction, from 0: the first ones, and how many there are.
+
+ghost use Rattle.std.specs.Prelude.{◌≡◌, ◌+◌, ◌<◌, ◌≤◌, ◌^◌, ◌++◌, ◌∷◌, ℕ, List, [], false, drop, length, if◌then◌else◌, unwrap_or};
+ghost use Rattle.std.specs.Option.{option_to_list};
+ghost use Rattle.cwr_layouts.specs.Records.{IsRecord};
+ghost use Rattle.cwr_layouts.specs.Carried.{record_cell};
+ghost use Rattle.cwr_levels.specs.Fields.{HasSharesFrom};
+ghost use Rattle.cwr_levels.specs.Findings.{is_a, is_owner, ownership, share_of};
+ghost use Rattle.cwr_fields.specs.Bytes.{number_of};
+ghost use Rattle.cwr_tools.specs.FindingNotes.{parties_from, places, right_of};
+ghost use Rattle.cwr_tools.specs.OtherRecords.{AreListed, is_other};
+
+use arrayvec::ArrayVec;
+use cwr_layouts::{Kind, RecordRef};
+use cwr_levels::Rule;
+use cwr_values::Transaction;
+
+/// The most places that are listed.
+const MOST_OTHERS: usize = 20;
+
+/// Places of records: the first ones, and how many there are.
+#[derive(Drop)]
+pub(crate) struct Places {
+    pub(crate) listed: ArrayVec<usize, MOST_OTHERS>,
+    pub(crate) count: usize,
+}
+
+impl Places {
+    /// No place.
+    pub(crate) fn none() -> Places
+        ensures listed { AreListed [] result }
+        ensures count { result.count ≡ 0 }
+    {
+        Places {
+            listed: ArrayVec::new(),
+            count: 0,
+        }
+    }
+
+    /// With one place more.
+    pub(crate) fn add(&mut self, place: usize)
+        requires { self.old.count < 10 ^ 9 }
+        ensures listed { (all : List ℕ) → AreListed all self.old → AreListed (all ++ place ∷ []) self.new }
+        ensures count { self.new.count ≡ self.old.count + 1 }
+    {
+        let _fits = self.listed.try_push(place);
+        self.count += 1;
+    }
+
+    /// With the place, where it counts.
+    fn add_if(&mut self, counts: bool, place: usize)
+        requires { self.old.count < 10 ^ 9 }
+        ensures listed { (all : List ℕ) → AreListed all self.old → AreListed (all ++ (if counts then place ∷ [] else [])) self.new }
+        ensures count { self.new.count ≤ self.old.count + 1 }
+    {
+        if counts {
+            self.add(place);
+        }
+    }
+
+    /// The same once more.
+    pub(crate) fn copied(&self) -> Places
+        ensures { (all : List ℕ) → AreListed all self.now → AreListed all result }
+    {
+        let mut listed = ArrayVec::new();
+        let _fits = listed.try_extend_from_slice(self.listed.as_slice());
+        Places {
+            listed,
+            count: self.count,
+        }
+    }
+
+    /// The place, if there is one.
+    pub(crate) fn of(place: Option<usize>) -> Places
+        ensures { AreListed (option_to_list place) result }
+    {
+        let mut places = Places::none();
+        if let Some(place) = place {
+            places.add(place);
+        }
+        places
+    }
+}
+
+/// Whether the record is of the kind.
+fn is_of(shown: &RecordRef<'_>, kind: Kind) -> bool
+    ensures { result ≡ is_a kind shown.now }
+{
+    shown.kind() == kind
+}
+
+/// Whether the rule, on the header of a work, speaks of the record.
+fn is_other(rule: Rule, shown: &RecordRef<'_>) -> bool
+    ensures { result ≡ is_other rule shown.now }
+{
+    match rule {
+        Rule::V6 => is_of(shown, Kind::Swr) || is_of(shown, Kind::Owr),
+        Rule::V9 => is_of(shown, Kind::Com),
+        _ => is_owner(shown),
+    }
+}
+
+/// Whether the record owns shares of a work.
+fn is_owner(shown: &RecordRef<'_>) -> bool
+    ensures { result ≡ is_owner shown.now }
+{
+    is_of(shown, Kind::Spu)
+        || is_of(shown, Kind::Opu)
+        || is_of(shown, Kind::Swr)
+        || is_of(shown, Kind::Owr)
+}
+
+/// The places of the records of which the rule, on the header of a work, speaks.
+pub(crate) fn places_of(rule: Rule, transaction: &Transaction) -> Places
+    requires { length transaction.now ≤ 100000000 }
+    ensures { AreListed (places (is_other rule) transaction.now) result }
+{
+    let mut found = Places::none();
+    for at in 0..transaction.len() {
+        let Some(shown) = transaction.record(at) else {
+            return found;
+        };
+        found.add_if(is_other(rule, &shown), at);
+    }
+    found
+}
+
+/// The places of the parties of the block whose first territory has that place.
+pub(crate) fn parties_of(transaction: &Transaction, first: usize) -> Places
+    requires few { length transaction.now ≤ 100000000 }
+    requires there { first < length transaction.now }
+    ensures { AreListed (parties_from false (first + 1) (drop (first + 1) transaction.now)) result }
+{
+    let mut found = Places::none();
+    let mut among_parties = false;
+    for at in first + 1..transaction.len() {
+        let Some(shown) = transaction.record(at) else {
+            return found;
+        };
+        if is_of(&shown, Kind::Ipa) {
+            found.add(at);
+            among_parties = true;
+            continue;
+        }
+        if among_parties && is_of(&shown, Kind::Ter) {
+            return found;
+        }
+    }
+    found
+}
+
+/// The cell of field `j`, from 1, and no bytes where the record carries none there.
+fn cell<'a>(shown: &RecordRef<'a>, j: u8) -> &'a [u8]
+    ensures value { result.now ≡ unwrap_or (record_cell shown.now j) [] }
+    ensures fits { IsRecord shown.now }
+{
+    match shown.cell(j) {
+        Some(text) => text,
+        None => b"",
+    }
+}
+
+/// The number that the digits of a cell write, and 0 of a blank cell.
+fn number_of(cell: &[u8]) -> u64
+    requires { length cell.now ≤ 8 }
+    ensures value { result ≡ number_of cell.now }
+    ensures small { result < 10 ^ 10 }
+{
+    let mut number = 0;
+    for byte in cell {
+        number = 10 * number + u64::from(byte.saturating_sub(b'0'));
+    }
+    number
+}
+
+/// The record's share in the right of the rule, where the share in the first right stands in that field.
+fn share_from(rule: Rule, shown: &RecordRef<'_>, first: u8) -> u64
+    requires few { first < 20 }
+    requires there { HasSharesFrom shown.now.kind first }
+    ensures value { result ≡ share_of (right_of rule) shown.now }
+    ensures small { result < 10 ^ 10 }
+{
+    match rule {
+        Rule::V3 => number_of(cell(shown, first)),
+        Rule::V4 => number_of(cell(shown, first + 2)),
+        _ => number_of(cell(shown, first + 4)),
+    }
+}
+
+/// The share of an owner in the right of the rule; of another record 0.
+fn owned_share(rule: Rule, shown: &RecordRef<'_>) -> u64
+    ensures value { result ≡ (if is_owner shown.now then share_of (right_of rule) shown.now else 0) }
+    ensures small { result < 10 ^ 10 }
+{
+    match shown.kind() {
+        Kind::Spu | Kind::Opu => share_from(rule, shown, 13),
+        Kind::Swr | Kind::Owr => share_from(rule, shown, 12),
+        _ => 0,
+    }
+}
+
+/// The shares of the owners in the right of the rule, added up.
+pub(crate) fn total_of(rule: Rule, transaction: &Transaction) -> u64
+    requires { length transaction.now ≤ 100000000 }
+    ensures { result ≡ ownership (right_of rule) transaction.now }
+{
+    let mut total = 0;
+    for at in 0..transaction.len() {
+        let Some(shown) = transaction.record(at) else {
+            return total;
+        };
+        total += owned_share(rule, &shown);
+    }
+    total
+}
