@@ -37,7 +37,7 @@ fn others(
         Rule::V3 | Rule::V4 | Rule::V5 | Rule::V6 | Rule::V9 => {
             places_of(finding.rule, transaction)
         }
-        Rule::V7 => passed.publishers.copied(),
+        Rule::V7 => passed.publishers.copy(),
         Rule::V8 => Places::of(passed.header),
         Rule::V11 => parties_of(transaction, finding.rec),
     }

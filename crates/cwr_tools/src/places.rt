@@ -59,7 +59,7 @@ impl Places {
     }
 
     /// The same once more.
-    pub(crate) fn copied(&self) -> Places
+    pub(crate) fn copy(&self) -> Places
         ensures { (all : List ℕ) → AreListed all self.now → AreListed all result }
     {
         let mut listed = ArrayVec::new();
