@@ -6,6 +6,7 @@ mod finding_notes;
 mod item_lines;
 mod joined;
 mod joining;
+pub mod laws;
 mod note_lines;
 mod outcomes;
 mod outputs;
