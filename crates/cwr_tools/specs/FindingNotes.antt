@@ -59,8 +59,8 @@ value_words cell = if is_spaces cell then codes "blank" else trimmed cell
 
 -- the line on a cell of a field, where both are there, in a record of the kind on line n of the file
 abbrev pub noted_line : ℕ → Kind → Option FieldLayout → Option (List ℕ) → List ℕ
-noted_line n kind (Some f) (Some cell) =
-    codes "  cell      line " ++ decimal n ++ codes ", " ++ letters kind ++ codes " " ++ f.name ++ codes ": " ++ value_words cell ++ 10 ∷ []
+noted_line n this_kind (Some f) (Some cell) =
+    codes "  cell      line " ++ decimal n ++ codes ", " ++ letters this_kind ++ codes " " ++ f.name ++ codes ": " ++ value_words cell ++ 10 ∷ []
 noted_line n this_kind f cell = []
 
 -- the line on the record's cell of that name, if it carries one
