@@ -1,12 +1,12 @@
 -- The last bytes that were read are held, however they are taken.
-use Rattle.std.proofs.Common.{◌≡◌, ℕ, ◌+◌, ◌-◌, ◌≤◌, List, [], ◌∷◌, ◌++◌, length, take, drop, Option, refl, sym, ap, ◌∙◌, arith, inl, inr, append_assoc, append-nil, take_all, take-append-drop}
+use Rattle.std.proofs.Common.{◌≡◌, ℕ, ◌+◌, ◌-◌, ◌≤◌, List, [], ◌∷◌, ◌++◌, length, take, drop, Option, refl, sym, ap, subst, ◌∙◌, arith, inl, inr, append_assoc, append-nil, take_all, take-append-drop}
 use Rattle.std.proofs.lemmas.Bool.{false≢true}
 use Rattle.std.specs.Prelude.{◌⊎◌, ◌^◌, min, Result, Ok, Err, IsOk, OnOk}
 use Rattle.std.proofs.lemmas.List.{length-append, length-drop}
 use Rattle.std.proofs.KnownBytes.{Consumes-nil, Consumes-trans}
 use Rattle.std.specs.Io.KnownBytes.{Consumes}
 use Rattle.cwr_decode.specs.declared.last_bytes.LastBytes.{LastBytes}
-use Rattle.cwr_decode.specs.LastReads.{HoldsLast, ReadsLast, bytes_read, last_held}
+use Rattle.cwr_decode.specs.LastReads.{AreHeld, HoldsLast, ReadsLast, bytes_read, last_held}
 
 -- an empty list was extended by a text for which there is room
 pub filled_by : {T E : Type 0} (r : Result T E) (old new xs : List ℕ) → old ≡ [] → length xs ≤ 4096 → (length old + length xs ≤ 4096 → IsOk r) → OnOk r (new ≡ old ++ xs) → new ≡ xs
@@ -43,31 +43,18 @@ length_end xs ys k e h = omega (arith, ap length e, length-drop (length xs - k) 
 -- ---- what was read of a reader
 
 -- no byte was read
-pub reads_nothing : (left : Option (List ℕ)) (after : Option (List ℕ)) (last : LastBytes) → Consumes left after [] → ReadsLast left after last last
-reads_nothing left after last c = record { bytes = []; consumed = c; held = λ read h. by read h }
-  where
-    by : (read : List ℕ) → HoldsLast read last → HoldsLast (read ++ []) last
-    by read h = record {
-      before = h.before;
-      split = append-nil read ∙ h.split;
-      enough = h.enough;
-      counted = h.counted ∙ ap (λ (l : List ℕ). min (length l) (2 ^ 64 - 1)) (sym (append-nil read));
-    }
+pub reads_nothing : (left after : Option (List ℕ)) (last : Option LastBytes) → Consumes left after [] → ReadsLast left after last last
+reads_nothing left after last c = record { bytes = []; consumed = c; held = λ read. subst (λ (l : List ℕ). AreHeld l last) (sym (append-nil read)) }
 
 -- bytes were read in two steps
-pub reads_both : (left mid after : Option (List ℕ)) (old new last : LastBytes) → ReadsLast left mid old new → ReadsLast mid after new last → ReadsLast left after old last
+pub reads_both : (left mid after : Option (List ℕ)) (old new last : Option LastBytes) → ReadsLast left mid old new → ReadsLast mid after new last → ReadsLast left after old last
 reads_both left mid after old new last p q = record {
   bytes = p.bytes ++ q.bytes;
   consumed = Consumes-trans left mid after p.bytes q.bytes p.consumed q.consumed;
-  held = λ read h. record {
-    before = (q.held (read ++ p.bytes) (p.held read h)).before;
-    split = sym (append_assoc read p.bytes q.bytes) ∙ (q.held (read ++ p.bytes) (p.held read h)).split;
-    enough = (q.held (read ++ p.bytes) (p.held read h)).enough;
-    counted = (q.held (read ++ p.bytes) (p.held read h)).counted ∙ ap (λ (l : List ℕ). min (length l) (2 ^ 64 - 1)) (append_assoc read p.bytes q.bytes);
-  };
+  held = λ read h. subst (λ (l : List ℕ). AreHeld l last) (append_assoc read p.bytes q.bytes) (q.held (read ++ p.bytes) (p.held read h));
 }
 
 -- bytes that a run had read, and those after them
-pub reads_on : (before left after : Option (List ℕ)) (old new : LastBytes) (read : List ℕ) → Consumes before left read → HoldsLast read old → (r : ReadsLast left after old new)
-    → Consumes before after (read ++ r.bytes) × HoldsLast (read ++ r.bytes) new
+pub reads_on : (before left after : Option (List ℕ)) (old new : Option LastBytes) (read : List ℕ) → Consumes before left read → AreHeld read old → (r : ReadsLast left after old new)
+    → Consumes before after (read ++ r.bytes) × AreHeld (read ++ r.bytes) new
 reads_on before left after old new read c h r = (Consumes-trans before left after read r.bytes c r.consumed, r.held read h)

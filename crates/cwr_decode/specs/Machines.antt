@@ -18,7 +18,7 @@ use Rattle.cwr_decode.specs.declared.outcomes.Outcome.{Outcome}
 use Rattle.cwr_decode.specs.declared.outcomes.Outcome.TheVariants as outcomes
 use Rattle.cwr_decode.specs.declared.machine.State.{State}
 use Rattle.cwr_decode.specs.declared.machine.Found.{Found}
-use Rattle.cwr_decode.specs.declared.machine.Found.TheVariants.{Added, Whole, Nothing}
+use Rattle.cwr_decode.specs.declared.machine.Found.TheVariants.{Added, Ends, Nothing}
 use Rattle.cwr_decode.specs.declared.machine.State.TheVariants.{Reading, Pending, Ended, Refused, Truncated, Memory}
 use Rattle.cwr_judge.specs.declared.refusals.Refusal.{Refusal}
 use Rattle.cwr_judge.specs.Judged.{IsNext, IsOfNone, IsFirstFault}
@@ -209,17 +209,21 @@ pub record Refuses (old : Standing) (result : Option Outcome) (new : Standing) :
 abbrev pub Judges : Standing → Option Outcome → Standing → Type 0
 Judges old result new = Accepts old result new ⊎ Refuses old result new
 
--- what the line that ended was found to be by quick tests
+-- the same without the open transaction, which is handed out
+abbrev pub emptied : Standing → Standing
+emptied old = record { line = old.line; tally = old.tally; held = None; state = old.state; finished = old.finished }
+
+-- what the line that ended was found to be by quick tests; a transaction that it ends is held until it is handed out
 abbrev pub FindsLine : Found → Standing → Standing → Type 0
 FindsLine Added old new = Judges old None new
-FindsLine (Whole whole) old new = Judges old (Some (outcomes.Item (items.Transaction whole))) new
+FindsLine Ends old new = IsSomeAnd new.held (λ whole. Judges old (Some (outcomes.Item (items.Transaction whole))) (emptied new))
 FindsLine Nothing old new = new ≡ old
 
 -- what a cut line was found to be, whatever is done next
 abbrev pub FindsCut : Found → HeldLine → TallyValue → Option (List RecordValue) → TallyValue → Option (List RecordValue) → Type 0
 FindsCut Added line tally held counted more = (state : State) (finished : Bool) → FindsLine Added (record { line = line; tally = tally; held = held; state = state; finished = finished })
     (record { line = empty_line; tally = counted; held = more; state = Reading; finished = finished })
-FindsCut (Whole whole) line tally held counted more = (state : State) (finished : Bool) → FindsLine (Whole whole) (record { line = line; tally = tally; held = held; state = state; finished = finished })
+FindsCut Ends line tally held counted more = (state : State) (finished : Bool) → FindsLine Ends (record { line = line; tally = tally; held = held; state = state; finished = finished })
     (record { line = line; tally = counted; held = more; state = Pending; finished = finished })
 FindsCut Nothing line tally held counted more = (counted ≡ tally) × (more ≡ held)
 
@@ -234,7 +238,7 @@ pub record JudgesFront (old : Standing) (piece : List ℕ) (used : ℕ) (out : O
 -- what the line at the front of the piece was found to be
 abbrev pub FindsFront : Found → Standing → List ℕ → ℕ → Standing → Type 0
 FindsFront Added old piece used new = JudgesFront old piece used None new
-FindsFront (Whole whole) old piece used new = JudgesFront old piece used (Some (outcomes.Item (items.Transaction whole))) new
+FindsFront Ends old piece used new = IsSomeAnd new.held (λ whole. JudgesFront old piece used (Some (outcomes.Item (items.Transaction whole))) (emptied new))
 FindsFront Nothing old piece used new = new ≡ old
 
 -- the record that waits is entered

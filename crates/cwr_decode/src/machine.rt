@@ -1,6 +1,6 @@
 //! The steps of a decoder.
 
-ghost use Rattle.std.specs.Prelude.{List, ◌∷◌, ◌++◌, [], ◌≡◌, ◌≢◌, ◌<◌, length, true, false, None, Some, IsTrue, IsFalse, IsSomeAnd, IsNone, IfSome, OnOk, OnErr};
+ghost use Rattle.std.specs.Prelude.{List, ◌∷◌, ◌++◌, [], ◌≡◌, ◌≢◌, ◌<◌, length, true, false, None, Some, IsTrue, IsFalse, IsSome, IsSomeAnd, IsNone, IfSome, OnOk, OnErr};
 ghost use Rattle.cwr_layouts.specs.Held.{IsHeld, Takes, held_record};
 ghost use Rattle.cwr_shape.specs.Ranges.{AreInRange};
 ghost use Rattle.cwr_shape.specs.Stages.{stage_after};
@@ -8,7 +8,7 @@ ghost use Rattle.cwr_shape.specs.Tallies.{IsAdmitted, IsTallyOf};
 ghost use Rattle.cwr_shape.specs.declared.symbols.Symbol.{Symbol};
 ghost use Rattle.cwr_judge.specs.Items.{stands_in_transaction};
 ghost use Rattle.cwr_judge.specs.Open.{continues_open};
-ghost use Rattle.cwr_decode.specs.Machines.{Adds, ClosesLine, EntersHeld, FindsCut, FindsFront, FindsLine, FinishesRecord, HandsOut, HasRecord, HoldsOpen, FitsHeld, FitsWaiting, IsReady, Judges, Settles, ReportsFault, at_start, held_list, reading, stopped};
+ghost use Rattle.cwr_decode.specs.Machines.{Adds, ClosesLine, EntersHeld, FindsCut, FindsFront, FindsLine, FinishesRecord, HandsOut, HasRecord, HoldsOpen, FitsHeld, FitsWaiting, IsReady, Judges, Settles, ReportsFault, at_start, emptied, held_list, reading, stopped};
 ghost use Rattle.cwr_decode.specs.Represents.{IsSound};
 ghost use Rattle.cwr_decode.specs.Calls.{Advances, Fed, TakesEnd, Feeds, Finishes};
 ghost use Rattle.cwr_values.specs.Begun.{BeginsWithOneMore};
@@ -40,12 +40,12 @@ pub enum State {
 }
 
 /// What quick tests find of a line.
-#[derive(Drop)]
+#[derive(Clone, Copy, Debug)]
 pub enum Found {
     /// Its record was added to the open transaction.
     Added,
-    /// It is accepted, and ends the open transaction, which is handed out: its record waits.
-    Whole(Transaction),
+    /// It is accepted and counted, and its record waits: it ends the open transaction, which is to be handed out.
+    Ends,
     /// Nothing is said of the line, and nothing has changed.
     Nothing,
 }
@@ -160,7 +160,7 @@ fn add_accepted(
 }
 
 /// Judges a line by quick tests. A record that continues the open transaction is added to it and counted; one that ends it
-/// is counted, and the transaction is handed out. Most lines are such, and no answer of an outcome's size is built for them.
+/// is counted. Most lines are such, and no answer of a transaction's size is built for them.
 #[inline(always)]
 fn find_cut(
     tally: &mut Tally,
@@ -179,16 +179,13 @@ fn find_cut(
     let Some((_, accepted, counted)) = judge_quickly(tally, cut, expected) else {
         return Found::Nothing;
     };
-    if !stays_open(tally, &counted) {
-        let Some(whole) = held.take() else {
-            return Found::Nothing;
-        };
-        *tally = counted;
-        return Found::Whole(whole);
-    }
     let Some(open) = held else {
         return Found::Nothing;
     };
+    if !stays_open(tally, &counted) {
+        *tally = counted;
+        return Found::Ends;
+    }
     match open.push(accepted) {
         Ok(()) => {
             *tally = counted;
@@ -317,6 +314,18 @@ impl Machine {
         self.finish_record(outcome)
     }
 
+    /// Hands out the open transaction.
+    fn take_whole(&mut self) -> Transaction
+        requires { IsSome self.old.held }
+        ensures whole { self.old.held ≡ Some result }
+        ensures others { self.new ≡ emptied self.old }
+    {
+        match self.held.take() {
+            Some(whole) => whole,
+            None => unreachable!(),
+        }
+    }
+
     /// Judges the line that ended by quick tests. The record of one that ends the open transaction waits.
     #[inline(never)]
     fn find_line(&mut self) -> Found
@@ -327,7 +336,7 @@ impl Machine {
         let found = find_cut(&mut self.tally, &mut self.held, &mut self.expected, &cut);
         match found {
             Found::Added => self.begin_line(),
-            Found::Whole(_) => self.state = State::Pending,
+            Found::Ends => self.state = State::Pending,
             Found::Nothing => {}
         }
         found
@@ -346,7 +355,7 @@ impl Machine {
         };
         match self.find_line() {
             Found::Added => (used, Found::Added),
-            Found::Whole(whole) => (used, Found::Whole(whole)),
+            Found::Ends => (used, Found::Ends),
             Found::Nothing => {
                 self.line.clear();
                 (0, Found::Nothing)
@@ -370,10 +379,10 @@ impl Machine {
         };
         match find_cut(&mut self.tally, &mut self.held, &mut self.expected, &cut) {
             Found::Added => (used, Found::Added),
-            Found::Whole(whole) => {
+            Found::Ends => {
                 self.line.keep(&cut);
                 self.state = State::Pending;
-                (used, Found::Whole(whole))
+                (used, Found::Ends)
             }
             Found::Nothing => (0, Found::Nothing),
         }
@@ -505,7 +514,7 @@ impl Machine {
             let (front, found) = self.find_front(&piece[used..]);
             match found {
                 Found::Added => used += front,
-                Found::Whole(whole) => return (used + front, Some(whole)),
+                Found::Ends => return (used + front, Some(self.take_whole())),
                 Found::Nothing => return (used, None),
             }
         }
@@ -538,10 +547,10 @@ impl Machine {
             }
             match self.find_line() {
                 Found::Added => continue,
-                Found::Whole(whole) => {
+                Found::Ends => {
                     return Step {
                         used,
-                        outcome: Outcome::Item(Item::Transaction(whole)),
+                        outcome: Outcome::Item(Item::Transaction(self.take_whole())),
                     };
                 }
                 Found::Nothing => {}

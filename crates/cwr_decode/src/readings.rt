@@ -1,11 +1,11 @@
 //! Reading a transmission from a reader, item by item.
 
-ghost use Rattle.std.specs.Prelude.{◌≡◌, ◌<◌, ◌⊎◌, ℕ, List, [], Option, Err, IfNone, IfSome, IsSome, None, Some, true, false};
+ghost use Rattle.std.specs.Prelude.{◌≡◌, ◌<◌, ◌⊎◌, ℕ, List, [], ◌++◌, Option, Err, IfNone, IfSome, IsSome, IsSomeAnd, None, Some, true, false};
 ghost use Rattle.cwr_decode.specs.Decoding.{HasWaiting, accepted_records, final_answer, has_ended, limits_of};
 ghost use Rattle.cwr_decode.specs.Represents.{RepresentsSome, Represents};
 ghost use Rattle.cwr_decode.specs.Machines.{WaitsOutside, again};
 ghost use Rattle.cwr_decode.specs.Readings.{answer_of, CountsQuickly, CountsReader, FeedsOn, Reads, ReadsQuickly};
-ghost use Rattle.cwr_decode.specs.LastReads.{HoldsLast, ReadsLast, stage_of_records};
+ghost use Rattle.cwr_decode.specs.LastReads.{AreHeld, HoldsLast, ReadsLast, stage_of_records};
 
 use crate::decoders::Decoder;
 use crate::last_bytes::LastBytes;
@@ -57,10 +57,11 @@ pub struct LastRead {
     pub bytes: LastBytes,
 }
 
-/// The items of a transmission, which are read one at a time from a lent reader. The last bytes that were read are held.
-pub struct Reading<'a, R: Source, D: Drop = Decoder, L: Drop = LastBytes> {
+/// The items of a transmission, which are read one at a time from a lent reader.
+pub struct Reading<'a, R: Source, D: Drop = Decoder, L: Drop = Option<LastBytes>> {
     reader: &'a mut R,
     decoder: D,
+    /// The last bytes that were read, where they are held.
     last: L,
 }
 
@@ -101,8 +102,22 @@ enum Quick {
     Nothing,
 }
 
+/// Takes bytes that were read after those before, where the last ones are held.
+#[inline(always)]
+fn keep_last(last: &mut Option<LastBytes>, bytes: &[u8])
+    ensures { (read : List ℕ) → AreHeld read last.old → AreHeld (read ++ bytes.now) last.new }
+{
+    if let Some(last) = last {
+        last.keep(bytes);
+    }
+}
+
 /// Feeds what the reader shows next by quick tests, up to the next transaction. What these leave is consumed later.
-fn pull_quickly<R: Source>(decoder: &mut Decoder, last: &mut LastBytes, reader: &mut R) -> Quick
+fn pull_quickly<R: Source>(
+    decoder: &mut Decoder,
+    last: &mut Option<LastBytes>,
+    reader: &mut R,
+) -> Quick
     requires reading { decoder.old.state ≡ State.Reading }
     requires fresh { decoder.old.finished ≡ false }
     ensures reads { ReadsQuickly result decoder.old (R.remaining reader.old) decoder.new (R.remaining reader.new) }
@@ -114,7 +129,7 @@ fn pull_quickly<R: Source>(decoder: &mut Decoder, last: &mut LastBytes, reader: 
         Err(_) => return Quick::Failed,
     };
     let (used, found) = decoder.feed_quickly(piece);
-    last.keep(&piece[..used]);
+    keep_last(last, &piece[..used]);
     reader.consume(used);
     match found {
         Some(whole) => Quick::Whole(whole),
@@ -125,7 +140,7 @@ fn pull_quickly<R: Source>(decoder: &mut Decoder, last: &mut LastBytes, reader: 
 /// Feeds what the reader shows next, or the end of the input. `None` where more is needed.
 fn pull<R: Source>(
     decoder: &mut Decoder,
-    last: &mut LastBytes,
+    last: &mut Option<LastBytes>,
     reader: &mut R,
 ) -> Option<Result<Option<Item>, ReadFault>>
     requires reading { decoder.old.state ≡ State.Reading }
@@ -145,7 +160,7 @@ fn pull<R: Source>(
         return answer(decoder.finish().outcome);
     }
     let step = decoder.feed(piece);
-    last.keep(&piece[..step.used]);
+    keep_last(last, &piece[..step.used]);
     reader.consume(step.used);
     answer(step.outcome)
 }
@@ -153,7 +168,7 @@ fn pull<R: Source>(
 /// Reads on, where the decoder needs more.
 fn read_on<R: Source>(
     decoder: &mut Decoder,
-    last: &mut LastBytes,
+    last: &mut Option<LastBytes>,
     reader: &mut R,
 ) -> Result<Option<Item>, ReadFault>
     requires reading { decoder.old.state ≡ State.Reading }
@@ -199,6 +214,28 @@ fn settle(decoder: &mut Decoder) -> Option<Result<Option<Item>, ReadFault>>
 }
 
 impl<'a, R: Source> Reading<'a, R> {
+    /// A reading of which nothing was read.
+    fn begin(
+        alloc: Global,
+        limits: Limits,
+        reader: &'a mut R,
+        last: Option<LastBytes>,
+    ) -> Reading<'a, R>
+        ensures same_reference { result.reader.ghost_name ≡ reader.entry.ghost_name }
+        ensures kept { result.reader.now ≡ reader.old }
+        ensures represents { Represents result.decoder [] [] }
+        ensures limits { limits_of result.decoder ≡ limits }
+        ensures open { final_answer result.decoder ≡ None }
+        ensures fresh { has_ended result.decoder ≡ false }
+        ensures last { result.last ≡ last }
+    {
+        Reading {
+            reader,
+            decoder: Decoder::new(alloc, limits),
+            last,
+        }
+    }
+
     /// A reading of the transmission, within the limits, that the reader's next bytes are. Nothing is read yet.
     pub fn new(alloc: Global, limits: Limits, reader: &'a mut R) -> Reading<'a, R>
         ensures same_reference { result.reader.ghost_name ≡ reader.entry.ghost_name }
@@ -207,13 +244,21 @@ impl<'a, R: Source> Reading<'a, R> {
         ensures limits { limits_of result.decoder ≡ limits }
         ensures open { final_answer result.decoder ≡ None }
         ensures fresh { has_ended result.decoder ≡ false }
-        ensures last { HoldsLast [] result.last }
     {
-        Reading {
-            reader,
-            decoder: Decoder::new(alloc, limits),
-            last: LastBytes::new(),
-        }
+        Reading::begin(alloc, limits, reader, None)
+    }
+
+    /// The same, where the last bytes that are read are held too, for `last_read`.
+    pub fn holding_last(alloc: Global, limits: Limits, reader: &'a mut R) -> Reading<'a, R>
+        ensures same_reference { result.reader.ghost_name ≡ reader.entry.ghost_name }
+        ensures kept { result.reader.now ≡ reader.old }
+        ensures represents { Represents result.decoder [] [] }
+        ensures limits { limits_of result.decoder ≡ limits }
+        ensures open { final_answer result.decoder ≡ None }
+        ensures fresh { has_ended result.decoder ≡ false }
+        ensures last { AreHeld [] result.last }
+    {
+        Reading::begin(alloc, limits, reader, Some(LastBytes::new()))
     }
 
     /// Reads the next item. `Ok(None)` after `Ended`, which is the last one. What the decoder can answer without a
@@ -237,7 +282,7 @@ impl<'a, R: Source> Reading<'a, R> {
         ensures input_ended { has_ended self.old.decoder ≡ true → self.new.reader.now ≡ self.old.reader.now }
         // Nor is it where a record waits that is an item of its own.
         ensures alone { WaitsOutside self.old.decoder → self.new.reader.now ≡ self.old.reader.now }
-        // The last bytes that the reader lost are held.
+        // Where the last bytes are held, those that the reader lost are.
         ensures last { ReadsLast (R.remaining self.old.reader.now) (R.remaining self.new.reader.now) self.old.last self.new.last }
     {
         if let Some(reported) = settle(&mut self.decoder) {
@@ -251,13 +296,17 @@ impl<'a, R: Source> Reading<'a, R> {
     }
 
     /// What was read last, and how far the accepted records have come. After a refusal the bytes end with the refused line.
-    pub fn last_read(&self) -> LastRead
-        ensures stage { result.stage ≡ stage_of_records self.now.decoder }
-        ensures bytes { (read : List ℕ) → HoldsLast read self.now.last → HoldsLast read result.bytes }
+    /// `None` where the last bytes aren't held.
+    pub fn last_read(&self) -> Option<LastRead>
+        ensures stage { IfSome result (λ last. last.stage ≡ stage_of_records self.now.decoder) }
+        ensures bytes { (read : List ℕ) → AreHeld read self.now.last → IsSomeAnd result (λ last. HoldsLast read last.bytes) }
     {
-        LastRead {
-            stage: self.decoder.stage(),
-            bytes: self.last.copy(),
+        match &self.last {
+            Some(last) => Some(LastRead {
+                stage: self.decoder.stage(),
+                bytes: last.copy(),
+            }),
+            None => None,
         }
     }
 }

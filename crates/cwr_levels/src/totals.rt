@@ -69,9 +69,8 @@ impl TransactionTotals {
         }
     }
 
-    /// With one more record, which stands after `sequence` others.
-    #[inline(always)]
-    fn with(self, sequence: usize, shown: &RecordRef<'_>) -> TransactionTotals
+    /// With one more record, which may count and stands after `sequence` others.
+    fn with_counted(self, sequence: usize, shown: &RecordRef<'_>) -> TransactionTotals
         requires { sequence + 1 < 2 ^ 64 }
         ensures { (rs : List RecordValue) → length rs ≡ sequence → AreTotals rs self → AreTotals (rs ++ shown.now ∷ []) result }
     {
@@ -89,6 +88,20 @@ impl TransactionTotals {
         TransactionTotals {
             publishers_end: sequence + 1,
             ..totals
+        }
+    }
+
+    /// With one more record, which stands after `sequence` others. Most kinds count nothing.
+    #[inline(always)]
+    fn with(self, sequence: usize, shown: &RecordRef<'_>) -> TransactionTotals
+        requires { sequence + 1 < 2 ^ 64 }
+        ensures { (rs : List RecordValue) → length rs ≡ sequence → AreTotals rs self → AreTotals (rs ++ shown.now ∷ []) result }
+    {
+        match shown.kind() {
+            Kind::Spu | Kind::Opu | Kind::Swr | Kind::Owr | Kind::Com => self.with_counted(
+                sequence, shown,
+            ),
+            _ => self,
         }
     }
 

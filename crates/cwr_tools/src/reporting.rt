@@ -1,6 +1,9 @@
 //! Whole runs over a text: the lines of its items, and the line of the verdict.
 
-ghost use Rattle.std.specs.Prelude.{◌≡◌, ◌≤◌, [], false, length, IfOk, IsSomeAnd};
+ghost use Rattle.std.specs.Prelude.{◌≡◌, ◌≤◌, [], false, length, None, IfOk, IsSomeAnd};
+ghost use Rattle.cwr_decode.specs.Decoding.{final_answer, has_ended, limits_of};
+ghost use Rattle.cwr_decode.specs.LastReads.{AreHeld};
+ghost use Rattle.cwr_decode.specs.Represents.{Represents};
 ghost use Rattle.cwr_encode.specs.Sinks.{HasWritten, has_failed, writer_of};
 ghost use Rattle.cwr_levels.specs.declared.lines.TheConstants.{LONGEST_REPORT_LINE};
 ghost use Rattle.cwr_levels.specs.Putting.{PutsText};
@@ -31,8 +34,29 @@ fn verdict_of(fault: ReadFault) -> Result<Verdict, ToolFault>
     }
 }
 
+/// A reading of a transmission for a report. The last bytes are held for one that explains.
+fn begin_reading<'a, R: Source>(
+    report: Report,
+    alloc: Global,
+    limits: Limits,
+    reader: &'a mut R,
+) -> Reading<'a, R>
+    ensures same_reference { result.reader.ghost_name ≡ reader.entry.ghost_name }
+    ensures kept { result.reader.now ≡ reader.old }
+    ensures represents { Represents result.decoder [] [] }
+    ensures limits { limits_of result.decoder ≡ limits }
+    ensures open { final_answer result.decoder ≡ None }
+    ensures fresh { has_ended result.decoder ≡ false }
+    ensures last { report ≡ Report.Explained → AreHeld [] result.last }
+{
+    match report {
+        Report::Explained => Reading::holding_last(alloc, limits, reader),
+        Report::Findings | Report::Records => Reading::new(alloc, limits, reader),
+    }
+}
+
 /// Reads a transmission item by item, up to its end or to where it is refused or ends too early, and puts the lines of
-/// each item. Then `last` gets what was read last.
+/// each item. Then `last` gets what was read last, of a report that explains.
 fn put_items<R: Source, W: Target>(
     report: Report,
     alloc: Global,
@@ -45,9 +69,9 @@ fn put_items<R: Source, W: Target>(
     requires empty { HasWritten W.contents (W.contents (writer_of sink.old)) [] sink.old }
     ensures puts { PutsReport (lines_in report) (λ verdict. []) limits (R.remaining reader.old) (R.remaining reader.new) W.contents W.failures result sink.old sink.new }
     ensures failures { CountsReaderFault result (R.failures reader.old) (R.failures reader.new) }
-    ensures last { IfOk result (λ verdict. IsSomeAnd last.new (IsReadLast limits (R.remaining reader.old) (R.remaining reader.new) verdict)) }
+    ensures last { report ≡ Report.Explained → IfOk result (λ verdict. IsSomeAnd last.new (IsReadLast limits (R.remaining reader.old) (R.remaining reader.new) verdict)) }
 {
-    let mut reading = Reading::new(alloc, limits, reader);
+    let mut reading = begin_reading(report, alloc, limits, reader);
     let mut counts = Totals::new();
     let mut lines = RecordLines::new();
     'items: loop {
@@ -57,11 +81,11 @@ fn put_items<R: Source, W: Target>(
                 counts.count(&item);
             }
             Ok(None) => {
-                *last = Some(reading.last_read());
+                *last = reading.last_read();
                 return Ok(counts.good());
             }
             Err(fault) => {
-                *last = Some(reading.last_read());
+                *last = reading.last_read();
                 return verdict_of(fault);
             }
         }
@@ -83,7 +107,8 @@ fn put_verdict<W: Target>(verdict: &Verdict, sink: &mut Sink<W>) -> Result<(), S
     }
 }
 
-/// Reads a transmission, and puts the lines of its items and the line of the verdict. Then `last` gets what was read last.
+/// Reads a transmission, and puts the lines of its items and the line of the verdict. Then `last` gets what was read last, of a
+/// report that explains.
 fn put_report<R: Source, W: Target>(
     report: Report,
     alloc: Global,
@@ -96,7 +121,7 @@ fn put_report<R: Source, W: Target>(
     requires empty { HasWritten W.contents (W.contents (writer_of sink.old)) [] sink.old }
     ensures puts { PutsReport (lines_in report) verdict_line limits (R.remaining reader.old) (R.remaining reader.new) W.contents W.failures result sink.old sink.new }
     ensures failures { CountsReaderFault result (R.failures reader.old) (R.failures reader.new) }
-    ensures last { IfOk result (λ verdict. IsSomeAnd last.new (IsReadLast limits (R.remaining reader.old) (R.remaining reader.new) verdict)) }
+    ensures last { report ≡ Report.Explained → IfOk result (λ verdict. IsSomeAnd last.new (IsReadLast limits (R.remaining reader.old) (R.remaining reader.new) verdict)) }
 {
     let verdict = put_items(report, alloc, limits, reader, last, sink)?;
     match put_verdict(&verdict, sink) {
@@ -106,7 +131,7 @@ fn put_report<R: Source, W: Target>(
 }
 
 /// Reads a transmission, and writes the lines of its items and the line of the verdict, which it has the writer hand on.
-/// The writer comes back, and `last` gets what was read last.
+/// The writer comes back, and `last` gets what was read last, of a report that explains.
 pub(crate) fn write_report<R: Source, W: Target>(
     report: Report,
     alloc: Global,
@@ -118,7 +143,7 @@ pub(crate) fn write_report<R: Source, W: Target>(
     ensures reported { Reports (lines_in report) limits (R.remaining reader.old) (R.remaining reader.new) W.contents writer result.0 result.1 }
     ensures reader_failures { CountsReaderFault result.1 (R.failures reader.old) (R.failures reader.new) }
     ensures writer_failures { CountsWriterFault result.1 (W.failures writer) (W.failures result.0) }
-    ensures last { IfOk result.1 (λ verdict. IsSomeAnd last.new (IsReadLast limits (R.remaining reader.old) (R.remaining reader.new) verdict)) }
+    ensures last { report ≡ Report.Explained → IfOk result.1 (λ verdict. IsSomeAnd last.new (IsReadLast limits (R.remaining reader.old) (R.remaining reader.new) verdict)) }
 {
     let mut sink = Sink::new(writer);
     let put = put_report(report, alloc, limits, reader, last, &mut sink);

@@ -1,4 +1,4 @@
-use Rattle.std.proofs.Common.{Bool, List, Option, Some, refl, sym, ap, subst, ◌∙◌}
+use Rattle.std.proofs.Common.{Bool, List, Option, Some, None, refl, sym, ap, subst, ◌∙◌}
 use Rattle.std.specs.Prelude.{◌≡◌, true, IsSomeAnd}
 use Rattle.cwr_layouts.specs.declared.kinds.Kind.{Kind}
 use Rattle.cwr_layouts.specs.Records.{RecordValue}
@@ -10,10 +10,10 @@ use Rattle.cwr_decode.proofs.machine.find_cut.Goals as goal
 pub returns-then-not-stays_open : goal.returns-then-not-stays_open
 returns-then-not-stays_open c = λ state finished.
     let d : Standing = record { line = c.args.cut.now; tally = c.args.tally.now; held = c.args.held.now; state = state; finished = finished } in
-    waits_now d c.in-Some-judge_quickly.counted c.args.cut.now c.in-Some-judge_quickly.field-0-0 c.in-Some-judge_quickly.accepted c.stays_open.result c.in-Some-take.whole c.take.result c.take.new.self refl
+    waits_now d c.in-Some-judge_quickly.counted c.args.cut.now c.in-Some-judge_quickly.field-0-0 c.in-Some-judge_quickly.accepted c.stays_open.result c.in-Some-held.open (Some c.in-Some-held.open) None refl
     c.in-Some-judge_quickly.ensures.carried c.in-Some-judge_quickly.ensures.next c.in-Some-judge_quickly.ensures.limits c.in-Some-judge_quickly.ensures.stands
     (λ xs st. c.stays_open.ensures xs c.in-Some-judge_quickly.field-0-0 st (c.in-Some-judge_quickly.ensures.stands xs st))
-    (subst (λ (b : Bool). HandsOut b c.args.held.now c.take.result c.take.new.self) (sym c.if-not-stays_open.true) (c.take.ensures.value, c.take.ensures.after)) c.in-Some-take.is
+    (subst (λ (b : Bool). HandsOut b c.args.held.now (Some c.in-Some-held.open) None) (sym c.if-not-stays_open.true) (sym c.in-Some-held.is, refl)) refl
 
 pub returns-in-Ok : goal.returns-in-Ok
 returns-in-Ok c = λ state finished.

@@ -44,5 +44,5 @@ pub returns-clause-last : goal.returns-clause-last
 returns-clause-last g c = record {
   bytes = take c.feed-step.result.used c.in-Ok.piece.now;
   consumed = consumes_taken _ _ _ c.in-Ok.piece.now c.feed-step.result.used c.fill.follows.holds-at-none.0 c.in-Ok.ensures.front c.feed-step.ensures.used c.consume.ensures.bytes;
-  held = c.keep.ensures;
+  held = c.keep_last.ensures;
 }

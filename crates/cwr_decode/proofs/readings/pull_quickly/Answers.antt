@@ -47,7 +47,7 @@ returns-in-Some-clause-last g c =
     record {
       bytes = take c.feed_quickly-used.result.0 c.in-Ok.piece.now;
       consumed = consumes_taken _ _ _ c.in-Ok.piece.now c.feed_quickly-used.result.0 c.fill.follows.holds-at-none.0 c.in-Ok.ensures.front f.within c.consume.ensures.bytes;
-      held = c.keep.ensures;
+      held = c.keep_last.ensures;
     }
 
 pub returns-in-None-clause-last : goal.returns-in-None-clause-last
@@ -56,5 +56,5 @@ returns-in-None-clause-last g c =
     record {
       bytes = take c.feed_quickly-used.result.0 c.in-Ok.piece.now;
       consumed = consumes_taken _ _ _ c.in-Ok.piece.now c.feed_quickly-used.result.0 c.fill.follows.holds-at-none.0 c.in-Ok.ensures.front f.within c.consume.ensures.bytes;
-      held = c.keep.ensures;
+      held = c.keep_last.ensures;
     }

@@ -1,6 +1,7 @@
 use Rattle.std.proofs.Common.{◌≡◌, ℕ, List, Option, rules, refl, sym, ap, subst, ◌∙◌, arith}
-use Rattle.std.specs.Prelude.{Some, Result, Ok, IfOk, IsSomeAnd}
+use Rattle.std.specs.Prelude.{Result, Ok, IfOk, IfSome, IsSomeAnd}
 use Rattle.cwr_decode.specs.LastReads.{stage_of_records}
+use Rattle.cwr_decode.specs.Machines.{Standing}
 use Rattle.cwr_decode.specs.Runs.{HasReadAll}
 use Rattle.cwr_decode.proofs.ItemsReadSoFar.{none_read, nothing_read_yet}
 use Rattle.cwr_tools.specs.declared.verdicts.Verdict.{Verdict}
@@ -9,20 +10,20 @@ use Rattle.cwr_tools.specs.declared.totals.Totals.{Totals}
 use Rattle.cwr_tools.specs.Verdicts.{IsReadLast, StopsAfter}
 use Rattle.cwr_tools.specs.Reports.{PutsReport, lines_in}
 use Rattle.cwr_tools.proofs.CountedTotals.{counts_none, next_room, total_grows}
-use Rattle.cwr_tools.proofs.LastReported.{HoldsRead, copied_read, err_last, fault_last, good_last, holds_more, holds_none}
+use Rattle.cwr_tools.proofs.LastReported.{HoldsRead, err_last, fault_answered, good_answered, holds_more, holds_none}
 use Rattle.cwr_tools.proofs.ReportsOn.{IsReporting, fault_reported, good_reported, item_fault, nothing, reads_item, reports_item, reports_nothing, room_in, same_fault, stops_after, stops_decoder}
 use Rattle.cwr_tools.proofs.reporting.put_items.Goals as goal
 
 pub items-init : goal.items-init
 items-init g c =
-    let new = c.new-reading.ensures in
-    let reading = nothing_read_yet c.args.limits c.new-reading.result.decoder (g.R.Source.remaining c.args.reader.now) (g.R.Source.remaining c.new-reading.result.reader.now) new.represents new.limits new.open new.fresh (ap g.R.Source.remaining new.kept) in
+    let new = c.begin_reading-reading.ensures in
+    let reading = nothing_read_yet c.args.limits c.begin_reading-reading.result.decoder (g.R.Source.remaining c.args.reader.now) (g.R.Source.remaining c.begin_reading-reading.result.reader.now) new.represents new.limits new.open new.fresh (ap g.R.Source.remaining new.kept) in
     record {
-      reporting = reports_nothing c.args.report c.args.limits c.new-reading.result.decoder (g.R.Source.remaining c.args.reader.now) (g.R.Source.remaining c.new-reading.result.reader.now) g.W.Target.contents g.W.Target.failures
+      reporting = reports_nothing c.args.report c.args.limits c.begin_reading-reading.result.decoder (g.R.Source.remaining c.args.reader.now) (g.R.Source.remaining c.begin_reading-reading.result.reader.now) g.W.Target.contents g.W.Target.failures
           c.new-counts.result c.args.sink.now reading (counts_none c.new-counts.result c.new-counts.ensures) c.requires.unfailed c.requires.empty;
       failures = ap g.R.Source.failures new.kept;
-      last = subst (λ (b : Option (List ℕ)). HoldsRead b (g.R.Source.remaining c.new-reading.result.reader.now) c.new-reading.result.last) (ap g.R.Source.remaining new.kept)
-          (holds_none (g.R.Source.remaining c.new-reading.result.reader.now) c.new-reading.result.last new.last);
+      last = λ explains. subst (λ (b : Option (List ℕ)). HoldsRead b (g.R.Source.remaining c.begin_reading-reading.result.reader.now) c.begin_reading-reading.result.last) (ap g.R.Source.remaining new.kept)
+          (holds_none (g.R.Source.remaining c.begin_reading-reading.result.reader.now) c.begin_reading-reading.result.last (new.last explains));
       same = refl;
     }
 
@@ -76,7 +77,7 @@ items-preserved-in_ok-put_item-in-Ok-Some g c =
           (reports_item c.args.report c.args.limits c.items.reading.decoder c.next_item.new.self.decoder (g.R.Source.remaining c.args.reader.now) _ _ g.W.Target.contents g.W.Target.failures c.items.counts c.args.sink.now c.items.sink c.put_item.new.sink
           c.in-Ok-Some.item tt c.items.invariant.reporting reading c.in_ok-put_item-in-Ok-Some.ensures);
       failures = c.in-Ok-Some.ensures.failures ∙ c.items.invariant.failures;
-      last = holds_more _ _ _ _ _ c.items.invariant.last c.in-Ok-Some.ensures.last;
+      last = λ explains. holds_more _ _ _ _ _ (c.items.invariant.last explains) c.in-Ok-Some.ensures.last;
       same = c.in-Ok-Some.ensures.same_reference ∙ c.items.invariant.same;
     }
 
@@ -106,7 +107,7 @@ items-preserved g c =
           (reports_item c.args.report c.args.limits c.items.reading.decoder c.next_item.new.self.decoder (g.R.Source.remaining c.args.reader.now) _ _ g.W.Target.contents g.W.Target.failures c.items.counts c.args.sink.now c.items.sink c.put_item.new.sink
           c.in-Ok-Some.item tt c.items.invariant.reporting reading c.in_ok-put_item-in-Ok-Some.ensures);
       failures = c.in-Ok-Some.ensures.failures ∙ c.items.invariant.failures;
-      last = holds_more _ _ _ _ _ c.items.invariant.last c.in-Ok-Some.ensures.last;
+      last = λ explains. holds_more _ _ _ _ _ (c.items.invariant.last explains) c.in-Ok-Some.ensures.last;
       same = c.in-Ok-Some.ensures.same_reference ∙ c.items.invariant.same;
     }
 
@@ -142,23 +143,24 @@ returns-in-Err-clause-puts g c =
     search rules
 
 pub returns-in_err-put_item-in-Ok-Some-clause-last : goal.returns-in_err-put_item-in-Ok-Some-clause-last
-returns-in_err-put_item-in-Ok-Some-clause-last g c = err_last c.args.limits _ _ _ c.from_residual.result c.in_err-put_item-in-Ok-Some.field-0.0 (same_fault c.from_residual.result c.in_err-put_item-in-Ok-Some.field-0.0 c.from_residual.ensures.1)
+returns-in_err-put_item-in-Ok-Some-clause-last g c = λ explains. err_last c.args.limits _ _ _ c.from_residual.result c.in_err-put_item-in-Ok-Some.field-0.0 (same_fault c.from_residual.result c.in_err-put_item-in-Ok-Some.field-0.0 c.from_residual.ensures.1)
 
 pub returns-in-Ok-None-clause-last : goal.returns-in-Ok-None-clause-last
-returns-in-Ok-None-clause-last g c =
-    let good : IsReadLast c.args.limits (g.R.Source.remaining c.args.reader.now) (g.R.Source.remaining c.next_item.new.self.reader.now) c.good.result c.last_read.result
-    = good_last c.args.limits _ _ c.last_read.result c.good.result _ _ _ c.good.ensures
-    (copied_read _ _ _ _ (holds_more _ _ _ _ _ c.items.invariant.last c.in-Ok-None.ensures.last) c.last_read.ensures.bytes) in
+returns-in-Ok-None-clause-last g c = λ explains.
+    let good : IsSomeAnd c.last_read.result (IsReadLast c.args.limits (g.R.Source.remaining c.args.reader.now) (g.R.Source.remaining c.next_item.new.self.reader.now) c.good.result)
+    = good_answered c.args.limits _ _ c.next_item.new.self.last c.last_read.result c.good.result _ _ _ c.good.ensures
+    (holds_more _ _ _ _ _ (c.items.invariant.last explains) c.in-Ok-None.ensures.last) c.last_read.ensures.bytes in
     search rules
 
 pub returns-in-Err-clause-last : goal.returns-in-Err-clause-last
-returns-in-Err-clause-last g c =
+returns-in-Err-clause-last g c = λ explains.
     let stop : StopsAfter c.args.limits c.in-Err.fault (g.R.Source.remaining c.args.reader.now) (g.R.Source.remaining c.next_item.new.self.reader.now) c.items.invariant.reporting.given
     = stops_after c.args.limits c.items.reading.decoder c.next_item.new.self.decoder (g.R.Source.remaining c.args.reader.now) _ _ c.items.invariant.reporting.given c.in-Err.fault _ _
     c.items.invariant.reporting.reading c.in-Err.ensures.reads c.in-Err.ensures.again in
     let same : stop.0.decoder ≡ c.next_item.new.self.decoder = stops_decoder c.args.limits c.items.reading.decoder c.next_item.new.self.decoder (g.R.Source.remaining c.args.reader.now) _ _ c.items.invariant.reporting.given c.in-Err.fault _ _
     c.items.invariant.reporting.reading c.in-Err.ensures.reads c.in-Err.ensures.again in
-    let stopped : IfOk c.verdict_of.result (λ verdict. IsSomeAnd (Some c.last_read-in-Err.result) (IsReadLast c.args.limits (g.R.Source.remaining c.args.reader.now) (g.R.Source.remaining c.next_item.new.self.reader.now) verdict))
-    = fault_last c.args.limits _ _ c.items.invariant.reporting.given c.last_read-in-Err.result c.in-Err.fault c.verdict_of.result stop (c.last_read-in-Err.ensures.stage ∙ ap stage_of_records (sym same))
-    (copied_read _ _ _ _ (holds_more _ _ _ _ _ c.items.invariant.last c.in-Err.ensures.last) c.last_read-in-Err.ensures.bytes) c.verdict_of.ensures in
+    let stopped : IfOk c.verdict_of.result (λ verdict. IsSomeAnd c.last_read-in-Err.result (IsReadLast c.args.limits (g.R.Source.remaining c.args.reader.now) (g.R.Source.remaining c.next_item.new.self.reader.now) verdict))
+    = fault_answered c.args.limits _ _ c.items.invariant.reporting.given c.next_item.new.self.last c.last_read-in-Err.result c.in-Err.fault c.verdict_of.result stop
+    (subst (λ (d : Standing). IfSome c.last_read-in-Err.result (λ last. last.stage ≡ stage_of_records d)) (sym same) c.last_read-in-Err.ensures.stage)
+    (holds_more _ _ _ _ _ (c.items.invariant.last explains) c.in-Err.ensures.last) c.last_read-in-Err.ensures.bytes c.verdict_of.ensures in
     search rules

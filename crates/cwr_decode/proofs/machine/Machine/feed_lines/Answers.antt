@@ -3,11 +3,12 @@ use Rattle.std.specs.Prelude.{IfSome, IsNone}
 use Rattle.std.proofs.lemmas.List.{take_rest}
 use Rattle.cwr_layouts.specs.Records.{RecordValue}
 use Rattle.cwr_decode.specs.Calls.{Advances, Fed}
-use Rattle.cwr_decode.specs.Machines.{Standing, Judges}
+use Rattle.cwr_decode.specs.Machines.{Standing, Judges, emptied}
 use Rattle.cwr_decode.specs.declared.outcomes.Outcome.TheVariants as outcomes
 use Rattle.cwr_values.specs.declared.items.Item.TheVariants as items
 use Rattle.cwr_decode.proofs.AfterBytes.{advanced_line, advanced_open}
 use Rattle.cwr_decode.proofs.AfterPiece.{fed_start, fed_on, fed_more, fed_through, rest_smaller}
+use Rattle.cwr_decode.proofs.FrontSteps.{held_some, of_whole}
 use Rattle.cwr_decode.proofs.HeldOpen.{fed_holds}
 use Rattle.cwr_decode.proofs.machine.Machine.feed_lines.Goals as goal
 
@@ -50,15 +51,20 @@ loop-whole-preserved-in-Added c =
     (advanced_line c.feed_quickly-front.new.self c.take-taken.new.self c.find_line.new.self (drop (c.loop-whole.used + c.feed_quickly-front.result.0) c.args.piece.now) c.take-taken.result.used None at.reading at.fresh
     (rw take_rest at c.take-taken.ensures.takes) c.take-taken.ensures.held c.take-taken.ensures.others (λ e. c.in_default-ended.not-Open (c.take-taken.ensures.ended ∙ e)) c.in-Added.ensures)
 
-pub returns-in-Whole : goal.returns-in-Whole
-returns-in-Whole c =
+pub take_whole-requires : goal.take_whole-requires
+take_whole-requires c = held_some _ c.find_line.new.self.held c.in-Ends.ensures
+
+pub returns-in-Ends : goal.returns-in-Ends
+returns-in-Ends c =
     let none : IsNone c.feed_quickly-front.result.1 = subst (λ (o : Option (List RecordValue)). IsNone o) (sym c.in_default.is) refl in
     let rest : Fed c.loop-whole.self (drop c.loop-whole.used c.args.piece.now) c.feed_quickly-front.result.0 c.feed_quickly-front.new.self = rw take_rest at (c.feed_quickly-front.ensures.none none) in
     let at = fed_on c.args.self.now c.loop-whole.self c.feed_quickly-front.new.self c.args.piece.now c.loop-whole.used c.feed_quickly-front.result.0 c.loop-whole.invariant rest in
-    let out = outcomes.Item (items.Transaction c.in-Whole.whole) in
-    fed_through c.args.self.now c.feed_quickly-front.new.self c.find_line.new.self c.args.piece.now (c.loop-whole.used + c.feed_quickly-front.result.0) c.take-taken.result.used out at
-    (advanced_line c.feed_quickly-front.new.self c.take-taken.new.self c.find_line.new.self (drop (c.loop-whole.used + c.feed_quickly-front.result.0) c.args.piece.now) c.take-taken.result.used (Some out) at.reading at.fresh
-    (rw take_rest at c.take-taken.ensures.takes) c.take-taken.ensures.held c.take-taken.ensures.others (λ e. c.in_default-ended.not-Open (c.take-taken.ensures.ended ∙ e)) c.in-Whole.ensures)
+    let out = outcomes.Item (items.Transaction c.take_whole.result) in
+    let judged : Judges c.take-taken.new.self (Some out) (emptied c.find_line.new.self) = of_whole _ c.find_line.new.self.held c.take_whole.result c.take_whole.ensures.whole c.in-Ends.ensures in
+    fed_through c.args.self.now c.feed_quickly-front.new.self c.take_whole.new.self c.args.piece.now (c.loop-whole.used + c.feed_quickly-front.result.0) c.take-taken.result.used out at
+    (advanced_line c.feed_quickly-front.new.self c.take-taken.new.self c.take_whole.new.self (drop (c.loop-whole.used + c.feed_quickly-front.result.0) c.args.piece.now) c.take-taken.result.used (Some out) at.reading at.fresh
+    (rw take_rest at c.take-taken.ensures.takes) c.take-taken.ensures.held c.take-taken.ensures.others (λ e. c.in_default-ended.not-Open (c.take-taken.ensures.ended ∙ e))
+    (subst (Judges c.take-taken.new.self (Some out)) (sym c.take_whole.ensures.others) judged))
 
 pub take_line-requires-clause-holds : goal.take_line-requires-clause-holds
 take_line-requires-clause-holds c =

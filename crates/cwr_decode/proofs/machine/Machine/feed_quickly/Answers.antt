@@ -1,11 +1,12 @@
-use Rattle.std.proofs.Common.{drop, Some, None}
+use Rattle.std.proofs.Common.{◌≡◌, drop, Some, None, subst, sym}
 use Rattle.std.proofs.lemmas.List.{take_rest}
 use Rattle.cwr_decode.specs.declared.machine.Found.TheVariants as founds
 use Rattle.cwr_decode.specs.declared.outcomes.Outcome.TheVariants as outcomes
 use Rattle.cwr_values.specs.declared.items.Item.TheVariants as items
+use Rattle.cwr_decode.specs.Machines.{JudgesFront, emptied}
 use Rattle.cwr_decode.proofs.AfterBytes.{advanced_front}
 use Rattle.cwr_decode.proofs.AfterPiece.{fed_start, fed_same, fed_more, fed_through, rest_smaller}
-use Rattle.cwr_decode.proofs.FrontSteps.{found_as}
+use Rattle.cwr_decode.proofs.FrontSteps.{found_as, held_some, of_whole}
 use Rattle.cwr_decode.proofs.machine.Machine.feed_quickly.Goals as goal
 
 pub loop-used-init : goal.loop-used-init
@@ -23,12 +24,20 @@ loop-used-preserved c =
     (advanced_front c.loop-used.self c.find_front-front.new.self (drop c.loop-used.used c.args.piece.now) c.find_front-front.result.0 None c.loop-used.invariant.reading c.loop-used.invariant.fresh
     (found_as c.find_front-front.result.1 founds.Added c.loop-used.self c.find_front-front.new.self (drop c.loop-used.used c.args.piece.now) c.find_front-front.result.0 c.in-Added.is (rw take_rest at c.find_front-front.ensures)))
 
-pub returns-in-Whole-clause-some : goal.returns-in-Whole-clause-some
-returns-in-Whole-clause-some c =
-    let out = outcomes.Item (items.Transaction c.in-Whole.whole) in
-    fed_through c.args.self.now c.loop-used.self c.find_front-front.new.self c.args.piece.now c.loop-used.used c.find_front-front.result.0 out c.loop-used.invariant
-    (advanced_front c.loop-used.self c.find_front-front.new.self (drop c.loop-used.used c.args.piece.now) c.find_front-front.result.0 (Some out) c.loop-used.invariant.reading c.loop-used.invariant.fresh
-    (found_as c.find_front-front.result.1 (founds.Whole c.in-Whole.whole) c.loop-used.self c.find_front-front.new.self (drop c.loop-used.used c.args.piece.now) c.find_front-front.result.0 c.in-Whole.is (rw take_rest at c.find_front-front.ensures)))
+pub take_whole-requires : goal.take_whole-requires
+take_whole-requires c =
+    held_some _ c.find_front-front.new.self.held
+    (found_as c.find_front-front.result.1 founds.Ends c.loop-used.self c.find_front-front.new.self (drop c.loop-used.used c.args.piece.now) c.find_front-front.result.0 c.in-Ends.is (rw take_rest at c.find_front-front.ensures))
+
+pub returns-in-Ends-clause-some : goal.returns-in-Ends-clause-some
+returns-in-Ends-clause-some c =
+    let out = outcomes.Item (items.Transaction c.take_whole.result) in
+    let judged : JudgesFront c.loop-used.self (drop c.loop-used.used c.args.piece.now) c.find_front-front.result.0 (Some out) (emptied c.find_front-front.new.self)
+    = of_whole _ c.find_front-front.new.self.held c.take_whole.result c.take_whole.ensures.whole
+    (found_as c.find_front-front.result.1 founds.Ends c.loop-used.self c.find_front-front.new.self (drop c.loop-used.used c.args.piece.now) c.find_front-front.result.0 c.in-Ends.is (rw take_rest at c.find_front-front.ensures)) in
+    fed_through c.args.self.now c.loop-used.self c.take_whole.new.self c.args.piece.now c.loop-used.used c.find_front-front.result.0 out c.loop-used.invariant
+    (advanced_front c.loop-used.self c.take_whole.new.self (drop c.loop-used.used c.args.piece.now) c.find_front-front.result.0 (Some out) c.loop-used.invariant.reading c.loop-used.invariant.fresh
+    (subst (JudgesFront c.loop-used.self (drop c.loop-used.used c.args.piece.now) c.find_front-front.result.0 (Some out)) (sym c.take_whole.ensures.others) judged))
 
 pub returns-in-Nothing-clause-none : goal.returns-in-Nothing-clause-none
 returns-in-Nothing-clause-none c = λ _.

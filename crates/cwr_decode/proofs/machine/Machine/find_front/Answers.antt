@@ -1,9 +1,10 @@
 use Rattle.std.proofs.Common.{None, Some, ap, arith, subst, sym, ◌∙◌}
+use Rattle.std.specs.Prelude.{IsSomeAnd}
 use Rattle.cwr_values.specs.declared.items.Item.TheVariants as items
 use Rattle.cwr_decode.specs.declared.outcomes.Outcome.TheVariants as outcomes
 use Rattle.cwr_decode.specs.declared.machine.State.TheVariants as states
 use Rattle.cwr_decode.specs.Machines.{JudgesFront, Standing}
-use Rattle.cwr_decode.proofs.FrontSteps.{front_added, front_whole}
+use Rattle.cwr_decode.proofs.FrontSteps.{front_added, front_ends}
 use Rattle.cwr_decode.proofs.machine.Machine.find_front.Goals as goal
 
 pub returns-in-Added : goal.returns-in-Added
@@ -15,11 +16,12 @@ returns-in-Added c =
     (ap (λ (q : Standing). q.state) c.self.view_is ∙ c.requires.reading) (ap (λ (q : Standing). q.line.ended) c.self.view_is ∙ c.requires.unended) (omega (arith, c.len.ensures.len, c.if-len-gt0.false))
     c.in-Some.ensures.takes c.in-Some.ensures.held (λ e. cc (sym c.in-Some.ensures.ended ∙ e)) c.in-Added.ensures)
 
-pub returns-in-Whole : goal.returns-in-Whole
-returns-in-Whole c =
+pub returns-in-Ends : goal.returns-in-Ends
+returns-in-Ends c =
     let i = c.self.inside in
     let d : Standing = record { line = i.line; tally = i.tally; held = i.held; state = i.state; finished = i.finished } in
-    subst (λ (q : Standing). JudgesFront q c.args.piece.now c.in-Some.used (Some (outcomes.Item (items.Transaction c.in-Whole.whole))) (record { line = c.keep.new.self; tally = c.find_cut.new.tally; held = c.find_cut.new.held; state = states.Pending; finished = i.finished })) c.self.view_is
-    (front_whole d c.args.piece.now c.in-Some.used c.in-Some.cut c.keep.new.self c.in-Whole.whole c.find_cut.new.tally c.find_cut.new.held
+    subst (λ (q : Standing). IsSomeAnd c.find_cut.new.held (λ whole. JudgesFront q c.args.piece.now c.in-Some.used (Some (outcomes.Item (items.Transaction whole)))
+    (record { line = c.keep.new.self; tally = c.find_cut.new.tally; held = None; state = states.Pending; finished = i.finished }))) c.self.view_is
+    (front_ends d c.args.piece.now c.in-Some.used c.in-Some.cut c.keep.new.self c.find_cut.new.tally c.find_cut.new.held
     (ap (λ (q : Standing). q.line.ended) c.self.view_is ∙ c.requires.unended) (omega (arith, c.len.ensures.len, c.if-len-gt0.false))
-    c.in-Some.ensures.takes c.in-Some.ensures.held (λ e. cc (sym c.in-Some.ensures.ended ∙ e)) c.in-Whole.ensures c.keep.ensures)
+    c.in-Some.ensures.takes c.in-Some.ensures.held (λ e. cc (sym c.in-Some.ensures.ended ∙ e)) c.in-Ends.ensures c.keep.ensures)
