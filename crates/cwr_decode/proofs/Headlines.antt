@@ -11,15 +11,22 @@ use Rattle.cwr_decode.specs.declared.readings.ReadFault.{ReadFault}
 use Rattle.cwr_decode.specs.declared.readings.ReadFault.TheVariants.{Reader, Refused, Truncated, Memory}
 use Rattle.cwr_decode.specs.Headline.{Means}
 use Rattle.cwr_decode.specs.Readings.{CountsFault}
-use Rattle.cwr_decode.specs.Runs.{TakesFront, StopsRun}
+use Rattle.cwr_decode.specs.Runs.{TakesFront, StopsReading, StopsText}
 
 pub run_means : (limits : LimitValues) (text : List ℕ) (result : Result TransmissionValue ReadFault) (after : Option (List ℕ)) → IfOk result (λ v. TakesFront limits (Some text) v after)
-    → IfErr result (λ fault. StopsRun limits fault (Some text) after) → IfErr result (λ fault. CountsFault fault 0 0) → Means limits text result
+    → IfErr result (λ fault. StopsReading limits fault (Some text) after) → IfErr result (λ fault. CountsFault fault 0 0) → Means limits text result
 run_means limits text (Ok v) after takes stops failures = (length takes.input, takes.front.0)
 run_means limits text (Err Reader) after takes stops failures = omega (arith, failures)
-run_means limits text (Err (Refused refusal)) after takes stops failures = stops.right.ends
-run_means limits text (Err (Truncated records)) after takes stops failures = stops.right.ends
+run_means limits text (Err (Refused refusal)) after takes (inl stops) failures = stops.right.ends
+run_means limits text (Err (Refused refusal)) after takes (inr lacks) failures = let is : Refused refusal ≡ Memory = lacks.0 in absurd (cc is)
+run_means limits text (Err (Truncated records)) after takes (inl stops) failures = stops.right.ends
+run_means limits text (Err (Truncated records)) after takes (inr lacks) failures = let is : Truncated records ≡ Memory = lacks.0 in absurd (cc is)
 run_means limits text (Err Memory) after takes stops failures = tt
+
+pub stops_text : (limits : LimitValues) (text : List ℕ) (result : Result TransmissionValue ReadFault) (after : Option (List ℕ)) → IfErr result (λ fault. StopsReading limits fault (Some text) after)
+    → IfErr result (λ fault. StopsText limits fault text)
+stops_text limits text (Ok v) after stops = tt
+stops_text limits text (Err fault) after stops = (after, stops)
 
 pub no_failures : (result : Result TransmissionValue ReadFault) (n : ℕ) → MatchResult result (λ v. n ≡ n) (λ fault. CountsFault fault n n) → IfErr result (λ fault. CountsFault fault n n)
 no_failures (Ok v) n h = tt

@@ -21,7 +21,7 @@ use Rattle.cwr_decode.specs.Machines.{Standing, again}
 use Rattle.cwr_decode.specs.Represents.{MayFollow, RepresentsIn, Represents}
 use Rattle.cwr_decode.specs.Calls.{IsLive}
 use Rattle.cwr_decode.specs.Readings.{answer_of, items_read, IsRightOf, LeavesRead, IsSpent, Reads}
-use Rattle.cwr_decode.specs.Runs.{HasRead, EndsWhole, HasReadAll, IsReadingOn, AreItems, TakesFront, StopsRun, ReportsAccepted, ReportsCanonical}
+use Rattle.cwr_decode.specs.Runs.{HasRead, EndsWhole, HasReadAll, LacksRoom, IsReadingOn, AreItems, TakesFront, StopsRun, StopsReading, ReportsAccepted, ReportsCanonical}
 use Rattle.cwr_judge.proofs.Accepted.{accepted_once, canonical_accepted}
 use Rattle.cwr_decode.specs.declared.endings.End.TheVariants as ends
 use Rattle.cwr_decode.specs.Headline.{EndsSo}
@@ -132,7 +132,7 @@ fault_read limits old new before left after given fault B C h r same = record {
   decoder = new;
   given = given ++ [];
   read = run_reads limits old new before left after given (Err fault) h.read r;
-  leaves = λ other. r.leaves;
+  leaves = r.leaves;
   right = by h.here;
 } where
   none_left : (e : old.state ≡ states.Ended) → ⊥
@@ -183,12 +183,23 @@ all_taken limits before now given t h same =
     )
 
 -- where memory for the items was refused
-pub memory_stops : (limits : LimitValues) (d : Standing) (before now : Option (List ℕ)) (given : List Item) → IsReadingOn limits d before now given → StopsRun limits faults.Memory before now
-memory_stops limits d before now given h = record { decoder = d; given = given; read = h.read; leaves = λ other. absurd (other refl); right = any before }
+pub memory_stops : (limits : LimitValues) (d : Standing) (before now : Option (List ℕ)) (given : List Item) (item : Item) → IsReadingOn limits d before now (given ++ item ∷ []) → StopsReading limits faults.Memory before now
+memory_stops limits d before now given item h = inr (refl, by given h.read)
   where
-    any : (b : Option (List ℕ)) → IfSome b (λ text. IsRightOf limits (Err faults.Memory) h.read.input text given)
-    any None = tt
-    any (Some text) = record { ends = tt; comes = tt }
+    by : (earlier : List Item) → HasRead limits d before now (earlier ++ item ∷ []) → LacksRoom limits before now
+    by [] read = record { decoder = d; first = item; others = []; read = read }
+    by (first ∷ others) read = record { decoder = d; first = first; others = others ++ item ∷ []; read = read }
+
+-- where memory for the transmission was refused, which has an item at least
+pub whole_lacks_room : (limits : LimitValues) (before now : Option (List ℕ)) (given : List Item) → HasReadAll limits before now given → StopsReading limits faults.Memory before now
+whole_lacks_room limits before now given h =
+    let all = all_items limits before now given h in
+    inr (refl, record {
+      decoder = h.decoder;
+      first = items.Opened all.value.opening;
+      others = _;
+      read = subst (λ (items : List Item). HasRead limits h.decoder before now items) all.given_are h.read;
+    })
 
 pub of_fault : {X : Type 0} (result : Result X ReadFault) (fault : ReadFault) (P : ReadFault → Type 0) → IsErrAnd result (λ e. e ≡ fault) → P fault → IfErr result P
 of_fault (Ok x) fault P e h = tt
@@ -227,12 +238,13 @@ take_err limits used text given (faults.Truncated records) v n h a = absurd (h.e
 take_err limits used text given faults.Memory v n h a = inr refl
 
 pub reports_accepted : (limits : LimitValues) (before after : Option (List ℕ)) (result : Result TransmissionValue ReadFault)
-    → IfOk result (λ t. TakesFront limits before t after) → IfErr result (λ fault. StopsRun limits fault before after) → ReportsAccepted limits before result after
+    → IfOk result (λ t. TakesFront limits before t after) → IfErr result (λ fault. StopsReading limits fault before after) → ReportsAccepted limits before result after
 reports_accepted limits None after result h k = tt
 reports_accepted limits (Some text) after (Ok t) h k = λ v n a.
     let same = accepted_once limits text t v (length h.input) n h.front.0 a in
     (same.0, h.front.1 ∙ ap (λ (m : ℕ). Some (drop m text)) same.1)
-reports_accepted limits (Some text) after (Err fault) h k = λ v n a. take_err limits k.read.input text k.given fault v n k.right a
+reports_accepted limits (Some text) after (Err fault) h (inl k) = λ v n a. take_err limits k.read.input text k.given fault v n k.right a
+reports_accepted limits (Some text) after (Err fault) h (inr lacks) = λ v n a. inr lacks.0
 
 pub reports_canonical : (limits : LimitValues) (before after : Option (List ℕ)) (result : Result TransmissionValue ReadFault)
     → ReportsAccepted limits before result after → ReportsCanonical limits before result after
@@ -249,6 +261,6 @@ no_ok (Ok t) P Q h = absurd h
 no_ok (Err fault) P Q h = tt
 
 pub reports_stopped : (limits : LimitValues) (before after : Option (List ℕ)) (result : Result TransmissionValue ReadFault) (fault : ReadFault)
-    → IsErrAnd result (λ e. e ≡ fault) → StopsRun limits fault before after → ReportsAccepted limits before result after
+    → IsErrAnd result (λ e. e ≡ fault) → StopsReading limits fault before after → ReportsAccepted limits before result after
 reports_stopped limits before after result fault e h =
-    reports_accepted limits before after result (no_ok result (λ f. f ≡ fault) (λ t. TakesFront limits before t after) e) (of_fault result fault (λ f. StopsRun limits f before after) e h)
+    reports_accepted limits before after result (no_ok result (λ f. f ≡ fault) (λ t. TakesFront limits before t after) e) (of_fault result fault (λ f. StopsReading limits f before after) e h)

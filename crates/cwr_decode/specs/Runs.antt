@@ -1,5 +1,5 @@
 -- Reading from a reader call by call: what was read so far, and how a whole run ends.
-use Rattle.std.specs.Prelude.{◌≡◌, ◌≢◌, ◌⊎◌, ℕ, List, ◌∷◌, ◌++◌, length, map, drop, Option, Some, IfSome, Result, Err, MatchResult}
+use Rattle.std.specs.Prelude.{◌≡◌, ◌⊎◌, ℕ, List, ◌∷◌, ◌++◌, length, map, drop, Option, Some, IfSome, Result, Err, MatchResult}
 use Rattle.std.specs.List.{AllByRecursion}
 use Rattle.std.specs.Io.KnownBytes.{Consumes}
 use Rattle.cwr_layouts.specs.declared.kinds.Kind.TheVariants as kinds
@@ -71,13 +71,29 @@ pub record TakesFront (limits : LimitValues) (before : Option (List ℕ)) (v : T
   pub accepted : IsAccepted limits input v (length input)
   pub front : IfSome before (λ text. IsAccepted limits text v (length input) × (after ≡ Some (drop (length input) text)))
 
--- these items were read before the fault, and the decoder stopped for what is reported
+-- These items were read before the fault, and the decoder stopped for what is reported. Out of memory it stops with a record
+-- that was accepted within a transaction.
 pub record StopsRun (limits : LimitValues) (fault : ReadFault) (before after : Option (List ℕ)) : Type 0 where
   pub decoder : Standing
   pub given : List Item
   pub read : HasRead limits decoder before after given
-  pub leaves : fault ≢ Memory → LeavesRead (Err fault) decoder.state
+  pub leaves : LeavesRead (Err fault) decoder.state
   pub right : IfSome before (λ text. IsRightOf limits (Err fault) read.input text given)
+
+-- memory was refused for a list or a value of the items that were read, of which there is one at least
+pub record LacksRoom (limits : LimitValues) (before after : Option (List ℕ)) : Type 0 where
+  pub decoder : Standing
+  pub first : Item
+  pub others : List Item
+  pub read : HasRead limits decoder before after (first ∷ others)
+
+-- the decoder stopped for what is reported, or memory was refused for what is made of the items
+abbrev pub StopsReading : LimitValues → ReadFault → Option (List ℕ) → Option (List ℕ) → Type 0
+StopsReading limits fault before after = StopsRun limits fault before after ⊎ ((fault ≡ Memory) × LacksRoom limits before after)
+
+-- so it is of a text, of which something may be left
+abbrev pub StopsText : LimitValues → ReadFault → List ℕ → Type 0
+StopsText limits fault text = (after : Option (List ℕ)) × StopsReading limits fault (Some text) after
 
 -- of a text that is accepted the run answers that transmission and takes its bytes, unless the reader or memory failed
 abbrev pub ReportsAccepted : LimitValues → Option (List ℕ) → Result TransmissionValue ReadFault → Option (List ℕ) → Type 0

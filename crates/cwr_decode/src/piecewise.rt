@@ -1,10 +1,11 @@
 //! A whole run over a text in pieces.
 
-ghost use Rattle.std.specs.Prelude.{◌≡◌, ◌≤◌, ◌⊎◌, ℕ, List, length, Some, Ok, Err};
+ghost use Rattle.std.specs.Prelude.{◌≡◌, ◌≤◌, ◌⊎◌, ℕ, List, length, Some, Ok, Err, IfErr};
 ghost use Rattle.cwr_judge.specs.declared.refusals.Refusal.{Refusal};
 ghost use Rattle.cwr_judge.specs.Ends.{IsAccepted, IsRefused, IsTruncated};
 ghost use Rattle.cwr_values.specs.Values.{TransmissionValue};
 ghost use Rattle.cwr_decode.specs.Headline.{Means, text_in};
+ghost use Rattle.cwr_decode.specs.Runs.{StopsText};
 
 use crate::readings::ReadFault;
 use crate::whole::read_all;
@@ -96,6 +97,8 @@ pub fn read_pieces(
         → (result ≡ Err (ReadFault.Refused refusal)) ⊎ (result ≡ Err ReadFault.Memory) }
     ensures truncated { (records : ℕ) → IsTruncated limits (text_in pieces.now) records
         → (result ≡ Err (ReadFault.Truncated records)) ⊎ (result ≡ Err ReadFault.Memory) }
+    // Memory was refused with a record that was accepted within a transaction, or for what is made of the items.
+    ensures stops { IfErr result (λ fault. StopsText limits fault (text_in pieces.now)) }
 {
     let mut reader = Pieces::new(pieces);
     read_all(alloc, limits, &mut reader)

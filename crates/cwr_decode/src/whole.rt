@@ -5,7 +5,7 @@ ghost use Rattle.std.specs.Vec.Iter.{into_iter_items};
 ghost use Rattle.cwr_values.specs.Values.{type_of, IsTransaction};
 ghost use Rattle.cwr_judge.specs.Items.{group_rest, value_items};
 ghost use Rattle.cwr_decode.specs.Readings.{CountsFault};
-ghost use Rattle.cwr_decode.specs.Runs.{AreGroupItems, AreItems, HasReadAll, StopsRun, TakesFront, ReportsAccepted, ReportsCanonical};
+ghost use Rattle.cwr_decode.specs.Runs.{AreGroupItems, AreItems, HasReadAll, StopsReading, TakesFront, ReportsAccepted, ReportsCanonical};
 
 use crate::readings::{ReadFault, Reading};
 use cwr_fields::Source;
@@ -22,7 +22,7 @@ fn read_items<R: Source>(
     reader: &mut R,
 ) -> Result<Vec<Item>, ReadFault>
     ensures all { IfOk result (λ items. HasReadAll limits (R.remaining reader.old) (R.remaining reader.new) items.items) }
-    ensures stops { IfErr result (λ fault. StopsRun limits fault (R.remaining reader.old) (R.remaining reader.new)) }
+    ensures stops { IfErr result (λ fault. StopsReading limits fault (R.remaining reader.old) (R.remaining reader.new)) }
     ensures failures { MatchResult result (λ _. R.failures reader.new ≡ R.failures reader.old) (λ fault. CountsFault fault (R.failures reader.old) (R.failures reader.new)) }
 {
     let mut reading = Reading::new(alloc, limits, reader);
@@ -133,7 +133,7 @@ pub fn read_all<R: Source>(
     reader: &mut R,
 ) -> Result<Transmission, ReadFault>
     ensures takes { IfOk result (λ transmission. TakesFront limits (R.remaining reader.old) transmission (R.remaining reader.new)) }
-    ensures stops { IfErr result (λ fault. StopsRun limits fault (R.remaining reader.old) (R.remaining reader.new)) }
+    ensures stops { IfErr result (λ fault. StopsReading limits fault (R.remaining reader.old) (R.remaining reader.new)) }
     ensures accepted { ReportsAccepted limits (R.remaining reader.old) result (R.remaining reader.new) }
     ensures canonical { ReportsCanonical limits (R.remaining reader.old) result (R.remaining reader.new) }
     ensures failures { MatchResult result (λ _. R.failures reader.new ≡ R.failures reader.old) (λ fault. CountsFault fault (R.failures reader.old) (R.failures reader.new)) }

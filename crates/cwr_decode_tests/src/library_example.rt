@@ -7,11 +7,11 @@ use cwr_shape::Limits;
 use cwr_values::Item;
 use cwr_worked::texts::{TWO_GROUPS, canonical};
 use std::alloc::Global;
-use std::io::BufRead;
+use std::io::Read;
 use std::test::Fail;
 
 /// How many works a transmission registers. It is read item by item: one transaction at most is in memory.
-fn new_works<I: BufRead + Drop>(alloc: Global, input: I) -> Result<u32, ReadFault> {
+fn new_works<I: Read + Drop>(alloc: Global, input: I) -> Result<u32, ReadFault> {
     let limits = Limits::new(1_000_000, 1_000, 10_000).unwrap();
     let mut reader = Counted::new(input);
     let mut reading = Reading::new(alloc, limits, &mut reader);

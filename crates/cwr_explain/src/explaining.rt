@@ -1,5 +1,6 @@
 //! Checking a transmission, and explaining what was found.
 
+ghost use Rattle.cwr_tools.specs.Verdicts.{JudgesText};
 ghost use Rattle.cwr_tools.specs.Reports.{CountsReaderFault, CountsWriterFault};
 ghost use Rattle.cwr_explain.specs.Explained.{AddsWords, Explains, IsAnswerTo, ReadsOnly, TakesMore, WritesOnly};
 
@@ -185,6 +186,7 @@ pub fn explain<R: Source, W: Target + Drop>(
     writer: W,
 ) -> (W, Result<Verdict, ToolFault>)
     ensures explains { Explains limits (R.remaining reader.old) (R.remaining reader.new) W.contents writer result.0 result.1 }
+    ensures judged { JudgesText limits (R.remaining reader.old) result.1 }
     // No failure is passed over: a device failed only where that is the answer.
     ensures reader_failures { CountsReaderFault result.1 (R.failures reader.old) (R.failures reader.new) }
     ensures writer_failures { CountsWriterFault result.1 (W.failures writer) (W.failures result.0) }

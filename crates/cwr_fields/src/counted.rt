@@ -4,7 +4,7 @@ ghost use Rattle.std.specs.Prelude.{◌≡◌, ◌+◌, ◌≤◌, [], IfOk, OnE
 ghost use Rattle.cwr_fields.specs.declared.counted.TheConstants.{AHEAD};
 
 use crate::devices::{DeviceFault, Source, Target};
-use std::io::{BufRead, Write};
+use std::io::{Read, Write};
 
 /// How many bytes are read ahead at most.
 const AHEAD: usize = 8192;
@@ -78,17 +78,17 @@ impl<T> Counted<T> {
     }
 }
 
-impl<B: BufRead> Counted<B> {
+impl<R: Read> Counted<R> {
     ghost use Rattle.std.specs.Io.KnownBytes.{prepend_known, Keeps, IsAtEnd};
     ghost use Rattle.cwr_fields.specs.Failures.{CountsFailure};
     ghost use Rattle.cwr_fields.specs.Counted.{inner_of, ahead_of, shown_of, failures_of};
 
     /// Reads where nothing is left of what was read ahead, and shows all of it.
     fn load(&mut self) -> Result<(), DeviceFault>
-        ensures bytes { Keeps (prepend_known (ahead_of self.old) (B.remaining (inner_of self.old)))
-            (prepend_known (ahead_of self.new) (B.remaining (inner_of self.new))) }
+        ensures bytes { Keeps (prepend_known (ahead_of self.old) (R.remaining (inner_of self.old)))
+            (prepend_known (ahead_of self.new) (R.remaining (inner_of self.new))) }
         ensures shown { IfOk result (λ _. self.new.start + self.new.shown ≡ self.new.end) }
-        ensures end { IfOk result (λ _. self.new.shown ≡ 0 → IsAtEnd (B.remaining (inner_of self.new))) }
+        ensures end { IfOk result (λ _. self.new.shown ≡ 0 → IsAtEnd (R.remaining (inner_of self.new))) }
         ensures none { OnErr result (self.new.shown ≡ 0) }
         ensures failures { CountsFailure result (failures_of self.old) (failures_of self.new) }
     {
@@ -110,11 +110,11 @@ impl<B: BufRead> Counted<B> {
     }
 }
 
-impl<B: BufRead> Source for Counted<B> {
+impl<R: Read> Source for Counted<R> {
     ghost use Rattle.std.specs.Io.KnownBytes.{prepend_known};
     ghost use Rattle.cwr_fields.specs.Counted.{inner_of, ahead_of, shown_of, failures_of};
 
-    ghost remaining = { λ counted. prepend_known (ahead_of counted) (B.remaining (inner_of counted)) };
+    ghost remaining = { λ counted. prepend_known (ahead_of counted) (R.remaining (inner_of counted)) };
 
     ghost shown = { shown_of };
 

@@ -1,11 +1,17 @@
 -- What the end of a run over texts means for the program.
-use Rattle.std.specs.Prelude.{◌≡◌, Option, None, Some, Result, Ok, Err}
+use Rattle.std.specs.Prelude.{◌≡◌, ◌⊎◌, ℕ, List, Option, None, Some, IfSome, Result, Ok, Err}
+use Rattle.cwr_shape.specs.declared.limits.Limits.{Limits}
+use Rattle.cwr_values.specs.Values.{TransmissionValue}
+use Rattle.cwr_judge.specs.declared.refusals.Refusal.{Refusal}
+use Rattle.cwr_judge.specs.Ends.{IsAccepted, IsRefused, IsTruncated}
 use Rattle.cwr_tools.specs.declared.verdicts.Verdict.{Verdict}
 use Rattle.cwr_tools.specs.declared.verdicts.Verdict.TheVariants.{Good, Refused, Truncated}
 use Rattle.cwr_tools.specs.declared.verdicts.ToolFault.{ToolFault}
 use Rattle.cwr_tools.specs.declared.verdicts.ToolFault.TheVariants as tool_faults
 use Rattle.cwr_program.specs.declared.commands.Status.{Status}
 use Rattle.cwr_program.specs.declared.commands.Status.TheVariants as statuses
+use Rattle.cwr_program.specs.declared.words.Work.{Work}
+use Rattle.cwr_program.specs.declared.words.Work.TheVariants.{Check, Show, Explain}
 use Rattle.cwr_program.specs.declared.faults.Fault.{Fault}
 use Rattle.cwr_program.specs.declared.faults.Fault.TheVariants as faults
 
@@ -27,3 +33,26 @@ EndsAs (Ok (Good groups transactions records)) ending = ending ≡ Ok statuses.G
 EndsAs (Ok (Refused refusal)) ending = ending ≡ Ok statuses.Refused
 EndsAs (Ok (Truncated records)) ending = ending ≡ Ok statuses.Refused
 EndsAs (Err fault) ending = EndsAfterFault (Some fault) ending
+
+-- A run over the text ends well where that begins with a transmission within the limits, and as refused where it is refused or
+-- truncated. Else an input, standard output or memory failed.
+abbrev pub EndsOn : Limits → List ℕ → Result Status Fault → Type 0
+EndsOn limits text (Ok statuses.Good) = (v : TransmissionValue) × (n : ℕ) × IsAccepted limits text v n
+EndsOn limits text (Ok statuses.Refused) = ((refusal : Refusal) × IsRefused limits text refusal) ⊎ ((records : ℕ) × IsTruncated limits text records)
+EndsOn limits text (Ok statuses.CommandLine) = ⊥
+EndsOn limits text (Ok statuses.Fault) = ⊥
+EndsOn limits text (Err faults.Read) = Unit {0}
+EndsOn limits text (Err faults.Write) = Unit {0}
+EndsOn limits text (Err faults.Memory) = Unit {0}
+EndsOn limits text (Err fault) = ⊥
+
+-- so it is where the bytes of the input are known
+abbrev pub EndsOnInput : Limits → Option (List ℕ) → Result Status Fault → Type 0
+EndsOnInput limits input ending = IfSome input (λ text. EndsOn limits text ending)
+
+-- the work reads standard input
+abbrev pub IsOfInput : Work → Type 0
+IsOfInput (Check None) = Unit {0}
+IsOfInput (Show None) = Unit {0}
+IsOfInput (Explain None) = Unit {0}
+IsOfInput work = ⊥

@@ -1,7 +1,7 @@
 //! What each subcommand does, between its files and its lines.
 
 ghost use Rattle.std.specs.Prelude.{◌<◌, length};
-ghost use Rattle.cwr_program.specs.Endings.{EndsAs, EndsAfterFault};
+ghost use Rattle.cwr_program.specs.Endings.{EndsAs, EndsAfterFault, EndsOnInput};
 
 use crate::faults::Fault;
 use crate::new_files::{NewFile, NumberedFiles, with_buffer};
@@ -16,7 +16,7 @@ use cwr_tools::{
 use std::alloc::Global;
 use std::fs::File;
 use std::io;
-use std::io::{BufReader, BufWriter, Read, Write};
+use std::io::{BufWriter, Read, Write};
 use std::num::NonZeroU32;
 use std::rt::Files;
 
@@ -46,20 +46,17 @@ fn lines_to<'a, O: Write + Drop>(
     with_buffer(alloc, output).map_err(|_| Fault::Memory)
 }
 
-/// The bytes of the input. `Counted` has the one buffer: a `BufReader` of none hands each read on, and takes no memory.
-fn bytes_of<I: Read + Drop>(alloc: Global, input: I) -> Counted<BufReader<I>> {
-    Counted::new(BufReader::with_capacity(alloc, 0, input).unwrap())
-}
-
 /// Checks a transmission, and writes the lines to the output.
 pub(crate) fn check_input<'a, I: Read + Drop, O: Write + Drop>(
     alloc: Global,
     limits: Limits,
     input: I,
     output: O,
-) -> Result<Status, Fault<'a>> {
+) -> Result<Status, Fault<'a>>
+    ensures { EndsOnInput limits (I.remaining input) result }
+{
     let lines = lines_to(alloc, output)?;
-    ending(check(alloc, limits, &mut bytes_of(alloc, input), lines).1)
+    ending(check(alloc, limits, &mut Counted::new(input), lines).1)
 }
 
 /// Shows the records of a transmission, and writes the lines to the output.
@@ -68,9 +65,11 @@ pub(crate) fn show_input<'a, I: Read + Drop, O: Write + Drop>(
     limits: Limits,
     input: I,
     output: O,
-) -> Result<Status, Fault<'a>> {
+) -> Result<Status, Fault<'a>>
+    ensures { EndsOnInput limits (I.remaining input) result }
+{
     let lines = lines_to(alloc, output)?;
-    ending(show(alloc, limits, &mut bytes_of(alloc, input), lines).1)
+    ending(show(alloc, limits, &mut Counted::new(input), lines).1)
 }
 
 /// Checks a transmission, whose input has that name, and writes the lines and what explains them to the output.
@@ -80,9 +79,11 @@ pub(crate) fn explain_input<'a, I: Read + Drop, O: Write + Drop>(
     name: &str,
     input: I,
     output: O,
-) -> Result<Status, Fault<'a>> {
+) -> Result<Status, Fault<'a>>
+    ensures { EndsOnInput limits (I.remaining input) result }
+{
     let lines = lines_to(alloc, output)?;
-    ending(explain(alloc, limits, name, &mut bytes_of(alloc, input), lines).1)
+    ending(explain(alloc, limits, name, &mut Counted::new(input), lines).1)
 }
 
 /// Hands on the lines that were put, where they could be.
@@ -107,7 +108,7 @@ pub(crate) fn split_file<'a, R: Files + AllocGlobal, O: Write + Drop>(
     output: O,
 ) -> Result<Status, Fault<'a>> {
     let alloc = rt.alloc();
-    let mut reader = bytes_of(alloc, open_input(rt, file)?);
+    let mut reader = Counted::new(open_input(rt, file)?);
     let mut sink = Sink::new(lines_to(alloc, output)?);
     let mut files = NumberedFiles::new(rt, alloc, prefix);
     let outcome = split(alloc, limits, &mut reader, transactions.get(), &mut files);
@@ -121,12 +122,12 @@ fn open_inputs<'a, R: Files>(
     rt: &R,
     alloc: Global,
     names: &[&'a str],
-) -> Result<Vec<Counted<BufReader<R::File>>>, Fault<'a>> {
+) -> Result<Vec<Counted<R::File>>, Fault<'a>> {
     let mut readers = Vec::new(alloc);
     for name in names {
         let file = open_input(rt, name)?;
         readers
-            .push(bytes_of(alloc, file))
+            .push(Counted::new(file))
             .map_err(|_| Fault::Memory)?;
     }
     Ok(readers)
@@ -151,7 +152,7 @@ fn join_to<'a, R: Files>(
     rt: &R,
     alloc: Global,
     limits: Limits,
-    readers: &mut [Counted<BufReader<R::File>>],
+    readers: &mut [Counted<R::File>],
     out: &'a str,
 ) -> Result<Result<JoinReport, JoinFault>, Fault<'a>>
     requires { 0 < length readers.old }

@@ -2,6 +2,7 @@
 
 ghost use Rattle.std.specs.Prelude.{◌≡◌, ◌≢◌, ◌≤◌};
 ghost use Rattle.clap.specs.Values.{kind_of};
+ghost use Rattle.cwr_program.specs.Endings.{EndsOnInput, IsOfInput};
 
 use crate::commands::{
     Status, check_input, explain_input, join_files, open_input, show_input, split_file,
@@ -100,7 +101,9 @@ fn perform<'a, R: Files + AllocGlobal, I: Read + Drop, O: Write + Drop>(
     task: Task<'a>,
     input: I,
     output: O,
-) -> Result<Status, Fault<'a>> {
+) -> Result<Status, Fault<'a>>
+    ensures { IsOfInput task.work → EndsOnInput task.limits (I.remaining input) result }
+{
     let limits = task.limits;
     match task.work {
         Work::Check(None) => check_input(rt.alloc(), limits, input, output),

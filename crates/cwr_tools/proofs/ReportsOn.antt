@@ -52,7 +52,7 @@ stops_after limits old new before left after given fault B C h r same = (
       spent = (run_reads limits old new before left after given (Err fault) h.read r).spent;
       limits_are = r.limits ∙ h.read.limits_are;
     };
-    leaves = λ other. r.leaves;
+    leaves = r.leaves;
     right = by h.here;
   },
   append-nil given,
@@ -67,14 +67,6 @@ pub stops_decoder : (limits : Limits) (old new : Standing) (before left after : 
     → (stops_after limits old new before left after given fault B C h r same).0.decoder ≡ new
 unfolding stops_after
 stops_decoder limits old new before left after given fault B C h r same = refl
-
--- memory was refused after them
-pub lacks_after : (limits : Limits) (d : Standing) (before now : Option (List ℕ)) (given : List Item) → IsReadingOn limits d before now given → StopsAfter limits faults.Memory before now given
-lacks_after limits d before now given h = (record { decoder = d; given = given; read = h.read; leaves = λ other. absurd (other refl); right = any before }, refl)
-  where
-    any : (b : Option (List ℕ)) → IfSome b (λ text. IsRightOf limits (Err faults.Memory) h.read.input text given)
-    any None = tt
-    any (Some text) = record { ends = tt; comes = tt }
 
 -- ---- what was put so far
 
@@ -142,7 +134,7 @@ pub item_fault : {W : Type 0} (report : Report) (end : Verdict → List ℕ) (li
     → PutsReport (lines_in report) end limits before after contents failures (Err fault) old next
 item_fault report end limits d new before left after contents failures c old sink next item tool_faults.Memory h reading p = (
   h.given,
-  inr (item, p.0, lacks_after limits new before after (h.given ++ item ∷ []) reading),
+  inr (item, p.0, (new, reading.read)),
   subst (λ (s : Sink _). HasPut contents failures ((lines_in report).lines h.given) old s) (sym p.1) h.put,
 )
 item_fault report end limits d new before left after contents failures c old sink next item (tool_faults.Writer n) h reading p = (

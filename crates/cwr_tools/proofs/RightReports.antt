@@ -14,7 +14,7 @@ use Rattle.cwr_tools.specs.declared.verdicts.Verdict.{Verdict}
 use Rattle.cwr_tools.specs.declared.verdicts.Verdict.TheVariants.{Good, Refused, Truncated}
 use Rattle.cwr_tools.specs.declared.verdicts.ToolFault.{ToolFault}
 use Rattle.cwr_tools.specs.Texts.{good_verdict}
-use Rattle.cwr_tools.specs.Verdicts.{IsRightVerdict}
+use Rattle.cwr_tools.specs.Verdicts.{IsRightVerdict, IsVerdictOn, JudgesText}
 use Rattle.cwr_tools.specs.Reports.{ItemLines, JudgesAccepted, JudgesCanonical, Reports, text_on}
 
 judges_accepted : {W : Type 0} (of : ItemLines) (limits : Limits) (before after : Option (List ℕ)) (contents : W → Option (List ℕ)) (old new : W) (verdict : Verdict)
@@ -43,7 +43,18 @@ judges_canonical of limits before after contents old new verdict h v more whole 
     let all = judged v (length (canonical_text v)) (canonical_accepted limits v more whole within) in
     (all.0, all.1 ∙ ap Some (drop-append_seam (canonical_text v) more), all.2)
 
+right_on : (limits : Limits) (text : List ℕ) (verdict : Verdict) (after : Option (List ℕ)) (given : List Item) → IsRightVerdict limits (Some text) verdict after given → IsVerdictOn limits text verdict
+right_on limits text (Good groups transactions records) after given right = (right.0, length right.1.input, right.1.front.0, right.3)
+right_on limits text (Refused refusal) after given right = right.0.right.ends
+right_on limits text (Truncated records) after given right = right.0.right.ends
+
 -- ---- the same of what a run answers
+
+pub judged_text : {W : Type 0} (of : ItemLines) (limits : Limits) (before after : Option (List ℕ)) (contents : W → Option (List ℕ)) (old new : W) (result : Result Verdict ToolFault)
+    → Reports of limits before after contents old new result → JudgesText limits before result
+judged_text of limits None after contents old new (Ok verdict) h = tt
+judged_text of limits (Some text) after contents old new (Ok verdict) h = right_on limits text verdict after h.0 h.1
+judged_text of limits before after contents old new (Err fault) h = tt
 
 pub accepted_reports : {W : Type 0} (of : ItemLines) (limits : Limits) (before after : Option (List ℕ)) (contents : W → Option (List ℕ)) (old new : W) (result : Result Verdict ToolFault)
     → Reports of limits before after contents old new result → IfOk result (JudgesAccepted of limits before after contents old new)

@@ -63,10 +63,11 @@ abbrev pub IsReported : ItemLines → Limits → Option (List ℕ) → Option (L
 IsReported of limits before after given text =
     (HasHandedOut limits before after given × (text ≡ of.lines given)) ⊎ ((verdict : Verdict) × IsRightVerdict limits before verdict after given × (text ≡ text_on of given verdict))
 
--- Memory was refused after these items, or for the lines of the next one, which was handed out too.
+-- Memory was refused for a record that was accepted after these items, or for the lines of the next item, which was handed out
+-- too.
 abbrev pub LacksMemory : ItemLines → Limits → Option (List ℕ) → Option (List ℕ) → List Item → Type 0
 LacksMemory of limits before after given =
-    StopsAfter limits read_faults.Memory before after given ⊎ ((item : Item) × (of.take_memory item ≡ true) × StopsAfter limits read_faults.Memory before after (given ++ item ∷ []))
+    StopsAfter limits read_faults.Memory before after given ⊎ ((item : Item) × (of.take_memory item ≡ true) × HasHandedOut limits before after (given ++ item ∷ []))
 
 -- After what the writer had, the text on the items and the verdict is written. Where the reader failed or memory was refused,
 -- that on the items before is; where the writer failed, the first bytes of such a text are, so many as the fault says. There

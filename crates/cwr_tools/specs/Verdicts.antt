@@ -1,11 +1,12 @@
 -- The verdict on the bytes that a reader has, and the items that were handed out before it.
-use Rattle.std.specs.Prelude.{◌≡◌, ℕ, ◌+◌, List, [], ◌∷◌, count_by, length, Option, IfSome, Result, Ok, Err, if◌then◌else◌}
+use Rattle.std.specs.Prelude.{◌≡◌, ℕ, ◌+◌, List, [], ◌∷◌, count_by, length, Option, IfSome, Result, Ok, Err, IfOk, if◌then◌else◌}
 use Rattle.std.specs.Io.KnownBytes.{Consumes}
 use Rattle.cwr_shape.specs.declared.limits.Limits.{Limits}
 use Rattle.cwr_values.specs.declared.items.Item.{Item}
 use Rattle.cwr_values.specs.Values.{TransmissionValue}
 use Rattle.cwr_decode.specs.declared.readings.ReadFault.{ReadFault}
 use Rattle.cwr_decode.specs.declared.readings.ReadFault.TheVariants as read_faults
+use Rattle.cwr_judge.specs.Ends.{IsAccepted, IsRefused, IsTruncated}
 use Rattle.cwr_judge.specs.Items.{item_records, opens_group, is_transaction, value_items}
 use Rattle.cwr_decode.specs.declared.readings.LastRead.{LastRead}
 use Rattle.cwr_decode.specs.LastReads.{HoldsLast, stage_of_records}
@@ -38,6 +39,18 @@ IsRightVerdict limits before (Good groups transactions records) after given =
     (v : TransmissionValue) × TakesFront limits before v after × (given ≡ value_items v) × (Good groups transactions records ≡ good_verdict v)
 IsRightVerdict limits before (Refused refusal) after given = StopsAfter limits (read_faults.Refused refusal) before after given
 IsRightVerdict limits before (Truncated records) after given = StopsAfter limits (read_faults.Truncated records) before after given
+
+-- The verdict is that on the text: good where it begins with a transmission within the limits, with that one's numbers, and else
+-- the refusal with which it is refused or the number of records after which it is truncated.
+abbrev pub IsVerdictOn : Limits → List ℕ → Verdict → Type 0
+IsVerdictOn limits text (Good groups transactions records) =
+    (v : TransmissionValue) × (n : ℕ) × IsAccepted limits text v n × (Good groups transactions records ≡ good_verdict v)
+IsVerdictOn limits text (Refused refusal) = IsRefused limits text refusal
+IsVerdictOn limits text (Truncated records) = IsTruncated limits text records
+
+-- where the bytes are known, the verdict is that on them
+abbrev pub JudgesText : Limits → Option (List ℕ) → Result Verdict ToolFault → Type 0
+JudgesText limits before result = IfOk result (λ verdict. IfSome before (λ text. IsVerdictOn limits text verdict))
 
 -- what a fault of a reading is reported as
 abbrev pub IsVerdictOf : ReadFault → Result Verdict ToolFault → Type 0

@@ -1,7 +1,7 @@
 //! Checking a transmission.
 
 ghost use Rattle.std.specs.Prelude.{IfOk, IsSomeAnd};
-ghost use Rattle.cwr_tools.specs.Verdicts.{IsReadLast};
+ghost use Rattle.cwr_tools.specs.Verdicts.{IsReadLast, JudgesText};
 ghost use Rattle.cwr_tools.specs.Reports.{CountsReaderFault, CountsWriterFault, JudgesAccepted, JudgesCanonical, Reports, lines_of_explained, lines_of_findings};
 
 use crate::item_lines::Report;
@@ -26,6 +26,7 @@ pub fn check<R: Source, W: Target + Drop>(
     writer: W,
 ) -> (W, Result<Verdict, ToolFault>)
     ensures reported { Reports lines_of_findings limits (R.remaining reader.old) (R.remaining reader.new) W.contents writer result.0 result.1 }
+    ensures judged { JudgesText limits (R.remaining reader.old) result.1 }
     ensures accepted { IfOk result.1 (JudgesAccepted lines_of_findings limits (R.remaining reader.old) (R.remaining reader.new) W.contents writer result.0) }
     ensures canonical { IfOk result.1 (JudgesCanonical lines_of_findings limits (R.remaining reader.old) (R.remaining reader.new) W.contents writer result.0) }
     // No failure is passed over: a device failed only where that is the answer.
@@ -46,6 +47,7 @@ pub fn check_explained<R: Source, W: Target + Drop>(
     writer: W,
 ) -> (W, Result<Verdict, ToolFault>, Option<LastRead>)
     ensures reported { Reports lines_of_explained limits (R.remaining reader.old) (R.remaining reader.new) W.contents writer result.0 result.1 }
+    ensures judged { JudgesText limits (R.remaining reader.old) result.1 }
     ensures reader_failures { CountsReaderFault result.1 (R.failures reader.old) (R.failures reader.new) }
     ensures writer_failures { CountsWriterFault result.1 (W.failures writer) (W.failures result.0) }
     ensures last { IfOk result.1 (λ verdict. IsSomeAnd result.2 (IsReadLast limits (R.remaining reader.old) (R.remaining reader.new) verdict)) }

@@ -1,6 +1,7 @@
 //! Showing a transmission.
 
 ghost use Rattle.std.specs.Prelude.{IfOk};
+ghost use Rattle.cwr_tools.specs.Verdicts.{JudgesText};
 ghost use Rattle.cwr_tools.specs.Reports.{CountsReaderFault, CountsWriterFault, JudgesAccepted, JudgesCanonical, Reports, lines_of_records};
 
 use crate::item_lines::Report;
@@ -24,6 +25,7 @@ pub fn show<R: Source, W: Target + Drop>(
     writer: W,
 ) -> (W, Result<Verdict, ToolFault>)
     ensures reported { Reports lines_of_records limits (R.remaining reader.old) (R.remaining reader.new) W.contents writer result.0 result.1 }
+    ensures judged { JudgesText limits (R.remaining reader.old) result.1 }
     ensures accepted { IfOk result.1 (JudgesAccepted lines_of_records limits (R.remaining reader.old) (R.remaining reader.new) W.contents writer result.0) }
     ensures canonical { IfOk result.1 (JudgesCanonical lines_of_records limits (R.remaining reader.old) (R.remaining reader.new) W.contents writer result.0) }
     // No failure is passed over: a device failed only where that is the answer.

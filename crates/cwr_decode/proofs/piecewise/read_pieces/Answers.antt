@@ -1,7 +1,9 @@
 use Rattle.std.proofs.Common.{ℕ, List, Some, subst}
+use Rattle.std.specs.Prelude.{IfErr}
 use Rattle.cwr_decode.specs.Headline.{Means, text_in}
 use Rattle.cwr_decode.specs.PiecesLeft.{text_left}
-use Rattle.cwr_decode.proofs.Headlines.{no_failures, run_means, means_accepted, means_refused, means_truncated}
+use Rattle.cwr_decode.specs.Runs.{StopsText}
+use Rattle.cwr_decode.proofs.Headlines.{no_failures, run_means, means_accepted, means_refused, means_truncated, stops_text}
 use Rattle.cwr_decode.proofs.piecewise.read_pieces.Goals as goal
 
 -- the answer is the end of the pieces put together
@@ -22,3 +24,8 @@ returns-clause-refused c = λ refusal r. means_refused c.args.limits (text_in c.
 
 pub returns-clause-truncated : goal.returns-clause-truncated
 returns-clause-truncated c = λ records t. means_truncated c.args.limits (text_in c.args.pieces.now) c.read_all.result records (its_end c) t
+
+pub returns-clause-stops : goal.returns-clause-stops
+returns-clause-stops c =
+    subst (λ (text : List ℕ). IfErr c.read_all.result (λ fault. StopsText c.args.limits fault text)) c.new-reader.ensures
+    (stops_text c.args.limits (text_left c.new-reader.result) c.read_all.result (Some (text_left c.read_all.new.reader)) c.read_all.ensures.stops)

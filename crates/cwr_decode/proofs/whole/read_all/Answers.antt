@@ -1,6 +1,6 @@
 use Rattle.std.proofs.Common.{Ok, sym, ◌∙◌}
 use Rattle.cwr_decode.proofs.ItemsMakeOneTransmission.{items_once}
-use Rattle.cwr_decode.proofs.ItemsReadSoFar.{all_items, all_taken, reports_accepted, reports_canonical, reports_stopped}
+use Rattle.cwr_decode.proofs.ItemsReadSoFar.{all_items, all_taken, reports_accepted, reports_canonical, reports_stopped, whole_lacks_room}
 use Rattle.cwr_decode.proofs.whole.read_all.Goals as goal
 
 pub collect-requires : goal.collect-requires
@@ -24,3 +24,6 @@ returns-in_err-items-clause-accepted g c = reports_stopped c.args.limits _ _ c.f
 pub returns-in_err-items-clause-canonical : goal.returns-in_err-items-clause-canonical
 returns-in_err-items-clause-canonical g c =
     reports_canonical c.args.limits _ _ c.from_residual.result (reports_stopped c.args.limits _ _ c.from_residual.result c.in_err-items.field-0.0 c.from_residual.ensures.1 c.in_err-items.ensures.stops)
+
+pub returns-in-Err-clause-stops : goal.returns-in-Err-clause-stops
+returns-in-Err-clause-stops g c = whole_lacks_room c.args.limits _ _ c.in_ok-items.items.items c.in_ok-items.ensures.all

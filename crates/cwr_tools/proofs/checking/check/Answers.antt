@@ -1,6 +1,9 @@
 use Rattle.cwr_tools.specs.Reports.{lines_of_findings}
-use Rattle.cwr_tools.proofs.RightReports.{accepted_reports, canonical_reports}
+use Rattle.cwr_tools.proofs.RightReports.{accepted_reports, canonical_reports, judged_text}
 use Rattle.cwr_tools.proofs.checking.check.Goals as goal
+
+pub returns-clause-judged : goal.returns-clause-judged
+returns-clause-judged g c = judged_text lines_of_findings c.args.limits _ _ g.W.Target.contents c.args.writer c.write_report.result.0 c.write_report.result.1 c.write_report.ensures.reported
 
 pub returns-clause-accepted : goal.returns-clause-accepted
 returns-clause-accepted g c = accepted_reports lines_of_findings c.args.limits _ _ g.W.Target.contents c.args.writer c.write_report.result.0 c.write_report.result.1 c.write_report.ensures.reported
