@@ -59,7 +59,13 @@ explains_after limits before left after contents old between new checked result 
 pub answer_judged : (limits : Limits) (before : Option (List ℕ)) (checked result : Result Verdict ToolFault) (verdict : Verdict) → JudgesText limits before checked → checked ≡ Ok verdict → IsAnswerTo verdict result
     → JudgesText limits before result
 answer_judged limits before checked (Ok other) verdict judged e is = subst (JudgesText limits before) (e ∙ ap Ok (sym is)) judged
-answer_judged limits before checked (Err fault) verdict judged e is = tt
+answer_judged limits before checked (Err faults.Reader) verdict judged e is = tt
+answer_judged limits before checked (Err (faults.Writer written)) verdict judged e is = tt
+answer_judged limits before checked (Err faults.Memory) verdict judged e is = tt
+answer_judged limits before checked (Err (faults.Refused refusal)) verdict judged e is = absurd is
+answer_judged limits before checked (Err (faults.Truncated records)) verdict judged e is = absurd is
+answer_judged limits before checked (Err (faults.Limit limit)) verdict judged e is = absurd is
+answer_judged limits before checked (Err faults.Output) verdict judged e is = absurd is
 
 pub no_words : {W : Type 0} (contents : W → Option (List ℕ)) (writer : W) → AddsWords contents writer writer
 no_words contents writer = ([], Appends-nil (contents writer))

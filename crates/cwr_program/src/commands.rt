@@ -1,6 +1,6 @@
 //! What each subcommand does, between its files and its lines.
 
-ghost use Rattle.std.specs.Prelude.{◌<◌, length};
+ghost use Rattle.std.specs.Prelude.{◌≡◌, ◌<◌, length, IfErr};
 ghost use Rattle.cwr_program.specs.Endings.{EndsAs, EndsAfterFault, EndsOnInput};
 
 use crate::faults::Fault;
@@ -42,8 +42,13 @@ pub(crate) fn open_input<'a, R: Files>(rt: &R, name: &'a str) -> Result<R::File,
 fn lines_to<'a, O: Write + Drop>(
     alloc: Global,
     output: O,
-) -> Result<Counted<BufWriter<O>>, Fault<'a>> {
-    with_buffer(alloc, output).map_err(|_| Fault::Memory)
+) -> Result<Counted<BufWriter<O>>, Fault<'a>>
+    ensures { IfErr result (λ fault. fault ≡ Fault.Memory) }
+{
+    match with_buffer(alloc, output) {
+        Ok(lines) => Ok(lines),
+        Err(_) => Err(Fault::Memory),
+    }
 }
 
 /// Checks a transmission, and writes the lines to the output.

@@ -13,6 +13,7 @@ use Rattle.cwr_judge.proofs.Accepted.{accepted_once, canonical_accepted}
 use Rattle.cwr_tools.specs.declared.verdicts.Verdict.{Verdict}
 use Rattle.cwr_tools.specs.declared.verdicts.Verdict.TheVariants.{Good, Refused, Truncated}
 use Rattle.cwr_tools.specs.declared.verdicts.ToolFault.{ToolFault}
+use Rattle.cwr_tools.specs.declared.verdicts.ToolFault.TheVariants as faults
 use Rattle.cwr_tools.specs.Texts.{good_verdict}
 use Rattle.cwr_tools.specs.Verdicts.{IsRightVerdict, IsVerdictOn, JudgesText}
 use Rattle.cwr_tools.specs.Reports.{ItemLines, JudgesAccepted, JudgesCanonical, Reports, text_on}
@@ -54,7 +55,13 @@ pub judged_text : {W : Type 0} (of : ItemLines) (limits : Limits) (before after 
     → Reports of limits before after contents old new result → JudgesText limits before result
 judged_text of limits None after contents old new (Ok verdict) h = tt
 judged_text of limits (Some text) after contents old new (Ok verdict) h = right_on limits text verdict after h.0 h.1
-judged_text of limits before after contents old new (Err fault) h = tt
+judged_text of limits before after contents old new (Err faults.Reader) h = tt
+judged_text of limits before after contents old new (Err (faults.Writer written)) h = tt
+judged_text of limits before after contents old new (Err faults.Memory) h = tt
+judged_text of limits before after contents old new (Err (faults.Refused refusal)) h = absurd h
+judged_text of limits before after contents old new (Err (faults.Truncated records)) h = absurd h
+judged_text of limits before after contents old new (Err (faults.Limit limit)) h = absurd h
+judged_text of limits before after contents old new (Err faults.Output) h = absurd h
 
 pub accepted_reports : {W : Type 0} (of : ItemLines) (limits : Limits) (before after : Option (List ℕ)) (contents : W → Option (List ℕ)) (old new : W) (result : Result Verdict ToolFault)
     → Reports of limits before after contents old new result → IfOk result (JudgesAccepted of limits before after contents old new)

@@ -1,5 +1,5 @@
 -- The verdict on the bytes that a reader has, and the items that were handed out before it.
-use Rattle.std.specs.Prelude.{◌≡◌, ℕ, ◌+◌, List, [], ◌∷◌, count_by, length, Option, IfSome, Result, Ok, Err, IfOk, if◌then◌else◌}
+use Rattle.std.specs.Prelude.{◌≡◌, ℕ, ◌+◌, List, [], ◌∷◌, count_by, length, Option, IfSome, Result, Ok, Err, if◌then◌else◌}
 use Rattle.std.specs.Io.KnownBytes.{Consumes}
 use Rattle.cwr_shape.specs.declared.limits.Limits.{Limits}
 use Rattle.cwr_values.specs.declared.items.Item.{Item}
@@ -14,7 +14,7 @@ use Rattle.cwr_decode.specs.Runs.{TakesFront, StopsRun}
 use Rattle.cwr_tools.specs.declared.verdicts.Verdict.{Verdict}
 use Rattle.cwr_tools.specs.declared.verdicts.Verdict.TheVariants.{Good, Refused, Truncated}
 use Rattle.cwr_tools.specs.declared.verdicts.ToolFault.{ToolFault}
-use Rattle.cwr_tools.specs.declared.verdicts.ToolFault.TheVariants.{Reader, Memory}
+use Rattle.cwr_tools.specs.declared.verdicts.ToolFault.TheVariants.{Reader, Writer, Memory}
 use Rattle.cwr_tools.specs.Texts.{good_verdict}
 use Rattle.cwr_tools.specs.declared.totals.Totals.{Totals}
 
@@ -48,9 +48,13 @@ IsVerdictOn limits text (Good groups transactions records) =
 IsVerdictOn limits text (Refused refusal) = IsRefused limits text refusal
 IsVerdictOn limits text (Truncated records) = IsTruncated limits text records
 
--- where the bytes are known, the verdict is that on them
+-- where the bytes are known, the verdict is that on them; else a device or memory failed
 abbrev pub JudgesText : Limits → Option (List ℕ) → Result Verdict ToolFault → Type 0
-JudgesText limits before result = IfOk result (λ verdict. IfSome before (λ text. IsVerdictOn limits text verdict))
+JudgesText limits before (Ok verdict) = IfSome before (λ text. IsVerdictOn limits text verdict)
+JudgesText limits before (Err Reader) = Unit {0}
+JudgesText limits before (Err (Writer written)) = Unit {0}
+JudgesText limits before (Err Memory) = Unit {0}
+JudgesText limits before (Err fault) = ⊥
 
 -- what a fault of a reading is reported as
 abbrev pub IsVerdictOf : ReadFault → Result Verdict ToolFault → Type 0
