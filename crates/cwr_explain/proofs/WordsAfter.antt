@@ -9,7 +9,6 @@ use Rattle.cwr_shape.specs.declared.limits.Limits.{Limits}
 use Rattle.cwr_tools.specs.declared.verdicts.Verdict.{Verdict}
 use Rattle.cwr_tools.specs.declared.verdicts.ToolFault.{ToolFault}
 use Rattle.cwr_tools.specs.declared.verdicts.ToolFault.TheVariants as faults
-use Rattle.cwr_tools.specs.Verdicts.{JudgesText}
 use Rattle.cwr_tools.specs.Reports.{CountsReaderFault, CountsWriterFault, Reports, lines_of_explained}
 use Rattle.cwr_explain.specs.declared.trailing.Trailing.{Trailing}
 use Rattle.cwr_explain.specs.Explained.{AddsWords, Explains, IsAnswerAfter, IsAnswerTo, IsTrailing, ReadsOnly, TakesMore, TakesPiece, WritesOnly}
@@ -54,18 +53,6 @@ explains_after limits before left after contents old between new checked result 
   taken = t.1;
   answered = a;
 }
-
--- where it answers a verdict, that is the one on the text
-pub answer_judged : (limits : Limits) (before : Option (List ℕ)) (checked result : Result Verdict ToolFault) (verdict : Verdict) → JudgesText limits before checked → checked ≡ Ok verdict → IsAnswerTo verdict result
-    → JudgesText limits before result
-answer_judged limits before checked (Ok other) verdict judged e is = subst (JudgesText limits before) (e ∙ ap Ok (sym is)) judged
-answer_judged limits before checked (Err faults.Reader) verdict judged e is = tt
-answer_judged limits before checked (Err (faults.Writer written)) verdict judged e is = tt
-answer_judged limits before checked (Err faults.Memory) verdict judged e is = tt
-answer_judged limits before checked (Err (faults.Refused refusal)) verdict judged e is = absurd is
-answer_judged limits before checked (Err (faults.Truncated records)) verdict judged e is = absurd is
-answer_judged limits before checked (Err (faults.Limit limit)) verdict judged e is = absurd is
-answer_judged limits before checked (Err faults.Output) verdict judged e is = absurd is
 
 pub no_words : {W : Type 0} (contents : W → Option (List ℕ)) (writer : W) → AddsWords contents writer writer
 no_words contents writer = ([], Appends-nil (contents writer))
