@@ -102,7 +102,7 @@ fn perform<'a, R: Files + AllocGlobal, I: Read + Drop, O: Write + Drop>(
     input: I,
     output: O,
 ) -> Result<Status, Fault<'a>>
-    ensures { IsOfInput task.work → EndsOnInput task.limits (I.remaining input) result }
+    ensures { IsOfInput task.entry.work → EndsOnInput task.entry.limits (I.remaining input) result }
 {
     let limits = task.limits;
     match task.work {
