@@ -1,80 +1,43 @@
 //! Tests of the cells of transactions that are handed out, on worked examples of this profile.
 
-use crate::decoders::decoder;
-use cwr_decode::Outcome;
+use crate::decoders::{decoder, feed, text_of};
+use cwr_decode::{Outcome, Step};
 use cwr_fields::{CivilDate, DateCell, Number, TimeOfDay, TransactionStatus, trimmed};
-use cwr_layouts::Kind;
+use cwr_layouts::{Kind, RecordRef};
 use cwr_values::{Item, Transaction};
-use cwr_worked::texts::{ONE_ACKNOWLEDGEMENT, canonical};
+use cwr_worked::texts::ONE_ACKNOWLEDGEMENT;
 use std::process::Abort;
-use std::test::Fail;
 
-/// The transaction of the transmission of one acknowledgement, as a decoder hands it out.
-fn read_transaction(rt: &(impl Abort + AllocGlobal)) -> Result<Transaction, Fail> {
-    let text = canonical(rt.alloc(), ONE_ACKNOWLEDGEMENT)?;
+/// The transaction that a step hands out.
+fn transaction_in(step: Step) -> Option<Transaction> {
+    match step.outcome {
+        Outcome::Item(Item::Transaction(transaction)) => Some(transaction),
+        _ => None,
+    }
+}
+
+/// The transaction of the transmission of one acknowledgement, as a decoder hands it out after HDR and GRH.
+fn read_transaction(rt: &(impl Abort + AllocGlobal)) -> Transaction {
+    let text = text_of(rt, ONE_ACKNOWLEDGEMENT);
     let mut decoder = decoder(rt);
     let mut left = text.as_slice();
-    for _ in 0..3 {
-        let step = decoder.feed(left);
-        if let Outcome::Item(Item::Transaction(transaction)) = step.outcome {
-            return Ok(transaction);
-        }
-        left = left.get(step.used..).unwrap_or(b"");
+    for _ in 0..2 {
+        let (used, _) = feed(&mut decoder, left);
+        left = left.get(used..).unwrap_or(b"");
     }
-    Err(Fail::from("no transaction"))
+    transaction_in(decoder.feed(left)).expect(rt, "no transaction")
 }
 
 /// Checks cells of a record, their trailing spaces left out.
-fn check_cells(
-    rt: &impl Abort,
-    transaction: &Transaction,
-    i: usize,
-    kind: Kind,
-    cells: &[(u8, &[u8])],
-) {
-    let Some(record) = transaction.record(i) else {
-        assert!(rt; false, "no record {i}");
-        return;
-    };
-    assert_eq!(rt; record.kind(), kind);
+fn check_cells(rt: &impl Abort, record: RecordRef<'_>, cells: &[(u8, Option<&[u8]>)]) {
     for (j, wanted) in cells {
-        match record.cell(*j) {
-            Some(cell) => assert_eq!(rt; trimmed(cell), *wanted, "at {j}"),
-            None => assert!(rt; false, "no cell {j}"),
-        }
+        assert_eq!(rt; record.cell(*j).map(trimmed), *wanted, "at {j}");
     }
 }
 
-#[test]
-fn the_cells_of_an_acknowledgement(rt: HostRuntime) -> Result<(), Fail> {
-    let transaction = read_transaction(&rt)?;
-    assert_eq!(rt; transaction.len(), 1);
-    let cells: [(u8, &[u8]); 10] = [
-        (4, b"20240102"),
-        (5, b"101500"),
-        (6, b"00001"),
-        (7, b"00000000"),
-        (8, b"NWR"),
-        (9, b"BLUE RIVER"),
-        (10, b"W0001"),
-        (11, b""),
-        (12, b"20240110"),
-        (13, b"AS"),
-    ];
-    check_cells(&rt, &transaction, 0, Kind::Ack, &cells);
-    let record = transaction.record(0).ok_or("no record")?;
-    for j in [0, 1, 2, 3, 14] {
-        assert!(rt; record.cell(j).is_none(), "at {j}");
-    }
-    assert!(rt; transaction.record(1).is_none());
-    Ok(())
-}
-
-#[test]
-fn the_typed_cells_of_an_acknowledgement(rt: HostRuntime) -> Result<(), Fail> {
-    let transaction = read_transaction(&rt)?;
-    let record = transaction.record(0).ok_or("no record")?;
-    let day = CivilDate::new(2024, 1, 2).ok_or("no day")?;
+/// Checks typed cells of the acknowledgement.
+fn check_typed_cells(rt: &impl Abort, record: RecordRef<'_>) {
+    let day = CivilDate::new(2024, 1, 2).expect(rt, "no day");
     assert_eq!(rt; record.read::<CivilDate>(4), Some(day));
     assert_eq!(rt; record.read::<DateCell>(4), Some(DateCell::Day(day)));
     let time = TimeOfDay::new(10, 15, 0);
@@ -84,5 +47,37 @@ fn the_typed_cells_of_an_acknowledgement(rt: HostRuntime) -> Result<(), Fail> {
     let accepted = Some(TransactionStatus::RegistrationAccepted);
     assert_eq!(rt; record.read::<TransactionStatus>(13), accepted);
     assert!(rt; record.read::<Number<8>>(2).is_none());
-    Ok(())
+}
+
+#[test]
+fn the_cells_of_an_acknowledgement(rt: HostRuntime) {
+    let cells: [(u8, Option<&[u8]>); 15] = [
+        (0, None),
+        (1, None),
+        (2, None),
+        (3, None),
+        (4, Some(b"20240102")),
+        (5, Some(b"101500")),
+        (6, Some(b"00001")),
+        (7, Some(b"00000000")),
+        (8, Some(b"NWR")),
+        (9, Some(b"BLUE RIVER")),
+        (10, Some(b"W0001")),
+        (11, Some(b"")),
+        (12, Some(b"20240110")),
+        (13, Some(b"AS")),
+        (14, None),
+    ];
+    let transaction = read_transaction(&rt);
+    assert_eq!(rt; transaction.len(), 1);
+    assert!(rt; transaction.record(1).is_none());
+    let record = transaction.record(0).expect(&rt, "no record");
+    assert_eq!(rt; record.kind(), Kind::Ack);
+    check_cells(&rt, record, &cells);
+}
+
+#[test]
+fn the_typed_cells_of_an_acknowledgement(rt: HostRuntime) {
+    let transaction = read_transaction(&rt);
+    check_typed_cells(&rt, transaction.record(0).expect(&rt, "no record"));
 }
