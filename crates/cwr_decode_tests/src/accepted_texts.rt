@@ -219,12 +219,15 @@ fn check_accepted(rt: &(impl Abort + AllocGlobal), row: &Accepted) {
     assert_eq!(rt; feed(&mut decoder, b""), (0, "done"));
 }
 
+/// Checks each row.
+fn check_rows(rt: &(impl Abort + AllocGlobal), rows: &[Accepted]) {
+    for row in rows {
+        check_accepted(rt, row);
+    }
+}
+
 #[test]
 fn transmissions_are_handed_out_by_items(rt: HostRuntime) {
-    for row in &ACCEPTED {
-        check_accepted(&rt, row);
-    }
-    for row in &COPIES {
-        check_accepted(&rt, row);
-    }
+    check_rows(&rt, &ACCEPTED);
+    check_rows(&rt, &COPIES);
 }

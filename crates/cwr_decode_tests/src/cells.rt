@@ -2,10 +2,11 @@
 
 use crate::decoders::{decoder, feed, text_of};
 use cwr_decode::{Outcome, Step};
-use cwr_fields::{CivilDate, DateCell, Number, TimeOfDay, TransactionStatus, trimmed};
+use cwr_fields::{Cell, CivilDate, DateCell, Number, TimeOfDay, TransactionStatus, trimmed};
 use cwr_layouts::{Kind, RecordRef};
 use cwr_values::{Item, Transaction};
 use cwr_worked::texts::ONE_ACKNOWLEDGEMENT;
+use std::fmt::Debug;
 use std::process::Abort;
 
 /// The transaction that a step hands out.
@@ -29,24 +30,33 @@ fn read_transaction(rt: &(impl Abort + AllocGlobal)) -> Transaction {
 }
 
 /// Checks cells of a record, their trailing spaces left out.
-fn check_cells(rt: &impl Abort, record: RecordRef<'_>, cells: &[(u8, Option<&[u8]>)]) {
+fn check_cells(rt: &impl Abort, record: &RecordRef<'_>, cells: &[(u8, Option<&[u8]>)]) {
     for (j, wanted) in cells {
-        assert_eq!(rt; record.cell(*j).map(trimmed), *wanted, "at {j}");
+        assert_eq!(rt; record.cell(*j).map(|cell| trimmed(cell)), *wanted, "at {j}");
     }
 }
 
+/// Checks a cell of a record that is read as a value of a type.
+fn check_read<C: Cell + PartialEq + Debug + Drop>(
+    rt: &impl Abort,
+    record: &RecordRef<'_>,
+    j: u8,
+    wanted: Option<C>,
+) {
+    assert_eq!(rt; record.read::<C>(j), wanted, "at {j}");
+}
+
 /// Checks typed cells of the acknowledgement.
-fn check_typed_cells(rt: &impl Abort, record: RecordRef<'_>) {
-    let day = CivilDate::new(2024, 1, 2).expect(rt, "no day");
-    assert_eq!(rt; record.read::<CivilDate>(4), Some(day));
-    assert_eq!(rt; record.read::<DateCell>(4), Some(DateCell::Day(day)));
-    let time = TimeOfDay::new(10, 15, 0);
-    assert_eq!(rt; record.read::<TimeOfDay>(5), time);
-    assert_eq!(rt; record.read::<Number<5>>(6).map(u64::from), Some(1));
-    assert_eq!(rt; record.read::<Number<8>>(7).map(u64::from), Some(0));
-    let accepted = Some(TransactionStatus::RegistrationAccepted);
-    assert_eq!(rt; record.read::<TransactionStatus>(13), accepted);
-    assert!(rt; record.read::<Number<8>>(2).is_none());
+fn check_typed_cells(rt: &impl Abort, record: &RecordRef<'_>) {
+    let day = CivilDate::new(2024, 1, 2);
+    check_read(rt, record, 4, day);
+    check_read(rt, record, 4, day.map(|day| DateCell::Day(day)));
+    check_read(rt, record, 5, TimeOfDay::new(10, 15, 0));
+    check_read(rt, record, 6, Number::<5>::new(1));
+    check_read(rt, record, 7, Number::<8>::new(0));
+    let accepted = TransactionStatus::RegistrationAccepted;
+    check_read(rt, record, 13, Some(accepted));
+    check_read::<Number<8>>(rt, record, 2, None);
 }
 
 #[test]
@@ -73,11 +83,12 @@ fn the_cells_of_an_acknowledgement(rt: HostRuntime) {
     assert!(rt; transaction.record(1).is_none());
     let record = transaction.record(0).expect(&rt, "no record");
     assert_eq!(rt; record.kind(), Kind::Ack);
-    check_cells(&rt, record, &cells);
+    check_cells(&rt, &record, &cells);
 }
 
 #[test]
 fn the_typed_cells_of_an_acknowledgement(rt: HostRuntime) {
     let transaction = read_transaction(&rt);
-    check_typed_cells(&rt, transaction.record(0).expect(&rt, "no record"));
+    let record = transaction.record(0).expect(&rt, "no record");
+    check_typed_cells(&rt, &record);
 }
