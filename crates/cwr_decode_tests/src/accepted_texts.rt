@@ -200,7 +200,11 @@ fn feed_whole(
             break;
         };
         if let Item::Transaction(transaction) = item {
-            check_kinds(rt, transaction, transactions.get(count).unwrap_or(&&[][..]));
+            check_kinds(
+                rt,
+                transaction,
+                transactions.get(count).copied().unwrap_or(&[]),
+            );
             count = count.saturating_add(1);
         }
     }

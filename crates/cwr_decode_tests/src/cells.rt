@@ -1,5 +1,7 @@
 //! Tests of the cells of transactions that are handed out, on worked examples of this profile.
 
+ghost use Rattle.std.specs.Prelude.{◌<◌, ◌≤◌};
+
 use crate::decoders::{decoder, feed, text_of};
 use cwr_decode::{Outcome, Step};
 use cwr_fields::{Cell, CivilDate, DateCell, Number, TimeOfDay, TransactionStatus, trimmed};
@@ -32,7 +34,11 @@ fn read_transaction(rt: &(impl Abort + AllocGlobal)) -> Transaction {
 /// Checks cells of a record, their trailing spaces left out.
 fn check_cells(rt: &impl Abort, record: &RecordRef<'_>, cells: &[(u8, Option<&[u8]>)]) {
     for (j, wanted) in cells {
-        assert_eq!(rt; record.cell(*j).map(|cell| trimmed(cell)), *wanted, "at {j}");
+        assert_eq!(rt;
+            record.cell(*j).map(|cell| trimmed(cell)),
+            *wanted,
+            "at {j}"
+        );
     }
 }
 
@@ -42,7 +48,10 @@ fn check_read<C: Cell + PartialEq + Debug + Drop>(
     record: &RecordRef<'_>,
     j: u8,
     wanted: Option<C>,
-) {
+)
+    requires least { 0 < C.WIDTH }
+    requires most { C.WIDTH ≤ 10 }
+{
     assert_eq!(rt; record.read::<C>(j), wanted, "at {j}");
 }
 

@@ -1,6 +1,6 @@
 //! Tests of drafts and records: that the calls answer as the written tables of CWR 2.1 have it.
 
-ghost use Rattle.std.specs.Prelude.{◌≡◌, List, IfOk, refl};
+ghost use Rattle.std.specs.Prelude.{◌≡◌, ◌<◌, ◌≤◌, List, IfOk, refl};
 ghost use Rattle.cwr_fields.specs.declared.cell_types.CellType.TheVariants.{Constant};
 ghost use Rattle.cwr_fields.specs.declared.cell_types.Word.TheVariants.{Edi};
 ghost use Rattle.cwr_fields.specs.Codes.{word_text};
@@ -180,7 +180,10 @@ fn shows_cells(rt: HostRuntime) {
 }
 
 /// Whether a cell of a record is read as a value of the type.
-fn is_read<C: Cell + Drop>(record: &Record, j: u8) -> bool {
+fn is_read<C: Cell + Drop>(record: &Record, j: u8) -> bool
+    requires least { 0 < C.WIDTH }
+    requires most { C.WIDTH ≤ 10 }
+{
     record.view().read::<C>(j).is_some()
 }
 
