@@ -42,7 +42,7 @@ fn with_memory<T: Drop, F: PartialEq + Debug + Drop>(
     }
 }
 
-/// Adds a transaction to a group. One that isn't added is handed back, and memory was refused: it answers whether it is added.
+/// Adds a transaction to a group: whether it is added. One that isn't is handed back, since memory was refused.
 fn add_transaction(rt: &impl Abort, group: &mut Group, transaction: Transaction) -> bool {
     let (before, records) = (group.len(), transaction.len());
     match group.push(transaction) {
@@ -55,7 +55,7 @@ fn add_transaction(rt: &impl Abort, group: &mut Group, transaction: Transaction)
     }
 }
 
-/// Adds a group to a transmission. One that isn't added is handed back, and memory was refused: it answers whether it is added.
+/// Adds a group to a transmission: whether it is added. One that isn't is handed back, since memory was refused.
 fn add_group(rt: &impl Abort, transmission: &mut Transmission, group: Group) -> bool {
     let (before, transactions) = (transmission.len(), group.len());
     match transmission.push(group) {
