@@ -1,7 +1,7 @@
 //! Tests of decoders over worked transmissions that are fed whole: the items, the kinds of each transaction's records, and
 //! the used bytes.
 
-use crate::decoders::{LARGEST, Numbers, decoder_within, name_of};
+use crate::decoders::{LARGEST, Numbers, decoder_within, feed, text_of};
 use cwr_decode::{Decoder, Outcome};
 use cwr_layouts::Kind::{
     self, Ack, Agr, Alt, Ari, Com, Ind, Ipa, Msg, Npa, Nwr, Opu, Orn, Owr, Per, Pwr, Rec, Rev, Spt,
@@ -11,10 +11,9 @@ use cwr_values::{Item, Transaction};
 use cwr_worked::lines::*;
 use cwr_worked::texts::{
     AGREEMENT_OF_TWO_BLOCKS, CARRIED_RECORDS, COPIED_WORK, ONE_ACKNOWLEDGEMENT, TWO_GROUPS,
-    WORK_OF_ELEVEN, WORK_OF_ELEVEN_REORDERED, canonical,
+    WORK_OF_ELEVEN, WORK_OF_ELEVEN_REORDERED,
 };
 use std::process::Abort;
-use std::test::Fail;
 
 /// One acknowledgement and its message.
 const MESSAGE: &[&[u8]] = &[
@@ -141,8 +140,15 @@ const BARE_COPY: &[&[u8]] = &[
 
 /// Limits, the lines of a transmission within them, the length of its canonical text, and the kinds of the records of each
 /// transaction.
+type Accepted = (
+    Numbers,
+    &'static [&'static [u8]],
+    usize,
+    &'static [&'static [Kind]],
+);
+
 #[rattlefmt::skip]
-static ACCEPTED: [(Numbers, &[&[u8]], usize, &[&[Kind]]); 13] = [
+static ACCEPTED: [Accepted; 13] = [
     (LARGEST, MESSAGE, 546, &[&[Ack, Msg]]),
     (LARGEST, WORK_OF_ELEVEN, 1893, &[&[Nwr, Spu, Spt, Opu, Swr, Swt, Pwr, Owr, Alt, Per, Rec]]),
     (LARGEST, WORK_OF_ELEVEN_REORDERED, 1893, &[&[Nwr, Spu, Spt, Opu, Swr, Swt, Pwr, Owr, Rec, Per, Alt]]),
@@ -160,7 +166,7 @@ static ACCEPTED: [(Numbers, &[&[u8]], usize, &[&[Kind]]); 13] = [
 
 /// The same of acknowledgements with copies.
 #[rattlefmt::skip]
-static COPIES: [(Numbers, &[&[u8]], usize, &[&[Kind]]); 4] = [
+static COPIES: [Accepted; 4] = [
     (LARGEST, COPIED_WORK, 990, &[&[Ack, Msg, Nwr, Swr]]),
     (LARGEST, COPY_BEFORE_ANOTHER, 964, &[&[Ack, Nwr, Swr], &[Ack]]),
     (LARGEST, COPIED_AGREEMENT, 1539, &[&[Ack, Agr, Ter, Ipa, Npa, Ipa]]),
@@ -190,32 +196,42 @@ fn feed_whole(
     for _ in 0..99 {
         let step = decoder.feed(text.get(used..).unwrap_or(b""));
         used = used.saturating_add(step.used);
-        match &step.outcome {
-            Outcome::Item(Item::Transaction(transaction)) => {
-                if let Some(kinds) = transactions.get(count) {
-                    check_kinds(rt, transaction, kinds);
-                }
-                count = count.saturating_add(1);
-            }
-            Outcome::Item(_) => {}
-            _ => break,
+        let Outcome::Item(item) = &step.outcome else {
+            break;
+        };
+        if let Item::Transaction(transaction) = item {
+            check_kinds(
+                rt,
+                transaction,
+                transactions.get(count).copied().unwrap_or(&[]),
+            );
+            count = count.saturating_add(1);
         }
     }
     (used, count)
 }
 
-#[test]
-fn transmissions_are_handed_out_by_items(rt: HostRuntime) -> Result<(), Fail> {
-    for table in [ACCEPTED.as_slice(), COPIES.as_slice()] {
-        for (limits, lines, bytes, transactions) in table {
-            let text = canonical(rt.alloc(), lines)?;
-            assert_eq!(rt; text.len(), *bytes);
-            let mut decoder = decoder_within(&rt, *limits);
-            let answer = feed_whole(&rt, &mut decoder, text.as_slice(), transactions);
-            assert_eq!(rt; answer, (*bytes, transactions.len()));
-            assert_eq!(rt; decoder.records() as usize, lines.len());
-            assert_eq!(rt; name_of(&decoder.feed(b"").outcome), "done");
-        }
+/// Checks that the text is handed out as the row says, and that the decoder is done then.
+fn check_accepted(rt: &(impl Abort + AllocGlobal), row: &Accepted) {
+    let (limits, lines, bytes, transactions) = *row;
+    let text = text_of(rt, lines);
+    assert_eq!(rt; text.len(), bytes);
+    let mut decoder = decoder_within(rt, limits);
+    let answer = feed_whole(rt, &mut decoder, text.as_slice(), transactions);
+    assert_eq!(rt; answer, (bytes, transactions.len()));
+    assert_eq!(rt; decoder.records() as usize, lines.len());
+    assert_eq!(rt; feed(&mut decoder, b""), (0, "done"));
+}
+
+/// Checks each row.
+fn check_rows(rt: &(impl Abort + AllocGlobal), rows: &[Accepted]) {
+    for row in rows {
+        check_accepted(rt, row);
     }
-    Ok(())
+}
+
+#[test]
+fn transmissions_are_handed_out_by_items(rt: HostRuntime) {
+    check_rows(&rt, &ACCEPTED);
+    check_rows(&rt, &COPIES);
 }

@@ -1,88 +1,103 @@
 //! Tests of the cells of transactions that are handed out, on worked examples of this profile.
 
-use crate::decoders::decoder;
-use cwr_decode::Outcome;
-use cwr_fields::{CivilDate, DateCell, Number, TimeOfDay, TransactionStatus, trimmed};
-use cwr_layouts::Kind;
-use cwr_values::{Item, Transaction};
-use cwr_worked::texts::{ONE_ACKNOWLEDGEMENT, canonical};
-use std::process::Abort;
-use std::test::Fail;
+ghost use Rattle.std.specs.Prelude.{◌<◌, ◌≤◌};
 
-/// The transaction of the transmission of one acknowledgement, as a decoder hands it out.
-fn read_transaction(rt: &(impl Abort + AllocGlobal)) -> Result<Transaction, Fail> {
-    let text = canonical(rt.alloc(), ONE_ACKNOWLEDGEMENT)?;
+use crate::decoders::{decoder, feed, text_of};
+use cwr_decode::{Outcome, Step};
+use cwr_fields::{Cell, CivilDate, DateCell, Number, TimeOfDay, TransactionStatus, trimmed};
+use cwr_layouts::{Kind, RecordRef};
+use cwr_values::{Item, Transaction};
+use cwr_worked::texts::ONE_ACKNOWLEDGEMENT;
+use std::fmt::Debug;
+use std::process::Abort;
+
+/// The transaction that a step hands out.
+fn transaction_in(step: Step) -> Option<Transaction> {
+    match step.outcome {
+        Outcome::Item(Item::Transaction(transaction)) => Some(transaction),
+        _ => None,
+    }
+}
+
+/// The transaction of the transmission of one acknowledgement, as a decoder hands it out after HDR and GRH.
+fn read_transaction(rt: &(impl Abort + AllocGlobal)) -> Transaction {
+    let text = text_of(rt, ONE_ACKNOWLEDGEMENT);
     let mut decoder = decoder(rt);
     let mut left = text.as_slice();
-    for _ in 0..3 {
-        let step = decoder.feed(left);
-        if let Outcome::Item(Item::Transaction(transaction)) = step.outcome {
-            return Ok(transaction);
-        }
-        left = left.get(step.used..).unwrap_or(b"");
+    for _ in 0..2 {
+        let (used, _) = feed(&mut decoder, left);
+        left = left.get(used..).unwrap_or(b"");
     }
-    Err(Fail::from("no transaction"))
+    transaction_in(decoder.feed(left)).expect(rt, "no transaction")
 }
 
 /// Checks cells of a record, their trailing spaces left out.
-fn check_cells(
-    rt: &impl Abort,
-    transaction: &Transaction,
-    i: usize,
-    kind: Kind,
-    cells: &[(u8, &[u8])],
-) {
-    let Some(record) = transaction.record(i) else {
-        assert!(rt; false, "no record {i}");
-        return;
-    };
-    assert_eq!(rt; record.kind(), kind);
+fn check_cells(rt: &impl Abort, record: &RecordRef<'_>, cells: &[(u8, Option<&[u8]>)]) {
     for (j, wanted) in cells {
-        match record.cell(*j) {
-            Some(cell) => assert_eq!(rt; trimmed(cell), *wanted, "at {j}"),
-            None => assert!(rt; false, "no cell {j}"),
-        }
+        assert_eq!(rt;
+            record.cell(*j).map(|cell| trimmed(cell)),
+            *wanted,
+            "at {j}"
+        );
     }
 }
 
+/// Checks a cell of a record that is read as a value of a type.
+fn check_read<C: Cell + PartialEq + Debug + Drop>(
+    rt: &impl Abort,
+    record: &RecordRef<'_>,
+    j: u8,
+    wanted: Option<C>,
+)
+    requires least { 0 < C.WIDTH }
+    requires most { C.WIDTH ≤ 10 }
+{
+    assert_eq!(rt; record.read::<C>(j), wanted, "at {j}");
+}
+
+/// Checks typed cells of the acknowledgement.
+fn check_typed_cells(rt: &impl Abort, record: &RecordRef<'_>) {
+    let day = CivilDate::new(2024, 1, 2);
+    check_read(rt, record, 4, day);
+    check_read(rt, record, 4, day.map(|day| DateCell::Day(day)));
+    check_read(rt, record, 5, TimeOfDay::new(10, 15, 0));
+    check_read(rt, record, 6, Number::<5>::new(1));
+    check_read(rt, record, 7, Number::<8>::new(0));
+    let accepted = TransactionStatus::RegistrationAccepted;
+    check_read(rt, record, 13, Some(accepted));
+    check_read::<Number<8>>(rt, record, 2, None);
+}
+
 #[test]
-fn the_cells_of_an_acknowledgement(rt: HostRuntime) -> Result<(), Fail> {
-    let transaction = read_transaction(&rt)?;
-    assert_eq!(rt; transaction.len(), 1);
-    let cells: [(u8, &[u8]); 10] = [
-        (4, b"20240102"),
-        (5, b"101500"),
-        (6, b"00001"),
-        (7, b"00000000"),
-        (8, b"NWR"),
-        (9, b"BLUE RIVER"),
-        (10, b"W0001"),
-        (11, b""),
-        (12, b"20240110"),
-        (13, b"AS"),
+fn the_cells_of_an_acknowledgement(rt: HostRuntime) {
+    let cells: [(u8, Option<&[u8]>); 15] = [
+        (0, None),
+        (1, None),
+        (2, None),
+        (3, None),
+        (4, Some(b"20240102")),
+        (5, Some(b"101500")),
+        (6, Some(b"00001")),
+        (7, Some(b"00000000")),
+        (8, Some(b"NWR")),
+        (9, Some(b"BLUE RIVER")),
+        (10, Some(b"W0001")),
+        (11, Some(b"")),
+        (12, Some(b"20240110")),
+        (13, Some(b"AS")),
+        (14, None),
     ];
-    check_cells(&rt, &transaction, 0, Kind::Ack, &cells);
-    let record = transaction.record(0).ok_or("no record")?;
-    for j in [0, 1, 2, 3, 14] {
-        assert!(rt; record.cell(j).is_none(), "at {j}");
-    }
+    let transaction = read_transaction(&rt);
+    assert_eq!(rt; transaction.len(), 1);
     assert!(rt; transaction.record(1).is_none());
-    Ok(())
+    let record = transaction.record(0).expect(&rt, "no record");
+    assert_eq!(rt; record.kind(), Kind::Ack);
+    check_cells(&rt, &record, &cells);
 }
 
 #[test]
-fn the_typed_cells_of_an_acknowledgement(rt: HostRuntime) -> Result<(), Fail> {
-    let transaction = read_transaction(&rt)?;
-    let record = transaction.record(0).ok_or("no record")?;
-    let day = CivilDate::new(2024, 1, 2).ok_or("no day")?;
-    assert_eq!(rt; record.read::<CivilDate>(4), Some(day));
-    assert_eq!(rt; record.read::<DateCell>(4), Some(DateCell::Day(day)));
-    let time = TimeOfDay::new(10, 15, 0);
-    assert_eq!(rt; record.read::<TimeOfDay>(5), time);
-    assert_eq!(rt; record.read::<Number<5>>(6).map(u64::from), Some(1));
-    assert_eq!(rt; record.read::<Number<8>>(7).map(u64::from), Some(0));
-    let accepted = Some(TransactionStatus::RegistrationAccepted);
-    assert_eq!(rt; record.read::<TransactionStatus>(13), accepted);
-    assert!(rt; record.read::<Number<8>>(2).is_none());
-    Ok(())
+fn the_typed_cells_of_an_acknowledgement(rt: HostRuntime) {
+    let transaction = read_transaction(&rt);
+    let record = transaction.record(0).expect(&rt, "no record");
+    check_typed_cells(&rt, &record);
 }

@@ -1,8 +1,9 @@
-//! What the tests of decoders share: a decoder with the largest limits, and names of outcomes.
+//! What the tests of decoders share: worked texts, a decoder with the largest limits, and what its calls answer.
 
-use cwr_decode::{Decoder, Outcome};
+use cwr_decode::{Decoder, End, Outcome};
 use cwr_shape::Limits;
 use cwr_values::Item;
+use cwr_worked::texts::{canonical, trimmed_text};
 use std::process::Abort;
 
 /// The most records, groups and records of a transaction.
@@ -22,6 +23,24 @@ pub(crate) fn decoder(rt: &(impl Abort + AllocGlobal)) -> Decoder {
     decoder_within(rt, LARGEST)
 }
 
+/// The canonical text of lines.
+pub(crate) fn text_of(rt: &(impl Abort + AllocGlobal), lines: &[&[u8]]) -> Vec<u8> {
+    canonical(rt.alloc(), lines).expect(rt, "no memory")
+}
+
+/// The canonical text of lines, and again.
+pub(crate) fn twice_of(rt: &(impl Abort + AllocGlobal), lines: &[&[u8]]) -> Vec<u8> {
+    let text = text_of(rt, lines);
+    text.as_slice()
+        .repeat(rt.alloc(), 2)
+        .expect(rt, "no memory")
+}
+
+/// The text of lines without trailing spaces.
+pub(crate) fn short_text_of(rt: &(impl Abort + AllocGlobal), lines: &[&[u8]]) -> Vec<u8> {
+    trimmed_text(rt.alloc(), lines).expect(rt, "no memory")
+}
+
 /// The name of an outcome.
 pub(crate) fn name_of(outcome: &Outcome) -> &'static str {
     match outcome {
@@ -35,5 +54,26 @@ pub(crate) fn name_of(outcome: &Outcome) -> &'static str {
         Outcome::Truncated { .. } => "truncated",
         Outcome::Memory => "memory",
         Outcome::Done => "done",
+    }
+}
+
+/// Feeds a piece: how many bytes are used, and the name of the outcome.
+pub(crate) fn feed(decoder: &mut Decoder, piece: &[u8]) -> (usize, &'static str) {
+    let step = decoder.feed(piece);
+    (step.used, name_of(&step.outcome))
+}
+
+/// Takes the end of the input: the name of the outcome.
+pub(crate) fn finish(decoder: &mut Decoder) -> &'static str {
+    name_of(&decoder.finish().outcome)
+}
+
+/// How the input ends by an outcome after so many used bytes. `None` where the outcome is none of an end.
+pub(crate) fn end_by(outcome: &Outcome, used: usize) -> Option<End> {
+    match outcome {
+        Outcome::Refused(refusal) => Some(End::Refused(*refusal)),
+        Outcome::Truncated { records } => Some(End::Truncated { records: *records }),
+        Outcome::Item(Item::Ended) => Some(End::Accepted { used }),
+        _ => None,
     }
 }

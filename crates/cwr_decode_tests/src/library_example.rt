@@ -1,14 +1,14 @@
 //! The example of the library that README shows.
 
+use crate::decoders::text_of;
 use cwr_decode::{ReadFault, Reading};
 use cwr_fields::Counted;
 use cwr_layouts::Kind;
 use cwr_shape::Limits;
 use cwr_values::Item;
-use cwr_worked::texts::{TWO_GROUPS, canonical};
+use cwr_worked::texts::TWO_GROUPS;
 use std::alloc::Global;
 use std::io::Read;
-use std::test::Fail;
 
 /// How many works a transmission registers. It is read item by item: one transaction at most is in memory.
 fn new_works<I: Read + Drop>(alloc: Global, input: I) -> Result<u32, ReadFault> {
@@ -29,13 +29,10 @@ fn new_works<I: Read + Drop>(alloc: Global, input: I) -> Result<u32, ReadFault> 
 }
 
 #[test]
-fn new_works_are_counted(rt: HostRuntime) -> Result<(), Fail> {
-    let text = canonical(rt.alloc(), TWO_GROUPS)?;
+fn new_works_are_counted(rt: HostRuntime) {
+    let text = text_of(&rt, TWO_GROUPS);
     assert_eq!(rt; new_works(rt.alloc(), text.as_slice()), Ok(1));
-    let header = text.as_slice().get(..103).ok_or("no header")?;
-    assert_eq!(rt;
-        new_works(rt.alloc(), header),
-        Err(ReadFault::Truncated { records: 1 })
-    );
-    Ok(())
+    let header = text.as_slice().get(..103).unwrap_or(b"");
+    let truncated = Err(ReadFault::Truncated { records: 1 });
+    assert_eq!(rt; new_works(rt.alloc(), header), truncated);
 }

@@ -1,32 +1,26 @@
 //! Tests of lines that stand whole in a piece and of the same lines cut by a piece's end: a decoder answers both alike.
 
-use crate::decoders::{decoder, name_of};
+use crate::decoders::{decoder, feed, name_of, short_text_of, text_of};
 use cwr_decode::{Decoder, Outcome};
 use cwr_values::Item;
 use cwr_worked::texts::{
     AGREEMENT_OF_TWO_BLOCKS, ONE_ACKNOWLEDGEMENT, WORK_OF_ELEVEN, WORK_OF_ELEVEN_REORDERED,
-    canonical, trimmed_text,
 };
+use std::fmt::Write;
 use std::process::Abort;
-use std::test::Fail;
 
 /// Tells an answer: its name, and the transaction or the refusal that it has.
-fn tell(rt: &(impl Abort + AllocGlobal), outcome: &Outcome) -> String {
-    match outcome {
-        Outcome::Item(Item::Transaction(it)) => format!(in rt.alloc(); "{it:?} "),
-        Outcome::Refused(refusal) => format!(in rt.alloc(); "refused {refusal} "),
-        _ => format!(in rt.alloc(); "{} ", name_of(outcome)),
-    }
-    .expect(rt, "no memory")
+fn tell(rt: &impl Abort, outcome: &Outcome, told: &mut String) {
+    let answer = match outcome {
+        Outcome::Item(Item::Transaction(it)) => write!(told, "{it:?} "),
+        Outcome::Refused(refusal) => write!(told, "refused {refusal} "),
+        _ => write!(told, "{} ", name_of(outcome)),
+    };
+    answer.expect(rt, "no memory");
 }
 
 /// Feeds a piece, and adds to what was told until more is needed or no item comes: whether more is needed.
-fn feed_piece(
-    rt: &(impl Abort + AllocGlobal),
-    decoder: &mut Decoder,
-    piece: &[u8],
-    told: &mut String,
-) -> bool {
+fn feed_piece(rt: &impl Abort, decoder: &mut Decoder, piece: &[u8], told: &mut String) -> bool {
     let mut used: usize = 0;
     for _ in 0..9 {
         let step = decoder.feed(piece.get(used..).unwrap_or(b""));
@@ -34,8 +28,7 @@ fn feed_piece(
         if let Outcome::More = step.outcome {
             return true;
         }
-        told.push_str(&tell(rt, &step.outcome))
-            .expect(rt, "no memory");
+        tell(rt, &step.outcome, told);
         let Outcome::Item(_) = step.outcome else {
             return false;
         };
@@ -50,8 +43,7 @@ fn told_of(rt: &(impl Abort + AllocGlobal), first: &[u8], second: &[u8]) -> Stri
     if feed_piece(rt, &mut decoder, first, &mut told)
         && feed_piece(rt, &mut decoder, second, &mut told)
     {
-        told.push_str(&tell(rt, &decoder.finish().outcome))
-            .expect(rt, "no memory");
+        tell(rt, &decoder.finish().outcome, &mut told);
     }
     told
 }
@@ -72,17 +64,23 @@ fn check_cuts(
 }
 
 #[test]
-fn lines_cut_at_each_byte(rt: HostRuntime) -> Result<(), Fail> {
+fn lines_cut_at_each_byte(rt: HostRuntime) {
     // Through SPT, OPU and SWR in full width, and through lines without trailing spaces.
-    let text = canonical(rt.alloc(), WORK_OF_ELEVEN)?;
-    check_cuts(&rt, &text, (575, 1010), false);
-    let text = trimmed_text(rt.alloc(), WORK_OF_ELEVEN)?;
-    check_cuts(&rt, &text, (300, 500), false);
-    Ok(())
+    check_cuts(&rt, &text_of(&rt, WORK_OF_ELEVEN), (575, 1010), false);
+    check_cuts(&rt, &short_text_of(&rt, WORK_OF_ELEVEN), (300, 500), false);
+}
+
+/// Checks that the text of a work in which a byte is changed is refused, wherever it is cut in SPT.
+fn check_changed(rt: &(impl Abort + AllocGlobal), at: usize, byte: u8) {
+    let mut text = text_of(rt, WORK_OF_ELEVEN);
+    if let Some(changed) = text.as_mut_slice().get_mut(at) {
+        *changed = byte;
+    }
+    check_cuts(rt, &text, (570, 840), true);
 }
 
 #[test]
-fn refused_lines_cut_at_each_byte(rt: HostRuntime) -> Result<(), Fail> {
+fn refused_lines_cut_at_each_byte(rt: HostRuntime) {
     // In SPT: the last letter of its kind, a sequence, a cell of text, a share, and its line end.
     let changes = [
         (582, b'X'),
@@ -95,13 +93,8 @@ fn refused_lines_cut_at_each_byte(rt: HostRuntime) -> Result<(), Fail> {
         (639, 7),
     ];
     for (at, byte) in changes {
-        let mut text = canonical(rt.alloc(), WORK_OF_ELEVEN)?;
-        if let Some(changed) = text.as_mut_slice().get_mut(at) {
-            *changed = byte;
-        }
-        check_cuts(&rt, &text, (570, 840), true);
+        check_changed(&rt, at, byte);
     }
-    Ok(())
 }
 
 /// How many records of a transaction are open after a line, where so many were before it.
@@ -113,25 +106,34 @@ fn open_after(line: &[u8], open: usize) -> usize {
     }
 }
 
+/// How many records the transaction has that an outcome hands out, if it does.
+fn handed_out(outcome: &Outcome) -> Option<usize> {
+    match outcome {
+        Outcome::Item(Item::Transaction(it)) => Some(it.len()),
+        _ => None,
+    }
+}
+
+/// Feeds a byte: how many records the transaction has that is handed out, and what the decoder holds.
+fn feed_byte(decoder: &mut Decoder, byte: u8) -> (Option<usize>, (usize, usize)) {
+    let len = handed_out(&decoder.feed(&[byte]).outcome);
+    (len, decoder.holds())
+}
+
 /// Checks what a decoder holds after each byte of a text: the line that is read, and the records of the open transaction.
 fn check_holds(rt: &(impl Abort + AllocGlobal), text: &[u8]) {
     let mut decoder = decoder(rt);
     let (mut start, mut open) = (0, 0);
     for (at, byte) in text.iter().enumerate() {
         let line = text.get(start..at).unwrap_or(b"");
-        let answered = decoder.feed(&[*byte]).outcome;
-        let now = (line.len().saturating_add(1), open);
+        let (len, holds) = feed_byte(&mut decoder, *byte);
         if *byte != b'\n' {
-            assert_eq!(rt; decoder.holds(), now, "at {at}");
+            assert_eq!(rt; holds, (line.len().saturating_add(1), open), "at {at}");
             continue;
         }
-        if let Outcome::Item(Item::Transaction(it)) = answered {
-            assert_eq!(rt;
-                (it.len(), decoder.holds()),
-                (open, (line.len(), 0)),
-                "at {at}"
-            );
-            let _waited = decoder.feed(b"");
+        if let Some(len) = len {
+            assert_eq!(rt; (len, holds), (open, (line.len(), 0)), "at {at}");
+            let _waited = feed(&mut decoder, b"");
         }
         open = open_after(line, open);
         start = at.saturating_add(1);
@@ -140,15 +142,14 @@ fn check_holds(rt: &(impl Abort + AllocGlobal), text: &[u8]) {
 }
 
 #[test]
-fn holds_after_each_byte(rt: HostRuntime) -> Result<(), Fail> {
+fn holds_after_each_byte(rt: HostRuntime) {
     for lines in [
         ONE_ACKNOWLEDGEMENT,
         WORK_OF_ELEVEN,
         WORK_OF_ELEVEN_REORDERED,
         AGREEMENT_OF_TWO_BLOCKS,
     ] {
-        check_holds(&rt, &canonical(rt.alloc(), lines)?);
-        check_holds(&rt, &trimmed_text(rt.alloc(), lines)?);
+        check_holds(&rt, &text_of(&rt, lines));
+        check_holds(&rt, &short_text_of(&rt, lines));
     }
-    Ok(())
 }

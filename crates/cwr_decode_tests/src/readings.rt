@@ -2,13 +2,13 @@
 
 ghost use Rattle.std.specs.Prelude.{◌≡◌, ◌≤◌, Some, length};
 
+use crate::decoders::{text_of, twice_of};
 use cwr_decode::{ReadFault, Reading};
 use cwr_fields::{Counted, DeviceFault, Source};
 use cwr_shape::Limits;
 use cwr_values::Item;
-use cwr_worked::texts::{ONE_ACKNOWLEDGEMENT, TWO_GROUPS, canonical};
+use cwr_worked::texts::{ONE_ACKNOWLEDGEMENT, TWO_GROUPS};
 use std::process::Abort;
-use std::test::Fail;
 
 /// The largest limits.
 fn largest() -> Limits {
@@ -39,21 +39,21 @@ fn check_seven<R: Source>(rt: &(impl Abort + AllocGlobal), reader: &mut R, names
     }
 }
 
+/// What seven calls answer on one acknowledgement.
+const ITEMS: [&str; 7] = [
+    "opened",
+    "group opened",
+    "transaction",
+    "group closed",
+    "ended",
+    "none",
+    "none",
+];
+
 #[test]
-fn reads_the_items_of_one_acknowledgement(rt: HostRuntime) -> Result<(), Fail> {
-    let text = canonical(rt.alloc(), ONE_ACKNOWLEDGEMENT)?;
-    let mut reader = Counted::new(text.as_slice());
-    let names = [
-        "opened",
-        "group opened",
-        "transaction",
-        "group closed",
-        "ended",
-        "none",
-        "none",
-    ];
-    check_seven(&rt, &mut reader, names);
-    Ok(())
+fn reads_the_items_of_one_acknowledgement(rt: HostRuntime) {
+    let text = text_of(&rt, ONE_ACKNOWLEDGEMENT);
+    check_seven(&rt, &mut Counted::new(text.as_slice()), ITEMS);
 }
 
 /// A reader over memory. It shows a hundred bytes at most, and one of its calls fails.
@@ -137,15 +137,29 @@ impl Source for FailsAtEnd<'_> {
     }
 }
 
-#[test]
-fn a_reader_that_fails_once_is_read_on(rt: HostRuntime) -> Result<(), Fail> {
-    let text = canonical(rt.alloc(), ONE_ACKNOWLEDGEMENT)?;
-    let mut reader = FailsOnce {
-        left: text.as_slice(),
-        until: Some(1),
+/// A reader over the text, whose call after so many others fails.
+fn failing_once(text: &[u8], until: u8) -> FailsOnce<'_> {
+    FailsOnce {
+        left: text,
+        until: Some(until),
         shown: 0,
         failures: 0,
-    };
+    }
+}
+
+/// A reader over the text, which fails where nothing is left.
+fn failing_at_end(text: &[u8]) -> FailsAtEnd<'_> {
+    FailsAtEnd {
+        left: text,
+        shown: 0,
+        failures: 0,
+    }
+}
+
+#[test]
+fn a_reader_that_fails_once_is_read_on(rt: HostRuntime) {
+    let text = text_of(&rt, ONE_ACKNOWLEDGEMENT);
+    let mut reader = failing_once(text.as_slice(), 1);
     let names = [
         "reader",
         "opened",
@@ -157,7 +171,6 @@ fn a_reader_that_fails_once_is_read_on(rt: HostRuntime) -> Result<(), Fail> {
     ];
     check_seven(&rt, &mut reader, names);
     assert_eq!(rt; (reader.left.len(), reader.failures), (0, 1));
-    Ok(())
 }
 
 /// How many items a reader gives, and how many of its calls fail.
@@ -166,38 +179,28 @@ fn count_read<R: Source>(rt: &(impl Abort + AllocGlobal), reader: &mut R) -> (us
     let mut items: usize = 0;
     let mut faults: usize = 0;
     for _ in 0..12 {
-        match reading.next_item() {
-            Ok(Some(_)) => items = items.saturating_add(1),
-            Err(ReadFault::Reader) => faults = faults.saturating_add(1),
-            _ => break,
+        match word_for(reading.next_item()) {
+            "none" => break,
+            "reader" => faults = faults.saturating_add(1),
+            _ => items = items.saturating_add(1),
         }
     }
     (items, faults)
 }
 
 #[test]
-fn each_call_of_a_reader_fails_once(rt: HostRuntime) -> Result<(), Fail> {
-    let text = canonical(rt.alloc(), TWO_GROUPS)?;
+fn each_call_of_a_reader_fails_once(rt: HostRuntime) {
+    let text = text_of(&rt, TWO_GROUPS);
     for until in 0..16 {
-        let mut reader = FailsOnce {
-            left: text.as_slice(),
-            until: Some(until),
-            shown: 0,
-            failures: 0,
-        };
+        let mut reader = failing_once(text.as_slice(), until);
         assert_eq!(rt; count_read(&rt, &mut reader), (9, 1), "call {until}");
     }
-    Ok(())
 }
 
 #[test]
-fn a_reader_that_fails_at_its_end_fails_each_time(rt: HostRuntime) -> Result<(), Fail> {
-    let text = canonical(rt.alloc(), ONE_ACKNOWLEDGEMENT)?;
-    let mut reader = FailsAtEnd {
-        left: text.as_slice().get(..333).ok_or("no front")?,
-        shown: 0,
-        failures: 0,
-    };
+fn a_reader_that_fails_at_its_end_fails_each_time(rt: HostRuntime) {
+    let text = text_of(&rt, ONE_ACKNOWLEDGEMENT);
+    let mut reader = failing_at_end(text.as_slice().get(..333).unwrap_or(b""));
     let names = [
         "opened",
         "group opened",
@@ -209,35 +212,18 @@ fn a_reader_that_fails_at_its_end_fails_each_time(rt: HostRuntime) -> Result<(),
     ];
     check_seven(&rt, &mut reader, names);
     assert_eq!(rt; (reader.left.len(), reader.failures), (0, 3));
-    Ok(())
 }
 
 #[test]
-fn two_transmissions_are_read_one_after_another(rt: HostRuntime) -> Result<(), Fail> {
-    let mut text = canonical(rt.alloc(), ONE_ACKNOWLEDGEMENT)?;
-    text.extend_from_slice(canonical(rt.alloc(), ONE_ACKNOWLEDGEMENT)?.as_slice())?;
-    let mut reader = FailsAtEnd {
-        left: text.as_slice(),
-        shown: 0,
-        failures: 0,
-    };
-    let names = [
-        "opened",
-        "group opened",
-        "transaction",
-        "group closed",
-        "ended",
-        "none",
-        "none",
-    ];
+fn two_transmissions_are_read_one_after_another(rt: HostRuntime) {
+    let text = twice_of(&rt, ONE_ACKNOWLEDGEMENT);
+    let mut reader = failing_at_end(text.as_slice());
     for left in [359, 0] {
-        check_seven(&rt, &mut reader, names);
+        check_seven(&rt, &mut reader, ITEMS);
         assert_eq!(rt; (reader.left.len(), reader.failures), (left, 0));
     }
     let mut reader = Counted::new(text.as_slice());
-    for _ in 0..2 {
+    for names in [ITEMS, ITEMS, ["truncated"; 7]] {
         check_seven(&rt, &mut reader, names);
     }
-    check_seven(&rt, &mut reader, ["truncated"; 7]);
-    Ok(())
 }

@@ -1,14 +1,12 @@
 //! Tests of the first field of a line that is wrong, and why, on written lines after the records of worked transmissions.
 
-use crate::decoders::{decoder, name_of};
+use crate::decoders::{decoder, end_by, feed, text_of};
 use crate::refused_texts::check_refused;
-use cwr_decode::{Outcome, Refusal};
+use cwr_decode::{End, Refusal};
 use cwr_fields::CellFault;
 use cwr_shape::{Level, Reason};
 use cwr_worked::lines::{ACK_0, GRH_ACK, GRH_NWR, HDR, HDR_OF_ANOTHER_VERSION, NWR_0, SWR_0_1};
-use cwr_worked::texts::canonical;
-use std::alloc::{AllocError, Global};
-use std::test::Fail;
+use std::process::Abort;
 
 /// Lines that were accepted, how many items they give, and the number of the next record.
 type Before = (&'static [&'static [u8]], usize, u32);
@@ -31,8 +29,17 @@ const ROCK: &[u8] =
 
 /// The records before a line, the line, bytes that stand in it instead from a place on, and the field at which it is
 /// refused, the level and the reason.
+type RefusedLine = (
+    Before,
+    &'static [u8],
+    &'static [(usize, &'static [u8])],
+    u8,
+    Level,
+    Reason,
+);
+
 #[rattlefmt::skip]
-static LINES: [(Before, &[u8], &[(usize, &[u8])], u8, Level, Reason); 23] = [
+static LINES: [RefusedLine; 23] = [
     (HEADER, b"GRHXYZ0000102.100000000001", &[], 2, Level::G, Reason::Cell(CellFault::NotACode)),
     (HEADER, b"GRHACK0000202.100000000001", &[], 3, Level::G, Reason::Number { expected: 1 }),
     (HEADER, b"GRHACK0000102.000000000001", &[], 4, Level::G, Reason::Cell(CellFault::NotConstant)),
@@ -67,64 +74,66 @@ fn put(text: &mut [u8], start: usize, bytes: &[u8]) {
     }
 }
 
+/// The text of a row: the records before its line, and the line with the other bytes in it.
+fn text_with(rt: &(impl Abort + AllocGlobal), row: &RefusedLine) -> Vec<u8> {
+    let (before, line, changes, ..) = *row;
+    let mut text = text_of(rt, before.0);
+    let start = text.len();
+    text.extend_from_slice(line).expect(rt, "no memory");
+    for (at, bytes) in changes {
+        put(text.as_mut_slice(), start.saturating_add(*at), bytes);
+    }
+    text.push(b'\n').expect(rt, "no memory");
+    text
+}
+
 #[test]
-fn lines_are_refused_at_their_first_wrong_field(rt: HostRuntime) -> Result<(), Fail> {
-    for (before, line, changes, field, level, reason) in &LINES {
-        let mut text = canonical(rt.alloc(), before.0)?;
-        let start = text.len();
-        text.extend_from_slice(line)?;
-        for (at, bytes) in *changes {
-            put(text.as_mut_slice(), start.saturating_add(*at), bytes);
-        }
-        text.push(b'\n')?;
+fn lines_are_refused_at_their_first_wrong_field(rt: HostRuntime) {
+    for row in &LINES {
+        let text = text_with(&rt, row);
+        let (before, .., field, level, reason) = *row;
         let expected = Refusal {
             rec: before.2,
-            field: *field,
-            level: *level,
-            reason: *reason,
+            field,
+            level,
+            reason,
         };
         check_refused(&rt, decoder(&rt), text.as_slice(), before.1, expected);
     }
-    Ok(())
 }
 
-/// A line that is filled up with spaces to so many bytes.
-fn fill_up(alloc: Global, line: &[u8], len: usize) -> Result<Vec<u8>, AllocError> {
-    let mut text = line.to_vec(alloc)?;
-    for _ in line.len()..len {
-        text.push(b' ')?;
-    }
-    Ok(text)
+/// A line that is filled up with spaces to so many bytes, and its line end.
+fn fill_up(rt: &(impl Abort + AllocGlobal), line: &[u8], len: usize, end: &[u8]) -> Vec<u8> {
+    let mut text = line.to_vec(rt.alloc()).expect(rt, "no memory");
+    text.resize(len, b' ').expect(rt, "no memory");
+    text.extend_from_slice(end).expect(rt, "no memory");
+    text
+}
+
+/// Feeds a text: how many bytes are used, and how the input ends by the outcome.
+fn feed_end(rt: &(impl Abort + AllocGlobal), text: &[u8]) -> (usize, Option<End>) {
+    let step = decoder(rt).feed(text);
+    (step.used, end_by(&step.outcome, step.used))
 }
 
 #[test]
-fn long_lines(rt: HostRuntime) -> Result<(), Fail> {
+fn long_lines(rt: HostRuntime) {
+    let other_version = Reason::Cell(CellFault::NotConstant);
     for (line, field, reason) in [
         (HDR, 10, Reason::Excess),
-        (
-            HDR_OF_ANOTHER_VERSION,
-            5,
-            Reason::Cell(CellFault::NotConstant),
-        ),
+        (HDR_OF_ANOTHER_VERSION, 5, other_version),
     ] {
-        let text = fill_up(rt.alloc(), line, 1025)?;
-        let mut decoder = decoder(&rt);
-        let step = decoder.feed(text.as_slice());
-        assert_eq!(rt; step.used, 1024);
-        match step.outcome {
-            Outcome::Refused(refusal) => {
-                assert_eq!(rt;
-                    (refusal.rec, refusal.field, refusal.level, refusal.reason),
-                    (1, field, Level::E, reason)
-                );
-            }
-            outcome => assert_eq!(rt; name_of(&outcome), "refused"),
-        }
+        let text = fill_up(&rt, line, 1025, b"");
+        let refusal = Refusal {
+            rec: 1,
+            field,
+            level: Level::E,
+            reason,
+        };
+        let refused = Some(End::Refused(refusal));
+        assert_eq!(rt; feed_end(&rt, text.as_slice()), (1024, refused));
     }
-    let mut text = fill_up(rt.alloc(), HDR, 1024)?;
-    text.push(b'\n')?;
-    let mut decoder = decoder(&rt);
-    let step = decoder.feed(text.as_slice());
-    assert_eq!(rt; (step.used, name_of(&step.outcome)), (1025, "opened"));
-    Ok(())
+    let text = fill_up(&rt, HDR, 1024, b"\n");
+    let answer = feed(&mut decoder(&rt), text.as_slice());
+    assert_eq!(rt; answer, (1025, "opened"));
 }

@@ -1,15 +1,14 @@
 //! Tests of decoders over texts that are refused: how many items come before that, and the record, the field, the level
 //! and the reason of the refusal.
 
-use crate::decoders::{LARGEST, Numbers, decoder, decoder_within, name_of};
-use cwr_decode::{Decoder, Outcome, Refusal};
+use crate::decoders::{LARGEST, Numbers, decoder, decoder_within, end_by, feed, finish, text_of};
+use cwr_decode::{Decoder, End, Outcome, Refusal};
 use cwr_fields::CellFault;
 use cwr_shape::Reason::{Limit, Misplaced, UnknownKind};
 use cwr_shape::{Level, LimitKind, Reason};
 use cwr_worked::lines::*;
-use cwr_worked::texts::{AGREEMENT_OF_TWO_BLOCKS, canonical};
+use cwr_worked::texts::AGREEMENT_OF_TWO_BLOCKS;
 use std::process::Abort;
-use std::test::Fail;
 
 /// HDR, GRH and the bare header of a work, which ends without a writer.
 const WORK_WITHOUT_WRITER: &[&[u8]] = &[HDR, GRH_NWR, NWR_0, b"GRT000010000000100000003"];
@@ -68,6 +67,12 @@ static LIMITS: [Refused; 13] = [
     ((99_999_999, 99_999, 2), &[HDR, GRH_ACK, ACK_0, NWR_0_1], 2, (4, 1, Level::T, Limit(LimitKind::Transaction))),
 ];
 
+/// Feeds what is left of a text: how many bytes are used, and whether an item comes.
+fn feed_item(decoder: &mut Decoder, left: &[u8]) -> (usize, bool) {
+    let step = decoder.feed(left);
+    (step.used, matches!(step.outcome, Outcome::Item(_)))
+}
+
 /// Checks that a text that is fed whole gives so many items and is then refused so, however often it is asked.
 pub(crate) fn check_refused(
     rt: &impl Abort,
@@ -78,49 +83,53 @@ pub(crate) fn check_refused(
 ) {
     let mut left = text;
     for _ in 0..items {
-        let step = decoder.feed(left);
-        assert!(rt; matches!(step.outcome, Outcome::Item(_)));
-        left = left.get(step.used..).unwrap_or(b"");
+        let (used, is_item) = feed_item(&mut decoder, left);
+        assert!(rt; is_item);
+        left = left.get(used..).unwrap_or(b"");
     }
     for _ in 0..2 {
-        match decoder.feed(left).outcome {
-            Outcome::Refused(refusal) => assert_eq!(rt; refusal, expected),
-            outcome => assert_eq!(rt; name_of(&outcome), "refused"),
-        }
-        assert_eq!(rt; decoder.feed(left).used, 0);
+        let ended = end_by(&decoder.feed(left).outcome, 0);
+        assert_eq!(rt; ended, Some(End::Refused(expected)));
+        assert_eq!(rt; feed(&mut decoder, left), (0, "refused"));
     }
     assert_eq!(rt; decoder.holds(), (0, 0));
-    assert_eq!(rt; name_of(&decoder.finish().outcome), "refused");
+    assert_eq!(rt; finish(&mut decoder), "refused");
 }
 
-#[test]
-fn texts_are_refused_at_their_first_wrong_field(rt: HostRuntime) -> Result<(), Fail> {
-    for table in [
-        COUNTS_AND_CELLS.as_slice(),
-        ORDERS.as_slice(),
-        LIMITS.as_slice(),
-    ] {
-        for (limits, lines, items, (rec, field, level, reason)) in table {
-            let text = canonical(rt.alloc(), lines)?;
-            let decoder = decoder_within(&rt, *limits);
-            let expected = Refusal {
-                rec: *rec,
-                field: *field,
-                level: *level,
-                reason: *reason,
-            };
-            check_refused(&rt, decoder, text.as_slice(), *items, expected);
-        }
+/// Checks that the lines are refused as the row says.
+fn check_row(rt: &(impl Abort + AllocGlobal), row: &Refused) {
+    let (limits, lines, items, (rec, field, level, reason)) = *row;
+    let text = text_of(rt, lines);
+    let expected = Refusal {
+        rec,
+        field,
+        level,
+        reason,
+    };
+    let decoder = decoder_within(rt, limits);
+    check_refused(rt, decoder, text.as_slice(), items, expected);
+}
+
+/// Checks each row.
+fn check_rows(rt: &(impl Abort + AllocGlobal), rows: &[Refused]) {
+    for row in rows {
+        check_row(rt, row);
     }
-    Ok(())
 }
 
 #[test]
-fn a_carried_record_ends_with_its_text(rt: HostRuntime) -> Result<(), Fail> {
-    let mut text = canonical(rt.alloc(), &[HDR, GRH_NWR, NWR_0, IND_0_1])?;
+fn texts_are_refused_at_their_first_wrong_field(rt: HostRuntime) {
+    check_rows(&rt, &COUNTS_AND_CELLS);
+    check_rows(&rt, &ORDERS);
+    check_rows(&rt, &LIMITS);
+}
+
+#[test]
+fn a_carried_record_ends_with_its_text(rt: HostRuntime) {
+    let mut text = text_of(&rt, &[HDR, GRH_NWR, NWR_0, IND_0_1]);
     // CR LF of the last line go, and a byte stands after the text
     text.truncate(text.len().saturating_sub(2));
-    text.extend_from_slice(b"X\r\n")?;
+    text.extend_from_slice(b"X\r\n").expect(&rt, "no memory");
     let expected = Refusal {
         rec: 4,
         field: 5,
@@ -128,20 +137,16 @@ fn a_carried_record_ends_with_its_text(rt: HostRuntime) -> Result<(), Fail> {
         reason: Reason::Excess,
     };
     check_refused(&rt, decoder(&rt), text.as_slice(), 2, expected);
-    Ok(())
 }
 
 #[test]
-fn a_refusal_comes_with_the_line_feed(rt: HostRuntime) -> Result<(), Fail> {
-    let text = canonical(rt.alloc(), WORK_WITHOUT_WRITER)?;
+fn a_refusal_comes_with_the_line_feed(rt: HostRuntime) {
+    let text = text_of(&rt, WORK_WITHOUT_WRITER);
     let mut decoder = decoder(&rt);
-    let mut refused_at = None;
+    let last = text.len().saturating_sub(1);
     for (at, byte) in text.iter().enumerate() {
-        if let Outcome::Refused(_) = decoder.feed(&[*byte]).outcome {
-            refused_at = refused_at.or(Some(at));
-        }
+        let (_, name) = feed(&mut decoder, &[*byte]);
+        assert_eq!(rt; name == "refused", at == last, "at {at}");
     }
-    assert_eq!(rt; refused_at, Some(text.len().saturating_sub(1)));
     assert_eq!(rt; decoder.holds(), (0, 0));
-    Ok(())
 }

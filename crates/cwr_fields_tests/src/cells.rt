@@ -57,12 +57,8 @@ static FAULTS: [(CellFault, &str); 8] = [
 #[test]
 fn faults_are_printed(rt: HostRuntime) {
     for (fault, text) in &FAULTS {
-        assert_eq!(rt;
-            format!(in rt.alloc(); "{fault}")
-                .expect(&rt, "no memory")
-                .as_str(),
-            *text
-        );
+        let printed = format!(in rt.alloc(); "{fault}").expect(&rt, "no memory");
+        assert_eq!(rt; printed.as_str(), *text);
     }
     let printed = format!(in rt.alloc(); "[{DeviceFault:>18}]").expect(&rt, "no memory");
     assert_eq!(rt; printed.as_str(), "[ the device failed]");

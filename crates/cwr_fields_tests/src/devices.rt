@@ -2,26 +2,29 @@
 
 use cwr_fields::{Counted, DeviceFault, Source, Target};
 use std::io;
-use std::io::{BufRead, ErrorKind, Read, Write};
+use std::io::{ErrorKind, Read, Write};
+use std::process::Abort;
+
+/// Checks the bytes that are there, and consumes so many.
+fn check_read<S: Source>(rt: &impl Abort, source: &mut S, wanted: &[u8], count: usize) {
+    let bytes = source.fill().expect(rt, "no bytes");
+    assert_eq!(rt; bytes, wanted);
+    let count = count.min(bytes.len());
+    source.consume(count);
+}
 
 #[test]
 fn reads_through(rt: HostRuntime) {
     let mut source = Counted::new(b"HDR".as_slice());
-    let bytes = source.fill().expect(&rt, "no bytes");
-    assert_eq!(rt; bytes, b"HDR".as_slice());
-    source.consume(2);
-    let bytes = source.fill().expect(&rt, "no bytes");
-    assert_eq!(rt; bytes, b"R".as_slice());
-    source.consume(1);
-    let bytes = source.fill().expect(&rt, "no bytes");
-    assert!(rt; bytes.is_empty());
+    check_read(&rt, &mut source, b"HDR", 2);
+    check_read(&rt, &mut source, b"R", 1);
+    check_read(&rt, &mut source, b"", 0);
 }
 
 #[test]
 fn writes_through(rt: HostRuntime) {
     let mut target = Counted::new(Vec::new(rt.alloc()));
-    assert_eq!(rt; target.write(b"TRL"), Ok(3));
-    assert_eq!(rt; target.flush(), Ok(()));
+    assert_eq!(rt; (target.write(b"TRL"), target.flush()), (Ok(3), Ok(())));
     assert_eq!(rt; target.into_inner().as_slice(), b"TRL".as_slice());
 }
 
@@ -47,14 +50,6 @@ impl Read for Broken {
     }
 }
 
-impl BufRead for Broken {
-    fn fill_buf(&mut self) -> io::Result<&[u8]> {
-        Err(io::Error::from(ErrorKind::Other))
-    }
-
-    fn consume(&mut self, _amount: usize) {}
-}
-
 impl Write for Broken {
     fn write(&mut self, _text: &[u8]) -> io::Result<usize> {
         Ok(0)
@@ -66,16 +61,18 @@ impl Write for Broken {
 }
 
 #[test]
-fn devices_fail(rt: HostRuntime) {
+fn readers_fail(rt: HostRuntime) {
     let mut source = Counted::new(Broken { works: false });
-    let bytes = source.fill().expect(&rt, "no bytes");
-    assert_eq!(rt; bytes, b"A".as_slice());
-    source.consume(1);
+    check_read(&rt, &mut source, b"A", 1);
     assert_eq!(rt; source.fill(), Err(DeviceFault));
-    let bytes = source.fill().expect(&rt, "no bytes");
-    assert_eq!(rt; bytes, b"A".as_slice());
+    check_read(&rt, &mut source, b"A", 0);
+}
+
+#[test]
+fn writers_fail(rt: HostRuntime) {
     let mut target = Counted::new(Broken { works: true });
-    assert_eq!(rt; target.write(b"A"), Err(DeviceFault));
-    assert_eq!(rt; target.write(b""), Ok(0));
+    for (text, answer) in [(b"A".as_slice(), Err(DeviceFault)), (b"", Ok(0))] {
+        assert_eq!(rt; target.write(text), answer);
+    }
     assert_eq!(rt; target.flush(), Err(DeviceFault));
 }

@@ -99,27 +99,30 @@ fn quick_tests_of_each_type(rt: HostRuntime) {
     }
 }
 
+/// Texts, pairs of numbers, and whether they are in the text. A pair is asked for after those before it.
+static PAIRS: [(&[u8; 16], u64, u64, bool); 15] = [
+    (b"0000000000000000", 0, 0, true),
+    (b"0000001299999999", 12, 99999999, true),
+    (b"0000001200000000", 12, 100000000, true),
+    (b"0000000900000099", 9, 99, true),
+    (b"0000001000000100", 10, 100, true),
+    (b"0000001100000101", 11, 101, true),
+    (b"0000001200000007", 12, 7, true),
+    (b"0000001200000007", 12, 8, false),
+    (b"0000001200000007", 12, 7, true),
+    (b"0000001100000007", 12, 7, false),
+    (b"0000001200000008", 12, 7, false),
+    (b"0000001A00000007", 12, 7, false),
+    (b"      1200000007", 12, 7, false),
+    (b"000000120000000/", 12, 7, false),
+    (b"00000012:0000007", 12, 7, false),
+];
+
 #[test]
 fn pairs_of_numbers(rt: HostRuntime) {
     let mut pair = SpelledPair::new();
-    assert!(rt; pair.are_in(b"0000000000000000", 0, 0));
-    assert!(rt; pair.are_in(b"0000001299999999", 12, 99999999));
-    assert!(rt; pair.are_in(b"0000001200000000", 12, 100000000));
-    assert!(rt; pair.are_in(b"0000000900000099", 9, 99));
-    assert!(rt; pair.are_in(b"0000001000000100", 10, 100));
-    assert!(rt; pair.are_in(b"0000001100000101", 11, 101));
-    assert!(rt; pair.are_in(b"0000001200000007", 12, 7));
-    assert!(rt; !pair.are_in(b"0000001200000007", 12, 8));
-    assert!(rt; pair.are_in(b"0000001200000007", 12, 7));
-    let others = [
-        b"0000001100000007",
-        b"0000001200000008",
-        b"0000001A00000007",
-        b"      1200000007",
-        b"000000120000000/",
-        b"00000012:0000007",
-    ];
-    for text in others {
-        assert!(rt; !pair.are_in(text, 12, 7));
+    for (text, first, second, wanted) in &PAIRS {
+        let found = pair.are_in(*text, *first, *second);
+        assert_eq!(rt; found, *wanted, "{first} {second}");
     }
 }

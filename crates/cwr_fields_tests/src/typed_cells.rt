@@ -7,6 +7,8 @@ use cwr_fields::{
     TimeOfDay,
 };
 use jiff::civil::{Date, date, time};
+use std::fmt::Display;
+use std::process::Abort;
 use std::time::Duration;
 
 /// Whether the cell is read, and written back as it was.
@@ -24,56 +26,69 @@ fn reads_back<C: Cell>(cell: &[u8]) -> bool
     }
 }
 
+/// Checks that each of the first cells is read and written back as it was, and that none of the others is read.
+fn check_cells<C: Cell, R: Abort>(rt: &R, good: &[&[u8]], bad: &[&[u8]])
+    requires least { 0 < C.WIDTH }
+    requires most { C.WIDTH ≤ 10 }
+{
+    for cell in good {
+        assert!(rt; reads_back::<C>(cell), "{cell:?}");
+    }
+    for cell in bad {
+        assert!(rt; C::read(cell).is_none(), "{cell:?}");
+    }
+}
+
 #[test]
 fn numbers(rt: HostRuntime) {
-    assert_eq!(rt; Number::<5>::new(99999).map(Number::value), Some(99999));
-    assert!(rt; Number::<5>::new(100000).is_none());
-    let mut cell = [0; 5];
-    if let Some(seven) = Number::<5>::new(7) {
-        seven.write(&mut cell);
-        assert_eq!(rt; u64::from(seven), 7);
-    }
-    assert_eq!(rt; &cell, b"00007");
-    assert_eq!(rt; Number::<5>::try_from(99999).map(Number::value), Ok(99999));
-    assert_eq!(rt; Number::<5>::try_from(100000), Err(OutOfRange));
+    check_cells::<Number<10>, _>(&rt, &[b"9999999999"], &[]);
+    check_cells::<Number<1>, _>(&rt, &[b"0"], &[]);
+    check_cells::<Number<5>, _>(&rt, &[b"00007"], &[b"1234", b"1234x", b"     "]);
+    assert_eq!(rt; made(99999), (Some(99999), Ok(99999)));
+    assert_eq!(rt; made(100000), (None, Err(OutOfRange)));
     assert_eq!(rt; Number::<11>::try_from(0), Err(OutOfRange));
-    assert!(rt; reads_back::<Number<10>>(b"9999999999"));
-    assert!(rt; reads_back::<Number<1>>(b"0"));
-    assert!(rt; Number::<5>::read(b"1234").is_none());
-    assert!(rt; Number::<5>::read(b"1234x").is_none());
-    assert!(rt; Number::<5>::read(b"     ").is_none());
+}
+
+/// The value of a number of five digits, made in two ways.
+fn made(value: u64) -> (Option<u64>, Result<u64, OutOfRange>) {
+    (
+        Number::<5>::new(value).map(Number::value),
+        Number::<5>::try_from(value).map(Number::value),
+    )
+}
+
+#[test]
+fn cells_of_numbers(rt: HostRuntime) {
+    let seven = Number::<5>::new(7).expect(&rt, "no number");
+    let mut cell = [0; 5];
+    seven.write(&mut cell);
+    assert_eq!(rt; (&cell, u64::from(seven)), (b"00007", 7));
 }
 
 #[test]
 fn shares(rt: HostRuntime) {
+    let good: [&[u8]; 3] = [b"     ", b"00000", b"10000"];
+    check_cells::<Share, _>(&rt, &good, &[b"10001", b"1000 "]);
     let mut cell = [0; 5];
     Share::blank().write(&mut cell);
     assert_eq!(rt; &cell, b"     ");
-    assert!(rt; reads_back::<Share>(b"     "));
-    assert!(rt; reads_back::<Share>(b"00000"));
-    assert!(rt; reads_back::<Share>(b"10000"));
-    assert!(rt; Share::read(b"10001").is_none());
-    assert!(rt; Share::read(b"1000 ").is_none());
     assert_ne!(rt; Share::read(b"00000"), Some(Share::blank()));
-    assert_eq!(rt;
-        Share::try_from(3333).map(Share::hundredths),
-        Ok(Some(3333))
-    );
+}
+
+#[test]
+fn shares_of_numbers(rt: HostRuntime) {
+    let third = Share::try_from(3333).map(Share::hundredths);
+    assert_eq!(rt; third, Ok(Some(3333)));
     assert_eq!(rt; Share::try_from(10001), Err(OutOfRange));
 }
 
 #[test]
 fn days(rt: HostRuntime) {
-    for cell in [b"        ", b"00000000", b"20240229"] {
-        assert!(rt; reads_back::<DateCell>(cell));
-    }
-    for cell in [b"00010101", b"99991231"] {
-        assert!(rt; reads_back::<CivilDate>(cell));
-    }
-    assert!(rt; DateCell::read(b"20230229").is_none());
-    for cell in [b"00000101".as_slice(), b"00000000", b"2024022"] {
-        assert!(rt; CivilDate::read(cell).is_none());
-    }
+    let good: [&[u8]; 3] = [b"        ", b"00000000", b"20240229"];
+    check_cells::<DateCell, _>(&rt, &good, &[b"20230229"]);
+    let good: [&[u8]; 2] = [b"00010101", b"99991231"];
+    let bad: [&[u8]; 3] = [b"00000101", b"00000000", b"2024022"];
+    check_cells::<CivilDate, _>(&rt, &good, &bad);
 }
 
 #[test]
@@ -86,81 +101,76 @@ fn days_that_are_none(rt: HostRuntime) {
 fn days_from_numbers(rt: HostRuntime) {
     let leap = CivilDate::new(2024, 2, 29);
     assert_eq!(rt; CivilDate::read(b"20240229"), leap);
-    assert_eq!(rt; leap.map(Date::from), Some(date(2024, 2, 29)));
     assert_eq!(rt; leap.map(DateCell::from), DateCell::read(b"20240229"));
 }
 
 #[test]
 fn days_of_the_calendar(rt: HostRuntime) {
-    assert_eq!(rt;
-        CivilDate::try_from(date(2024, 2, 29)).ok(),
-        CivilDate::new(2024, 2, 29)
-    );
+    let leap = CivilDate::new(2024, 2, 29);
+    assert_eq!(rt; leap.map(Date::from), Some(date(2024, 2, 29)));
+    assert_eq!(rt; CivilDate::try_from(date(2024, 2, 29)).ok(), leap);
     assert_eq!(rt; CivilDate::try_from(date(0, 12, 31)), Err(OutOfRange));
 }
 
 #[test]
 fn times(rt: HostRuntime) {
-    assert!(rt; reads_back::<TimeOfDay>(b"235959"));
-    assert!(rt; TimeOfDay::read(b"240000").is_none());
-    assert!(rt; TimeOfDay::read(b"236000").is_none());
-    assert!(rt; TimeOfDay::read(b"235960").is_none());
-    assert!(rt; reads_back::<DurationCell>(b"995959"));
-    assert!(rt; reads_back::<DurationCell>(b"000000"));
-    assert!(rt; reads_back::<DurationCell>(b"      "));
+    let bad: [&[u8]; 3] = [b"240000", b"236000", b"235960"];
+    check_cells::<TimeOfDay, _>(&rt, &[b"235959"], &bad);
+    let late = TimeOfDay::new(23, 59, 58);
+    let clock = Some(time(23, 59, 58, 0));
+    assert_eq!(rt; late.map(jiff::civil::Time::from), clock);
+}
+
+#[test]
+fn durations(rt: HostRuntime) {
+    let good: [&[u8]; 3] = [b"995959", b"000000", b"      "];
+    check_cells::<DurationCell, _>(&rt, &good, &[b"006000"]);
     assert_eq!(rt; DurationCell::read(b"      "), Some(DurationCell::Blank));
-    assert!(rt; DurationCell::read(b"006000").is_none());
     let song = PlayingTime::new(0, 3, 25);
     assert_eq!(rt; song.map(PlayingTime::total_seconds), Some(205));
     assert_eq!(rt; song.map(Duration::from), Some(Duration::from_secs(205)));
     assert_eq!(rt; song.map(DurationCell::from), DurationCell::read(b"000325"));
-    let late = TimeOfDay::new(23, 59, 58);
-    assert_eq!(rt;
-        late.map(jiff::civil::Time::from),
-        Some(time(23, 59, 58, 0))
-    );
 }
 
 #[test]
 fn flags(rt: HostRuntime) {
-    for letter in [b"Y", b"N", b"U", b" "] {
-        assert!(rt; reads_back::<Flag>(letter));
-    }
-    assert!(rt; Flag::read(b"X").is_none());
-    assert!(rt; Flag::read(b"").is_none());
+    let good: [&[u8]; 4] = [b"Y", b"N", b"U", b" "];
+    check_cells::<Flag, _>(&rt, &good, &[b"X", b""]);
+}
+
+/// Checks what is printed of a value.
+fn check_text(rt: &(impl Abort + AllocGlobal), printed: impl Display + Copy, wanted: &str) {
+    let text = format!(in rt.alloc(); "{printed}").expect(rt, "no memory");
+    assert_eq!(rt; text.as_str(), wanted);
+}
+
+/// A share of so many hundredths of a percent.
+fn share(rt: &impl Abort, hundredths: u64) -> Share {
+    Share::new(hundredths).expect(rt, "no share")
 }
 
 #[test]
-fn prints(rt: HostRuntime) {
-    let alloc = rt.alloc();
-    let printed = format!(in alloc; "{}", Flag::Unknown).expect(&rt, "no memory");
-    assert_eq!(rt; printed.as_str(), "U");
-    if let (Some(seven), Some(third)) = (Number::<5>::new(7), Share::new(3305)) {
-        let printed = format!(in alloc; "{seven} {seven:03} {third} [{}]", Share::blank()).expect(
-            &rt,
-            "no memory",
-        );
-        assert_eq!(rt; printed.as_str(), "7 007 33.05% []");
+fn numbers_and_shares_print(rt: HostRuntime) {
+    let seven = Number::<5>::new(7).expect(&rt, "no number");
+    check_text(&rt, seven, "7");
+    let padded = format!(in rt.alloc(); "{seven:03}").expect(&rt, "no memory");
+    assert_eq!(rt; padded.as_str(), "007");
+    for (hundredths, text) in [(3305, "33.05%"), (10000, "100.00%"), (5, "0.05%")] {
+        check_text(&rt, share(&rt, hundredths), text);
     }
-    if let (Some(whole), Some(least)) = (Share::new(10000), Share::new(5)) {
-        let printed = format!(in alloc; "{whole} {least} [{:>3}]", Flag::Yes).expect(
-            &rt,
-            "no memory",
-        );
-        assert_eq!(rt; printed.as_str(), "100.00% 0.05% [  Y]");
-    }
-    if let (Some(day), Some(clock), Some(song)) = (
-        CivilDate::new(987, 2, 3),
-        TimeOfDay::new(4, 5, 6),
-        PlayingTime::new(12, 3, 25),
-    ) {
-        let printed = format!(in alloc; "{day} {clock} {song} {OutOfRange}").expect(
-            &rt,
-            "no memory",
-        );
-        assert_eq!(rt;
-            printed.as_str(),
-            "0987-02-03 04:05:06 12:03:25 out of the range of the cell"
-        );
-    }
+    check_text(&rt, Share::blank(), "");
+    check_text(&rt, OutOfRange, "out of the range of the cell");
+}
+
+#[test]
+fn flags_and_times_print(rt: HostRuntime) {
+    check_text(&rt, Flag::Unknown, "U");
+    let padded = format!(in rt.alloc(); "[{:>3}]", Flag::Yes).expect(&rt, "no memory");
+    assert_eq!(rt; padded.as_str(), "[  Y]");
+    let day = CivilDate::new(987, 2, 3).expect(&rt, "no day");
+    check_text(&rt, day, "0987-02-03");
+    let clock = TimeOfDay::new(4, 5, 6).expect(&rt, "no time");
+    check_text(&rt, clock, "04:05:06");
+    let song = PlayingTime::new(12, 3, 25).expect(&rt, "no playing time");
+    check_text(&rt, song, "12:03:25");
 }

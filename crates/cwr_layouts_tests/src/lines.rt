@@ -5,27 +5,32 @@ ghost use Rattle.std.specs.Prelude.{◌≢◌};
 use cwr_layouts::{Kind, LineBuf, LineEnd};
 use std::process::Abort;
 
+/// Takes two pieces: how many bytes of the second are used, how the line ends, and how long it is. `None` where it ends in
+/// the first, or not all of that is used.
+fn take_two(first: &[u8], second: &[u8]) -> Option<(usize, LineEnd, usize)> {
+    let mut line = LineBuf::new();
+    let begun = line.take(first);
+    if begun.ended != LineEnd::Open || begun.used != first.len() {
+        return None;
+    }
+    let taken = line.take(second);
+    Some((taken.used, taken.ended, line.len()))
+}
+
+/// As many bytes as the longest line has.
+const LONG: [u8; 1024] = [b'A'; 1024];
+
 #[test]
 fn takes_by_pieces(rt: HostRuntime) {
-    let long = [b'A'; 1024];
     let table: [(&[u8], &[u8], usize, LineEnd, usize); 5] = [
         (b"", b"", 0, LineEnd::Open, 0),
         (b"", b"AB\nC", 3, LineEnd::Line, 2),
-        (&long, b"x", 0, LineEnd::Over, 1024),
-        (&long, b"\n", 1, LineEnd::Line, 1024),
+        (&LONG, b"x", 0, LineEnd::Over, 1024),
+        (&LONG, b"\n", 1, LineEnd::Line, 1024),
         (b"A\r", b"\n", 1, LineEnd::Line, 2),
     ];
     for (first, second, used, ended, len) in table {
-        let mut line = LineBuf::new();
-        let begun = line.take(first);
-        assert_eq!(rt; begun.used, first.len());
-        assert_eq!(rt; begun.ended, LineEnd::Open);
-        if begun.ended == LineEnd::Open {
-            let taken = line.take(second);
-            assert_eq!(rt; taken.used, used);
-            assert_eq!(rt; taken.ended, ended);
-            assert_eq!(rt; line.len(), len);
-        }
+        assert_eq!(rt; take_two(first, second), Some((used, ended, len)));
     }
 }
 
@@ -45,14 +50,10 @@ fn line_of(text: &[u8]) -> LineBuf
 fn check_trailer(rt: &impl Abort, text: &[u8], cells: [&[u8]; 4], excess: bool) {
     let line = line_of(text);
     let cut = line.cut();
-    assert_eq!(rt; cut.kind(), Some(Kind::Trl));
-    assert!(rt; cut.cell(0).is_none());
-    assert_eq!(rt; cut.cell(1), Some(cells[0]));
-    assert_eq!(rt; cut.cell(2), Some(cells[1]));
-    assert_eq!(rt; cut.cell(3), Some(cells[2]));
-    assert_eq!(rt; cut.cell(4), Some(cells[3]));
-    assert!(rt; cut.cell(5).is_none());
-    assert_eq!(rt; cut.excess(), excess);
+    assert_eq!(rt; (cut.kind(), cut.excess()), (Some(Kind::Trl), excess));
+    let found = [cut.cell(1), cut.cell(2), cut.cell(3), cut.cell(4)];
+    assert_eq!(rt; found, cells.map(Some));
+    assert!(rt; cut.cell(0).is_none() && cut.cell(5).is_none());
 }
 
 #[test]
@@ -87,9 +88,8 @@ fn unknown_kinds_have_no_cells(rt: HostRuntime) {
     for text in texts {
         let line = line_of(text);
         let cut = line.cut();
-        assert!(rt; cut.kind().is_none());
-        assert!(rt; cut.cell(1).is_none());
-        assert!(rt; !cut.excess());
+        let answer = (cut.kind(), cut.cell(1), cut.excess());
+        assert_eq!(rt; answer, (None, None, false));
     }
 }
 
@@ -122,22 +122,29 @@ fn cleared_lines_are_new(rt: HostRuntime) {
 const ACK: [u8; 159] =
     *b"ACK0000000000000000202401021015000000100000000NWRBLUE RIVER                                                  W0001                                   20240110AS";
 
+/// The kind of a record, and its cells 13 and 2.
+type Found<'a> = (Kind, Option<&'a [u8]>, Option<&'a [u8]>);
+
+/// Checks the record of a text's first line, if it is one, and whether the line's excess is bad.
+fn check_record(rt: &impl Abort, text: &[u8], wanted: Option<Found<'_>>, excess: bool) {
+    let line = line_of(text);
+    let cut = line.cut();
+    let found = cut.record();
+    let found = found.map(|it| (it.kind(), it.cell(13), it.cell(2)));
+    assert_eq!(rt; (found, cut.excess()), (wanted, excess));
+}
+
 #[test]
 fn records_of_lines(rt: HostRuntime) {
-    let line = line_of(&ACK);
-    let found = line.cut().record().expect(&rt, "no record");
-    assert_eq!(rt; found.kind(), Kind::Ack);
-    assert_eq!(rt; found.cell(13), Some(&b"AS"[..]));
-    assert!(rt; found.cell(2).is_none());
+    let accepted: Found<'_> = (Kind::Ack, Some(b"AS"), None);
+    check_record(&rt, &ACK, Some(accepted), false);
     let mut unknown_status = ACK;
     unknown_status[157..].copy_from_slice(b"ZZ");
-    assert!(rt; line_of(&unknown_status).cut().record().is_none());
+    check_record(&rt, &unknown_status, None, false);
     let mut longer = [b'X'; 160];
     longer[..159].copy_from_slice(&ACK);
-    let longer = line_of(&longer);
-    assert!(rt; longer.cut().excess());
-    assert!(rt; longer.cut().record().is_some());
-    assert!(rt; line_of(b"XYZ").cut().record().is_none());
+    check_record(&rt, &longer, Some(accepted), true);
+    check_record(&rt, b"XYZ", None, false);
 }
 
 #[test]

@@ -1,6 +1,6 @@
 //! Tests of drafts and records: that the calls answer as the written tables of CWR 2.1 have it.
 
-ghost use Rattle.std.specs.Prelude.{◌≡◌, List, IfOk, refl};
+ghost use Rattle.std.specs.Prelude.{◌≡◌, ◌<◌, ◌≤◌, List, IfOk, refl};
 ghost use Rattle.cwr_fields.specs.declared.cell_types.CellType.TheVariants.{Constant};
 ghost use Rattle.cwr_fields.specs.declared.cell_types.Word.TheVariants.{Edi};
 ghost use Rattle.cwr_fields.specs.Codes.{word_text};
@@ -11,6 +11,7 @@ use cwr_fields::{
 };
 use cwr_layouts::{Draft, DraftFault, Kind, Record, SetFault};
 use std::alloc::AllocError;
+use std::fmt::{Debug, Display};
 use std::process::Abort;
 
 /// The version of the EDI standard, as a cell type.
@@ -48,182 +49,218 @@ fn fault_of(draft: &Draft) -> Option<DraftFault> {
     draft.done().err()
 }
 
+/// A field, the text that is set in it, and the answer.
+type Set<'a> = (u8, &'a [u8], Result<(), SetFault>);
+
+/// Sets texts in a draft, each of which gives the answer beside it.
+fn check_sets(rt: &impl Abort, draft: &mut Draft, texts: &[Set<'_>]) {
+    for (j, text, answer) in texts {
+        assert_eq!(rt; draft.set(*j, text), *answer, "at {j}");
+    }
+}
+
+/// The record of a kind in which these texts are set, some of which are refused.
+fn record_with(rt: &impl Abort, kind: Kind, texts: &[Set<'_>]) -> Record {
+    let mut draft = Draft::blank(kind);
+    check_sets(rt, &mut draft, texts);
+    draft.done().expect(rt, "unfit")
+}
+
+/// Checks that the cells of a record are these.
+fn check_cells(rt: &impl Abort, record: &Record, cells: &[(u8, Option<&[u8]>)]) {
+    let view = record.view();
+    for (j, cell) in cells {
+        assert_eq!(rt; view.cell(*j), *cell, "at {j}");
+    }
+}
+
 #[test]
 fn carried_text_has_seven_hundred_bytes(rt: HostRuntime) {
-    let mut draft = Draft::blank(Kind::Ind);
     let text = [b'A'; 701];
-    assert_eq!(rt; draft.set(4, &text), Err(SetFault::TooWide));
-    assert_eq!(rt; draft.set(4, &text[..700]), Ok(()));
-    let record = draft.done().expect(&rt, "no record");
-    assert_eq!(rt; record.view().cell(4), Some(&text[..700]));
+    let whole: &[u8] = &text[..700];
+    let texts = [
+        (4, text.as_slice(), Err(SetFault::TooWide)),
+        (4, whole, Ok(())),
+    ];
+    let record = record_with(&rt, Kind::Ind, &texts);
+    check_cells(&rt, &record, &[(4, Some(whole))]);
+}
+
+const NOT_A_CODE: Result<(), SetFault> = Err(SetFault::Cell(CellFault::NotACode));
+
+const BLANK: Result<(), SetFault> = Err(SetFault::Cell(CellFault::Blank));
+
+const CONTROL: Result<(), SetFault> = Err(SetFault::Cell(CellFault::Control));
+
+const NOT_CONSTANT: Result<(), SetFault> = Err(SetFault::Cell(CellFault::NotConstant));
+
+static REFUSED: [Set<'static>; 9] = [
+    (0, b"20240102", Err(SetFault::NoSuchField)),
+    (14, b"20240102", Err(SetFault::NoSuchField)),
+    (255, b"", Err(SetFault::NoSuchField)),
+    (1, b"ACK", Err(SetFault::Derived)),
+    (2, b"00000000", Err(SetFault::Derived)),
+    (2, b"000000000", Err(SetFault::Derived)),
+    (13, b"ASX", Err(SetFault::TooWide)),
+    (13, b"ZZ", NOT_A_CODE),
+    (13, b"", BLANK),
+];
+
+/// That a required cell is blank.
+fn blank_at(field: u8) -> Option<DraftFault> {
+    Some(DraftFault {
+        field,
+        fault: CellFault::Blank,
+    })
 }
 
 #[test]
 fn refuses_texts(rt: HostRuntime) {
     let mut draft = Draft::blank(Kind::Ack);
-    let table: [(u8, &[u8], SetFault); 9] = [
-        (0, b"20240102", SetFault::NoSuchField),
-        (14, b"20240102", SetFault::NoSuchField),
-        (255, b"", SetFault::NoSuchField),
-        (1, b"ACK", SetFault::Derived),
-        (2, b"00000000", SetFault::Derived),
-        (2, b"000000000", SetFault::Derived),
-        (13, b"ASX", SetFault::TooWide),
-        (13, b"ZZ", SetFault::Cell(CellFault::NotACode)),
-        (13, b"", SetFault::Cell(CellFault::Blank)),
-    ];
-    for (j, text, fault) in table {
-        assert_eq!(rt; draft.set(j, text), Err(fault));
-    }
-    let blank = Some(DraftFault {
-        field: 6,
-        fault: CellFault::Blank,
-    });
-    assert_eq!(rt; fault_of(&draft), blank);
+    check_sets(&rt, &mut draft, &REFUSED);
+    assert_eq!(rt; fault_of(&draft), blank_at(6));
 }
 
-/// An acknowledgement whose required cells are set, one after the other.
-fn acknowledgement(rt: &impl Abort) -> Record {
+/// The required cells of an acknowledgement, and the next one after each.
+static REQUIRED: [(u8, &[u8], Option<u8>); 4] = [
+    (6, b"00001", Some(7)),
+    (7, b"00000000", Some(8)),
+    (8, b"NWR", Some(13)),
+    (13, b"AS", None),
+];
+
+#[test]
+fn required_cells_one_after_the_other(rt: HostRuntime) {
     let mut draft = Draft::blank(Kind::Ack);
-    let cells: [(u8, &[u8], u8); 4] = [
-        (6, b"00001", 7),
-        (7, b"00000000", 8),
-        (8, b"NWR", 13),
-        (13, b"AS", 0),
-    ];
-    for (j, text, next) in cells {
-        assert_eq!(rt; draft.set(j, text), Ok(()));
-        if next != 0 {
-            let unfit = Some(DraftFault {
-                field: next,
-                fault: CellFault::Blank,
-            });
-            assert_eq!(rt; fault_of(&draft), unfit);
-        }
+    for (j, text, next) in &REQUIRED {
+        assert_eq!(rt; draft.set(*j, text), Ok(()));
+        assert_eq!(rt; fault_of(&draft), next.and_then(blank_at));
     }
-    assert_eq!(rt; draft.set(9, b"BLUE RIVER"), Ok(()));
-    assert_eq!(rt;
-        draft.set(13, b"ZZ"),
-        Err(SetFault::Cell(CellFault::NotACode))
-    );
-    assert_eq!(rt;
-        draft.set(9, b"BLACK\tRIVER"),
-        Err(SetFault::Cell(CellFault::Control))
-    );
-    draft.done().expect(rt, "unfit")
 }
+
+/// The texts of an acknowledgement, and two that are refused after them.
+static ACKNOWLEDGEMENT: [Set<'static>; 7] = [
+    (6, b"00001", Ok(())),
+    (7, b"00000000", Ok(())),
+    (8, b"NWR", Ok(())),
+    (13, b"AS", Ok(())),
+    (9, b"BLUE RIVER", Ok(())),
+    (13, b"ZZ", NOT_A_CODE),
+    (9, b"BLACK\tRIVER", CONTROL),
+];
+
+/// Its cells.
+#[rattlefmt::skip]
+static CELLS: [(u8, Option<&[u8]>); 15] = [
+    (0, None),
+    (1, None),
+    (2, None),
+    (3, None),
+    (4, Some(b"        ")),
+    (5, Some(b"      ")),
+    (6, Some(b"00001")),
+    (7, Some(b"00000000")),
+    (8, Some(b"NWR")),
+    (9, Some(b"BLUE RIVER                                                  ")),
+    (10, Some(b"                    ")),
+    (12, Some(b"        ")),
+    (13, Some(b"AS")),
+    (14, None),
+    (255, None),
+];
 
 #[test]
 fn shows_cells(rt: HostRuntime) {
-    let record = acknowledgement(&rt);
-    let title = b"BLUE RIVER                                                  ";
-    let cells: [(u8, Option<&[u8]>); 15] = [
-        (0, None),
-        (1, None),
-        (2, None),
-        (3, None),
-        (4, Some(b"        ")),
-        (5, Some(b"      ")),
-        (6, Some(b"00001")),
-        (7, Some(b"00000000")),
-        (8, Some(b"NWR")),
-        (9, Some(title)),
-        (10, Some(b"                    ")),
-        (12, Some(b"        ")),
-        (13, Some(b"AS")),
-        (14, None),
-        (255, None),
-    ];
+    let record = record_with(&rt, Kind::Ack, &ACKNOWLEDGEMENT);
+    assert_eq!(rt; record.view().kind(), Kind::Ack);
+    check_cells(&rt, &record, &CELLS);
+    let copy = record.view().to_record();
+    assert_eq!(rt; copy.view().kind(), Kind::Ack);
+    check_cells(&rt, &copy, &[(8, Some(b"NWR"))]);
+}
+
+/// Whether a cell of a record is read as a value of the type.
+fn is_read<C: Cell + Drop>(record: &Record, j: u8) -> bool
+    requires least { 0 < C.WIDTH }
+    requires most { C.WIDTH ≤ 10 }
+{
+    record.view().read::<C>(j).is_some()
+}
+
+#[test]
+fn reads_typed_cells(rt: HostRuntime) {
+    let record = record_with(&rt, Kind::Ack, &ACKNOWLEDGEMENT);
     let view = record.view();
-    assert_eq!(rt; view.kind(), Kind::Ack);
-    for (j, cell) in cells {
-        assert_eq!(rt; view.cell(j), cell);
-    }
-    assert!(rt; view.read::<EdiVersion>(6).is_none());
     assert_eq!(rt; view.read::<DateCell>(4), Some(DateCell::Blank));
     assert_eq!(rt; view.read::<Number<5>>(6).map(u64::from), Some(1));
-    assert!(rt; view.read::<Number<8>>(6).is_none());
-    assert!(rt; view.read::<CivilDate>(4).is_none());
-    assert!(rt; view.read::<TimeOfDay>(5).is_none());
-    assert!(rt; view.read::<Flag>(13).is_none());
     let accepted = Some(TransactionStatus::RegistrationAccepted);
     assert_eq!(rt; view.read::<TransactionStatus>(13), accepted);
-    assert!(rt; view.read::<TransactionType>(13).is_none());
-    let copy = view.to_record();
-    assert_eq!(rt; copy.view().kind(), Kind::Ack);
-    assert_eq!(rt; copy.view().cell(8), Some(&b"NWR"[..]));
 }
+
+#[test]
+fn cells_of_another_type_are_not_read(rt: HostRuntime) {
+    let record = record_with(&rt, Kind::Ack, &ACKNOWLEDGEMENT);
+    assert!(rt; !is_read::<EdiVersion>(&record, 6));
+    assert!(rt; !is_read::<Number<8>>(&record, 6));
+    assert!(rt; !is_read::<CivilDate>(&record, 4));
+    assert!(rt; !is_read::<TimeOfDay>(&record, 5));
+    assert!(rt; !is_read::<Flag>(&record, 13));
+    assert!(rt; !is_read::<TransactionType>(&record, 13));
+}
+
+static GROUP: [Set<'static>; 3] = [
+    (2, b"ACK", Ok(())),
+    (4, b"02.20", NOT_CONSTANT),
+    (5, b"0000000001", Ok(())),
+];
+
+static HEADER: [Set<'static>; 6] = [
+    (2, b"PB", Ok(())),
+    (3, b"123456789", Ok(())),
+    (4, b"MUSIC HOUSE", Ok(())),
+    (6, b"20240102", Ok(())),
+    (7, b"101500", Ok(())),
+    (8, b"20240103", Ok(())),
+];
 
 #[test]
 fn constants_stand(rt: HostRuntime) {
-    let mut group = Draft::blank(Kind::Grh);
-    assert_eq!(rt; group.set(2, b"ACK"), Ok(()));
-    assert_eq!(rt;
-        group.set(4, b"02.20"),
-        Err(SetFault::Cell(CellFault::NotConstant))
-    );
-    assert_eq!(rt; group.set(5, b"0000000001"), Ok(()));
-    let record = group.done().expect(&rt, "unfit");
-    assert_eq!(rt; record.view().cell(4), Some(&b"02.10"[..]));
-    let mut header = Draft::blank(Kind::Hdr);
-    let cells: [(u8, &[u8]); 6] = [
-        (2, b"PB"),
-        (3, b"123456789"),
-        (4, b"MUSIC HOUSE"),
-        (6, b"20240102"),
-        (7, b"101500"),
-        (8, b"20240103"),
-    ];
-    for (j, text) in cells {
-        assert_eq!(rt; header.set(j, text), Ok(()));
+    let group = record_with(&rt, Kind::Grh, &GROUP);
+    check_cells(&rt, &group, &[(4, Some(b"02.10"))]);
+    let header = record_with(&rt, Kind::Hdr, &HEADER);
+    for (j, is_version) in [(5, true), (4, false), (1, false), (10, false)] {
+        assert_eq!(rt; is_read::<EdiVersion>(&header, j), is_version, "at {j}");
     }
-    let record = header.done().expect(&rt, "unfit");
-    let view = record.view();
-    assert!(rt; view.read::<EdiVersion>(5).is_some());
-    assert!(rt; view.read::<EdiVersion>(4).is_none());
-    assert!(rt; view.read::<EdiVersion>(1).is_none());
-    assert!(rt; view.read::<EdiVersion>(10).is_none());
 }
+
+/// Checks the text of a fault.
+fn check_text(rt: &(impl Abort + AllocGlobal), fault: impl Display + Copy, wanted: &str) {
+    let text = format!(in rt.alloc(); "{fault}").expect(rt, "no memory");
+    assert_eq!(rt; text.as_str(), wanted);
+}
+
+static FAULTS: [(SetFault, &str); 5] = [
+    (SetFault::NoSuchField, "no such field"),
+    (SetFault::Derived, "the field is derived"),
+    (SetFault::TooWide, "wider than the field"),
+    (SetFault::Cell(CellFault::Control), "cell control"),
+    (SetFault::Cell(CellFault::OverShare), "cell over share"),
+];
 
 #[test]
 fn faults_are_printed(rt: HostRuntime) {
-    let mut draft = Draft::blank(Kind::Ack);
-    let (no_field, control) = (draft.set(14, b""), draft.set(9, b"\t"));
-    if let (Err(no_field), Err(control), Err(fault)) = (no_field, control, draft.done()) {
-        let text = format!(in rt.alloc(); "{no_field}, {control}, {fault}").expect(
-            &rt,
-            "no memory",
-        );
-        assert_eq!(rt;
-            text.as_str(),
-            "no such field, cell control, field 6: cell blank"
-        );
-    } else {
-        assert!(rt; false);
+    for (fault, text) in &FAULTS {
+        check_text(&rt, *fault, text);
     }
-    let faults = [
-        (SetFault::NoSuchField, "no such field"),
-        (SetFault::Derived, "the field is derived"),
-        (SetFault::TooWide, "wider than the field"),
-        (SetFault::Cell(CellFault::OverShare), "cell over share"),
-    ];
-    for (fault, text) in &faults {
-        assert_eq!(rt;
-            format!(in rt.alloc(); "{fault}")
-                .expect(&rt, "no memory")
-                .as_str(),
-            *text
-        );
-    }
+    let blank = fault_of(&Draft::blank(Kind::Ack)).expect(&rt, "no fault");
+    check_text(&rt, blank, "field 6: cell blank");
 }
 
 #[test]
 fn trailers_are_records(rt: HostRuntime) {
-    let record = Draft::blank(Kind::Grt).done().expect(&rt, "unfit");
-    let view = record.view();
-    assert_eq!(rt; view.kind(), Kind::Grt);
-    assert!(rt; view.cell(4).is_none());
-    assert_eq!(rt; view.cell(5), Some(&b"   "[..]));
+    let record = record_with(&rt, Kind::Grt, &[]);
+    assert_eq!(rt; record.view().kind(), Kind::Grt);
+    check_cells(&rt, &record, &[(4, None), (5, Some(b"   "))]);
     assert!(rt; Draft::blank(Kind::Trl).done().is_ok());
 }
 
@@ -234,26 +271,20 @@ fn copy_of(source: &Record) -> Result<Record, AllocError>
     source.clone()
 }
 
+/// Checks what is shown to programmers.
+fn check_shown(rt: &(impl Abort + AllocGlobal), value: &impl Debug) {
+    let text = format!(in rt.alloc(); "{value:?}").expect(rt, "no memory");
+    let shown = r#"Grt {"currency": "E\"R", "total monetary value": "          "}"#;
+    assert_eq!(rt; text.as_str(), shown);
+}
+
 #[test]
 fn shown_to_programmers(rt: HostRuntime) {
     let mut draft = Draft::blank(Kind::Grt);
     assert_eq!(rt; draft.set(5, b"E\"R"), Ok(()));
-    let text = format!(in rt.alloc(); "{draft:?}").expect(&rt, "no memory");
-    let shown = r#"Grt {"currency": "E\"R", "total monetary value": "          "}"#;
-    assert_eq!(rt; text.as_str(), shown);
+    check_shown(&rt, &draft);
     let record = draft.done().expect(&rt, "unfit");
+    check_shown(&rt, &record);
     let copy = copy_of(&record).expect(&rt, "no memory");
-    let view = copy.view();
-    assert_eq!(rt;
-        format!(in rt.alloc(); "{record:?}")
-            .expect(&rt, "no memory")
-            .as_str(),
-        shown
-    );
-    assert_eq!(rt;
-        format!(in rt.alloc(); "{view:?}")
-            .expect(&rt, "no memory")
-            .as_str(),
-        shown
-    );
+    check_shown(&rt, &copy.view());
 }

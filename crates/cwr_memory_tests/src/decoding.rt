@@ -1,6 +1,6 @@
 //! Texts that are decoded, piece by piece and whole.
 
-use crate::works::{TWO_GROUPS_WITH_A_FINDING, largest, refused, text_of};
+use crate::works::{TWO_GROUPS_WITH_A_FINDING, ended, largest, text_of};
 use cwr_decode::{Decoder, Outcome, ReadFault, Reading, read_all};
 use cwr_fields::{Counted, Source};
 use cwr_values::Item;
@@ -8,37 +8,89 @@ use cwr_worked::texts::{ONE_ACKNOWLEDGEMENT, TWO_GROUPS, WORK_OF_ELEVEN};
 use std::process::Abort;
 use std::test::Fail;
 
-/// Feeds a decoder with what is left of a text until it answers no item more. So many items come.
+/// What a decoder answers, in a word.
+fn word_for(outcome: &Outcome) -> &'static str {
+    match outcome {
+        Outcome::More => "more",
+        Outcome::Item(Item::Ended) => "ended",
+        Outcome::Item(_) => "item",
+        Outcome::Memory => "memory",
+        Outcome::Done => "done",
+        _ => "fault",
+    }
+}
+
+/// Feeds a decoder: how many bytes are used, and what it answers.
+fn feed(decoder: &mut Decoder, left: &[u8]) -> (usize, &'static str) {
+    let step = decoder.feed(left);
+    (step.used, word_for(&step.outcome))
+}
+
+/// Takes the end of the input: what the decoder answers.
+fn finish(decoder: &mut Decoder) -> &'static str {
+    word_for(&decoder.finish().outcome)
+}
+
+/// Feeds a decoder with what is left of a text until its transmission ends or it answers no item: how many items come, and
+/// how many bytes are left. `None` where it is out of memory, which it stays.
+fn feed_all(
+    rt: &impl Abort,
+    decoder: &mut Decoder,
+    text: &[u8],
+) -> Option<(usize, usize, &'static str)> {
+    let mut left = text;
+    let mut count: usize = 0;
+    for _ in 0..100 {
+        let (used, word) = feed(decoder, left);
+        left = left.get(used..).unwrap_or(&[]);
+        if word == "memory" {
+            assert_eq!(rt; (feed(decoder, left), finish(decoder)), ((0, word), word));
+            return None;
+        }
+        if word == "item" || word == "ended" {
+            count = count.saturating_add(1);
+        }
+        if word != "item" {
+            break;
+        }
+    }
+    Some((count, left.len(), finish(decoder)))
+}
+
+/// Feeds a decoder with a text. So many items come, all is used, and the decoder is done then.
 fn check_feed(rt: &(impl Abort + AllocGlobal), lines: &[&[u8]], items: usize) -> Result<(), Fail> {
     let text = text_of(rt, lines);
     let mut decoder = Decoder::new(rt.alloc(), largest());
-    let mut left = text.as_slice();
+    let answer = feed_all(rt, &mut decoder, text.as_slice());
+    ended(rt, answer, (items, 0, "done"))
+}
+
+/// Feeds a decoder with a text and finishes it, call by call: how many items come, and how many bytes are left. `None` where
+/// it is out of memory, which it stays.
+fn finish_all(rt: &impl Abort, decoder: &mut Decoder, text: &[u8]) -> Option<(usize, usize)> {
+    let mut left = text;
     let mut count: usize = 0;
     for _ in 0..100 {
-        let step = decoder.feed(left);
-        left = left.get(step.used..).unwrap_or(&[]);
-        match step.outcome {
-            Outcome::Item(Item::Ended) => {
-                count = count.saturating_add(1);
-                break;
-            }
-            Outcome::Item(_) => count = count.saturating_add(1),
-            Outcome::Memory => {
-                let again = decoder.feed(left);
-                assert!(rt; matches!(again.outcome, Outcome::Memory));
-                assert_eq!(rt; again.used, 0);
-                assert!(rt; matches!(decoder.finish().outcome, Outcome::Memory));
-                return Err(refused());
+        let (used, word) = if left.is_empty() {
+            (0, finish(decoder))
+        } else {
+            feed(decoder, left)
+        };
+        left = left.get(used..).unwrap_or(&[]);
+        match word {
+            "item" | "ended" => count = count.saturating_add(1),
+            "more" => {}
+            "memory" => {
+                assert_eq!(rt; finish(decoder), word);
+                return None;
             }
             _ => break,
         }
     }
-    assert_eq!(rt; (count, left.len()), (items, 0));
-    assert!(rt; matches!(decoder.finish().outcome, Outcome::Done));
-    Ok(())
+    Some((count, left.len()))
 }
 
-/// Feeds a decoder with a text but for its last line feed and finishes it, call by call.
+/// Feeds a decoder with a text but for its last line feed and finishes it. So many items come, and all is used.
 fn check_finish(
     rt: &(impl Abort + AllocGlobal),
     lines: &[&[u8]],
@@ -47,56 +99,54 @@ fn check_finish(
     let text = text_of(rt, lines);
     let cut = text.len().saturating_sub(1);
     let mut decoder = Decoder::new(rt.alloc(), largest());
-    let mut left = text.as_slice().get(..cut).unwrap_or(&[]);
-    let mut count: usize = 0;
-    for _ in 0..100 {
-        let step = if left.is_empty() {
-            decoder.finish()
-        } else {
-            decoder.feed(left)
-        };
-        left = left.get(step.used..).unwrap_or(&[]);
-        match step.outcome {
-            Outcome::Item(_) => count = count.saturating_add(1),
-            Outcome::Memory => {
-                assert!(rt; matches!(decoder.finish().outcome, Outcome::Memory));
-                return Err(refused());
-            }
-            Outcome::More => {}
-            _ => break,
-        }
-    }
-    assert_eq!(rt; (count, left.len()), (items, 0));
-    Ok(())
+    let answer = finish_all(rt, &mut decoder, text.get(..cut).unwrap_or(&[]));
+    ended(rt, answer, (items, 0))
 }
 
-/// Reads item by item to the end, and answers how many items came.
-fn count_items<R: Source>(rt: &(impl Abort + AllocGlobal), reader: &mut R) -> Result<usize, Fail> {
+/// Reads the next item: whether there is one. `None` where memory is refused.
+fn read_item<R: Source>(rt: &impl Abort, reading: &mut Reading<'_, R>) -> Option<bool> {
+    match reading.next_item() {
+        Ok(item) => Some(item.is_some()),
+        Err(fault) => {
+            assert_eq!(rt; fault, ReadFault::Memory);
+            None
+        }
+    }
+}
+
+/// Reads item by item to the end: how many items come. `None` where memory is refused, which it stays.
+fn count_items<R: Source>(rt: &(impl Abort + AllocGlobal), reader: &mut R) -> Option<usize> {
     let mut reading = Reading::new(rt.alloc(), largest(), reader);
     let mut count: usize = 0;
     for _ in 0..100 {
-        match reading.next_item() {
-            Ok(Some(_)) => count = count.saturating_add(1),
-            Ok(None) => break,
-            Err(fault) => {
-                assert_eq!(rt; fault, ReadFault::Memory);
-                assert!(rt; matches!(reading.next_item(), Err(ReadFault::Memory)));
-                return Err(refused());
+        match read_item(rt, &mut reading) {
+            Some(true) => count = count.saturating_add(1),
+            Some(false) => break,
+            None => {
+                assert_eq!(rt; read_item(rt, &mut reading), None);
+                return None;
             }
         }
     }
-    Ok(count)
+    Some(count)
 }
 
-/// Reads a transmission whole, and answers how many groups it has.
-fn count_groups<R: Source>(rt: &(impl Abort + AllocGlobal), reader: &mut R) -> Result<usize, Fail> {
+/// Reads a transmission whole: how many groups it has. `None` where memory is refused.
+fn count_groups<R: Source>(rt: &(impl Abort + AllocGlobal), reader: &mut R) -> Option<usize> {
     match read_all(rt.alloc(), largest(), reader) {
-        Ok(transmission) => Ok(transmission.len()),
+        Ok(transmission) => Some(transmission.len()),
         Err(fault) => {
             assert_eq!(rt; fault, ReadFault::Memory);
-            Err(refused())
+            None
         }
     }
+}
+
+/// Reads a text item by item, and whole: how many items and groups come. `None` where memory is refused.
+fn read_twice(rt: &(impl Abort + AllocGlobal), text: &[u8]) -> Option<(usize, usize)> {
+    let items = count_items(rt, &mut Counted::new(text))?;
+    let groups = count_groups(rt, &mut Counted::new(text))?;
+    Some((items, groups))
 }
 
 /// Reads a text item by item, and whole. So many items and groups come.
@@ -106,12 +156,7 @@ fn check_reading(
     numbers: (usize, usize),
 ) -> Result<(), Fail> {
     let text = text_of(rt, lines);
-    let mut reader = Counted::new(text.as_slice());
-    let items = count_items(rt, &mut reader)?;
-    let mut again = Counted::new(text.as_slice());
-    let groups = count_groups(rt, &mut again)?;
-    assert_eq!(rt; (items, groups), numbers);
-    Ok(())
+    ended(rt, read_twice(rt, text.as_slice()), numbers)
 }
 
 #[test]

@@ -1,7 +1,7 @@
 //! Whole runs over texts.
 
 use crate::outputs::{Nowhere, Numbered};
-use crate::works::{TWO_GROUPS_WITH_A_FINDING, largest, refused, text_of};
+use crate::works::{TWO_GROUPS_WITH_A_FINDING, ended, largest, text_of};
 use cwr_explain::explain;
 use cwr_fields::Counted;
 use cwr_tools::{JoinFault, JoinReport, SplitReport, ToolFault, Verdict, check, join, show, split};
@@ -18,6 +18,33 @@ const fn good(groups: u32, transactions: u32, records: u32) -> Verdict {
     }
 }
 
+/// What a check of a text answers.
+fn checked(rt: &impl AllocGlobal, text: &[u8]) -> Result<Verdict, ToolFault> {
+    let mut reader = Counted::new(text);
+    check(rt.alloc(), largest(), &mut reader, Counted::new(Nowhere)).1
+}
+
+/// What a show of a text answers.
+fn shown(rt: &impl AllocGlobal, text: &[u8]) -> Result<Verdict, ToolFault> {
+    let mut reader = Counted::new(text);
+    show(rt.alloc(), largest(), &mut reader, Counted::new(Nowhere)).1
+}
+
+/// What an explanation of a text answers.
+fn explained(rt: &impl AllocGlobal, text: &[u8]) -> Result<Verdict, ToolFault> {
+    let mut reader = Counted::new(text);
+    let writer = Counted::new(Nowhere);
+    explain(rt.alloc(), largest(), "it", &mut reader, writer).1
+}
+
+/// What a run answers. `None` where that is out of memory.
+fn with_memory<T: Copy>(answer: Result<T, ToolFault>) -> Option<Result<T, ToolFault>> {
+    match answer {
+        Err(ToolFault::Memory) => None,
+        answer => Some(answer),
+    }
+}
+
 /// Checks, shows and explains a text. Each answers the verdict.
 fn check_verdict(
     rt: &(impl Abort + AllocGlobal),
@@ -25,44 +52,46 @@ fn check_verdict(
     verdict: Verdict,
 ) -> Result<(), Fail> {
     let text = text_of(rt, lines);
-    let mut reader = Counted::new(text.as_slice());
-    let (_, checked) = check(rt.alloc(), largest(), &mut reader, Counted::new(Nowhere));
-    let mut again = Counted::new(text.as_slice());
-    let (_, shown) = show(rt.alloc(), largest(), &mut again, Counted::new(Nowhere));
-    let mut third = Counted::new(text.as_slice());
-    let (_, explained) = explain(
-        rt.alloc(),
-        largest(),
-        "it",
-        &mut third,
-        Counted::new(Nowhere),
-    );
-    for outcome in [checked, shown, explained] {
-        if outcome == Err(ToolFault::Memory) {
-            return Err(refused());
-        }
-        assert_eq!(rt; outcome, Ok(verdict));
+    let given = text.as_slice();
+    for answer in [checked(rt, given), shown(rt, given), explained(rt, given)] {
+        ended(rt, with_memory(answer), Ok(verdict))?;
     }
     Ok(())
 }
 
-/// Splits a text into outputs of two transactions.
+/// Splits a text into outputs of two transactions: what is answered, and how many outputs are done. `None` where memory is
+/// refused; fewer outputs are done then than all.
+fn parted(
+    rt: &(impl Abort + AllocGlobal),
+    text: &[u8],
+    all: u32,
+) -> Option<(Result<SplitReport, ToolFault>, u32)> {
+    let mut reader = Counted::new(text);
+    let mut outputs = Numbered::new();
+    let answer = split(rt.alloc(), largest(), &mut reader, 2, &mut outputs);
+    if answer == Err(ToolFault::Memory) {
+        assert!(rt; outputs.done() < all);
+        return None;
+    }
+    Some((answer, outputs.done()))
+}
+
+/// Splits a text into outputs of two transactions. All are done.
 fn check_split(
     rt: &(impl Abort + AllocGlobal),
     lines: &[&[u8]],
     report: SplitReport,
 ) -> Result<(), Fail> {
     let text = text_of(rt, lines);
-    let mut reader = Counted::new(text.as_slice());
-    let mut outputs = Numbered::new();
-    let outcome = split(rt.alloc(), largest(), &mut reader, 2, &mut outputs);
-    if outcome == Err(ToolFault::Memory) {
-        assert!(rt; outputs.done() < report.outputs);
-        return Err(refused());
-    }
-    assert_eq!(rt; outcome, Ok(report));
-    assert_eq!(rt; outputs.done(), report.outputs);
-    Ok(())
+    let answer = parted(rt, text.as_slice(), report.outputs);
+    ended(rt, answer, (Ok(report), report.outputs))
+}
+
+/// Joins a text with itself: what is answered.
+fn joined_twice(rt: &impl AllocGlobal, text: &[u8]) -> Result<JoinReport, JoinFault> {
+    let mut readers = [Counted::new(text), Counted::new(text)];
+    let writer = Counted::new(Nowhere);
+    join(rt.alloc(), largest(), readers.as_mut_slice(), writer).1
 }
 
 /// Joins a text with itself.
@@ -72,24 +101,8 @@ fn check_join(
     report: JoinReport,
 ) -> Result<(), Fail> {
     let text = text_of(rt, lines);
-    let mut readers = [Counted::new(text.as_slice()), Counted::new(text.as_slice())];
-    let (_, outcome) = join(
-        rt.alloc(),
-        largest(),
-        readers.as_mut_slice(),
-        Counted::new(Nowhere),
-    );
-    if let Err(
-        JoinFault {
-            fault: ToolFault::Memory,
-            ..
-        },
-    ) = outcome
-    {
-        return Err(refused());
-    }
-    assert_eq!(rt; outcome, Ok(report));
-    Ok(())
+    let answer = joined_twice(rt, text.as_slice()).map_err(|it| it.fault);
+    ended(rt, with_memory(answer), Ok(report))
 }
 
 /// The numbers of a join of two inputs.

@@ -1,118 +1,152 @@
 //! Transactions, groups and transmissions that are put together, and findings.
 
-use crate::works::{TWO_GROUPS_WITH_A_FINDING, largest, refused, text_of};
+use crate::works::{TWO_GROUPS_WITH_A_FINDING, ended, largest, text_of};
 use cwr_decode::{ReadFault, Reading};
 use cwr_fields::{Counted, Source};
-use cwr_layouts::Record;
 use cwr_levels::findings;
 use cwr_values::{
     Group, GroupFault, Item, PushFault, Transaction, Transmission, TransmissionFault,
 };
 use cwr_worked::texts::{ONE_ACKNOWLEDGEMENT, TWO_GROUPS, WORK_OF_ELEVEN};
+use std::alloc::AllocError;
+use std::fmt::Debug;
 use std::process::Abort;
 use std::test::Fail;
 
-/// A transaction with the same records.
-fn copied(rt: &(impl Abort + AllocGlobal), transaction: &Transaction) -> Result<Transaction, Fail> {
+/// A transaction with the same records. `None` where memory is refused.
+fn copied(rt: &(impl Abort + AllocGlobal), transaction: &Transaction) -> Option<Transaction> {
     let head = transaction.record(0).expect(rt, "no header");
-    let mut copy = match Transaction::new(rt.alloc(), head) {
-        Ok(begun) => begun,
-        Err(fault) => {
-            assert_eq!(rt; fault, PushFault::Memory);
-            return Err(refused());
-        }
-    };
+    let begun = Transaction::new(rt.alloc(), head);
+    let mut copy = with_memory(rt, begun, PushFault::Memory)?;
     for i in 1..transaction.len() {
         let next = transaction.record(i).expect(rt, "no record");
-        if let Err(fault) = copy.push(next) {
-            assert_eq!(rt; fault, PushFault::Memory);
-            assert_eq!(rt; copy.len(), i);
-            return Err(refused());
-        }
+        let pushed = with_memory(rt, copy.push(next), PushFault::Memory);
+        assert_eq!(rt; copy.len(), i.saturating_add(pushed.is_some() as usize));
+        pushed?;
     }
-    Ok(copy)
+    Some(copy)
 }
 
-/// Adds a transaction to a group. One that isn't added is handed back.
-fn add_transaction(
+/// What a call gives. `None` where memory is refused, for which this is the fault.
+fn with_memory<T: Drop, F: PartialEq + Debug + Drop>(
     rt: &impl Abort,
-    group: &mut Group,
-    transaction: Transaction,
-) -> Result<(), Fail> {
+    answer: Result<T, F>,
+    memory: F,
+) -> Option<T> {
+    match answer {
+        Ok(value) => Some(value),
+        Err(fault) => {
+            assert_eq!(rt; fault, memory);
+            None
+        }
+    }
+}
+
+/// Adds a transaction to a group: whether it is added. One that isn't is handed back, since memory was refused.
+fn add_transaction(rt: &impl Abort, group: &mut Group, transaction: Transaction) -> bool {
     let (before, records) = (group.len(), transaction.len());
     match group.push(transaction) {
-        Ok(()) => Ok(()),
+        Ok(()) => true,
         Err((fault, given)) => {
             assert_eq!(rt; fault, GroupFault::Memory);
             assert_eq!(rt; (group.len(), given.len()), (before, records));
-            Err(refused())
+            false
         }
     }
 }
 
-/// Adds a group to a transmission. One that isn't added is handed back.
-fn add_group(rt: &impl Abort, transmission: &mut Transmission, group: Group) -> Result<(), Fail> {
+/// Adds a group to a transmission: whether it is added. One that isn't is handed back, since memory was refused.
+fn add_group(rt: &impl Abort, transmission: &mut Transmission, group: Group) -> bool {
     let (before, transactions) = (transmission.len(), group.len());
     match transmission.push(group) {
-        Ok(()) => Ok(()),
+        Ok(()) => true,
         Err((fault, given)) => {
             assert_eq!(rt; fault, TransmissionFault::Memory);
             assert_eq!(rt; (transmission.len(), given.len()), (before, transactions));
-            Err(refused())
+            false
         }
     }
 }
 
-/// The items that a reader gives.
-fn items_of<R: Source>(rt: &(impl Abort + AllocGlobal), reader: &mut R) -> Result<Vec<Item>, Fail> {
+/// A transmission that is put together of items, and how many findings its transactions have.
+#[derive(Drop)]
+struct Parts {
+    whole: Option<Transmission>,
+    open: Option<Group>,
+    findings: usize,
+}
+
+/// Adds a copy of a transaction to the open group, and counts its findings. No where memory is refused.
+fn add_copy(rt: &(impl Abort + AllocGlobal), parts: &mut Parts, transaction: &Transaction) -> bool {
+    let Some(copy) = copied(rt, transaction) else {
+        return false;
+    };
+    let Ok(found) = count_findings(rt, &copy) else {
+        return false;
+    };
+    parts.findings = parts.findings.saturating_add(found);
+    match &mut parts.open {
+        Some(group) => add_transaction(rt, group, copy),
+        None => true,
+    }
+}
+
+/// How many findings a transaction has.
+fn count_findings(rt: &impl AllocGlobal, transaction: &Transaction) -> Result<usize, AllocError> {
+    findings(rt.alloc(), transaction).map(|found| found.len())
+}
+
+/// Adds the open group to the transmission. No where memory is refused.
+fn close_group(rt: &impl Abort, parts: &mut Parts) -> bool {
+    match (&mut parts.whole, parts.open.take()) {
+        (Some(transmission), Some(group)) => add_group(rt, transmission, group),
+        _ => true,
+    }
+}
+
+/// Adds an item. No where memory is refused.
+fn add_item(rt: &(impl Abort + AllocGlobal), parts: &mut Parts, item: Item) -> bool {
+    match item {
+        Item::Opened(head) => parts.whole = Transmission::new(rt.alloc(), head).ok(),
+        Item::GroupOpened(head) => parts.open = Group::new(rt.alloc(), head).ok(),
+        Item::Transaction(transaction) => return add_copy(rt, parts, &transaction),
+        Item::GroupClosed(_) => return close_group(rt, parts),
+        Item::Ended => {}
+    }
+    true
+}
+
+/// Reads the next item and adds it: whether there is one. `None` where memory is refused.
+fn add_next<R: Source>(
+    rt: &(impl Abort + AllocGlobal),
+    reading: &mut Reading<'_, R>,
+    parts: &mut Parts,
+) -> Option<bool> {
+    match with_memory(rt, reading.next_item(), ReadFault::Memory)? {
+        Some(item) => add_item(rt, parts, item).then_some(true),
+        None => Some(false),
+    }
+}
+
+/// Puts together the transmission of a reader, and lists the findings in its transactions: how many groups and how many
+/// findings there are. `None` where memory is refused.
+fn count_values<R: Source>(
+    rt: &(impl Abort + AllocGlobal),
+    reader: &mut R,
+) -> Option<(usize, usize)> {
     let mut reading = Reading::new(rt.alloc(), largest(), reader);
-    let mut items = Vec::new(rt.alloc());
+    let mut parts = Parts {
+        whole: None,
+        open: None,
+        findings: 0,
+    };
     for _ in 0..100 {
-        match reading.next_item() {
-            Ok(Some(item)) => {
-                if items.push(item).is_err() {
-                    return Err(refused());
-                }
-            }
-            Ok(None) => break,
-            Err(fault) => {
-                assert_eq!(rt; fault, ReadFault::Memory);
-                return Err(refused());
-            }
+        if !add_next(rt, &mut reading, &mut parts)? {
+            break;
         }
     }
-    Ok(items)
-}
-
-/// Puts together a transmission of items, and lists the findings in its transactions: it answers how many groups and how many
-/// findings there are.
-fn count_values(rt: &(impl Abort + AllocGlobal), items: Vec<Item>) -> Result<(usize, usize), Fail> {
-    let mut whole: Option<Transmission> = None;
-    let mut open: Option<Group> = None;
-    let mut found: usize = 0;
-    for item in items {
-        match item {
-            Item::Opened(head) => whole = Transmission::new(rt.alloc(), head).ok(),
-            Item::GroupOpened(head) => open = Group::new(rt.alloc(), head).ok(),
-            Item::Transaction(transaction) => {
-                let copy = copied(rt, &transaction)?;
-                match findings(rt.alloc(), &copy) {
-                    Ok(list) => found = found.saturating_add(list.len()),
-                    Err(_) => return Err(refused()),
-                }
-                if let Some(group) = &mut open {
-                    add_transaction(rt, group, copy)?;
-                }
-            }
-            Item::GroupClosed(_) => {
-                if let (Some(transmission), Some(group)) = (&mut whole, open.take()) {
-                    add_group(rt, transmission, group)?;
-                }
-            }
-            Item::Ended => {}
-        }
-    }
-    Ok((whole.map_or(0, |transmission| transmission.len()), found))
+    let groups = parts.whole.as_ref().map_or(0, |whole| whole.len());
+    Some((groups, parts.findings))
 }
 
 /// Puts together a text's transmission: so many groups, and so many findings.
@@ -122,10 +156,8 @@ fn check_values(
     numbers: (usize, usize),
 ) -> Result<(), Fail> {
     let text = text_of(rt, lines);
-    let mut reader = Counted::new(text.as_slice());
-    let items = items_of(rt, &mut reader)?;
-    assert_eq!(rt; count_values(rt, items)?, numbers);
-    Ok(())
+    let answer = count_values(rt, &mut Counted::new(text.as_slice()));
+    ended(rt, answer, numbers)
 }
 
 #[test]

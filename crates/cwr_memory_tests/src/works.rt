@@ -3,6 +3,7 @@
 use arrayvec::ArrayVec;
 use cwr_shape::Limits;
 use cwr_worked::lines::*;
+use std::fmt::Debug;
 use std::process::Abort;
 use std::test::Fail;
 
@@ -40,7 +41,15 @@ pub(crate) fn largest() -> Limits {
     Limits::new(99_999_999, 99_999, 999_999).unwrap()
 }
 
-/// What a test ends with where memory was refused, and that was the answer.
-pub(crate) fn refused() -> Fail {
-    Fail::new("memory was refused")
+/// Ends a test: its answer is the wanted one, or there is none since memory was refused.
+pub(crate) fn ended<T: PartialEq + Debug + Drop>(
+    rt: &impl Abort,
+    answer: Option<T>,
+    wanted: T,
+) -> Result<(), Fail> {
+    if answer.is_none() {
+        return Err(Fail::new("memory was refused"));
+    }
+    assert_eq!(rt; answer, Some(wanted));
+    Ok(())
 }

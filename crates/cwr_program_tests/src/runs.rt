@@ -6,16 +6,32 @@ use std::io;
 use std::io::{Read, Write};
 use std::process::Abort;
 use std::rt::Files;
-use std::test::Fail;
 
-/// A reader that fails.
-#[derive(Drop)]
-struct Failing;
+/// The standard input of a run: what is left of its text, and whether it fails where nothing is.
+#[derive(Clone, Copy, Drop)]
+struct Input<'a> {
+    left: &'a [u8],
+    fails: bool,
+}
 
-impl Read for Failing {
-    fn read(&mut self, _buf: &mut [u8]) -> io::Result<usize> {
-        Err(io::Error::from(io::ErrorKind::Other))
+/// An input that fails.
+const FAILING: Input<'static> = Input {
+    left: b"",
+    fails: true,
+};
+
+impl Read for Input<'_> {
+    fn read(&mut self, buf: &mut [u8]) -> io::Result<usize> {
+        if self.fails && self.left.is_empty() {
+            return Err(io::Error::from(io::ErrorKind::Other));
+        }
+        self.left.read(buf)
     }
+}
+
+/// An input that has this text.
+const fn text_input(left: &[u8]) -> Input<'_> {
+    Input { left, fails: false }
 }
 
 /// A writer that takes all texts, and can't hand them on.
@@ -32,12 +48,17 @@ impl Write for Stuck {
     }
 }
 
+/// The canonical text of lines.
+fn text_of(rt: &(impl Abort + AllocGlobal), lines: &[&[u8]]) -> Vec<u8> {
+    canonical(rt.alloc(), lines).expect(rt, "no memory")
+}
+
 /// Runs with the words over the input: it answers the status, and writes just these texts to the output and to standard
 /// error.
-fn check_run<R: Files + AllocGlobal + Abort, I: Read + Drop>(
+fn check_run<R: Files + AllocGlobal + Abort>(
     rt: &R,
     words: &[&str],
-    input: I,
+    input: Input<'_>,
     status: u8,
     texts: (&[u8], &[u8]),
 ) {
@@ -47,18 +68,14 @@ fn check_run<R: Files + AllocGlobal + Abort, I: Read + Drop>(
     assert_eq!(rt; (output.as_slice(), error.as_slice()), texts);
 }
 
-/// What standard error has after a run with the words, whose answer the status says and which writes nothing else.
-fn error_of<R: Files + AllocGlobal + Abort>(rt: &R, words: &[&str], status: u8) -> Vec<u8> {
-    let mut output = Vec::new(rt.alloc());
-    let mut error = Vec::new(rt.alloc());
-    assert_eq!(rt; run(rt, words, Failing, &mut output, &mut error), status);
-    assert!(rt; output.is_empty());
-    error
-}
+/// The words of a run, the status that is answered, and the texts that are written to the output and to standard error.
+type Run = (&'static [&'static str], u8, (&'static [u8], &'static [u8]));
 
-/// The words are answered by a text on standard error.
-fn check_refused_words<R: Files + AllocGlobal + Abort>(rt: &R, words: &[&str]) {
-    assert!(rt; !error_of(rt, words, 2).is_empty());
+/// Checks runs over an input.
+fn check_runs<R: Files + AllocGlobal + Abort>(rt: &R, input: Input<'_>, runs: &[Run]) {
+    for (words, status, texts) in runs {
+        check_run(rt, words, input, *status, *texts);
+    }
 }
 
 /// What is written of a file that can't be opened.
@@ -67,10 +84,22 @@ const NO_FILE: &[u8] = b"cwr: cannot open no/such/file.cwr\n";
 /// What is written of an input without a byte.
 const EMPTY: &[u8] = b"TRUNCATED records 0\n";
 
+/// What is written of an input that fails.
+const READ_FAULT: &[u8] = b"cwr: read fault\n";
+
+/// Runs over files that are missing or empty. Where a file is named, standard input isn't read.
+#[rattlefmt::skip]
+static OF_FILES: [Run; 5] = [
+    (&["cwr", "check", "no/such/file.cwr"], 3, (b"", NO_FILE)),
+    (&["cwr", "check", "/dev/null"], 1, (EMPTY, b"")),
+    (&["cwr", "check", "/dev/null", "--transaction", "1", "--groups", "1", "--records", "5"], 1, (EMPTY, b"")),
+    (&["cwr", "show", "no/such/file.cwr"], 3, (b"", NO_FILE)),
+    (&["cwr", "show", "/dev/null"], 1, (EMPTY, b"")),
+];
+
 #[test]
-fn missing_file(rt: HostRuntime) {
-    let words = ["cwr", "check", "no/such/file.cwr"];
-    check_run(&rt, &words, Failing, 3, (b"", NO_FILE));
+fn files_that_are_missing_or_empty(rt: HostRuntime) {
+    check_runs(&rt, FAILING, &OF_FILES);
 }
 
 /// What is written of a line in lower case.
@@ -85,14 +114,49 @@ const EXPLAINED: &[u8] = b"REFUSED record 1 field 1 level E unknown kind
 
 #[test]
 fn explained_input(rt: HostRuntime) {
-    let words = ["cwr", "explain"];
-    check_run(&rt, &words, b"hdr\n".as_slice(), 1, (EXPLAINED, b""));
+    let input = text_input(b"hdr\n");
+    check_run(&rt, &["cwr", "explain"], input, 1, (EXPLAINED, b""));
 }
+
+/// What standard error has after a run with the words, whose status says that they are answered by a text, and which writes
+/// nothing else.
+fn answer_to<R: Files + AllocGlobal + Abort>(rt: &R, words: &[&str]) -> Vec<u8> {
+    let mut output = Vec::new(rt.alloc());
+    let mut error = Vec::new(rt.alloc());
+    assert_eq!(rt; run(rt, words, FAILING, &mut output, &mut error), 2);
+    assert!(rt; output.is_empty());
+    error
+}
+
+/// Words that are answered by a text.
+#[rattlefmt::skip]
+static ANSWERED: [&[&str]; 18] = [
+    &["cwr", "frobnicate"],
+    &["cwr", "--help"],
+    &["cwr", "help"],
+    &["cwr", "--version"],
+    &["cwr", "-"],
+    // Limits out of their range.
+    &["cwr", "check", "--records", "4", "/dev/null"],
+    &["cwr", "check", "--records", "100000000", "/dev/null"],
+    &["cwr", "check", "--records", "x", "/dev/null"],
+    &["cwr", "check", "--records", "", "/dev/null"],
+    &["cwr", "check", "--records", "5.0", "/dev/null"],
+    &["cwr", "check", "--groups", "0", "/dev/null"],
+    &["cwr", "check", "--groups", "100000", "/dev/null"],
+    &["cwr", "check", "--transaction", "0", "/dev/null"],
+    &["cwr", "check", "--transaction", "1000000", "/dev/null"],
+    &["cwr", "check", "--transaction", "4294967297", "/dev/null"],
+    // Words that are missing, and no transactions.
+    &["cwr", "split", "/dev/null"],
+    &["cwr", "join", "/dev/null"],
+    &["cwr", "split", "-n", "0", "/dev/null", "part-"],
+];
 
 #[test]
 fn words_that_are_answered_by_a_text(rt: HostRuntime) {
-    for word in ["frobnicate", "--help", "help", "--version", "-"] {
-        check_refused_words(&rt, &["cwr", word]);
+    for words in &ANSWERED {
+        assert!(rt; !answer_to(&rt, words).is_empty());
     }
 }
 
@@ -102,52 +166,53 @@ fn has(text: &[u8], part: &[u8]) -> bool {
 }
 
 #[test]
-fn version_and_help(rt: HostRuntime) {
-    check_run(
-        &rt,
-        &["cwr", "--version"],
-        Failing,
-        2,
-        (b"", b"cwr 0.1.0\n"),
-    );
-    let help = error_of(&rt, &["cwr", "--help"], 2);
-    for part in [
-        "GOOD groups G transactions T records R",
-        "REFUSED record R field F level L REASON",
-        "TRUNCATED records R",
-        "FINDING group G transaction T record S field F level L rule V",
-        "SPLIT outputs O transactions T",
-        "JOINED inputs I groups G transactions T records R",
-        "input I: LIMIT records, groups or transaction",
-        "Exit status: 0 good, 1 refused, truncated or a limit",
-        "Examples: cwr check works.cwr",
-    ] {
+fn version(rt: HostRuntime) {
+    let texts: (&[u8], &[u8]) = (b"", b"cwr 0.1.0\n");
+    check_run(&rt, &["cwr", "--version"], FAILING, 2, texts);
+}
+
+/// Parts of the help.
+static PARTS_OF_HELP: [&str; 9] = [
+    "GOOD groups G transactions T records R",
+    "REFUSED record R field F level L REASON",
+    "TRUNCATED records R",
+    "FINDING group G transaction T record S field F level L rule V",
+    "SPLIT outputs O transactions T",
+    "JOINED inputs I groups G transactions T records R",
+    "input I: LIMIT records, groups or transaction",
+    "Exit status: 0 good, 1 refused, truncated or a limit",
+    "Examples: cwr check works.cwr",
+];
+
+#[test]
+fn help(rt: HostRuntime) {
+    let help = answer_to(&rt, &["cwr", "--help"]);
+    for part in &PARTS_OF_HELP {
         assert!(rt; has(help.as_slice(), part.as_bytes()), "at {part}");
     }
 }
 
 #[test]
 fn file_in_place_of_a_subcommand(rt: HostRuntime) {
-    let there = error_of(&rt, &["cwr", "/proc/version"], 2);
+    let there = answer_to(&rt, &["cwr", "/proc/version"]);
     let hint = b"\nTo check that file: cwr check /proc/version\n";
     assert!(rt; there.as_slice().ends_with(hint));
-    let missing = error_of(&rt, &["cwr", "/no/such/file.cwr"], 2);
+    let missing = answer_to(&rt, &["cwr", "/no/such/file.cwr"]);
     assert!(rt; !has(missing.as_slice(), b"To check that file"));
 }
 
+/// Runs over an input that is empty, some of them within the least limits or the largest.
+#[rattlefmt::skip]
+static OF_NOTHING: [Run; 4] = [
+    (&["cwr"], 1, (EMPTY, b"")),
+    (&["cwr", "check"], 1, (EMPTY, b"")),
+    (&["cwr", "check", "--records", "5", "--groups", "1", "--transaction", "1"], 1, (EMPTY, b"")),
+    (&["cwr", "check", "--records=99999999", "--groups=99999", "--transaction=999999"], 1, (EMPTY, b"")),
+];
+
 #[test]
 fn input_that_is_empty(rt: HostRuntime) {
-    for words in [["cwr"].as_slice(), ["cwr", "check"].as_slice()] {
-        check_run(&rt, words, io::empty(), 1, (EMPTY, b""));
-    }
-    // Where a file is named, standard input isn't read.
-    check_run(
-        &rt,
-        &["cwr", "check", "/dev/null"],
-        Failing,
-        1,
-        (EMPTY, b""),
-    );
+    check_runs(&rt, text_input(b""), &OF_NOTHING);
 }
 
 /// What is shown at the end of one acknowledgement.
@@ -158,230 +223,118 @@ const SHOWN_LAST: &[u8] = b"  12 processing date: 20240110
 GOOD groups 1 transactions 1 records 5
 ";
 
-/// What a show of the input writes begins and ends so.
-fn check_shown<R: Files + AllocGlobal + Abort, I: Read + Drop>(
+/// Runs with the words over the input, which begins with HDR: it answers the status, what is shown ends so, and just this is
+/// written to standard error.
+fn check_shown<R: Files + AllocGlobal + Abort>(
     rt: &R,
     words: &[&str],
-    input: I,
+    input: Input<'_>,
     status: u8,
-    ends: (&[u8], &[u8]),
+    (end, fault): (&[u8], &[u8]),
 ) {
     let mut output = Vec::new(rt.alloc());
     let mut error = Vec::new(rt.alloc());
     assert_eq!(rt; run(rt, words, input, &mut output, &mut error), status);
-    assert!(rt;
-        output
-            .as_slice()
-            .starts_with(b"1 HDR\n  2 sender type: PB\n")
-    );
-    assert!(rt; output.as_slice().ends_with(ends.0));
-    assert_eq!(rt; error.as_slice(), ends.1);
+    let shown = output.as_slice();
+    assert!(rt; shown.starts_with(b"1 HDR\n  2 sender type: PB\n"));
+    assert!(rt; shown.ends_with(end));
+    assert_eq!(rt; error.as_slice(), fault);
 }
 
 #[test]
-fn records_are_shown(rt: HostRuntime) -> Result<(), Fail> {
-    let text = canonical(rt.alloc(), ONE_ACKNOWLEDGEMENT)?;
+fn records_are_shown(rt: HostRuntime) {
+    let text = text_of(&rt, ONE_ACKNOWLEDGEMENT);
     let words = ["cwr", "show", "--records", "5"];
     for count in [2, 4] {
-        check_shown(&rt, &words[..count], text.as_slice(), 0, (SHOWN_LAST, b""));
-    }
-    Ok(())
-}
-
-#[test]
-fn records_of_a_file_are_shown(rt: HostRuntime) {
-    // Where a file is named, standard input isn't read.
-    check_run(&rt, &["cwr", "show", "/dev/null"], Failing, 1, (EMPTY, b""));
-    let words = ["cwr", "show", "no/such/file.cwr"];
-    check_run(&rt, &words, Failing, 3, (b"", NO_FILE));
-}
-
-/// A reader that gives what it has, and then fails.
-#[derive(Drop)]
-struct FailsAtEnd<'a> {
-    left: &'a [u8],
-}
-
-impl Read for FailsAtEnd<'_> {
-    fn read(&mut self, buf: &mut [u8]) -> io::Result<usize> {
-        if self.left.is_empty() {
-            return Err(io::Error::from(io::ErrorKind::Other));
-        }
-        self.left.read(buf)
+        let input = text_input(text.as_slice());
+        check_shown(&rt, &words[..count], input, 0, (SHOWN_LAST, b""));
     }
 }
 
 #[test]
-fn records_before_a_fault_are_shown(rt: HostRuntime) -> Result<(), Fail> {
-    let text = canonical(rt.alloc(), ONE_ACKNOWLEDGEMENT)?;
-    let left = text.as_slice().get(..333).unwrap_or(b"");
+fn records_before_a_fault_are_shown(rt: HostRuntime) {
+    let text = text_of(&rt, ONE_ACKNOWLEDGEMENT);
+    let input = Input {
+        left: text.as_slice().get(..333).unwrap_or(b""),
+        fails: true,
+    };
     let last = b"  13 transaction status: AS\n4 GRT\n";
-    let words = ["cwr", "show"];
-    check_shown(
-        &rt,
-        &words,
-        FailsAtEnd { left },
-        3,
-        (last, b"cwr: read fault\n"),
-    );
-    Ok(())
+    check_shown(&rt, &["cwr", "show"], input, 3, (last, READ_FAULT));
 }
 
 #[test]
 fn reader_that_fails(rt: HostRuntime) {
-    check_run(&rt, &["cwr"], Failing, 3, (b"", b"cwr: read fault\n"));
+    check_run(&rt, &["cwr"], FAILING, 3, (b"", READ_FAULT));
+}
+
+/// Checks the input into a writer that fails: the status says so, and just this is written to standard error.
+fn check_write_fault<R: Files + AllocGlobal + Abort, O: Write + Drop>(
+    rt: &R,
+    input: Input<'_>,
+    output: O,
+) {
+    let mut error = Vec::new(rt.alloc());
+    let words = ["cwr"];
+    assert_eq!(rt; run(rt, words.as_slice(), input, output, &mut error), 3);
+    assert_eq!(rt; error.as_slice(), b"cwr: write fault\n".as_slice());
 }
 
 #[test]
 fn writer_that_is_full(rt: HostRuntime) {
     let mut output = [0u8; 4];
-    let mut error = Vec::new(rt.alloc());
-    let status = run(
-        &rt,
-        ["cwr"].as_slice(),
-        io::empty(),
-        output.as_mut_slice(),
-        &mut error,
-    );
-    assert_eq!(rt; status, 3);
-    assert_eq!(rt; error.as_slice(), b"cwr: write fault\n".as_slice());
+    check_write_fault(&rt, text_input(b""), output.as_mut_slice());
 }
 
 #[test]
-fn writer_that_cannot_hand_on(rt: HostRuntime) -> Result<(), Fail> {
-    let text = canonical(rt.alloc(), ONE_ACKNOWLEDGEMENT)?;
-    let mut error = Vec::new(rt.alloc());
-    let status = run(&rt, ["cwr"].as_slice(), text.as_slice(), Stuck, &mut error);
-    assert_eq!(rt; status, 3);
-    assert_eq!(rt; error.as_slice(), b"cwr: write fault\n".as_slice());
-    Ok(())
+fn writer_that_cannot_hand_on(rt: HostRuntime) {
+    let text = text_of(&rt, ONE_ACKNOWLEDGEMENT);
+    check_write_fault(&rt, text_input(text.as_slice()), Stuck);
 }
 
-/// The words of a check within the least limits, up to the name of the file.
-const LEAST: [&str; 8] = [
-    "cwr",
-    "check",
-    "--records",
-    "5",
-    "--groups",
-    "1",
-    "--transaction",
-    "1",
+/// What is written of one acknowledgement.
+const GOOD: &[u8] = b"GOOD groups 1 transactions 1 records 5\n";
+
+/// Runs over one acknowledgement, within larger and within the least limits.
+#[rattlefmt::skip]
+static WITHIN_LIMITS: [Run; 4] = [
+    (&["cwr"], 0, (GOOD, b"")),
+    (&["cwr", "check"], 0, (GOOD, b"")),
+    (&["cwr", "check", "--records", "5"], 0, (GOOD, b"")),
+    (&["cwr", "check", "--records", "5", "--groups", "1", "--transaction", "1"], 0, (GOOD, b"")),
 ];
 
 #[test]
-fn limits_out_of_their_range(rt: HostRuntime) {
-    let table = [
-        ("--records", "4"),
-        ("--records", "100000000"),
-        ("--records", "x"),
-        ("--records", ""),
-        ("--records", "5.0"),
-        ("--groups", "0"),
-        ("--groups", "100000"),
-        ("--transaction", "0"),
-        ("--transaction", "1000000"),
-        ("--transaction", "4294967297"),
-    ];
-    for (option, number) in table {
-        check_refused_words(&rt, &["cwr", "check", option, number, "/dev/null"]);
-    }
-}
-
-#[test]
-fn limits_at_the_ends_of_their_range(rt: HostRuntime) {
-    let largest = [
-        "cwr",
-        "check",
-        "--records=99999999",
-        "--groups=99999",
-        "--transaction=999999",
-    ];
-    for words in [LEAST.as_slice(), largest.as_slice()] {
-        check_run(&rt, words, io::empty(), 1, (EMPTY, b""));
-    }
-    let words = [
-        "cwr",
-        "check",
-        "/dev/null",
-        "--transaction",
-        "1",
-        "--groups",
-        "1",
-        "--records",
-        "5",
-    ];
-    check_run(&rt, &words, Failing, 1, (EMPTY, b""));
-}
-
-#[test]
-fn transmission_within_the_least_limits(rt: HostRuntime) -> Result<(), Fail> {
-    let text = canonical(rt.alloc(), ONE_ACKNOWLEDGEMENT)?;
+fn transmission_within_the_least_limits(rt: HostRuntime) {
+    let text = text_of(&rt, ONE_ACKNOWLEDGEMENT);
     assert_eq!(rt; text.len(), 359);
-    let good = b"GOOD groups 1 transactions 1 records 5\n";
-    for count in [1, 2, 4, 8] {
-        check_run(&rt, &LEAST[..count], text.as_slice(), 0, (good, b""));
-    }
-    Ok(())
+    check_runs(&rt, text_input(text.as_slice()), &WITHIN_LIMITS);
 }
 
+/// Runs over two acknowledgements: the second is the fourth record of six.
+#[rattlefmt::skip]
+static AT_A_LIMIT: [Run; 2] = [
+    (&["cwr", "check", "--records", "5"], 1, (b"REFUSED record 4 field 1 level E limit records\n", b"")),
+    (&["cwr", "check", "--records", "6"], 0, (b"GOOD groups 1 transactions 2 records 6\n", b"")),
+];
+
 #[test]
-fn transmission_that_passes_a_limit(rt: HostRuntime) -> Result<(), Fail> {
-    let text = canonical(rt.alloc(), TWO_ACKNOWLEDGEMENTS)?;
+fn transmission_that_passes_a_limit(rt: HostRuntime) {
+    let text = text_of(&rt, TWO_ACKNOWLEDGEMENTS);
     assert_eq!(rt; text.len(), 520);
-    let limited = b"REFUSED record 4 field 1 level E limit records\n";
-    let good = b"GOOD groups 1 transactions 2 records 6\n";
-    let words = ["cwr", "check", "--records", "5"];
-    check_run(&rt, &words, text.as_slice(), 1, (limited, b""));
-    let words = ["cwr", "check", "--records", "6"];
-    check_run(&rt, &words, text.as_slice(), 0, (good, b""));
-    Ok(())
+    check_runs(&rt, text_input(text.as_slice()), &AT_A_LIMIT);
 }
 
-#[test]
-fn split_of_an_input_without_transactions(rt: HostRuntime) {
-    let words = ["cwr", "split", "-n", "3", "/dev/null", "no/such/part-"];
-    check_run(&rt, &words, Failing, 1, (EMPTY, b""));
-    let words = ["cwr", "split", "-n", "3", "no/such/file.cwr", "part-"];
-    check_run(&rt, &words, Failing, 3, (b"", NO_FILE));
-}
+/// Splits and joins of files that are missing or empty. Inputs of a join are opened in their order, and OUT after them.
+#[rattlefmt::skip]
+static SPLITS_AND_JOINS: [Run; 5] = [
+    (&["cwr", "split", "-n", "3", "/dev/null", "no/such/part-"], 1, (EMPTY, b"")),
+    (&["cwr", "split", "-n", "3", "no/such/file.cwr", "part-"], 3, (b"", NO_FILE)),
+    (&["cwr", "join", "/dev/null", "/dev/null", "/dev/null"], 1, (b"input 1: TRUNCATED records 0\n", b"")),
+    (&["cwr", "join", "no/such/out", "/dev/null", "no/such/file.cwr"], 3, (b"", NO_FILE)),
+    (&["cwr", "join", "no/such/out", "/dev/null"], 3, (b"", b"cwr: cannot open no/such/out\n")),
+];
 
 #[test]
-fn join_of_inputs_that_are_not_there_or_empty(rt: HostRuntime) {
-    let words = ["cwr", "join", "/dev/null", "/dev/null", "/dev/null"];
-    check_run(
-        &rt,
-        &words,
-        Failing,
-        1,
-        (b"input 1: TRUNCATED records 0\n", b""),
-    );
-    // Inputs are opened in their order, and OUT after them.
-    let words = [
-        "cwr",
-        "join",
-        "no/such/out",
-        "/dev/null",
-        "no/such/file.cwr",
-    ];
-    check_run(&rt, &words, Failing, 3, (b"", NO_FILE));
-    let words = ["cwr", "join", "no/such/out", "/dev/null"];
-    check_run(
-        &rt,
-        &words,
-        Failing,
-        3,
-        (b"", b"cwr: cannot open no/such/out\n"),
-    );
-}
-
-#[test]
-fn split_and_join_without_their_words(rt: HostRuntime) {
-    for words in [
-        ["cwr", "split", "/dev/null"].as_slice(),
-        ["cwr", "join", "/dev/null"].as_slice(),
-        ["cwr", "split", "-n", "0", "/dev/null", "part-"].as_slice(),
-    ] {
-        check_refused_words(&rt, words);
-    }
+fn splits_and_joins_of_files_that_are_missing_or_empty(rt: HostRuntime) {
+    check_runs(&rt, FAILING, &SPLITS_AND_JOINS);
 }

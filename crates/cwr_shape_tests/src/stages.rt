@@ -2,11 +2,13 @@
 
 use cwr_fields::{Role, TransactionType};
 use cwr_layouts::Kind;
+use cwr_shape::Symbol::{Grh, Ipa, Plain};
 use cwr_shape::{Stage, Symbol, TransactionStep};
+use std::process::Abort;
 
-/// The stage after some records. `None` where one of them may not come.
-fn stage_after(symbols: &[Symbol]) -> Option<Stage> {
-    let mut stage = Stage::start();
+/// The stage after more records. `None` where one of them may not come.
+fn stage_from(from: Stage, symbols: &[Symbol]) -> Option<Stage> {
+    let mut stage = from;
     for symbol in symbols {
         stage = stage.next(*symbol)?;
     }
@@ -15,128 +17,132 @@ fn stage_after(symbols: &[Symbol]) -> Option<Stage> {
 
 /// The stage after HDR, GRH of the type and the records of one transaction.
 fn stage_inside(ty: TransactionType, symbols: &[Symbol]) -> Option<Stage> {
-    let mut stage = stage_after(&[Symbol::Plain(Kind::Hdr), Symbol::Grh(ty)])?;
-    for symbol in symbols {
-        stage = stage.next(*symbol)?;
+    let within = stage_from(Stage::start(), &[Plain(Kind::Hdr), Grh(ty)])?;
+    stage_from(within, symbols)
+}
+
+/// Checks how far the records of a transaction have come after so many of them.
+fn check_steps(
+    rt: &impl Abort,
+    ty: TransactionType,
+    symbols: &[Symbol],
+    steps: &[(usize, TransactionStep)],
+) {
+    for (count, step) in steps {
+        let reached = stage_inside(ty, symbols.get(..*count).unwrap_or(symbols));
+        assert_eq!(rt; reached, Some(Stage::Within(ty, *step)), "after {count}");
     }
-    Some(stage)
+}
+
+/// Checks that none of these begins a transaction of the type.
+fn check_misplaced(rt: &impl Abort, ty: TransactionType, lists: &[&[Symbol]]) {
+    for symbols in lists {
+        assert!(rt; stage_inside(ty, symbols).is_none(), "{symbols:?}");
+    }
 }
 
 #[test]
 fn whole_acknowledgements(rt: HostRuntime) {
     let whole = [
-        Symbol::Plain(Kind::Hdr),
-        Symbol::Grh(TransactionType::Acknowledgement),
-        Symbol::Plain(Kind::Ack),
-        Symbol::Plain(Kind::Msg),
-        Symbol::Plain(Kind::Ack),
-        Symbol::Plain(Kind::Grt),
-        Symbol::Grh(TransactionType::Acknowledgement),
-        Symbol::Plain(Kind::Ack),
-        Symbol::Plain(Kind::Grt),
-        Symbol::Plain(Kind::Trl),
+        Plain(Kind::Hdr),
+        Grh(TransactionType::Acknowledgement),
+        Plain(Kind::Ack),
+        Plain(Kind::Msg),
+        Plain(Kind::Ack),
+        Plain(Kind::Grt),
+        Grh(TransactionType::Acknowledgement),
+        Plain(Kind::Ack),
+        Plain(Kind::Grt),
+        Plain(Kind::Trl),
     ];
-    assert_eq!(rt; stage_after(&whole), Some(Stage::Ended));
-    assert_eq!(rt; stage_after(&whole[..6]), Some(Stage::Closed));
-    assert_eq!(rt; stage_after(&[]), Some(Stage::Start));
-    assert!(rt; stage_after(&whole[1..]).is_none());
-    assert!(rt; stage_after(&[whole[0], whole[9]]).is_none());
-    assert!(rt; stage_after(&[whole[0], whole[1], whole[5]]).is_none());
+    let lists: [(&[Symbol], Option<Stage>); 6] = [
+        (&whole, Some(Stage::Ended)),
+        (&whole[..6], Some(Stage::Closed)),
+        (&[], Some(Stage::Start)),
+        (&whole[1..], None),
+        (&[whole[0], whole[9]], None),
+        (&[whole[0], whole[1], whole[5]], None),
+    ];
+    for (symbols, stage) in lists {
+        assert_eq!(rt; stage_from(Stage::start(), symbols), stage);
+    }
 }
 
 #[test]
 fn agreements(rt: HostRuntime) {
     let agreement = [
-        Symbol::Plain(Kind::Agr),
-        Symbol::Plain(Kind::Ter),
-        Symbol::Ipa(Role::Assignor),
-        Symbol::Ipa(Role::Assignor),
-        Symbol::Ipa(Role::Acquirer),
-        Symbol::Plain(Kind::Ter),
+        Plain(Kind::Agr),
+        Plain(Kind::Ter),
+        Ipa(Role::Assignor),
+        Ipa(Role::Assignor),
+        Ipa(Role::Acquirer),
+        Plain(Kind::Ter),
     ];
-    let ty = TransactionType::Agreement;
-    let at = |step: TransactionStep| Some(Stage::Within(ty, step));
-    assert_eq!(rt;
-        stage_inside(ty, &agreement[..2]),
-        at(TransactionStep::Territories)
-    );
-    assert_eq!(rt;
-        stage_inside(ty, &agreement[..4]),
-        at(TransactionStep::OneSide(Role::Assignor))
-    );
-    assert_eq!(rt;
-        stage_inside(ty, &agreement[..5]),
-        at(TransactionStep::Both)
-    );
-    assert_eq!(rt;
-        stage_inside(ty, &agreement),
-        at(TransactionStep::Territories)
-    );
-    let one_side = [
-        agreement[0],
-        agreement[1],
-        agreement[2],
-        Symbol::Plain(Kind::Grt),
+    let steps = [
+        (2, TransactionStep::Territories),
+        (4, TransactionStep::OneSide(Role::Assignor)),
+        (5, TransactionStep::Both),
+        (6, TransactionStep::Territories),
     ];
-    assert!(rt; stage_inside(ty, &one_side).is_none());
-    assert!(rt; stage_inside(TransactionType::NewWork, &agreement[..1]).is_none());
+    check_steps(&rt, TransactionType::Agreement, &agreement, &steps);
+    let one_side = [agreement[0], agreement[1], agreement[2], Plain(Kind::Grt)];
+    check_misplaced(&rt, TransactionType::Agreement, &[&one_side]);
+    check_misplaced(&rt, TransactionType::NewWork, &[&agreement[..1]]);
 }
 
 #[test]
 fn works(rt: HostRuntime) {
     let work = [
-        Symbol::Plain(Kind::Rev),
-        Symbol::Plain(Kind::Spu),
-        Symbol::Plain(Kind::Spt),
-        Symbol::Plain(Kind::Opu),
-        Symbol::Plain(Kind::Swr),
-        Symbol::Plain(Kind::Swt),
-        Symbol::Plain(Kind::Pwr),
-        Symbol::Plain(Kind::Owr),
-        Symbol::Plain(Kind::Pwr),
-        Symbol::Plain(Kind::Alt),
+        Plain(Kind::Rev),
+        Plain(Kind::Spu),
+        Plain(Kind::Spt),
+        Plain(Kind::Opu),
+        Plain(Kind::Swr),
+        Plain(Kind::Swt),
+        Plain(Kind::Pwr),
+        Plain(Kind::Owr),
+        Plain(Kind::Pwr),
+        Plain(Kind::Alt),
     ];
-    let ty = TransactionType::RevisedWork;
-    let at = |step: TransactionStep| Some(Stage::Within(ty, step));
-    assert_eq!(rt; stage_inside(ty, &work[..4]), at(TransactionStep::Other));
-    assert_eq!(rt; stage_inside(ty, &work[..7]), at(TransactionStep::Writer));
-    assert_eq!(rt;
-        stage_inside(ty, &work[..9]),
-        at(TransactionStep::OtherWriter)
-    );
-    assert_eq!(rt; stage_inside(ty, &work), at(TransactionStep::Tail));
-    assert!(rt; stage_inside(ty, &[work[0], work[3], work[2]]).is_none());
-    assert!(rt; stage_inside(ty, &[work[0], work[7], work[5]]).is_none());
-    assert!(rt; stage_inside(ty, &[work[0], work[4], work[9], work[6]]).is_none());
-    assert!(rt; stage_inside(ty, &[work[0], work[9]]).is_none());
+    let steps = [
+        (4, TransactionStep::Other),
+        (7, TransactionStep::Writer),
+        (9, TransactionStep::OtherWriter),
+        (10, TransactionStep::Tail),
+    ];
+    check_steps(&rt, TransactionType::RevisedWork, &work, &steps);
+    let misplaced: [&[Symbol]; 4] = [
+        &[work[0], work[3], work[2]],
+        &[work[0], work[7], work[5]],
+        &[work[0], work[4], work[9], work[6]],
+        &[work[0], work[9]],
+    ];
+    check_misplaced(&rt, TransactionType::RevisedWork, &misplaced);
 }
 
 #[test]
 fn carried_records_leave_the_stage_as_it_is(rt: HostRuntime) {
-    let carried = Symbol::Plain(Kind::Ind);
-    let ty = TransactionType::NewWork;
+    let carried = Plain(Kind::Ind);
     let work = [
-        Symbol::Plain(Kind::Nwr),
+        Plain(Kind::Nwr),
         carried,
-        Symbol::Plain(Kind::Spu),
+        Plain(Kind::Spu),
         carried,
-        Symbol::Plain(Kind::Spt),
-        Symbol::Plain(Kind::Swr),
+        Plain(Kind::Spt),
+        Plain(Kind::Swr),
         carried,
-        Symbol::Plain(Kind::Alt),
+        Plain(Kind::Alt),
         carried,
     ];
-    for (count, step) in [
+    let steps = [
         (2, TransactionStep::Work),
         (4, TransactionStep::Controlled),
         (7, TransactionStep::Writer),
         (9, TransactionStep::Tail),
-    ] {
-        let reached = stage_inside(ty, work.get(..count).unwrap_or(&work));
-        assert_eq!(rt; reached, Some(Stage::Within(ty, step)));
-    }
-    assert!(rt; stage_inside(ty, &[carried]).is_none());
-    assert!(rt; stage_inside(ty, &[work[0], work[5], work[7], carried, work[5]]).is_none());
-    let acknowledged = [Symbol::Plain(Kind::Ack), Symbol::Plain(Kind::Ari)];
-    assert!(rt; stage_inside(TransactionType::Acknowledgement, &acknowledged).is_none());
+    ];
+    check_steps(&rt, TransactionType::NewWork, &work, &steps);
+    let misplaced: [&[Symbol]; 2] = [&[carried], &[work[0], work[5], work[7], carried, work[5]]];
+    check_misplaced(&rt, TransactionType::NewWork, &misplaced);
+    let acknowledged = [Plain(Kind::Ack), Plain(Kind::Ari)];
+    check_misplaced(&rt, TransactionType::Acknowledgement, &[&acknowledged]);
 }

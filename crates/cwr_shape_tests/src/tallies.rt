@@ -3,7 +3,7 @@
 use cwr_fields::{Role, TransactionType};
 use cwr_layouts::Kind;
 use cwr_shape::{Bar, LimitKind, Limits, Place, Stage, Symbol, Tally, TransactionStep};
-use std::test::Fail;
+use std::process::Abort;
 
 const HDR: Symbol = Symbol::Plain(Kind::Hdr);
 
@@ -33,12 +33,13 @@ const TWO_GROUPS: [Symbol; 12] = [
     TRL,
 ];
 
-/// Within the largest limits.
-fn tally() -> Result<Tally, Fail> {
-    Ok(Tally::new(Limits::new(99_999_999, 99_999, 999_999)?))
-}
+/// The most records, groups and records of a transaction.
+type Numbers = (u32, u32, u32);
 
-/// Checks that each record may come, and counts it.
+/// The largest numbers of limits.
+const LARGEST: Numbers = (99_999_999, 99_999, 999_999);
+
+/// Counts each record, if it may come.
 fn count_each(tally: &mut Tally, symbols: &[Symbol]) -> Result<(), Bar> {
     for symbol in symbols {
         tally.admits(*symbol)?;
@@ -47,149 +48,202 @@ fn count_each(tally: &mut Tally, symbols: &[Symbol]) -> Result<(), Bar> {
     Ok(())
 }
 
-#[test]
-fn numbers_before_a_first_work(rt: HostRuntime) -> Result<(), Fail> {
-    let mut tally = tally()?;
-    assert_eq!(rt; tally.stage(), Stage::Start);
-    assert_eq!(rt; tally.place(), Place::File);
-    assert_eq!(rt; tally.expects(Kind::Hdr, 1), None);
-    assert_eq!(rt; tally.expects(Kind::Hdr, 8), None);
-    count_each(&mut tally, &TWO_GROUPS[..1])?;
-    assert_eq!(rt; tally.expects(Kind::Grh, 2), None);
-    assert_eq!(rt; tally.expects(Kind::Grh, 3), Some(1));
-    count_each(&mut tally, &TWO_GROUPS[1..2])?;
-    assert_eq!(rt; tally.place(), Place::Group);
-    assert_eq!(rt; tally.expects(Kind::Nwr, 2), Some(0));
-    assert_eq!(rt; tally.expects(Kind::Nwr, 3), Some(0));
-    Ok(())
+/// The tally of records within limits of these numbers, all of which may come.
+fn tally_of(rt: &impl Abort, numbers: Numbers, symbols: &[Symbol]) -> Tally {
+    let limits = Limits::new(numbers.0, numbers.1, numbers.2).expect(rt, "no limits");
+    let mut tally = Tally::new(limits);
+    assert_eq!(rt; count_each(&mut tally, symbols), Ok(()));
+    tally
 }
 
-#[test]
-fn numbers_of_a_first_group(rt: HostRuntime) -> Result<(), Fail> {
-    let mut tally = tally()?;
-    count_each(&mut tally, &TWO_GROUPS[..3])?;
-    assert_eq!(rt; tally.place(), Place::Transaction);
-    assert_eq!(rt; tally.expects(Kind::Swr, 2), Some(0));
-    assert_eq!(rt; tally.expects(Kind::Swr, 3), Some(1));
-    assert_eq!(rt; tally.expects(Kind::Swr, 4), None);
-    count_each(&mut tally, &TWO_GROUPS[3..4])?;
-    assert_eq!(rt; tally.expects(Kind::Nwr, 2), Some(1));
-    assert_eq!(rt; tally.expects(Kind::Swr, 3), Some(2));
-    assert_eq!(rt; tally.expects(Kind::Grt, 1), None);
-    assert_eq!(rt; tally.expects(Kind::Grt, 2), Some(1));
-    assert_eq!(rt; tally.expects(Kind::Grt, 3), Some(1));
-    assert_eq!(rt; tally.expects(Kind::Grt, 4), Some(4));
-    assert_eq!(rt; tally.expects(Kind::Grt, 5), None);
-    Ok(())
-}
+/// After so many records of the two groups a kind, a field of it, and its number, if it has one.
+#[rattlefmt::skip]
+static EXPECTED: [(usize, Kind, u8, Option<u64>); 25] = [
+    (0, Kind::Hdr, 1, None),
+    (0, Kind::Hdr, 8, None),
+    (1, Kind::Grh, 2, None),
+    (1, Kind::Grh, 3, Some(1)),
+    (2, Kind::Nwr, 2, Some(0)),
+    (2, Kind::Nwr, 3, Some(0)),
+    (3, Kind::Swr, 2, Some(0)),
+    (3, Kind::Swr, 3, Some(1)),
+    (3, Kind::Swr, 4, None),
+    (4, Kind::Nwr, 2, Some(1)),
+    (4, Kind::Swr, 3, Some(2)),
+    (4, Kind::Grt, 1, None),
+    (4, Kind::Grt, 2, Some(1)),
+    (4, Kind::Grt, 3, Some(1)),
+    (4, Kind::Grt, 4, Some(4)),
+    (4, Kind::Grt, 5, None),
+    (6, Kind::Rev, 2, Some(0)),
+    (6, Kind::Rev, 3, Some(0)),
+    (10, Kind::Grt, 2, Some(2)),
+    (10, Kind::Grt, 3, Some(2)),
+    (10, Kind::Grt, 4, Some(6)),
+    (11, Kind::Grh, 3, Some(3)),
+    (11, Kind::Trl, 2, Some(2)),
+    (11, Kind::Trl, 3, Some(3)),
+    (11, Kind::Trl, 4, Some(12)),
+];
 
 #[test]
-fn numbers_of_a_second_group(rt: HostRuntime) -> Result<(), Fail> {
-    let mut tally = tally()?;
-    count_each(&mut tally, &TWO_GROUPS[..6])?;
-    assert_eq!(rt; tally.groups(), 2);
-    assert_eq!(rt; tally.expects(Kind::Rev, 2), Some(0));
-    assert_eq!(rt; tally.expects(Kind::Rev, 3), Some(0));
-    count_each(&mut tally, &TWO_GROUPS[6..10])?;
-    assert_eq!(rt; tally.expects(Kind::Grt, 2), Some(2));
-    assert_eq!(rt; tally.expects(Kind::Grt, 3), Some(2));
-    assert_eq!(rt; tally.expects(Kind::Grt, 4), Some(6));
-    Ok(())
+fn numbers_of_the_next_record(rt: HostRuntime) {
+    for (count, kind, field, number) in &EXPECTED {
+        let tally = tally_of(&rt, LARGEST, &TWO_GROUPS[..(*count).min(12)]);
+        let found = tally.expects(*kind, *field);
+        assert_eq!(rt; found, *number, "after {count}, {kind:?} {field}");
+    }
 }
 
-#[test]
-fn numbers_after_two_groups(rt: HostRuntime) -> Result<(), Fail> {
-    let mut tally = tally()?;
-    count_each(&mut tally, &TWO_GROUPS[..11])?;
-    assert_eq!(rt; tally.place(), Place::File);
-    assert_eq!(rt; tally.expects(Kind::Grh, 3), Some(3));
-    assert_eq!(rt; tally.expects(Kind::Trl, 2), Some(2));
-    assert_eq!(rt; tally.expects(Kind::Trl, 3), Some(3));
-    assert_eq!(rt; tally.expects(Kind::Trl, 4), Some(12));
-    count_each(&mut tally, &TWO_GROUPS[11..])?;
-    assert_eq!(rt; tally.stage(), Stage::Ended);
-    assert_eq!(rt;
-        (tally.records(), tally.groups(), tally.transactions()),
-        (12, 2, 3)
-    );
-    Ok(())
-}
+/// After so many records of the two groups the place of the next one.
+static PLACES: [(usize, Place); 4] = [
+    (0, Place::File),
+    (2, Place::Group),
+    (3, Place::Transaction),
+    (11, Place::File),
+];
 
 #[test]
-fn bars(rt: HostRuntime) -> Result<(), Fail> {
-    let mut tally = tally()?;
-    assert_eq!(rt; tally.admits(TRL), Err(Bar::Misplaced));
-    assert_eq!(rt; tally.admits(Symbol::Plain(Kind::Grh)), Err(Bar::Misplaced));
-    assert_eq!(rt; tally.admits_kind(Kind::Grh), Err(Bar::Misplaced));
-    assert_eq!(rt; tally.admits_kind(Kind::Hdr), Ok(()));
-    count_each(&mut tally, &[HDR])?;
-    assert_eq!(rt; tally.admits_kind(Kind::Grh), Ok(()));
-    count_each(
-        &mut tally,
-        &[
-            Symbol::Grh(TransactionType::Agreement),
-            Symbol::Plain(Kind::Agr),
-        ],
-    )?;
-    assert_eq!(rt;
+fn places_of_the_next_record(rt: HostRuntime) {
+    for (count, place) in &PLACES {
+        let tally = tally_of(&rt, LARGEST, &TWO_GROUPS[..(*count).min(12)]);
+        assert_eq!(rt; tally.place(), *place, "after {count}");
+    }
+}
+
+/// The stage of a tally, and how many records, groups and transactions it has counted.
+fn counts_of(tally: &Tally) -> (Stage, u32, u32, u32) {
+    (
         tally.stage(),
-        Stage::Within(TransactionType::Agreement, TransactionStep::Agreed)
-    );
-    assert_eq!(rt; tally.admits_kind(Kind::Ipa), Err(Bar::Misplaced));
-    count_each(
-        &mut tally,
-        &[Symbol::Plain(Kind::Ter), Symbol::Ipa(Role::Acquirer)],
-    )?;
-    assert_eq!(rt; tally.admits_kind(Kind::Ipa), Ok(()));
-    assert_eq!(rt; tally.admits(GRT), Err(Bar::Misplaced));
-    Ok(())
+        tally.records(),
+        tally.groups(),
+        tally.transactions(),
+    )
 }
 
 #[test]
-fn limits_bar_in_their_order(rt: HostRuntime) -> Result<(), Fail> {
-    let acknowledged = [
-        HDR,
-        Symbol::Grh(TransactionType::Acknowledgement),
-        Symbol::Plain(Kind::Ack),
-    ];
-    let records = Err(Bar::Limit(LimitKind::Records));
-    let groups = Err(Bar::Limit(LimitKind::Groups));
-    let long = Err(Bar::Limit(LimitKind::Transaction));
-    let mut tally = Tally::new(Limits::new(9, 1, 1)?);
-    count_each(&mut tally, &acknowledged)?;
-    assert_eq!(rt; tally.admits(Symbol::Plain(Kind::Msg)), long);
-    assert_eq!(rt; tally.admits(Symbol::Plain(Kind::Ack)), Ok(()));
-    assert_eq!(rt; tally.admits(SWR), Err(Bar::Misplaced));
-    count_each(&mut tally, &[GRT])?;
-    assert_eq!(rt;
-        tally.admits(Symbol::Grh(TransactionType::Agreement)),
-        records
-    );
-    assert_eq!(rt; tally.admits_kind(Kind::Grh), groups);
-    assert_eq!(rt; tally.admits(TRL), Ok(()));
-    let mut tally = Tally::new(Limits::new(5, 1, 1)?);
-    count_each(&mut tally, &acknowledged)?;
-    assert_eq!(rt; tally.admits(Symbol::Plain(Kind::Ack)), records);
-    assert_eq!(rt; tally.admits(GRT), Ok(()));
-    Ok(())
+fn counts_of_two_groups(rt: HostRuntime) {
+    let none = tally_of(&rt, LARGEST, &[]);
+    assert_eq!(rt; counts_of(&none), (Stage::Start, 0, 0, 0));
+    let second = tally_of(&rt, LARGEST, &TWO_GROUPS[..6]);
+    assert_eq!(rt; second.groups(), 2);
+    let both = tally_of(&rt, LARGEST, &TWO_GROUPS);
+    assert_eq!(rt; counts_of(&both), (Stage::Ended, 12, 2, 3));
 }
 
 #[test]
-fn a_role_decides_how_many_records_must_follow(rt: HostRuntime) -> Result<(), Fail> {
-    let mut tally = Tally::new(Limits::new(8, 1, 4)?);
-    count_each(
-        &mut tally,
-        &[
-            HDR,
-            Symbol::Grh(TransactionType::Agreement),
-            Symbol::Plain(Kind::Agr),
-            Symbol::Plain(Kind::Ter),
-            Symbol::Ipa(Role::Assignor),
-        ],
-    )?;
-    let records = Err(Bar::Limit(LimitKind::Records));
-    assert_eq!(rt; tally.admits_kind(Kind::Ipa), Ok(()));
-    assert_eq!(rt; tally.admits(Symbol::Ipa(Role::Assignor)), records);
-    assert_eq!(rt; tally.admits(Symbol::Ipa(Role::Acquirer)), Ok(()));
-    Ok(())
+fn stage_of_a_begun_agreement(rt: HostRuntime) {
+    let tally = tally_of(&rt, LARGEST, &AGREED);
+    let begun = Stage::Within(TransactionType::Agreement, TransactionStep::Agreed);
+    assert_eq!(rt; tally.stage(), begun);
+}
+
+/// What may come next.
+#[derive(Clone, Copy, Debug)]
+enum Next {
+    /// This record.
+    Record(Symbol),
+    /// A record of this kind.
+    Kind(Kind),
+}
+
+/// Whether it may come.
+fn admits(tally: &Tally, next: Next) -> Result<(), Bar> {
+    match next {
+        Next::Record(symbol) => tally.admits(symbol),
+        Next::Kind(kind) => tally.admits_kind(kind),
+    }
+}
+
+const MSG: Symbol = Symbol::Plain(Kind::Msg);
+
+const ACK: Symbol = Symbol::Plain(Kind::Ack);
+
+const TER: Symbol = Symbol::Plain(Kind::Ter);
+
+const GRH_AGR: Symbol = Symbol::Grh(TransactionType::Agreement);
+
+const AGREED: [Symbol; 3] = [HDR, GRH_AGR, Symbol::Plain(Kind::Agr)];
+
+const ACQUIRED: [Symbol; 5] = [
+    HDR,
+    GRH_AGR,
+    Symbol::Plain(Kind::Agr),
+    TER,
+    Symbol::Ipa(Role::Acquirer),
+];
+
+const ASSIGNED: [Symbol; 5] = [
+    HDR,
+    GRH_AGR,
+    Symbol::Plain(Kind::Agr),
+    TER,
+    Symbol::Ipa(Role::Assignor),
+];
+
+/// A group of one acknowledgement.
+const ACKNOWLEDGED: [Symbol; 4] = [HDR, Symbol::Grh(TransactionType::Acknowledgement), ACK, GRT];
+
+/// The same but for its GRT.
+const ACKNOWLEDGING: [Symbol; 3] = [HDR, Symbol::Grh(TransactionType::Acknowledgement), ACK];
+
+const RECORDS: Result<(), Bar> = Err(Bar::Limit(LimitKind::Records));
+
+const GROUPS: Result<(), Bar> = Err(Bar::Limit(LimitKind::Groups));
+
+const LONG: Result<(), Bar> = Err(Bar::Limit(LimitKind::Transaction));
+
+const MISPLACED: Result<(), Bar> = Err(Bar::Misplaced);
+
+/// Limits, records, and whether another may come after them.
+type Barred = (Numbers, &'static [Symbol], Next, Result<(), Bar>);
+
+#[rattlefmt::skip]
+static ORDERS: [Barred; 8] = [
+    (LARGEST, &[], Next::Record(TRL), MISPLACED),
+    (LARGEST, &[], Next::Record(Symbol::Plain(Kind::Grh)), MISPLACED),
+    (LARGEST, &[], Next::Kind(Kind::Grh), MISPLACED),
+    (LARGEST, &[], Next::Kind(Kind::Hdr), Ok(())),
+    (LARGEST, &[HDR], Next::Kind(Kind::Grh), Ok(())),
+    (LARGEST, &AGREED, Next::Kind(Kind::Ipa), MISPLACED),
+    (LARGEST, &ACQUIRED, Next::Kind(Kind::Ipa), Ok(())),
+    (LARGEST, &ACQUIRED, Next::Record(GRT), MISPLACED),
+];
+
+/// Limits bar in their order, and a role decides how many records must still follow.
+#[rattlefmt::skip]
+static LIMITS: [Barred; 11] = [
+    ((9, 1, 1), &ACKNOWLEDGING, Next::Record(MSG), LONG),
+    ((9, 1, 1), &ACKNOWLEDGING, Next::Record(ACK), Ok(())),
+    ((9, 1, 1), &ACKNOWLEDGING, Next::Record(SWR), MISPLACED),
+    ((9, 1, 1), &ACKNOWLEDGED, Next::Record(GRH_AGR), RECORDS),
+    ((9, 1, 1), &ACKNOWLEDGED, Next::Kind(Kind::Grh), GROUPS),
+    ((9, 1, 1), &ACKNOWLEDGED, Next::Record(TRL), Ok(())),
+    ((5, 1, 1), &ACKNOWLEDGING, Next::Record(ACK), RECORDS),
+    ((5, 1, 1), &ACKNOWLEDGING, Next::Record(GRT), Ok(())),
+    ((8, 1, 4), &ASSIGNED, Next::Kind(Kind::Ipa), Ok(())),
+    ((8, 1, 4), &ASSIGNED, Next::Record(Symbol::Ipa(Role::Assignor)), RECORDS),
+    ((8, 1, 4), &ASSIGNED, Next::Record(Symbol::Ipa(Role::Acquirer)), Ok(())),
+];
+
+/// Checks whether the record of each row may come.
+fn check_bars(rt: &impl Abort, rows: &[Barred]) {
+    for (numbers, symbols, next, answer) in rows {
+        let tally = tally_of(rt, *numbers, symbols);
+        assert_eq!(rt;
+            admits(&tally, *next),
+            *answer,
+            "{next:?} after {symbols:?}"
+        );
+    }
+}
+
+#[test]
+fn records_that_are_barred_by_their_order(rt: HostRuntime) {
+    check_bars(&rt, &ORDERS);
+}
+
+#[test]
+fn records_that_are_barred_by_limits(rt: HostRuntime) {
+    check_bars(&rt, &LIMITS);
 }

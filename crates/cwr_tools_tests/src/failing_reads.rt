@@ -1,12 +1,15 @@
 //! Tests of whole runs whose reader fails in one of its reads.
 
 use crate::outputs::{Mishap, Shelf};
+use crate::works::{Numbers, limits_of, text_of};
 use cwr_fields::Counted;
-use cwr_shape::Limits;
-use cwr_tools::{JoinFault, ToolFault, check, join, show, split};
-use cwr_worked::texts::{TWO_GROUPS, canonical};
-use std::io::{self, BufReader, ErrorKind, Read};
-use std::test::Fail;
+use cwr_tools::{JoinFault, JoinReport, SplitReport, ToolFault, Verdict, check, join, show, split};
+use cwr_worked::texts::TWO_GROUPS;
+use std::io::{self, ErrorKind, Read};
+use std::process::Abort;
+
+/// The limits of all runs.
+const LEAST: Numbers = (24, 4, 2);
 
 /// A reader that gives a hundred bytes at most, and fails after so many reads.
 #[derive(Drop)]
@@ -26,44 +29,68 @@ impl Read for FailsAfter<'_> {
     }
 }
 
+/// What the runs read.
+type Failing<'a> = Counted<FailsAfter<'a>>;
+
+/// A reader of the text that fails after so many reads.
+fn failing_after(left: &[u8], reads: u8) -> Failing<'_> {
+    Counted::new(FailsAfter { left, reads })
+}
+
+/// What a check answers.
+fn checked(rt: &(impl Abort + AllocGlobal), mut reader: Failing<'_>) -> Result<Verdict, ToolFault> {
+    let writer = Counted::new(Vec::new(rt.alloc()));
+    check(rt.alloc(), limits_of(rt, LEAST), &mut reader, writer).1
+}
+
+/// What a show answers.
+fn shown(rt: &(impl Abort + AllocGlobal), mut reader: Failing<'_>) -> Result<Verdict, ToolFault> {
+    let writer = Counted::new(Vec::new(rt.alloc()));
+    show(rt.alloc(), limits_of(rt, LEAST), &mut reader, writer).1
+}
+
+/// What a split into outputs of two transactions answers.
+fn parted(
+    rt: &(impl Abort + AllocGlobal),
+    mut reader: Failing<'_>,
+) -> Result<SplitReport, ToolFault> {
+    let mut shelf = Shelf::new(rt.alloc(), Mishap::Nothing);
+    split(rt.alloc(), limits_of(rt, LEAST), &mut reader, 2, &mut shelf)
+}
+
+/// What a join of two readers answers.
+fn joined(
+    rt: &(impl Abort + AllocGlobal),
+    mut readers: [Failing<'_>; 2],
+) -> Result<JoinReport, JoinFault> {
+    let writer = Counted::new(Vec::new(rt.alloc()));
+    join(
+        rt.alloc(),
+        limits_of(rt, LEAST),
+        readers.as_mut_slice(),
+        writer,
+    )
+    .1
+}
+
+/// Runs over a text whose reader fails after so many reads, in a join the second reader.
+fn check_failing(rt: &(impl Abort + AllocGlobal), text: &[u8], reads: u8) {
+    let fault = ToolFault::Reader;
+    let reader = failing_after(text, reads);
+    assert_eq!(rt; checked(rt, reader), Err(fault), "after {reads}");
+    let reader = failing_after(text, reads);
+    assert_eq!(rt; shown(rt, reader), Err(fault), "after {reads}");
+    let reader = failing_after(text, reads);
+    assert_eq!(rt; parted(rt, reader), Err(fault), "after {reads}");
+    let readers = [failing_after(text, 16), failing_after(text, reads)];
+    let refused = Err(JoinFault { input: 2, fault });
+    assert_eq!(rt; joined(rt, readers), refused, "after {reads}");
+}
+
 #[test]
-fn each_read_that_fails_is_answered(rt: HostRuntime) -> Result<(), Fail> {
-    let limits = Limits::new(24, 4, 2)?;
-    let text = canonical(rt.alloc(), TWO_GROUPS)?;
-    let left = text.as_slice();
+fn each_read_that_fails_is_answered(rt: HostRuntime) {
+    let text = text_of(&rt, TWO_GROUPS);
     for reads in 0..16 {
-        let reader = || FailsAfter { left, reads };
-        let mut first = Counted::new(BufReader::with_capacity(rt.alloc(), 0, reader()).unwrap());
-        let (_, checked) = check(
-            rt.alloc(),
-            limits,
-            &mut first,
-            Counted::new(Vec::new(rt.alloc())),
-        );
-        let mut second = Counted::new(BufReader::with_capacity(rt.alloc(), 0, reader()).unwrap());
-        let (_, shown) = show(
-            rt.alloc(),
-            limits,
-            &mut second,
-            Counted::new(Vec::new(rt.alloc())),
-        );
-        let mut third = Counted::new(BufReader::with_capacity(rt.alloc(), 0, reader()).unwrap());
-        let mut shelf = Shelf::new(rt.alloc(), Mishap::Nothing);
-        let parted = split(rt.alloc(), limits, &mut third, 2, &mut shelf);
-        let fault = ToolFault::Reader;
-        assert_eq!(rt;
-            (checked, shown, parted),
-            (Err(fault), Err(fault), Err(fault)),
-            "after {reads}"
-        );
-        let whole = FailsAfter { left, reads: 16 };
-        let mut readers = [
-            Counted::new(BufReader::with_capacity(rt.alloc(), 0, whole).unwrap()),
-            Counted::new(BufReader::with_capacity(rt.alloc(), 0, reader()).unwrap()),
-        ];
-        let writer = Counted::new(Vec::new(rt.alloc()));
-        let (_, joined) = join(rt.alloc(), limits, readers.as_mut_slice(), writer);
-        assert_eq!(rt; joined, Err(JoinFault { input: 2, fault }), "after {reads}");
+        check_failing(&rt, text.as_slice(), reads);
     }
-    Ok(())
 }

@@ -1,13 +1,16 @@
 //! Tests of the texts that joins of worked texts write, and of their answers.
 
-use crate::works::{NEW_AND_REVISED, REV_0_OF_GREEN_SEA, REVISED};
-use cwr_fields::Counted;
-use cwr_shape::{LimitKind, Limits};
+use crate::works::{
+    LARGEST, NEW_AND_REVISED, Numbers, REV_0_OF_GREEN_SEA, REVISED, limits_of, short_text_of,
+    text_of,
+};
+use cwr_decode::Refusal;
+use cwr_fields::{CellFault, Counted};
+use cwr_shape::{Level, LimitKind, Reason};
 use cwr_tools::{JoinFault, JoinReport, ToolFault, join};
 use cwr_worked::lines::*;
-use cwr_worked::texts::{ONE_ACKNOWLEDGEMENT, canonical, trimmed_text};
+use cwr_worked::texts::ONE_ACKNOWLEDGEMENT;
 use std::process::Abort;
-use std::test::Fail;
 
 /// GRH of type REV, the third group.
 const GRH_REV_3: &[u8] = b"GRHREV0000302.100000000001";
@@ -42,63 +45,57 @@ const TWICE: &[&[u8]] = &[
     b"TRL000020000000200000008",
 ];
 
-/// The largest limits.
-fn largest() -> Limits {
-    Limits::new(99_999_999, 99_999, 999_999).unwrap()
-}
-
-/// Joins one text: this is written and answered.
+/// What is written of a join of one text, and what is answered.
 fn check_one(
     rt: &(impl Abort + AllocGlobal),
     text: &[u8],
     wanted: &[u8],
     answer: Result<JoinReport, JoinFault>,
-) -> Result<(), Fail> {
+) {
     let mut readers = [Counted::new(text)];
     let writer = Counted::new(Vec::new(rt.alloc()));
-    let (writer, outcome) = join(rt.alloc(), largest(), readers.as_mut_slice(), writer);
-    assert_eq!(rt; outcome, answer);
-    assert_eq!(rt; writer.into_inner().as_slice(), wanted);
-    Ok(())
-}
-
-/// Joins two texts: this is written and answered.
-fn check_two(
-    rt: &(impl Abort + AllocGlobal),
-    limits: Limits,
-    first: &[u8],
-    second: &[u8],
-    wanted: &[u8],
-    answer: Result<JoinReport, JoinFault>,
-) -> Result<(), Fail> {
-    let mut readers = [Counted::new(first), Counted::new(second)];
-    let writer = Counted::new(Vec::new(rt.alloc()));
+    let limits = limits_of(rt, LARGEST);
     let (writer, outcome) = join(rt.alloc(), limits, readers.as_mut_slice(), writer);
     assert_eq!(rt; outcome, answer);
     assert_eq!(rt; writer.into_inner().as_slice(), wanted);
-    Ok(())
+}
+
+/// What is written of a join of two texts, and what is answered.
+fn check_two(
+    rt: &(impl Abort + AllocGlobal),
+    numbers: Numbers,
+    (first, second): (&[u8], &[u8]),
+    wanted: &[u8],
+    answer: Result<JoinReport, JoinFault>,
+) {
+    let mut readers = [Counted::new(first), Counted::new(second)];
+    let writer = Counted::new(Vec::new(rt.alloc()));
+    let limits = limits_of(rt, numbers);
+    let (writer, outcome) = join(rt.alloc(), limits, readers.as_mut_slice(), writer);
+    assert_eq!(rt; outcome, answer);
+    assert_eq!(rt; writer.into_inner().as_slice(), wanted);
 }
 
 #[test]
-fn joins_of_one_text(rt: HostRuntime) -> Result<(), Fail> {
-    let text = canonical(rt.alloc(), ONE_ACKNOWLEDGEMENT)?;
-    assert_eq!(rt; text.len(), 359);
-    let trimmed = trimmed_text(rt.alloc(), ONE_ACKNOWLEDGEMENT)?;
-    assert_eq!(rt; trimmed.len(), 323);
+fn joins_of_one_text(rt: HostRuntime) {
+    let text = text_of(&rt, ONE_ACKNOWLEDGEMENT);
+    let trimmed = short_text_of(&rt, ONE_ACKNOWLEDGEMENT);
+    assert_eq!(rt; (text.len(), trimmed.len()), (359, 323));
     let report = JoinReport {
         inputs: 1,
         groups: 1,
         transactions: 1,
         records: 5,
     };
-    check_one(&rt, text.as_slice(), text.as_slice(), Ok(report))?;
-    check_one(&rt, trimmed.as_slice(), text.as_slice(), Ok(report))
+    for given in [text.as_slice(), trimmed.as_slice()] {
+        check_one(&rt, given, text.as_slice(), Ok(report));
+    }
 }
 
 #[test]
-fn join_of_a_text_with_itself(rt: HostRuntime) -> Result<(), Fail> {
-    let text = canonical(rt.alloc(), ONE_ACKNOWLEDGEMENT)?;
-    let twice = canonical(rt.alloc(), TWICE)?;
+fn join_of_a_text_with_itself(rt: HostRuntime) {
+    let text = text_of(&rt, ONE_ACKNOWLEDGEMENT);
+    let twice = text_of(&rt, TWICE);
     let report = JoinReport {
         inputs: 2,
         groups: 2,
@@ -106,68 +103,52 @@ fn join_of_a_text_with_itself(rt: HostRuntime) -> Result<(), Fail> {
         records: 8,
     };
     let one = text.as_slice();
-    check_two(&rt, largest(), one, one, twice.as_slice(), Ok(report))
+    check_two(&rt, LARGEST, (one, one), twice.as_slice(), Ok(report));
 }
 
 #[test]
-fn groups_of_one_type_stay_apart(rt: HostRuntime) -> Result<(), Fail> {
-    let first = canonical(rt.alloc(), NEW_AND_REVISED)?;
-    assert_eq!(rt; first.len(), 1155);
-    let second = canonical(rt.alloc(), REVISED)?;
-    assert_eq!(rt; second.len(), 642);
-    let both = canonical(rt.alloc(), BOTH)?;
-    assert_eq!(rt; both.len(), 1668);
+fn groups_of_one_type_stay_apart(rt: HostRuntime) {
+    let first = text_of(&rt, NEW_AND_REVISED);
+    let second = text_of(&rt, REVISED);
+    let both = text_of(&rt, BOTH);
+    assert_eq!(rt; (first.len(), second.len(), both.len()), (1155, 642, 1668));
     let report = JoinReport {
         inputs: 2,
         groups: 3,
         transactions: 3,
         records: 14,
     };
-    let least = Limits::new(14, 3, 2)?;
-    check_two(
-        &rt,
-        least,
-        first.as_slice(),
-        second.as_slice(),
-        both.as_slice(),
-        Ok(report),
-    )
+    let texts = (first.as_slice(), second.as_slice());
+    check_two(&rt, (14, 3, 2), texts, both.as_slice(), Ok(report));
 }
 
 #[test]
-fn joins_that_pass_a_limit(rt: HostRuntime) -> Result<(), Fail> {
-    let first = canonical(rt.alloc(), NEW_AND_REVISED)?;
-    let second = canonical(rt.alloc(), REVISED)?;
+fn joins_that_pass_a_limit(rt: HostRuntime) {
+    let first = text_of(&rt, NEW_AND_REVISED);
+    let second = text_of(&rt, REVISED);
+    let texts = (first.as_slice(), second.as_slice());
     // What is written is all of the first text but TRL, which takes 26 bytes.
-    let before = first.as_slice().get(..1155 - 26).unwrap_or(b"");
+    let before = texts.0.get(..1155 - 26).unwrap_or(b"");
     let passed = [
-        (Limits::new(13, 3, 2)?, LimitKind::Records),
-        (Limits::new(14, 2, 2)?, LimitKind::Groups),
+        ((13, 3, 2), LimitKind::Records),
+        ((14, 2, 2), LimitKind::Groups),
     ];
-    for (limits, limit) in passed {
+    for (numbers, limit) in passed {
         let fault = JoinFault {
             input: 2,
             fault: ToolFault::Limit(limit),
         };
-        check_two(
-            &rt,
-            limits,
-            first.as_slice(),
-            second.as_slice(),
-            before,
-            Err(fault),
-        )?;
+        check_two(&rt, numbers, texts, before, Err(fault));
     }
-    Ok(())
 }
 
 #[test]
-fn join_with_a_text_that_is_cut_off(rt: HostRuntime) -> Result<(), Fail> {
-    let text = canonical(rt.alloc(), ONE_ACKNOWLEDGEMENT)?;
+fn join_with_a_text_that_is_cut_off(rt: HostRuntime) {
+    let text = text_of(&rt, ONE_ACKNOWLEDGEMENT);
     let cut = text.as_slice().get(..294).unwrap_or(b"");
     // The first text is written but for TRL, and the second one's GRH, which takes 30 bytes. Its transaction isn't joined
     // before a record is accepted after it.
-    let twice = canonical(rt.alloc(), TWICE)?;
+    let twice = text_of(&rt, TWICE);
     let before = twice.as_slice().get(..333 + 30).unwrap_or(b"");
     let same = text.as_slice().get(..333).unwrap_or(b"");
     assert!(rt; before.starts_with(same));
@@ -175,27 +156,23 @@ fn join_with_a_text_that_is_cut_off(rt: HostRuntime) -> Result<(), Fail> {
         input: 2,
         fault: ToolFault::Truncated { records: 3 },
     };
-    check_two(&rt, largest(), text.as_slice(), cut, before, Err(fault))
+    check_two(&rt, LARGEST, (text.as_slice(), cut), before, Err(fault));
 }
 
 #[test]
-fn join_with_a_text_that_is_refused(rt: HostRuntime) -> Result<(), Fail> {
-    let text = canonical(rt.alloc(), ONE_ACKNOWLEDGEMENT)?;
-    let other = canonical(rt.alloc(), &[HDR_OF_ANOTHER_VERSION])?;
-    let mut readers = [
-        Counted::new(other.as_slice()),
-        Counted::new(text.as_slice()),
-    ];
-    let writer = Counted::new(Vec::new(rt.alloc()));
-    let (writer, outcome) = join(rt.alloc(), largest(), readers.as_mut_slice(), writer);
-    let refused = matches!(
-        outcome,
-        Err(JoinFault {
-            input: 1,
-            fault: ToolFault::Refused(_),
-        })
-    );
-    assert!(rt; refused);
-    assert_eq!(rt; writer.into_inner().len(), 0);
-    Ok(())
+fn join_with_a_text_that_is_refused(rt: HostRuntime) {
+    let text = text_of(&rt, ONE_ACKNOWLEDGEMENT);
+    let other = text_of(&rt, &[HDR_OF_ANOTHER_VERSION]);
+    // The version of the EDI standard is the fifth field of HDR.
+    let fault = JoinFault {
+        input: 1,
+        fault: ToolFault::Refused(Refusal {
+            rec: 1,
+            field: 5,
+            level: Level::E,
+            reason: Reason::Cell(CellFault::NotConstant),
+        }),
+    };
+    let texts = (other.as_slice(), text.as_slice());
+    check_two(&rt, LARGEST, texts, b"", Err(fault));
 }

@@ -3,10 +3,12 @@
 ghost use Rattle.std.specs.Prelude.{◌≡◌, Some, map};
 ghost use Rattle.cwr_fields.specs.Failures.{one_more_failure};
 
+use crate::works::text_of;
 use cwr_fields::Counted;
 use cwr_tools::{OutputFault, Outputs};
 use std::alloc::Global;
 use std::io::{self, Write};
+use std::process::Abort;
 
 /// A writer to memory that takes so many bytes, and then no more.
 #[derive(Drop)]
@@ -162,5 +164,13 @@ impl Outputs for Shelf {
         }
         self.lent = self.lent.saturating_sub(1);
         self.given_up = Some(writer.into_inner().text);
+    }
+}
+
+/// Checks that the texts are the canonical ones of these lines.
+pub(crate) fn check_texts(rt: &(impl Abort + AllocGlobal), texts: &[Vec<u8>], wanted: &[&[&[u8]]]) {
+    assert_eq!(rt; texts.len(), wanted.len());
+    for (text, lines) in texts.iter().zip(wanted) {
+        assert_eq!(rt; text.as_slice(), text_of(rt, lines).as_slice());
     }
 }

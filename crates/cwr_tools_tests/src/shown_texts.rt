@@ -1,14 +1,15 @@
 //! Tests of the text that a show writes on a worked text.
 
 use crate::failing::FailsAtEnd;
-use cwr_fields::Counted;
-use cwr_shape::Limits;
+use crate::works::{LARGEST, limits_of, text_of};
+use cwr_decode::Refusal;
+use cwr_fields::{CellFault, Counted, Source, Target};
+use cwr_shape::{Level, Reason};
 use cwr_tools::{ToolFault, Verdict, show};
 use cwr_worked::lines::*;
-use cwr_worked::texts::{ONE_ACKNOWLEDGEMENT, canonical};
-use std::io::{self, BufReader, Write};
+use cwr_worked::texts::ONE_ACKNOWLEDGEMENT;
+use std::io::{self, Write};
 use std::process::Abort;
-use std::test::Fail;
 
 /// What is shown of HDR, and of GRH its number and its kind.
 const OPENING: &str = "\
@@ -71,66 +72,98 @@ const ONE_WORK: &str = "\
 REFUSED record 6 field 5 level R cell blank
 ";
 
-/// The largest limits.
-fn largest() -> Limits {
-    Limits::new(99_999_999, 99_999, 999_999).unwrap()
-}
-
-/// Shows a text: what is written begins with these parts, one after the other, and has nothing more.
-fn check_parts(rt: &(impl Abort + AllocGlobal), text: &[u8], parts: &[&str]) -> Result<(), Fail> {
-    let mut reader = Counted::new(text);
-    let writer = Counted::new(Vec::new(rt.alloc()));
-    let (writer, outcome) = show(rt.alloc(), largest(), &mut reader, writer);
-    assert!(rt; outcome.is_ok());
-    let written = writer.into_inner();
-    let mut rest = written.as_slice();
+/// Checks that the text has these parts, one after the other, and nothing more.
+fn check_parts(rt: &impl Abort, text: &[u8], parts: &[&str]) {
+    let mut rest = text;
     for part in parts {
         assert!(rt; rest.starts_with(part.as_bytes()), "at {part}");
         rest = rest.get(part.len()..).unwrap_or(b"");
     }
     assert!(rt; rest.is_empty());
-    Ok(())
+}
+
+/// Shows a reader's text: so it is answered. The writer comes back.
+fn shown_into<R: Source + Drop, W: Target + Drop>(
+    rt: &(impl Abort + AllocGlobal),
+    mut reader: R,
+    writer: W,
+    answer: Result<Verdict, ToolFault>,
+) -> W {
+    let (writer, outcome) = show(rt.alloc(), limits_of(rt, LARGEST), &mut reader, writer);
+    assert_eq!(rt; outcome, answer);
+    writer
+}
+
+/// Shows a text, on which the verdict is this: these parts are written.
+fn check_shown(rt: &(impl Abort + AllocGlobal), text: &[u8], verdict: Verdict, parts: &[&str]) {
+    let writer = Counted::new(Vec::new(rt.alloc()));
+    let writer = shown_into(rt, Counted::new(text), writer, Ok(verdict));
+    check_parts(rt, writer.into_inner().as_slice(), parts);
+}
+
+/// The verdict on one acknowledgement.
+const GOOD: Verdict = Verdict::Good {
+    groups: 1,
+    transactions: 1,
+    records: 5,
+};
+
+/// All that is shown of it.
+const SHOWN: [&str; 4] = [OPENING, OF_ACKNOWLEDGEMENTS, TRANSACTION, ENDING];
+
+#[test]
+fn text_on_one_acknowledgement(rt: HostRuntime) {
+    let text = text_of(&rt, ONE_ACKNOWLEDGEMENT);
+    check_shown(&rt, text.as_slice(), GOOD, &SHOWN);
 }
 
 #[test]
-fn text_on_one_acknowledgement(rt: HostRuntime) -> Result<(), Fail> {
-    let text = canonical(rt.alloc(), ONE_ACKNOWLEDGEMENT)?;
-    check_parts(
+fn text_on_a_refused_work(rt: HostRuntime) {
+    let lines: [&[u8]; 6] = [HDR, GRH_NWR, NWR_0, SWR_0_1, NWR_1, SWR_1_1_WITHOUT_NAME];
+    let text = text_of(&rt, &lines);
+    let verdict = Verdict::Refused(Refusal {
+        rec: 6,
+        field: 5,
+        level: Level::R,
+        reason: Reason::Cell(CellFault::Blank),
+    });
+    check_shown(
         &rt,
         text.as_slice(),
-        &[OPENING, OF_ACKNOWLEDGEMENTS, TRANSACTION, ENDING],
-    )
+        verdict,
+        &[OPENING, OF_WORKS, ONE_WORK],
+    );
 }
 
-#[test]
-fn text_on_a_refused_work(rt: HostRuntime) -> Result<(), Fail> {
-    let lines: [&[u8]; 6] = [HDR, GRH_NWR, NWR_0, SWR_0_1, NWR_1, SWR_1_1_WITHOUT_NAME];
-    let text = canonical(rt.alloc(), &lines)?;
-    check_parts(&rt, text.as_slice(), &[OPENING, OF_WORKS, ONE_WORK])
-}
-
-#[test]
-fn texts_on_texts_that_are_cut_off(rt: HostRuntime) -> Result<(), Fail> {
-    let text = canonical(rt.alloc(), ONE_ACKNOWLEDGEMENT)?;
+/// How many bytes of one acknowledgement there are, how many records, and what is shown.
+static CUT_OFF: [(usize, u32, &[&str]); 3] = [
+    (0, 0, &["TRUNCATED records 0\n"]),
     // The transaction isn't shown before a record is accepted after it.
-    let cut = text.as_slice().get(..294).unwrap_or(b"");
-    check_parts(
-        &rt,
-        cut,
+    (
+        294,
+        3,
         &[OPENING, OF_ACKNOWLEDGEMENTS, "TRUNCATED records 3\n"],
-    )?;
-    let longer = text.as_slice().get(..331).unwrap_or(b"");
-    check_parts(
-        &rt,
-        longer,
+    ),
+    (
+        331,
+        4,
         &[
             OPENING,
             OF_ACKNOWLEDGEMENTS,
             TRANSACTION,
             "TRUNCATED records 4\n",
         ],
-    )?;
-    check_parts(&rt, b"", &["TRUNCATED records 0\n"])
+    ),
+];
+
+#[test]
+fn texts_on_texts_that_are_cut_off(rt: HostRuntime) {
+    let text = text_of(&rt, ONE_ACKNOWLEDGEMENT);
+    for (at, records, parts) in &CUT_OFF {
+        let front = text.as_slice().get(..*at).unwrap_or(b"");
+        let verdict = Verdict::Truncated { records: *records };
+        check_shown(&rt, front, verdict, parts);
+    }
 }
 
 /// A writer that takes one byte a call.
@@ -152,55 +185,33 @@ impl Write for OneByte {
 }
 
 #[test]
-fn writer_that_takes_one_byte(rt: HostRuntime) -> Result<(), Fail> {
-    let text = canonical(rt.alloc(), ONE_ACKNOWLEDGEMENT)?;
-    let mut reader = Counted::new(text.as_slice());
+fn writer_that_takes_one_byte(rt: HostRuntime) {
+    let text = text_of(&rt, ONE_ACKNOWLEDGEMENT);
     let writer = Counted::new(OneByte {
         text: Vec::new(rt.alloc()),
     });
-    let (writer, outcome) = show(rt.alloc(), largest(), &mut reader, writer);
-    let good = Verdict::Good {
-        groups: 1,
-        transactions: 1,
-        records: 5,
-    };
-    assert_eq!(rt; outcome, Ok(good));
-    let written = writer.into_inner().text;
-    let whole = OPENING.len() + OF_ACKNOWLEDGEMENTS.len() + TRANSACTION.len() + ENDING.len();
-    assert_eq!(rt; written.len(), whole);
-    assert!(rt; written.as_slice().ends_with(ENDING.as_bytes()));
-    Ok(())
+    let writer = shown_into(&rt, Counted::new(text.as_slice()), writer, Ok(GOOD));
+    check_parts(&rt, writer.into_inner().text.as_slice(), &SHOWN);
 }
 
 #[test]
-fn writer_that_is_full(rt: HostRuntime) -> Result<(), Fail> {
-    let text = canonical(rt.alloc(), ONE_ACKNOWLEDGEMENT)?;
-    let mut reader = Counted::new(text.as_slice());
+fn writer_that_is_full(rt: HostRuntime) {
+    let text = text_of(&rt, ONE_ACKNOWLEDGEMENT);
     let mut place = [b' '; 40];
     let full = Counted::new(place.as_mut_slice());
-    let (_, outcome) = show(rt.alloc(), largest(), &mut reader, full);
-    assert_eq!(rt; outcome, Err(ToolFault::Writer { written: 40 }));
+    let fault = ToolFault::Writer { written: 40 };
+    let _full = shown_into(&rt, Counted::new(text.as_slice()), full, Err(fault));
     assert!(rt; OPENING.as_bytes().starts_with(place.as_slice()));
-    Ok(())
 }
 
 #[test]
-fn reader_that_fails(rt: HostRuntime) -> Result<(), Fail> {
-    let text = canonical(rt.alloc(), ONE_ACKNOWLEDGEMENT)?;
+fn reader_that_fails(rt: HostRuntime) {
+    let text = text_of(&rt, ONE_ACKNOWLEDGEMENT);
     let left = text.as_slice().get(..333).unwrap_or(b"");
-    let mut reader = Counted::new(BufReader::with_capacity(
-        rt.alloc(),
-        0,
-        FailsAtEnd { left },
-    ).unwrap());
+    let reader = Counted::new(FailsAtEnd { left });
     let writer = Counted::new(Vec::new(rt.alloc()));
-    let (writer, outcome) = show(rt.alloc(), largest(), &mut reader, writer);
-    assert_eq!(rt; outcome, Err(ToolFault::Reader));
-    let written = writer.into_inner();
-    assert_eq!(rt;
-        written.len(),
-        OPENING.len() + OF_ACKNOWLEDGEMENTS.len() + TRANSACTION.len()
-    );
-    assert!(rt; written.as_slice().ends_with(TRANSACTION.as_bytes()));
-    Ok(())
+    let fault = Err(ToolFault::Reader);
+    let writer = shown_into(&rt, reader, writer, fault);
+    let parts = [OPENING, OF_ACKNOWLEDGEMENTS, TRANSACTION];
+    check_parts(&rt, writer.into_inner().as_slice(), &parts);
 }

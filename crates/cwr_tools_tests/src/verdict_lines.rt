@@ -1,22 +1,14 @@
 //! Tests of the lines that a check writes on a worked text.
 
+use crate::works::{LARGEST, Numbers, limits_of, short_text_of, text_of};
 use cwr_fields::Counted;
-use cwr_shape::Limits;
 use cwr_tools::check;
 use cwr_worked::lines::*;
 use cwr_worked::texts::{
     AGREEMENT_OF_TWO_BLOCKS, ONE_ACKNOWLEDGEMENT, TWO_GROUPS, WORK_OF_ELEVEN,
-    WORK_OF_ELEVEN_REORDERED, canonical, trimmed_text,
+    WORK_OF_ELEVEN_REORDERED,
 };
-use std::alloc::{AllocError, Global};
 use std::process::Abort;
-use std::test::Fail;
-
-/// The most records, groups and records of a transaction.
-type Numbers = (u32, u32, u32);
-
-/// The largest numbers of limits.
-const LARGEST: Numbers = (99_999_999, 99_999, 999_999);
 
 /// Limits, the lines of a text, and the lines that are written on its canonical text.
 type Checked = (Numbers, &'static [&'static [u8]], &'static [u8]);
@@ -62,86 +54,72 @@ static FOUND: [Checked; 2] = [
 ];
 
 /// Checks a text within these limits: the lines that are written on it.
-fn check_line(
-    rt: &(impl Abort + AllocGlobal),
-    numbers: Numbers,
-    text: &[u8],
-    wanted: &[u8],
-) -> Result<(), Fail> {
-    let limits = Limits::new(numbers.0, numbers.1, numbers.2)?;
+fn check_line(rt: &(impl Abort + AllocGlobal), numbers: Numbers, text: &[u8], wanted: &[u8]) {
     let mut reader = Counted::new(text);
     let writer = Counted::new(Vec::new(rt.alloc()));
-    let (writer, outcome) = check(rt.alloc(), limits, &mut reader, writer);
+    let (writer, outcome) = check(rt.alloc(), limits_of(rt, numbers), &mut reader, writer);
     assert!(rt; outcome.is_ok());
     assert_eq!(rt; writer.into_inner().as_slice(), wanted);
-    Ok(())
 }
 
 #[test]
-fn lines_on_worked_texts(rt: HostRuntime) -> Result<(), Fail> {
+fn lines_on_worked_texts(rt: HostRuntime) {
     for table in [GOOD.as_slice(), REFUSED.as_slice(), FOUND.as_slice()] {
         for (numbers, lines, wanted) in table {
-            let text = canonical(rt.alloc(), lines)?;
-            check_line(&rt, *numbers, text.as_slice(), wanted)?;
+            check_line(&rt, *numbers, text_of(&rt, lines).as_slice(), wanted);
         }
     }
-    Ok(())
 }
 
 #[test]
-fn lines_on_a_text_without_trailing_spaces(rt: HostRuntime) -> Result<(), Fail> {
-    let text = trimmed_text(rt.alloc(), ONE_ACKNOWLEDGEMENT)?;
+fn lines_on_a_text_without_trailing_spaces(rt: HostRuntime) {
+    let text = short_text_of(&rt, ONE_ACKNOWLEDGEMENT);
     assert_eq!(rt; text.len(), 323);
     let good = b"GOOD groups 1 transactions 1 records 5\n";
-    check_line(&rt, (5, 1, 1), text.as_slice(), good)
+    check_line(&rt, (5, 1, 1), text.as_slice(), good);
 }
 
+/// After how many bytes the transmission of one acknowledgement is cut off, and the line on that text.
+static CUT_OFF: [(usize, &[u8]); 9] = [
+    (0, b"TRUNCATED records 0\n"),
+    (80, b"REFUSED record 1 field 8 level E cell not a date\n"),
+    (100, b"TRUNCATED records 1\n"),
+    (133, b"TRUNCATED records 2\n"),
+    (294, b"TRUNCATED records 3\n"),
+    (331, b"TRUNCATED records 4\n"),
+    (356, b"REFUSED record 5 field 4 level E cell not digits\n"),
+    (357, b"GOOD groups 1 transactions 1 records 5\n"),
+    (358, b"GOOD groups 1 transactions 1 records 5\n"),
+];
+
 #[test]
-fn lines_on_texts_that_are_cut_off(rt: HostRuntime) -> Result<(), Fail> {
-    let text = canonical(rt.alloc(), ONE_ACKNOWLEDGEMENT)?;
-    let cuts: [(usize, &[u8]); 9] = [
-        (0, b"TRUNCATED records 0\n"),
-        (80, b"REFUSED record 1 field 8 level E cell not a date\n"),
-        (100, b"TRUNCATED records 1\n"),
-        (133, b"TRUNCATED records 2\n"),
-        (294, b"TRUNCATED records 3\n"),
-        (331, b"TRUNCATED records 4\n"),
-        (356, b"REFUSED record 5 field 4 level E cell not digits\n"),
-        (357, b"GOOD groups 1 transactions 1 records 5\n"),
-        (358, b"GOOD groups 1 transactions 1 records 5\n"),
-    ];
-    for (at, wanted) in cuts {
-        check_line(&rt, LARGEST, text.get(..at).unwrap_or(b""), wanted)?;
+fn lines_on_texts_that_are_cut_off(rt: HostRuntime) {
+    let text = text_of(&rt, ONE_ACKNOWLEDGEMENT);
+    for (at, wanted) in &CUT_OFF {
+        check_line(&rt, LARGEST, text.get(..*at).unwrap_or(b""), wanted);
     }
-    Ok(())
 }
 
 /// A line that is filled up with spaces to so many bytes, and its line end.
-fn fill_up(alloc: Global, line: &[u8], len: usize, end: &[u8]) -> Result<Vec<u8>, AllocError> {
-    let mut text = line.to_vec(alloc)?;
-    for _ in line.len()..len {
-        text.push(b' ')?;
-    }
-    text.extend_from_slice(end)?;
-    Ok(text)
+fn fill_up(rt: &(impl Abort + AllocGlobal), line: &[u8], len: usize) -> Vec<u8> {
+    let mut text = line.to_vec(rt.alloc()).expect(rt, "no memory");
+    text.resize(len, b' ').expect(rt, "no memory");
+    text.push(b'\n').expect(rt, "no memory");
+    text
 }
 
+#[rattlefmt::skip]
+static LONG_LINES: [(&[u8], usize, &[u8]); 3] = [
+    (HDR, 1025, b"REFUSED record 1 field 10 level E excess\n"),
+    (HDR_OF_ANOTHER_VERSION, 1025, b"REFUSED record 1 field 5 level E cell not constant\n"),
+    (HDR, 1024, b"TRUNCATED records 1\n"),
+];
+
 #[test]
-fn lines_on_long_lines(rt: HostRuntime) -> Result<(), Fail> {
-    let longer: [(&[u8], usize, &[u8]); 3] = [
-        (HDR, 1025, b"REFUSED record 1 field 10 level E excess\n"),
-        (
-            HDR_OF_ANOTHER_VERSION,
-            1025,
-            b"REFUSED record 1 field 5 level E cell not constant\n",
-        ),
-        (HDR, 1024, b"TRUNCATED records 1\n"),
-    ];
-    for (line, len, wanted) in longer {
-        let text = fill_up(rt.alloc(), line, len, b"\n")?;
-        check_line(&rt, LARGEST, text.as_slice(), wanted)?;
+fn lines_on_long_lines(rt: HostRuntime) {
+    for (line, len, wanted) in &LONG_LINES {
+        check_line(&rt, LARGEST, fill_up(&rt, line, *len).as_slice(), wanted);
     }
-    Ok(())
 }
 
 /// Puts the text in the place of as many bytes from there on.
@@ -151,14 +129,18 @@ fn replace(text: &mut [u8], at: usize, new: &[u8]) {
     }
 }
 
+/// A work code of the first of three works, and the lines on them.
+#[rattlefmt::skip]
+static WORK_CODES: [(&[u8], &[u8]); 2] = [
+    (b"T0345246802", b"FINDING group 1 transaction 0 record 0 field 7 level F rule V1\nGOOD groups 2 transactions 3 records 12\n"),
+    (b"T0345246801", b"GOOD groups 2 transactions 3 records 12\n"),
+];
+
 #[test]
-fn lines_on_a_work_of_a_wrong_code(rt: HostRuntime) -> Result<(), Fail> {
-    let mut text = canonical(rt.alloc(), TWO_GROUPS)?;
-    let found =
-        b"FINDING group 1 transaction 0 record 0 field 7 level F rule V1\nGOOD groups 2 transactions 3 records 12\n";
-    replace(text.as_mut_slice(), 228, b"T0345246802");
-    check_line(&rt, LARGEST, text.as_slice(), found)?;
-    let good = b"GOOD groups 2 transactions 3 records 12\n";
-    replace(text.as_mut_slice(), 228, b"T0345246801");
-    check_line(&rt, LARGEST, text.as_slice(), good)
+fn lines_on_a_work_of_a_wrong_code(rt: HostRuntime) {
+    for (code, wanted) in &WORK_CODES {
+        let mut text = text_of(&rt, TWO_GROUPS);
+        replace(text.as_mut_slice(), 228, code);
+        check_line(&rt, LARGEST, text.as_slice(), wanted);
+    }
 }

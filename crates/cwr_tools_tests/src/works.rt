@@ -1,6 +1,30 @@
-//! Worked transmissions of new and revised works: the parts of a larger one.
+//! Worked transmissions of new and revised works, the parts of a larger one; and what tests of runs share: texts and limits.
 
+use cwr_shape::Limits;
 use cwr_worked::lines::*;
+use cwr_worked::texts::{canonical, trimmed_text};
+use std::process::Abort;
+
+/// The most records, groups and records of a transaction.
+pub(crate) type Numbers = (u32, u32, u32);
+
+/// The largest numbers of limits.
+pub(crate) const LARGEST: Numbers = (99_999_999, 99_999, 999_999);
+
+/// These limits.
+pub(crate) fn limits_of(rt: &impl Abort, numbers: Numbers) -> Limits {
+    Limits::new(numbers.0, numbers.1, numbers.2).expect(rt, "no limits")
+}
+
+/// The canonical text of lines.
+pub(crate) fn text_of(rt: &(impl Abort + AllocGlobal), lines: &[&[u8]]) -> Vec<u8> {
+    canonical(rt.alloc(), lines).expect(rt, "no memory")
+}
+
+/// The text of lines without trailing spaces.
+pub(crate) fn short_text_of(rt: &(impl Abort + AllocGlobal), lines: &[&[u8]]) -> Vec<u8> {
+    trimmed_text(rt.alloc(), lines).expect(rt, "no memory")
+}
 
 /// GRH of type REV, the first group.
 const GRH_REV: &[u8] = b"GRHREV0000102.100000000001";

@@ -1,13 +1,11 @@
 //! Tests of groups and transmissions, on the worked transactions.
 
 use crate::worked_records::{
-    group_head, opening, publisher, record_with, revision, short_work, work, writer,
+    begun_with, group_head, opening, push, record_with, revision, short_work, work, writer,
 };
 use cwr_layouts::{Kind, Record};
 use cwr_shape::Limits;
-use cwr_values::{
-    Group, GroupFault, PushFault, Transaction, Transmission, TransmissionFault, ValueFault,
-};
+use cwr_values::{Group, GroupFault, Transaction, Transmission, TransmissionFault, ValueFault};
 use std::fmt::Display;
 use std::process::Abort;
 
@@ -26,6 +24,11 @@ fn push_written(rt: &(impl Abort + AllocGlobal), group: &mut Group, header: &Rec
     assert_eq!(rt; fault_of(group.push(short_work(rt, header))), Ok(()));
 }
 
+/// A transmission without a group.
+fn begun_transmission(rt: &(impl Abort + AllocGlobal)) -> Transmission {
+    Transmission::new(rt.alloc(), opening(rt)).expect(rt, "no transmission")
+}
+
 /// A group of one new work, and a group of two revised ones.
 fn two_groups(rt: &(impl Abort + AllocGlobal)) -> Transmission {
     let mut new_works = group(rt, b"NWR");
@@ -37,49 +40,73 @@ fn two_groups(rt: &(impl Abort + AllocGlobal)) -> Transmission {
         &mut revised_works,
         &revision(rt, b"GREEN SEA", b"W0003"),
     );
-    let begun = Transmission::new(rt.alloc(), opening(rt));
-    let mut transmission = begun.expect(rt, "no transmission");
+    let mut transmission = begun_transmission(rt);
     assert_eq!(rt; fault_of(transmission.push(new_works)), Ok(()));
     assert_eq!(rt; fault_of(transmission.push(revised_works)), Ok(()));
     transmission
 }
 
+/// Adds a transaction, which is refused for that, and hands it back.
+fn refused_by(
+    rt: &(impl Abort + AllocGlobal),
+    group: &mut Group,
+    transaction: Transaction,
+    fault: GroupFault,
+) -> Transaction {
+    let (found, given) = group.push(transaction).expect_err(rt, "not refused");
+    assert_eq!(rt; found, fault);
+    given
+}
+
+/// How many transactions a group has, and how many records each of its first two.
+fn lengths_of(group: &Group) -> (usize, Option<usize>, Option<usize>) {
+    (
+        group.len(),
+        group.transaction(0).map(Transaction::len),
+        group.transaction(1).map(Transaction::len),
+    )
+}
+
+/// A work that was refused and handed back before its writer came.
+fn refused_before_writer(rt: &(impl Abort + AllocGlobal)) -> Transaction {
+    let begun = begun_with(rt, &work(rt));
+    let mut works = group(rt, b"NWR");
+    let mut transaction = refused_by(rt, &mut works, begun, GroupFault::Incomplete);
+    assert_eq!(rt;
+        (transaction.len(), lengths_of(&works)),
+        (1, (0, None, None))
+    );
+    assert_eq!(rt; push(&mut transaction, &writer(rt)), (Ok(()), 2, true));
+    transaction
+}
+
 #[test]
 fn transactions_into_groups(rt: HostRuntime) {
-    let begun = Transaction::new(rt.alloc(), work(&rt).view());
-    let transaction = begun.expect(&rt, "no transaction");
-    let mut works = group(&rt, b"NWR");
-    let refused = works.push(transaction).expect_err(&rt, "incomplete");
-    let (fault, mut transaction) = refused;
-    assert_eq!(rt; fault, GroupFault::Incomplete);
-    assert_eq!(rt; transaction.push(writer(&rt).view()), Ok(()));
-    let misplaced = transaction.push(publisher(&rt).view());
-    assert_eq!(rt; misplaced, Err(PushFault::Misplaced));
+    let transaction = refused_before_writer(&rt);
     let mut acknowledgements = group(&rt, b"ACK");
-    let refused = acknowledgements.push(transaction);
-    let (fault, transaction) = refused.expect_err(&rt, "of another type");
-    assert_eq!(rt; fault, GroupFault::WrongKind);
+    let wrong = GroupFault::WrongKind;
+    let transaction = refused_by(&rt, &mut acknowledgements, transaction, wrong);
     assert_eq!(rt; (transaction.len(), acknowledgements.len()), (2, 0));
+    let mut works = group(&rt, b"NWR");
     assert_eq!(rt; fault_of(works.push(transaction)), Ok(()));
-    assert_eq!(rt; works.len(), 1);
-    assert_eq!(rt; works.transaction(0).map(Transaction::len), Some(2));
-    assert!(rt; works.transaction(1).is_none());
+    assert_eq!(rt; lengths_of(&works), (1, Some(2), None));
 }
 
 #[test]
 fn groups_into_transmissions(rt: HostRuntime) {
-    let begun = Transmission::new(rt.alloc(), opening(&rt));
-    let mut transmission = begun.expect(&rt, "no transmission");
+    let mut transmission = begun_transmission(&rt);
     let refused = transmission.push(group(&rt, b"NWR"));
     let (fault, mut works) = refused.expect_err(&rt, "without transaction");
-    assert_eq!(rt; fault, TransmissionFault::Empty);
-    assert_eq!(rt; transmission.len(), 0);
+    assert_eq!(rt; (fault, transmission.len()), (TransmissionFault::Empty, 0));
     push_written(&rt, &mut works, &work(&rt));
     assert_eq!(rt; fault_of(transmission.push(works)), Ok(()));
-    assert_eq!(rt; transmission.len(), 1);
+    let groups = (
+        transmission.len(),
+        transmission.group(0).map(Group::len),
+        transmission.group(1).map(Group::len),
+    );
+    assert_eq!(rt; groups, (1, Some(1), None));
     assert_eq!(rt; transmission.open().view().kind(), Kind::Hdr);
-    assert_eq!(rt; transmission.group(0).map(Group::len), Some(1));
-    assert!(rt; transmission.group(1).is_none());
 }
 
 /// The kind of the record that is handed back.
@@ -97,22 +124,27 @@ fn records_of_another_kind(rt: HostRuntime) {
     assert_eq!(rt; refused, Some(Kind::Hdr));
 }
 
+/// Checks the type of a group's head, and the currency of its foot.
+fn check_ends(rt: &impl Abort, group: &Group, ty: &[u8], currency: &[u8]) {
+    let foot = group.foot().view();
+    assert_eq!(rt; foot.kind(), Kind::Grt);
+    let cells = (group.head().view().cell(2), foot.cell(5));
+    assert_eq!(rt; cells, (Some(ty), Some(currency)));
+}
+
 #[test]
 fn feet(rt: HostRuntime) {
     let mut works = group(&rt, b"NWR");
-    assert_eq!(rt; works.head().view().cell(2), Some(&b"NWR"[..]));
-    assert_eq!(rt; works.foot().view().kind(), Kind::Grt);
-    assert_eq!(rt; works.foot().view().cell(5), Some(&b"   "[..]));
+    check_ends(&rt, &works, b"NWR", b"   ");
     let foot = record_with(&rt, Kind::Grt, &[(5, b"EUR")]);
     assert!(rt; works.set_foot(foot).is_ok());
-    assert_eq!(rt; works.foot().view().cell(5), Some(&b"EUR"[..]));
+    check_ends(&rt, &works, b"NWR", b"EUR");
 }
 
 #[test]
 fn limits(rt: HostRuntime) {
     let least = Limits::new(5, 1, 1).expect(&rt, "no limits");
-    let none = Transmission::new(rt.alloc(), opening(&rt));
-    let none = none.expect(&rt, "no transmission");
+    let none = begun_transmission(&rt);
     assert_eq!(rt; none.fits(least), Err(ValueFault::NoGroup));
     let transmission = two_groups(&rt);
     let first = ValueFault::Transaction {

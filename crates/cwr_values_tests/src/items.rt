@@ -2,16 +2,17 @@
 
 use crate::worked_records::{short_work, work};
 use cwr_values::Item;
+use std::process::Abort;
+
+/// What is shown of an item to programmers.
+fn shown(rt: &(impl Abort + AllocGlobal), item: &Item) -> String {
+    format!(in rt.alloc(); "{item:?}").expect(rt, "no memory")
+}
 
 #[test]
 fn items_are_shown(rt: HostRuntime) {
-    let ended = format!(in rt.alloc(); "{:?}", Item::Ended).expect(&rt, "no memory");
-    assert_eq!(rt; ended.as_str(), "Ended");
-    let item = Item::Transaction(short_work(&rt, &work(&rt)));
-    let shown = format!(in rt.alloc(); "{item:?}").expect(&rt, "no memory");
-    assert!(rt;
-        shown
-            .as_str()
-            .starts_with("Transaction(Transaction { ty: NewWork, ")
-    );
+    assert_eq!(rt; shown(&rt, &Item::Ended).as_str(), "Ended");
+    let text = shown(&rt, &Item::Transaction(short_work(&rt, &work(&rt))));
+    let begin = "Transaction(Transaction { ty: NewWork, ";
+    assert!(rt; text.as_str().starts_with(begin));
 }

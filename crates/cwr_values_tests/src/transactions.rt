@@ -1,51 +1,68 @@
 //! Tests of transactions, on the worked orders of records.
 
-use crate::worked_records::{publisher, record_with, work, writer};
+use crate::worked_records::{begun_with, publisher, push, record_with, short_work, work, writer};
 use cwr_layouts::{Kind, Record};
 use cwr_values::{PushFault, Transaction};
 use std::process::Abort;
 
-fn party(rt: &impl Abort, role: &[u8]) -> Record {
-    record_with(rt, Kind::Ipa, &[(4, role), (8, b"SMITH")])
+#[test]
+fn transactions_that_begin_with_a_writer(rt: HostRuntime) {
+    let refused = Transaction::new(rt.alloc(), writer(&rt).view()).err();
+    assert_eq!(rt; refused, Some(PushFault::Misplaced));
 }
 
 #[test]
 fn works(rt: HostRuntime) {
-    let refused = Transaction::new(rt.alloc(), writer(&rt).view());
-    assert_eq!(rt; refused.err(), Some(PushFault::Misplaced));
-    let begun = Transaction::new(rt.alloc(), work(&rt).view());
-    let mut transaction = begun.expect(&rt, "no transaction");
-    assert!(rt; !transaction.complete());
-    assert_eq!(rt; transaction.push(writer(&rt).view()), Ok(()));
-    assert!(rt; transaction.complete());
-    let misplaced = transaction.push(publisher(&rt).view());
-    assert_eq!(rt; misplaced, Err(PushFault::Misplaced));
-    assert_eq!(rt; transaction.len(), 2);
+    assert!(rt; !begun_with(&rt, &work(&rt)).complete());
+    let mut transaction = short_work(&rt, &work(&rt));
+    let misplaced = push(&mut transaction, &publisher(&rt));
+    assert_eq!(rt; misplaced, (Err(PushFault::Misplaced), 2, true));
+    check_work(&rt, &transaction);
+}
+
+/// Checks the records of a work of its header and one writer.
+fn check_work(rt: &impl Abort, transaction: &Transaction) {
     assert_eq!(rt; transaction.kind(), Kind::Nwr);
-    let title = transaction.record(0).and_then(|record| record.cell(4));
-    assert_eq!(rt; title.map(<[u8]>::len), Some(60));
+    assert_eq!(rt; width_of(transaction, 0, 4), Some(60));
     assert!(rt; transaction.record(2).is_none());
+}
+
+/// How many bytes a cell of a transaction has.
+fn width_of(transaction: &Transaction, i: usize, j: u8) -> Option<usize> {
+    transaction.record(i)?.cell(j).map(<[u8]>::len)
 }
 
 #[test]
 fn faults_are_printed(rt: HostRuntime) {
-    let (misplaced, memory) = (PushFault::Misplaced, PushFault::Memory);
-    let text = format!(in rt.alloc(); "{misplaced}, {memory}").expect(&rt, "no memory");
-    assert_eq!(rt; text.as_str(), "misplaced record, out of memory");
+    for (fault, text) in [
+        (PushFault::Misplaced, "misplaced record"),
+        (PushFault::Memory, "out of memory"),
+    ] {
+        let printed = format!(in rt.alloc(); "{fault}").expect(&rt, "no memory");
+        assert_eq!(rt; printed.as_str(), text);
+    }
+}
+
+/// IPA of a role.
+fn party(rt: &impl Abort, role: &[u8]) -> Record {
+    record_with(rt, Kind::Ipa, &[(4, role), (8, b"SMITH")])
+}
+
+/// An agreement of its header and a territory.
+fn begun_agreement(rt: &(impl Abort + AllocGlobal)) -> Transaction {
+    let cells: [(u8, &[u8]); 3] = [(4, b"A0000000000001"), (6, b"OS"), (15, b"00001")];
+    let mut transaction = begun_with(rt, &record_with(rt, Kind::Agr, &cells));
+    let territory = record_with(rt, Kind::Ter, &[(4, b"I"), (5, b"2136")]);
+    assert_eq!(rt; push(&mut transaction, &territory), (Ok(()), 2, false));
+    transaction
 }
 
 #[test]
 fn agreements(rt: HostRuntime) {
-    let cells: [(u8, &[u8]); 3] = [(4, b"A0000000000001"), (6, b"OS"), (15, b"00001")];
-    let header = record_with(&rt, Kind::Agr, &cells);
-    let begun = Transaction::new(rt.alloc(), header.view());
-    let mut transaction = begun.expect(&rt, "no transaction");
-    let territory = record_with(&rt, Kind::Ter, &[(4, b"I"), (5, b"2136")]);
-    assert_eq!(rt; transaction.push(territory.view()), Ok(()));
-    let roles: [(&[u8], bool); 3] = [(b"AS", false), (b"AS", false), (b"AC", true)];
-    for (role, complete) in roles {
-        assert_eq!(rt; transaction.push(party(&rt, role).view()), Ok(()));
-        assert_eq!(rt; transaction.complete(), complete);
+    let mut transaction = begun_agreement(&rt);
+    let roles: [(&[u8], usize, bool); 3] = [(b"AS", 3, false), (b"AS", 4, false), (b"AC", 5, true)];
+    for (role, len, complete) in roles {
+        let pushed = push(&mut transaction, &party(&rt, role));
+        assert_eq!(rt; pushed, (Ok(()), len, complete));
     }
-    assert_eq!(rt; transaction.len(), 5);
 }

@@ -1,7 +1,7 @@
 //! The records of the worked transactions.
 
 use cwr_layouts::{Draft, Kind, Record};
-use cwr_values::Transaction;
+use cwr_values::{PushFault, Transaction};
 use std::process::Abort;
 
 /// The record of the kind in which these cells are set.
@@ -79,10 +79,24 @@ pub(crate) fn publisher(rt: &impl Abort) -> Record {
     )
 }
 
+/// A transaction that has its header alone.
+pub(crate) fn begun_with(rt: &(impl Abort + AllocGlobal), header: &Record) -> Transaction {
+    Transaction::new(rt.alloc(), header.view()).expect(rt, "no transaction")
+}
+
+/// Adds a record to a transaction: the fault, how many records it has then, and whether it is complete.
+pub(crate) fn push(
+    transaction: &mut Transaction,
+    record: &Record,
+) -> (Result<(), PushFault>, usize, bool) {
+    let pushed = transaction.push(record.view());
+    (pushed, transaction.len(), transaction.complete())
+}
+
 /// A work of its header and one writer.
 pub(crate) fn short_work(rt: &(impl Abort + AllocGlobal), header: &Record) -> Transaction {
-    let begun = Transaction::new(rt.alloc(), header.view());
-    let mut transaction = begun.expect(rt, "no transaction");
-    assert_eq!(rt; transaction.push(writer(rt).view()), Ok(()));
+    let mut transaction = begun_with(rt, header);
+    let pushed = push(&mut transaction, &writer(rt));
+    assert_eq!(rt; pushed, (Ok(()), 2, true));
     transaction
 }
