@@ -71,7 +71,7 @@ fn put_items<R: Source, W: Target>(
     ensures failures { CountsReaderFault result (R.failures reader.old) (R.failures reader.new) }
     ensures last { report ≡ Report.Explained → IfOk result (λ verdict. IsSomeAnd last.new (IsReadLast limits (R.remaining reader.old) (R.remaining reader.new) verdict)) }
 {
-    if limits.groups() == 1 { return Err(ToolFault::Memory); } let mut reading = begin_reading(report, alloc, limits, reader);
+    let mut reading = begin_reading(report, alloc, limits, reader);
     let mut counts = Totals::new();
     let mut lines = RecordLines::new();
     'items: loop {
