@@ -194,12 +194,15 @@ memory_stops limits d before now given item h = inr (refl, by given h.read)
 pub whole_lacks_room : (limits : LimitValues) (before now : Option (List ℕ)) (given : List Item) → HasReadAll limits before now given → StopsReading limits faults.Memory before now
 whole_lacks_room limits before now given h =
     let all = all_items limits before now given h in
-    inr (refl, record {
-      decoder = h.decoder;
-      first = items.Opened all.value.opening;
-      others = _;
-      read = subst (λ (items : List Item). HasRead limits h.decoder before now items) all.given_are h.read;
-    })
+    inr (
+      refl,
+      record {
+        decoder = h.decoder;
+        first = items.Opened all.value.opening;
+        others = _;
+        read = subst (λ (items : List Item). HasRead limits h.decoder before now items) all.given_are h.read;
+      },
+    )
 
 pub of_fault : {X : Type 0} (result : Result X ReadFault) (fault : ReadFault) (P : ReadFault → Type 0) → IsErrAnd result (λ e. e ≡ fault) → P fault → IfErr result P
 of_fault (Ok x) fault P e h = tt

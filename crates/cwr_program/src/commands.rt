@@ -131,9 +131,7 @@ fn open_inputs<'a, R: Files>(
     let mut readers = Vec::new(alloc);
     for name in names {
         let file = open_input(rt, name)?;
-        readers
-            .push(Counted::new(file))
-            .map_err(|_| Fault::Memory)?;
+        readers.push(Counted::new(file)).map_err(|_| Fault::Memory)?;
     }
     Ok(readers)
 }

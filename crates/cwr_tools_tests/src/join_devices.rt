@@ -61,10 +61,7 @@ fn failing_at_end(left: &[u8]) -> Counted<FailsAtEnd<'_>> {
 fn join_whose_second_reader_fails(rt: HostRuntime) {
     let text = text_of(&rt, ONE_ACKNOWLEDGEMENT);
     let front = text.as_slice().get(..333).unwrap_or(b"");
-    let readers = [
-        failing_at_end(text.as_slice()),
-        failing_at_end(front),
-    ];
+    let readers = [failing_at_end(text.as_slice()), failing_at_end(front)];
     let writer = Counted::new(Vec::new(rt.alloc()));
     let writer = check_join(&rt, readers, writer, 2, ToolFault::Reader);
     // Both groups are written, and nothing of TRL.
