@@ -7,7 +7,7 @@ use crate::devices::{DeviceFault, Source, Target};
 use std::io::{Read, Write};
 
 /// How many bytes are read ahead at most.
-const AHEAD: usize = 8192;
+const AHEAD: usize = 32_768;
 
 /// One of std's readers or writers, with a count of its failures.
 ///
