@@ -4,7 +4,8 @@ use crate::decoders::{decoder, feed, name_of, short_text_of, text_of};
 use cwr_decode::{Decoder, Outcome};
 use cwr_values::Item;
 use cwr_worked::texts::{
-    AGREEMENT_OF_TWO_BLOCKS, ONE_ACKNOWLEDGEMENT, WORK_OF_ELEVEN, WORK_OF_ELEVEN_REORDERED,
+    AGREEMENT_OF_TWO_BLOCKS, ONE_ACKNOWLEDGEMENT, TWO_GROUPS, WORK_OF_ELEVEN,
+    WORK_OF_ELEVEN_REORDERED,
 };
 use std::fmt::Write;
 use std::process::Abort;
@@ -148,6 +149,7 @@ fn holds_after_each_byte(rt: HostRuntime) {
         WORK_OF_ELEVEN,
         WORK_OF_ELEVEN_REORDERED,
         AGREEMENT_OF_TWO_BLOCKS,
+        TWO_GROUPS,
     ] {
         check_holds(&rt, &text_of(&rt, lines));
         check_holds(&rt, &short_text_of(&rt, lines));
