@@ -1,7 +1,8 @@
 //! The steps of a decoder.
 
-ghost use Rattle.std.specs.Prelude.{List, ◌∷◌, ◌++◌, [], ◌≡◌, ◌≢◌, ◌<◌, length, true, false, None, Some, IsTrue, IsFalse, IsSome, IsSomeAnd, IsNone, IfSome, OnOk, OnErr};
-ghost use Rattle.cwr_layouts.specs.Held.{IsHeld, Takes, held_record};
+ghost use Rattle.std.specs.Prelude.{List, ◌∷◌, ◌++◌, [], ◌≡◌, ◌≢◌, ◌<◌, ◌≤◌, length, take, true, false, None, Some, IsTrue, IsFalse, IsSome, IsSomeAnd, IsNone, IfSome, OnOk, OnErr};
+ghost use Rattle.cwr_layouts.specs.Held.{IsHeld, Takes, held_kind, held_record};
+ghost use Rattle.cwr_layouts.specs.Kinds.{kind_of};
 ghost use Rattle.cwr_shape.specs.Ranges.{AreInRange};
 ghost use Rattle.cwr_shape.specs.Stages.{stage_after};
 ghost use Rattle.cwr_shape.specs.Tallies.{IsAdmitted, IsTallyOf};
@@ -15,7 +16,7 @@ ghost use Rattle.cwr_values.specs.Begun.{BeginsWithOneMore};
 
 use crate::outcomes::{Outcome, Step};
 use cwr_fields::SpelledPair;
-use cwr_judge::{LineFault, Refusal, judge, judge_quickly};
+use cwr_judge::{LineFault, Refusal, count_quickly, judge};
 use cwr_layouts::{CutLine, Kind, LineBuf, LineEnd, RecordRef, Taken};
 use cwr_shape::{Limits, Place, Stage, Symbol, Tally, level};
 use cwr_values::{Item, PushFault, Transaction};
@@ -159,6 +160,15 @@ fn add_accepted(
     Ok(Some(item))
 }
 
+/// Adds a record to the open transaction, where that may be and memory is found. Else nothing changes.
+#[inline(never)]
+fn adds_known(open: &mut Transaction, next: RecordRef<'_>) -> bool
+    ensures added { IsTrue result → open.new ≡ open.old ++ next.entry ∷ [] }
+    ensures kept { IsFalse result → open.new ≡ open.old }
+{
+    open.push(next).is_ok()
+}
+
 /// Judges a line by quick tests. A record that continues the open transaction is added to it and counted; one that ends it
 /// is counted. Most lines are such, and no answer of a transaction's size is built for them.
 #[inline(always)]
@@ -176,23 +186,21 @@ fn find_cut(
     if !stands_inside(kind) {
         return Found::Nothing;
     }
-    let Some((_, accepted, counted)) = judge_quickly(tally, cut, expected) else {
-        return Found::Nothing;
-    };
     let Some(open) = held else {
         return Found::Nothing;
     };
-    if !stays_open(tally, &counted) {
-        *tally = counted;
+    let before = *tally;
+    if !count_quickly(tally, cut, expected) {
+        return Found::Nothing;
+    }
+    if !stays_open(&before, tally) {
         return Found::Ends;
     }
-    match open.push(accepted) {
-        Ok(()) => {
-            *tally = counted;
-            Found::Added
-        }
-        Err(_) => Found::Nothing,
+    if !adds_known(open, cut.known_record()) {
+        *tally = before;
+        return Found::Nothing;
     }
+    Found::Added
 }
 
 impl Machine {
@@ -363,18 +371,19 @@ impl Machine {
         }
     }
 
-    /// Judges the line that the piece begins with by quick tests, where it stands, and answers how many bytes it takes. It is
-    /// copied only where it waits. Of a line that is under way, and of one that the piece cuts, nothing is found.
+    /// Judges the line that the piece begins with, which is of the kind, by quick tests, where it stands, and answers how many
+    /// bytes it takes. It is copied only where it waits. A kind that is constant where this is called makes each width and
+    /// place constant too.
     #[inline(always)]
-    fn find_front(&mut self, piece: &[u8]) -> (usize, Found)
+    fn find_as(&mut self, kind: Kind, piece: &[u8]) -> (usize, Found)
         requires unended { self.old.line.ended ≡ LineEnd.Open }
         requires reading { self.old.state ≡ State.Reading }
+        requires empty { length self.old.line.bytes ≡ 0 }
+        requires named { kind_of (take 3 piece.now) ≡ Some kind }
+        requires three { 3 ≤ length piece.now }
         ensures { FindsFront result.1 self.old piece.now result.0 self.new }
     {
-        if self.line.len() > 0 {
-            return (0, Found::Nothing);
-        }
-        let Some((cut, used)) = CutLine::at_front(piece) else {
+        let Some((cut, used)) = CutLine::at_front(kind, piece) else {
             return self.find_filled(piece);
         };
         match find_cut(&mut self.tally, &mut self.held, &mut self.expected, &cut) {
@@ -385,6 +394,46 @@ impl Machine {
                 (used, Found::Ends)
             }
             Found::Nothing => (0, Found::Nothing),
+        }
+    }
+
+    /// Judges the line that the piece begins with by quick tests, where it stands, and answers how many bytes it takes. Of a
+    /// line that is under way, and of one that the piece cuts, nothing is found. The kinds of most lines have a branch each.
+    #[inline(always)]
+    fn find_front(&mut self, piece: &[u8]) -> (usize, Found)
+        requires unended { self.old.line.ended ≡ LineEnd.Open }
+        requires reading { self.old.state ≡ State.Reading }
+        ensures { FindsFront result.1 self.old piece.now result.0 self.new }
+    {
+        if self.line.len() > 0 || piece.len() < 3 {
+            return (0, Found::Nothing);
+        }
+        let Some(kind) = Kind::of(&piece[..3]) else {
+            return (0, Found::Nothing);
+        };
+        match kind {
+            Kind::Ter => self.find_as(Kind::Ter, piece),
+            Kind::Ipa => self.find_as(Kind::Ipa, piece),
+            Kind::Spu => self.find_as(Kind::Spu, piece),
+            Kind::Opu => self.find_as(Kind::Opu, piece),
+            Kind::Spt => self.find_as(Kind::Spt, piece),
+            Kind::Swr => self.find_as(Kind::Swr, piece),
+            Kind::Owr => self.find_as(Kind::Owr, piece),
+            Kind::Swt => self.find_as(Kind::Swt, piece),
+            Kind::Pwr => self.find_as(Kind::Pwr, piece),
+            Kind::Alt => self.find_as(Kind::Alt, piece),
+            Kind::Ewt => self.find_as(Kind::Ewt, piece),
+            Kind::Ver => self.find_as(Kind::Ver, piece),
+            Kind::Per => self.find_as(Kind::Per, piece),
+            Kind::Rec => self.find_as(Kind::Rec, piece),
+            Kind::Orn => self.find_as(Kind::Orn, piece),
+            Kind::Com => self.find_as(Kind::Com, piece),
+            Kind::Msg => self.find_as(Kind::Msg, piece),
+            Kind::Agr => self.find_as(Kind::Agr, piece),
+            Kind::Nwr => self.find_as(Kind::Nwr, piece),
+            Kind::Rev => self.find_as(Kind::Rev, piece),
+            Kind::Ack => self.find_as(Kind::Ack, piece),
+            _ => self.find_as(kind, piece),
         }
     }
 

@@ -19,7 +19,7 @@ use Rattle.cwr_shape.specs.declared.tallies.Place.TheVariants as places
 use Rattle.cwr_shape.specs.Shapes.{IsShape, is_carried_symbol, without_carried}
 use Rattle.cwr_shape.specs.Outlines.{GroupOutline, IsGroupOutline, IsWithin, Continues}
 use Rattle.cwr_shape.specs.Stages.{is_grh, is_ipa, is_ipa_of, is_writer, other_role, latest, group_of, pwr_step, stage_by}
-use Rattle.cwr_shape.specs.Steps.{header_step, within, next_stage}
+use Rattle.cwr_shape.specs.NextStages.{header_step, within, next_stage}
 use Rattle.cwr_shape.specs.Needs.{needs_at}
 use Rattle.cwr_shape.specs.Left.{Any, StandsAt}
 use Rattle.cwr_shape.specs.Tallies.{TallyValue, IsTallyOf, MayCome, open_records}

@@ -14,7 +14,7 @@ use Rattle.cwr_shape.specs.declared.stages.TransactionStep.{TransactionStep}
 use Rattle.cwr_shape.specs.declared.stages.TransactionStep.TheVariants as steps
 use Rattle.cwr_shape.specs.Ranges.{LimitValues}
 use Rattle.cwr_shape.specs.Outlines.{Continues}
-use Rattle.cwr_shape.specs.Steps.{header_step, step_on, may_end, within, next_or_foot, on_or_next, next_stage}
+use Rattle.cwr_shape.specs.NextStages.{header_step, step_on, may_end, within, next_or_foot, on_or_next, next_stage}
 use Rattle.cwr_shape.specs.Left.{Any, StandsAt}
 use Rattle.cwr_shape.specs.Tallies.{TallyValue, IsTallyOf, header_kind, open_type}
 use Rattle.cwr_shape.proofs.StageStands.{next_exact}

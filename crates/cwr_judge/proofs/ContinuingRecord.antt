@@ -14,7 +14,7 @@ use Rattle.cwr_shape.specs.declared.stages.Stage.{Stage}
 use Rattle.cwr_shape.specs.declared.stages.Stage.TheVariants as stages
 use Rattle.cwr_shape.specs.declared.stages.TransactionStep.TheVariants as steps
 use Rattle.cwr_shape.specs.Outlines.{Continues}
-use Rattle.cwr_shape.specs.Steps.{next_stage}
+use Rattle.cwr_shape.specs.NextStages.{next_stage}
 use Rattle.cwr_shape.specs.Stages.{is_grh, stage_after}
 use Rattle.cwr_shape.specs.Left.{Any, StandsAt}
 use Rattle.cwr_shape.specs.Counting.{place_at}

@@ -20,7 +20,7 @@ use Rattle.cwr_shape.specs.Numbers.{symbol_kind, IsNumberAt}
 use Rattle.cwr_shape.specs.Outlines.{Continues}
 use Rattle.cwr_shape.specs.Left.{Any}
 use Rattle.cwr_shape.specs.Candidates.{candidates, role_in, type_in}
-use Rattle.cwr_shape.specs.Tallies.{MayCome, IsBarred, IsBarredAmong}
+use Rattle.cwr_shape.specs.Tallies.{TallyValue, IsTallyOf, MayCome, IsBarred, IsBarredAmong}
 use Rattle.cwr_values.specs.Values.{symbol_of}
 
 -- the cell is the number that belongs in field j of the next record, in that width
@@ -49,6 +49,17 @@ pub record IsNext (limits : LimitValues) (xs : List Symbol) (h : HeldLine) (s : 
   pub may_come : MayCome limits xs s
   pub numbers : HasNumbers xs h r.kind
   pub excess : held_excess h ≡ false
+
+-- the line is that of a record that may come next, and that is counted
+pub record IsCounted (old : TallyValue) (h : HeldLine) (new : TallyValue) : Type 0 where
+  pub symbol : Symbol
+  pub accepted : RecordValue
+  pub carried : held_record h ≡ Some accepted
+  pub in_order : IsRecord accepted
+  pub excess : held_excess h ≡ false
+  pub next : (xs : List Symbol) → IsTallyOf old xs → IsNext old.limits xs h symbol accepted
+  pub limits : new.limits ≡ old.limits
+  pub stands : (xs : List Symbol) → IsTallyOf old xs → IsTallyOf new (xs ++ symbol ∷ [])
 
 -- the line is that of no record that may come next
 abbrev pub IsOfNone : LimitValues → List Symbol → HeldLine → Type 0

@@ -9,7 +9,7 @@ ghost use Rattle.cwr_layouts.specs.Held.{held_excess, held_kind, held_record};
 ghost use Rattle.cwr_layouts.specs.Records.{IsRecord};
 ghost use Rattle.cwr_shape.specs.declared.symbols.Symbol.{Symbol};
 ghost use Rattle.cwr_shape.specs.Tallies.{IsAdmitted, IsTallyOf};
-ghost use Rattle.cwr_judge.specs.Judged.{HasNumberAt, HasNumbers, IsNext, IsOfNone, Lacks, named_symbol, bar_reason, IsGoodText, IsTextFault, IsNumberFault, IsGoodAt, HasReasonAt, MayComeOf, IsFirstFault};
+ghost use Rattle.cwr_judge.specs.Judged.{HasNumberAt, HasNumbers, IsCounted, IsNext, IsOfNone, Lacks, named_symbol, bar_reason, IsGoodText, IsTextFault, IsNumberFault, IsGoodAt, HasReasonAt, MayComeOf, IsFirstFault};
 
 use cwr_fields::{Cell, CellType, Role, SpelledPair, TransactionType, fits, spells};
 use cwr_layouts::{CutLine, Kind, RecordRef, field, fields};
@@ -109,35 +109,26 @@ fn next_record<'a>(tally: &Tally, line: &CutLine<'a>) -> Option<(Symbol, RecordR
     }
 }
 
-/// The record of the line and its symbol, where it may come next, and what is counted with it: as `judge` says it, where
-/// quick tests find the numbers right. `None` says nothing. `expected` keeps the two sequences of the line before with
-/// their digits; whatever it keeps, the answer is right.
+/// Counts the record of the line, where that may come next and quick tests find the numbers right. A no says nothing, and then
+/// nothing is counted. `expected` keeps the two sequences of the line before with their digits; whatever it keeps, the answer
+/// is right.
 #[inline(always)]
-pub fn judge_quickly<'a>(
-    tally: &Tally,
-    line: &CutLine<'a>,
-    expected: &mut SpelledPair,
-) -> Option<(Symbol, RecordRef<'a>, Tally)>
-    ensures next { (xs : List Symbol) → IsTallyOf tally.now xs → IfSome result (λ found. IsNext tally.now.limits xs line.now found.0 found.1) }
-    ensures carried { IfSome result (λ found. (held_record line.now ≡ Some found.1) × IsRecord found.1 × IsFalse (held_excess line.now)) }
-    ensures limits { IfSome result (λ found. found.2.limits ≡ tally.now.limits) }
-    ensures stands { IfSome result (λ found. (xs : List Symbol) → IsTallyOf tally.now xs → IsTallyOf found.2 (xs ++ found.0 ∷ [])) }
+pub fn count_quickly(tally: &mut Tally, line: &CutLine<'_>, expected: &mut SpelledPair) -> bool
+    ensures counted { IsTrue result → IsCounted tally.old line.now tally.new }
+    ensures kept { IsFalse result → tally.new ≡ tally.old }
 {
     let Some(record) = line.record() else {
-        return None;
+        return false;
     };
     let has_excess = line.excess();
     if has_excess {
-        return None;
+        return false;
     }
     if !surely_has_numbers(tally, line, record.kind(), expected) {
-        return None;
+        return false;
     }
     let symbol = symbol_of(&record);
-    match tally.admitted(symbol) {
-        Some(counted) => Some((symbol, record, counted)),
-        None => None,
-    }
+    tally.admit(symbol)
 }
 
 /// The reason of a bar.

@@ -5,5 +5,5 @@
 mod judging;
 mod refusals;
 
-pub use judging::{LineFault, judge, judge_quickly};
+pub use judging::{LineFault, count_quickly, judge};
 pub use refusals::Refusal;

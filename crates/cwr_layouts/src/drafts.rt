@@ -131,7 +131,7 @@ pub(crate) fn judge(kind: Kind, line: &[u8], plain: bool) -> Result<(), DraftFau
 
 /// Whether a whole line carries a record. `plain` says whether the line is known to have no control byte, and then quick
 /// tests are asked first.
-#[inline(never)]
+#[inline(always)]
 pub(crate) fn carries(kind: Kind, line: &[u8], plain: bool) -> bool
     requires whole { length line.now ≡ line_width kind }
     requires plain { IsTrue plain → IsTrue (is_plain line.now) }

@@ -6,7 +6,7 @@ ghost use Rattle.std.specs.Prelude.{◌≡◌, ◌≢◌, ◌≤◌, ◌<◌, �
 ghost use Rattle.std.specs.List.{list_any};
 ghost use Rattle.cwr_fields.specs.Bytes.{filled, is_plain};
 ghost use Rattle.cwr_layouts.specs.Lines.{is_lf, without_cr, body_kind};
-ghost use Rattle.cwr_layouts.specs.Kinds.{is_in_transaction};
+ghost use Rattle.cwr_layouts.specs.Kinds.{is_in_transaction, kind_of};
 ghost use Rattle.cwr_layouts.specs.Records.{IsRecord};
 ghost use Rattle.cwr_layouts.specs.Held.{held_record, HeldLine, Takes, IsHeld, empty_line, held_kind, held_cell, held_excess, filled_as, return_if};
 
@@ -339,18 +339,19 @@ impl<'a> Model for CutLine<'a> {
 }
 
 impl<'a> CutLine<'a> {
-    /// The line that a piece begins with, where it stands, and how many bytes it takes with its end. `None` of each front
-    /// but a line as it is written: in the full width of its kind, with no control byte, and with CR and LF.
+    /// The line that a piece begins with, where it stands, and how many bytes it takes with its end: `kind` is the kind that its
+    /// first three bytes name, and one that is constant where this is called makes the width and the places of all cells constant
+    /// too. `None` of each front but a line as it is written: in the full width of its kind, with no control byte, and with CR
+    /// and LF.
     #[inline(always)]
-    pub fn at_front(piece: &'a [u8]) -> Option<(CutLine<'a>, usize)>
+    pub fn at_front(kind: Kind, piece: &'a [u8]) -> Option<(CutLine<'a>, usize)>
+        requires named { kind_of (take 3 piece.now) ≡ Some kind }
+        requires three { 3 ≤ length piece.now }
         ensures takes { IfSome result (λ found. Takes empty_line piece.now found.1 found.0) }
         ensures held { IfSome result (λ found. IsHeld found.0) }
         ensures ended { IfSome result (λ found. found.0.ended ≡ LineEnd.Line) }
+        ensures kind { IfSome result (λ found. held_kind found.0 ≡ Some kind) }
     {
-        if piece.len() < 3 {
-            return None;
-        }
-        let kind = Kind::of(&piece[..3])?;
         let count = width(kind);
         if piece.len() < count + 2 || !begins_whole(piece, count) {
             return None;

@@ -21,7 +21,7 @@ use Rattle.cwr_shape.specs.declared.tallies.Bar.TheVariants.{Misplaced, Limit}
 use Rattle.cwr_shape.specs.declared.tallies.Counts.{Counts}
 use Rattle.cwr_shape.specs.Ranges.{LimitValues}
 use Rattle.cwr_shape.specs.Outlines.{GroupOutline, KeepsTo, IsWithin, Continues}
-use Rattle.cwr_shape.specs.Steps.{next_stage}
+use Rattle.cwr_shape.specs.NextStages.{next_stage}
 use Rattle.cwr_shape.specs.Needs.{AreAtMost, needs_at}
 use Rattle.cwr_shape.specs.Left.{Any, StandsAt, is_stage}
 use Rattle.cwr_shape.specs.Candidates.{candidates}

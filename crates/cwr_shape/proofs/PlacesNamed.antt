@@ -13,7 +13,7 @@ use Rattle.cwr_shape.specs.declared.tallies.Place.{Place}
 use Rattle.cwr_shape.specs.declared.tallies.Place.TheVariants as places
 use Rattle.cwr_shape.specs.Shapes.{is_carried_symbol, without_carried}
 use Rattle.cwr_shape.specs.Stages.{is_grh, is_ipa, is_ipa_of, is_writer, latest, other_role, pwr_step, group_of, stage_by, stage_of, stage_after}
-use Rattle.cwr_shape.specs.Steps.{next_stage}
+use Rattle.cwr_shape.specs.NextStages.{next_stage}
 use Rattle.cwr_shape.specs.Left.{StandsAt}
 use Rattle.cwr_shape.specs.Tallies.{place_by, place_after, has_open_transaction}
 use Rattle.cwr_shape.specs.Counting.{place_at}

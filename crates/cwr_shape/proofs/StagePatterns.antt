@@ -9,7 +9,7 @@ use Rattle.cwr_shape.specs.declared.stages.Stage.{Stage}
 use Rattle.cwr_shape.specs.declared.stages.Stage.TheVariants as stages
 use Rattle.cwr_shape.specs.declared.stages.TransactionStep.TheVariants as steps
 use Rattle.cwr_shape.specs.Shapes.{Pattern, Matches}
-use Rattle.cwr_shape.specs.Steps.{next_stage}
+use Rattle.cwr_shape.specs.NextStages.{next_stage}
 use Rattle.cwr_shape.specs.Left.{is_stage, left}
 use Rattle.cwr_shape.proofs.AllSymbols.{all_symbols, of_each}
 use Rattle.cwr_shape.proofs.Matcher.{nullable, after, is_dead, dead_sound}

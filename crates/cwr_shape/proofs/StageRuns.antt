@@ -7,7 +7,7 @@ use Rattle.cwr_shape.specs.declared.stages.Stage.{Stage}
 use Rattle.cwr_shape.specs.declared.stages.Stage.TheVariants as stages
 use Rattle.cwr_shape.specs.Shapes.{Matches}
 use Rattle.cwr_shape.specs.Outlines.{Continues, IsWhole}
-use Rattle.cwr_shape.specs.Steps.{next_stage}
+use Rattle.cwr_shape.specs.NextStages.{next_stage}
 use Rattle.cwr_shape.proofs.Matcher.{after}
 use Rattle.cwr_shape.specs.Left.{left, is_stage, Any, LeavesAt}
 use Rattle.cwr_shape.proofs.StagePatterns.{table_continues, goes_back, next_is_stage}

@@ -7,7 +7,7 @@ use Rattle.cwr_shape.specs.declared.stages.Stage.{Stage}
 use Rattle.cwr_shape.specs.declared.stages.Stage.TheVariants as stages
 use Rattle.cwr_shape.specs.Shapes.{Matches}
 use Rattle.cwr_shape.specs.Outlines.{Continues}
-use Rattle.cwr_shape.specs.Steps.{next_stage}
+use Rattle.cwr_shape.specs.NextStages.{next_stage}
 use Rattle.cwr_shape.specs.Left.{left, Any, StandsAt, LeavesAt}
 use Rattle.cwr_shape.proofs.WholePatterns.{whole_matches, matches_whole}
 use Rattle.cwr_shape.proofs.StageRuns.{run, run_more, run_is_stage, comes_to, comes_back, begins_run, run_begins, leaves_next}

@@ -18,7 +18,7 @@ use Rattle.cwr_shape.specs.Numbers.{symbol_kind, number_in, numbers_of, lengths_
 use Rattle.cwr_shape.specs.declared.stages.TransactionStep.TheVariants as steps
 use Rattle.cwr_shape.specs.Shapes.{without_carried}
 use Rattle.cwr_shape.specs.Stages.{is_grh, group_of, step_after, stage_by}
-use Rattle.cwr_shape.specs.Steps.{next_stage}
+use Rattle.cwr_shape.specs.NextStages.{next_stage}
 use Rattle.cwr_shape.specs.Left.{Any, StandsAt}
 use Rattle.cwr_shape.specs.Tallies.{is_header_of, open_type, counts_of, TallyValue, IsTallyOf}
 use Rattle.cwr_shape.specs.Counting.{stage_type, counts_with, counts_with_header, counts_with_other, expected_numbers}

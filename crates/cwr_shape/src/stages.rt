@@ -7,7 +7,7 @@ ghost use Rattle.cwr_shape.specs.Left.{Any, StandsAt, ContinuesIn, StandsAtStep}
 ghost use Rattle.cwr_shape.specs.Shapes.{IsShape};
 ghost use Rattle.cwr_fields.specs.declared.codes.TransactionType.{TransactionType};
 ghost use Rattle.cwr_shape.specs.Needs.{needs_at, AreNeeds};
-ghost use Rattle.cwr_shape.specs.Steps.{header_step, party_step, tail_step, party_of_work, after_writer, ordered_step, carried_step, step_on, may_end, next_stage};
+ghost use Rattle.cwr_shape.specs.NextStages.{header_step, party_step, tail_step, party_of_work, after_writer, ordered_step, carried_step, step_on, may_end, next_stage};
 
 use crate::symbols::Symbol;
 use cwr_fields::{Role, TransactionType};

@@ -1,7 +1,7 @@
 //! Where a transmission stands, what was counted of it, and what bars a record.
 
 ghost use Rattle.cwr_shape.specs.Ranges.{AreInRange};
-ghost use Rattle.std.specs.Prelude.{◌≡◌, ◌<◌, List, [], ◌∷◌, ◌++◌, length, count_by, IfSome, OnOk};
+ghost use Rattle.std.specs.Prelude.{◌≡◌, ◌<◌, List, [], ◌∷◌, ◌++◌, length, count_by, IfSome, IsTrue, IsFalse, OnOk};
 ghost use Rattle.cwr_fields.specs.declared.codes.TransactionType.TheVariants.{Acknowledgement};
 ghost use Rattle.cwr_shape.specs.declared.symbols.Symbol.{Symbol};
 ghost use Rattle.cwr_shape.specs.Stages.{is_grh, stage_after};
@@ -323,24 +323,26 @@ impl Tally {
         }
     }
 
-    /// What is counted with the next record, where that may come: the order of records is asked once. A `None` says nothing.
+    /// Counts the next record, where that may come: the order of records is asked once, and no other tally is built. A no says
+    /// nothing, and then nothing changes.
     #[inline(always)]
-    pub fn admitted(&self, symbol: Symbol) -> Option<Tally>
-        ensures may_come { (xs : List Symbol) → IsTallyOf self.now xs → IfSome result (λ _. MayCome self.now.limits xs symbol) }
-        ensures limits { IfSome result (λ next. next.limits ≡ self.now.limits) }
-        ensures stands { IfSome result (λ next. (xs : List Symbol) → IsTallyOf self.now xs → IsTallyOf next (xs ++ symbol ∷ [])) }
+    pub fn admit(&mut self, symbol: Symbol) -> bool
+        ensures may_come { IsTrue result → (xs : List Symbol) → IsTallyOf self.old xs → MayCome self.old.limits xs symbol }
+        ensures limits { self.new.limits ≡ self.old.limits }
+        ensures stands { IsTrue result → (xs : List Symbol) → IsTallyOf self.old xs → IsTallyOf self.new (xs ++ symbol ∷ []) }
+        ensures kept { IsFalse result → self.new ≡ self.old }
     {
         let Some(stage) = self.stage.next(symbol) else {
-            return None;
+            return false;
         };
         let counts = self.counts.with(type_at(self.stage), symbol);
         match passed_limit_at(self.limits, stage, &counts) {
-            Some(_) => None,
-            None => Some(Tally {
-                limits: self.limits,
-                stage,
-                counts,
-            }),
+            Some(_) => false,
+            None => {
+                self.stage = stage;
+                self.counts = counts;
+                true
+            }
         }
     }
 

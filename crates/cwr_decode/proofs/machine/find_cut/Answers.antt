@@ -1,26 +1,45 @@
-use Rattle.std.proofs.Common.{Bool, List, Option, Some, None, refl, sym, ap, subst, ◌∙◌}
+use Rattle.std.proofs.Common.{Bool, List, Option, Some, None, refl, sym, ap, subst, ◌∙◌, ◌++◌, ◌∷◌, []}
 use Rattle.std.specs.Prelude.{◌≡◌, true, IsSomeAnd}
 use Rattle.cwr_layouts.specs.declared.kinds.Kind.{Kind}
-use Rattle.cwr_layouts.specs.Records.{RecordValue}
+use Rattle.cwr_layouts.specs.Records.{RecordValue, IsRecord}
+use Rattle.cwr_layouts.specs.Held.{HeldLine, held_record}
 use Rattle.cwr_judge.specs.Items.{stands_in_transaction}
+use Rattle.cwr_judge.specs.Judged.{IsCounted}
 use Rattle.cwr_decode.specs.Machines.{HandsOut, Standing, reading, with_tally}
 use Rattle.cwr_decode.proofs.LineSteps.{added_now, waits_now}
 use Rattle.cwr_decode.proofs.machine.find_cut.Goals as goal
 
+same_record : (h : HeldLine) (r s : RecordValue) → held_record h ≡ Some r → held_record h ≡ Some s → r ≡ s
+same_record h r s er es = inside (Some r) (Some s) (sym er ∙ es)
+  where
+    or_r : Option RecordValue → RecordValue
+    or_r None = r
+    or_r (Some q) = q
+    inside : (a b : Option RecordValue) → a ≡ b → or_r a ≡ or_r b
+    inside a b e = ap or_r e
+
+pub known_record-requires : goal.known_record-requires
+known_record-requires c =
+    let q = c.count_quickly.ensures.counted c.if-not-count_quickly.false in
+    subst (λ (o : Option RecordValue). IsSomeAnd o IsRecord) (sym q.carried) q.in_order
+
 pub returns-then-not-stays_open : goal.returns-then-not-stays_open
 returns-then-not-stays_open c = λ state finished.
     let d : Standing = record { line = c.args.cut.now; tally = c.args.tally.now; held = c.args.held.now; state = state; finished = finished } in
-    waits_now d c.in-Some-judge_quickly.counted c.args.cut.now c.in-Some-judge_quickly.field-0-0 c.in-Some-judge_quickly.accepted c.stays_open.result c.in-Some-held.open (Some c.in-Some-held.open) None refl
-    c.in-Some-judge_quickly.ensures.carried c.in-Some-judge_quickly.ensures.next c.in-Some-judge_quickly.ensures.limits c.in-Some-judge_quickly.ensures.stands
-    (λ xs st. c.stays_open.ensures xs c.in-Some-judge_quickly.field-0-0 st (c.in-Some-judge_quickly.ensures.stands xs st))
+    let q = c.count_quickly.ensures.counted c.if-not-count_quickly.false in
+    waits_now d c.count_quickly.new.tally c.args.cut.now q.symbol q.accepted c.stays_open.result c.in-Some-held.open (Some c.in-Some-held.open) None refl
+    (q.carried, q.in_order, q.excess) q.next q.limits q.stands
+    (λ xs st. c.stays_open.ensures xs q.symbol st (q.stands xs st))
     (subst (λ (b : Bool). HandsOut b c.args.held.now (Some c.in-Some-held.open) None) (sym c.if-not-stays_open.true) (sym c.in-Some-held.is, refl)) refl
 
-pub returns-in-Ok : goal.returns-in-Ok
-returns-in-Ok c = λ state finished.
+pub returns : goal.returns
+returns c = λ state finished.
     let d : Standing = record { line = c.args.cut.now; tally = c.args.tally.now; held = c.args.held.now; state = state; finished = finished } in
-    added_now d c.in-Some-judge_quickly.counted c.args.cut.now c.in-Some-judge_quickly.field-0-0 c.in-Some-judge_quickly.accepted c.stays_open.result c.in-Some-held.open
-    (reading (with_tally d c.in-Some-judge_quickly.counted) (Some c.push.new.self)) refl
+    let q = c.count_quickly.ensures.counted c.if-not-count_quickly.false in
+    let e : q.accepted ≡ c.known_record.result = same_record c.args.cut.now q.accepted c.known_record.result q.carried c.known_record.ensures in
+    added_now d c.count_quickly.new.tally c.args.cut.now q.symbol q.accepted c.stays_open.result c.in-Some-held.open
+    (reading (with_tally d c.count_quickly.new.tally) (Some c.adds_known.new.open)) refl
     (subst (λ (q : Option Kind). IsSomeAnd q (λ kind. stands_in_transaction kind ≡ true)) (sym c.in-Some.is ∙ c.kind.ensures) (sym c.stands_inside.ensures ∙ c.if-not-stands_inside.false))
-    c.in-Some-judge_quickly.ensures.carried c.in-Some-judge_quickly.ensures.next c.in-Some-judge_quickly.ensures.limits c.in-Some-judge_quickly.ensures.stands
-    (λ xs st. c.stays_open.ensures xs c.in-Some-judge_quickly.field-0-0 st (c.in-Some-judge_quickly.ensures.stands xs st)) c.if-not-stays_open.false c.in-Some-held.is
-    (ap (λ (xs : List RecordValue). reading (with_tally d c.in-Some-judge_quickly.counted) (Some xs)) c.in-Ok.ensures.ok)
+    (q.carried, q.in_order, q.excess) q.next q.limits q.stands
+    (λ xs st. c.stays_open.ensures xs q.symbol st (q.stands xs st)) c.if-not-stays_open.false c.in-Some-held.is
+    (ap (λ (xs : List RecordValue). reading (with_tally d c.count_quickly.new.tally) (Some xs)) (c.adds_known.ensures.added c.if-not-adds_known.false ∙ ap (λ (r : RecordValue). c.in-Some-held.open ++ r ∷ []) (sym e)))

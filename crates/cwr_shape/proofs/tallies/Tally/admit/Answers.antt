@@ -5,10 +5,10 @@ use Rattle.cwr_shape.specs.Tallies.{TallyValue, IsTallyOf, IsAdmitted, MayCome}
 use Rattle.cwr_shape.specs.Counting.{counts_with}
 use Rattle.cwr_shape.proofs.FirstBars.{next_of, may_come}
 use Rattle.cwr_shape.proofs.TallyWithOneMore.{keeps_tally, stands_more}
-use Rattle.cwr_shape.proofs.tallies.Tally.admitted.Goals as goal
+use Rattle.cwr_shape.proofs.tallies.Tally.admit.Goals as goal
 
-pub invariant_of-result : goal.invariant_of-result
-invariant_of-result c =
+pub invariant_of-self : goal.invariant_of-self
+invariant_of-self c =
     let t : TallyValue = record { limits = c.self.inside.limits; stage = c.self.inside.stage; counts = c.self.inside.counts } in
     let st = c.self.invariant.stands.1 in
     let may = may_come t c.self.invariant.stands.0 c.args.symbol c.in-Some.stage c.with-counts.result c.passed_limit_at.result
@@ -19,7 +19,7 @@ invariant_of-result c =
     (c.with-counts.ensures ∙ ap (λ (ty : TransactionType). counts_with ty c.self.inside.counts c.args.symbol) c.type_at.ensures)
 
 pub returns-in-None-clause-may_come : goal.returns-in-None-clause-may_come
-returns-in-None-clause-may_come c =
+returns-in-None-clause-may_come c = λ yes.
     let t : TallyValue = record { limits = c.self.inside.limits; stage = c.self.inside.stage; counts = c.self.inside.counts } in
     subst (λ (t : TallyValue). (xs : List Symbol) → IsTallyOf t xs → MayCome t.limits xs c.args.symbol) c.self.view_is
     (λ xs st. may_come t xs c.args.symbol c.in-Some.stage c.with-counts.result c.passed_limit_at.result
@@ -27,7 +27,7 @@ returns-in-None-clause-may_come c =
     (c.with-counts.ensures ∙ ap (λ (ty : TransactionType). counts_with ty c.self.inside.counts c.args.symbol) c.type_at.ensures)) c.passed_limit_at.ensures c.in-None.is)
 
 pub returns-in-None-clause-stands : goal.returns-in-None-clause-stands
-returns-in-None-clause-stands c =
+returns-in-None-clause-stands c = λ yes.
     let t : TallyValue = record { limits = c.self.inside.limits; stage = c.self.inside.stage; counts = c.self.inside.counts } in
     let st = c.self.invariant.stands.1 in
     let may = may_come t c.self.invariant.stands.0 c.args.symbol c.in-Some.stage c.with-counts.result c.passed_limit_at.result
