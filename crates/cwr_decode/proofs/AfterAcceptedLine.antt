@@ -7,27 +7,28 @@ use Rattle.cwr_layouts.specs.declared.kinds.Kind.{Kind}
 use Rattle.cwr_layouts.specs.declared.kinds.Kind.TheVariants as kinds
 use Rattle.cwr_layouts.specs.declared.lines.LineEnd.{LineEnd}
 use Rattle.cwr_layouts.specs.declared.lines.LineEnd.TheVariants.{Open, Line, Over}
-use Rattle.cwr_layouts.specs.Records.{RecordValue, Row, IsRecord}
-use Rattle.cwr_layouts.specs.Lines.{IsLineOf, excess_as}
-use Rattle.cwr_layouts.specs.Held.{HeldLine, IsHeld, held_kind, held_body, held_cells, held_text, text_by, carried_by, ended_too_long, HoldsBy, held_record, held_excess}
+use Rattle.cwr_layouts.specs.Format.Records.{RecordValue, Row, IsRecord}
+use Rattle.cwr_layouts.specs.Format.Lines.{IsLineOf, excess_as}
+use Rattle.cwr_layouts.specs.Steps.Held.{HeldLine, IsHeld, held_kind, held_body, held_cells, held_text, text_by, carried_by, ended_too_long, HoldsBy, held_record, held_excess}
 use Rattle.cwr_shape.specs.declared.symbols.Symbol.{Symbol}
-use Rattle.cwr_shape.specs.Outlines.{IsWhole}
-use Rattle.cwr_shape.specs.Ranges.{LimitValues, AreInRange}
-use Rattle.cwr_shape.specs.Tallies as tallies
+use Rattle.cwr_shape.specs.Format.Outlines.{IsWhole}
+use Rattle.cwr_shape.specs.Format.Ranges.{LimitValues, AreInRange}
+use Rattle.cwr_shape.specs.Steps.Tallies as tallies
 use Rattle.cwr_shape.proofs.WithinByFronts.{fits_along}
-use Rattle.cwr_shape.specs.Tallies.{TallyValue, passed_limit}
+use Rattle.cwr_shape.specs.Format.NextSymbols.{passed_limit}
+use Rattle.cwr_shape.specs.Steps.Tallies.{TallyValue}
 use Rattle.cwr_values.specs.declared.items.Item.{Item}
 use Rattle.cwr_values.specs.declared.items.Item.TheVariants as items
-use Rattle.cwr_values.specs.Values.{symbol_of}
-use Rattle.cwr_values.specs.Begins.{row_after, rows_so_far}
+use Rattle.cwr_values.specs.Format.Values.{symbol_of}
+use Rattle.cwr_values.specs.Format.Begins.{row_after, rows_so_far}
 use Rattle.cwr_values.proofs.RowAt.{rows_so_far-snoc}
 use Rattle.cwr_decode.specs.declared.outcomes.Outcome.{Outcome}
 use Rattle.cwr_decode.specs.declared.outcomes.Outcome.TheVariants as outcomes
-use Rattle.cwr_judge.specs.Items.{stands_in_transaction}
-use Rattle.cwr_judge.specs.Judged.{IsNext}
-use Rattle.cwr_decode.specs.Machines.{Standing, Empties, Accepts, Follows, with_tally, pending, held_list, held_of}
-use Rattle.cwr_judge.specs.Open.{items_so_far, open_of, continues_open, ended_transaction, item_of}
-use Rattle.cwr_decode.specs.Represents.{AreAccepted, IsInput, Represents, items_in, text_of}
+use Rattle.cwr_judge.specs.Format.Items.{stands_in_transaction}
+use Rattle.cwr_judge.specs.Steps.Judged.{IsNext}
+use Rattle.cwr_decode.specs.Steps.Machines.{Standing, Empties, Accepts, Follows, with_tally, pending, held_list, held_of}
+use Rattle.cwr_judge.specs.Steps.Open.{items_so_far, open_of, continues_open, ended_transaction, item_of}
+use Rattle.cwr_decode.specs.Steps.Represents.{AreAccepted, IsInput, Represents, items_in, text_of}
 use Rattle.cwr_judge.proofs.NextLines.{next_is_line}
 use Rattle.cwr_judge.proofs.EndingRecord.{ends_closes}
 use Rattle.cwr_judge.proofs.ContinuingRecord.{continuing_stays}

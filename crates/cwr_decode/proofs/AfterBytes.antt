@@ -5,21 +5,21 @@ use Rattle.std.proofs.Math.Seq.{take-length}
 use Rattle.std.proofs.lemmas.List.{length-append, take-append-drop}
 use Rattle.cwr_layouts.specs.declared.lines.LineEnd.{LineEnd}
 use Rattle.cwr_layouts.specs.declared.lines.LineEnd.TheVariants.{Open, Line, Over}
-use Rattle.cwr_layouts.specs.Held.{HeldLine, IsHeld, Takes, Stops, held_text, text_by}
+use Rattle.cwr_layouts.specs.Steps.Held.{HeldLine, IsHeld, Takes, Stops, held_text, text_by}
 use Rattle.cwr_shape.specs.declared.symbols.Symbol.{Symbol}
 use Rattle.cwr_shape.specs.declared.tallies.Counts.{Counts}
-use Rattle.cwr_shape.specs.Ranges.{LimitValues}
-use Rattle.cwr_shape.specs.Tallies as tallies
-use Rattle.cwr_shape.specs.Tallies.{TallyValue}
+use Rattle.cwr_shape.specs.Format.Ranges.{LimitValues}
+use Rattle.cwr_shape.specs.Steps.Tallies as tallies
+use Rattle.cwr_shape.specs.Steps.Tallies.{TallyValue}
 use Rattle.cwr_values.specs.declared.items.Item.{Item}
-use Rattle.cwr_values.specs.Values.{symbol_of}
+use Rattle.cwr_values.specs.Format.Values.{symbol_of}
 use Rattle.cwr_decode.specs.declared.outcomes.Outcome.{Outcome}
 use Rattle.cwr_decode.specs.declared.outcomes.Outcome.TheVariants as outcomes
 use Rattle.cwr_decode.specs.declared.machine.State.{State}
 use Rattle.cwr_decode.specs.declared.machine.State.TheVariants as states
-use Rattle.cwr_decode.specs.Machines.{Standing, IsReady, Judges, JudgesFront, with_line, with_tally, stopped}
-use Rattle.cwr_decode.specs.Represents.{Represents, RepresentsIn, IsReading, IsInput, IsRight, items_out, text_of}
-use Rattle.cwr_decode.specs.Calls.{RefusesLast, Advances, Grows}
+use Rattle.cwr_decode.specs.Steps.Machines.{Standing, IsReady, Judges, JudgesFront, with_line, with_tally, stopped}
+use Rattle.cwr_decode.specs.Steps.Represents.{Represents, RepresentsIn, IsReading, IsInput, IsRight, items_out, text_of}
+use Rattle.cwr_decode.specs.Steps.Calls.{RefusesLast, Advances, Grows}
 use Rattle.cwr_decode.proofs.AfterAcceptedLine.{HasLine, never_too_long}
 use Rattle.cwr_decode.proofs.AfterLine.{reported_last, judged_stands, judged_empties}
 use Rattle.cwr_decode.proofs.StepsWithoutBytes.{IsPlain, Rest, follows_rest}

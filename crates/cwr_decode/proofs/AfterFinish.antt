@@ -2,19 +2,19 @@
 use Rattle.std.proofs.Common.{◌≡◌, ℕ, Bool, true, List, [], ◌++◌, length, map, Option, Some, None, refl, sym, ap, subst, ◌∙◌, append-nil, arith, inl, inr}
 use Rattle.std.specs.Prelude.{IfSome}
 use Rattle.std.proofs.lemmas.List.{length-map}
-use Rattle.cwr_layouts.specs.Lines.{closed}
-use Rattle.cwr_shape.specs.Ranges.{LimitValues}
+use Rattle.cwr_layouts.specs.Format.Lines.{closed}
+use Rattle.cwr_shape.specs.Format.Ranges.{LimitValues}
 use Rattle.cwr_shape.specs.declared.tallies.Counts.{Counts}
 use Rattle.cwr_values.specs.declared.items.Item.{Item}
-use Rattle.cwr_values.specs.Values.{symbol_of}
+use Rattle.cwr_values.specs.Format.Values.{symbol_of}
 use Rattle.cwr_decode.specs.declared.outcomes.Outcome.{Outcome}
 use Rattle.cwr_decode.specs.declared.outcomes.Outcome.TheVariants as outcomes
 use Rattle.cwr_decode.specs.declared.machine.State.{State}
 use Rattle.cwr_decode.specs.declared.machine.State.TheVariants as states
-use Rattle.cwr_judge.specs.Ends.{IsTruncated}
-use Rattle.cwr_decode.specs.Machines.{Standing, IsReady, Settles, again, end_input, stopped}
-use Rattle.cwr_decode.specs.Represents.{Represents, RepresentsIn, IsReading, IsInput, IsRight, items_out, text_of}
-use Rattle.cwr_decode.specs.Calls.{IsLive, TakesEnd, Finishes}
+use Rattle.cwr_judge.specs.Format.Ends.{IsTruncated}
+use Rattle.cwr_decode.specs.Steps.Machines.{Standing, IsReady, Settles, again, end_input, stopped}
+use Rattle.cwr_decode.specs.Steps.Represents.{Represents, RepresentsIn, IsReading, IsInput, IsRight, items_out, text_of}
+use Rattle.cwr_decode.specs.Steps.Calls.{IsLive, TakesEnd, Finishes}
 use Rattle.cwr_decode.proofs.CutTruncated.{cut_truncated}
 use Rattle.cwr_decode.proofs.StepsWithoutBytes.{settled}
 use Rattle.cwr_decode.proofs.RightAnswers.{plain_right}

@@ -3,16 +3,16 @@ use Rattle.std.proofs.Common.{◌≡◌, ℕ, zero, suc, ◌<◌, Bool, true, fa
 use Rattle.std.specs.Prelude.{◌≢◌, IfSome}
 use Rattle.cwr_layouts.specs.declared.lines.LineEnd.{LineEnd}
 use Rattle.cwr_layouts.specs.declared.lines.LineEnd.TheVariants.{Open, Line, Over}
-use Rattle.cwr_layouts.specs.Lines.{closed}
-use Rattle.cwr_shape.specs.Ranges.{LimitValues}
+use Rattle.cwr_layouts.specs.Format.Lines.{closed}
+use Rattle.cwr_shape.specs.Format.Ranges.{LimitValues}
 use Rattle.cwr_values.specs.declared.items.Item.{Item}
-use Rattle.cwr_values.specs.Values.{symbol_of}
+use Rattle.cwr_values.specs.Format.Values.{symbol_of}
 use Rattle.cwr_decode.specs.declared.outcomes.Outcome.{Outcome}
 use Rattle.cwr_decode.specs.declared.machine.State.{State}
 use Rattle.cwr_decode.specs.declared.machine.State.TheVariants as states
-use Rattle.cwr_decode.specs.Machines.{Standing, IsReady, Judges, ClosesLine, again, end_input}
-use Rattle.cwr_decode.specs.Represents.{Represents, RepresentsIn, IsInput, IsRight, items_out, text_of}
-use Rattle.cwr_decode.specs.Calls.{IsLive, Grows, TakesEnd}
+use Rattle.cwr_decode.specs.Steps.Machines.{Standing, IsReady, Judges, ClosesLine, again, end_input}
+use Rattle.cwr_decode.specs.Steps.Represents.{Represents, RepresentsIn, IsInput, IsRight, items_out, text_of}
+use Rattle.cwr_decode.specs.Steps.Calls.{IsLive, Grows, TakesEnd}
 use Rattle.cwr_decode.proofs.ClosedTexts.{closed_text, closed_open}
 use Rattle.cwr_decode.proofs.AfterAcceptedLine.{HasLine}
 use Rattle.cwr_decode.proofs.AfterLine.{judged_stands, judged_empties}

@@ -3,27 +3,27 @@ use Rattle.std.proofs.Common.{◌≡◌, ℕ, ◌≤◌, cond, List, [], ◌∷�
 use Rattle.std.specs.Prelude.{IfSome}
 use Rattle.std.proofs.lemmas.List.{length-append, length-map}
 use Rattle.cwr_layouts.specs.declared.lines.LineEnd.TheVariants.{Line}
-use Rattle.cwr_layouts.specs.Records.{RecordValue}
-use Rattle.cwr_layouts.specs.Held.{held_kind, held_record}
+use Rattle.cwr_layouts.specs.Format.Records.{RecordValue}
+use Rattle.cwr_layouts.specs.Steps.Held.{held_kind, held_record}
 use Rattle.cwr_shape.specs.declared.symbols.Symbol.{Symbol}
 use Rattle.cwr_shape.specs.declared.reasons.Reason.{Reason}
 use Rattle.cwr_shape.specs.declared.tallies.Counts.{Counts}
-use Rattle.cwr_shape.specs.Levels.{level_of}
-use Rattle.cwr_shape.specs.Ranges.{AreInRange}
-use Rattle.cwr_shape.specs.Tallies as tallies
-use Rattle.cwr_shape.specs.Tallies.{counts_of, place_after}
+use Rattle.cwr_shape.specs.Format.Levels.{level_of}
+use Rattle.cwr_shape.specs.Format.Ranges.{AreInRange}
+use Rattle.cwr_shape.specs.Steps.Tallies as tallies
+use Rattle.cwr_shape.specs.Format.NextSymbols.{counts_of, place_after}
 use Rattle.cwr_values.specs.declared.items.Item.{Item}
-use Rattle.cwr_values.specs.Values.{symbol_of}
+use Rattle.cwr_values.specs.Format.Values.{symbol_of}
 use Rattle.cwr_decode.specs.declared.outcomes.Outcome.{Outcome}
 use Rattle.cwr_judge.specs.declared.judging.LineFault.{LineFault}
 use Rattle.cwr_decode.specs.declared.machine.State.{State}
 use Rattle.cwr_decode.specs.declared.machine.State.TheVariants as states
-use Rattle.cwr_judge.specs.Items.{stands_in_transaction}
-use Rattle.cwr_judge.specs.Judged.{IsOfNone, IsFirstFault}
-use Rattle.cwr_decode.specs.Machines.{Standing, Empties, Refuses, ReportsFault, Judges, EntersHeld, stopped, held_list}
-use Rattle.cwr_judge.specs.Open.{item_of}
-use Rattle.cwr_decode.specs.Calls.{RefusesLast}
-use Rattle.cwr_decode.specs.Represents.{IsPending, IsStopped, Represents, RepresentsIn, items_in, items_out}
+use Rattle.cwr_judge.specs.Format.Items.{stands_in_transaction}
+use Rattle.cwr_judge.specs.Steps.Judged.{IsOfNone, IsFirstFault}
+use Rattle.cwr_decode.specs.Steps.Machines.{Standing, Empties, Refuses, ReportsFault, Judges, EntersHeld, stopped, held_list}
+use Rattle.cwr_judge.specs.Steps.Open.{item_of}
+use Rattle.cwr_decode.specs.Steps.Calls.{RefusesLast}
+use Rattle.cwr_decode.specs.Steps.Represents.{IsPending, IsStopped, Represents, RepresentsIn, items_in, items_out}
 use Rattle.cwr_judge.proofs.EndingRecord.{ends_closes}
 use Rattle.cwr_decode.proofs.AfterRecord.{MayEnter, enters_stands, enters_empties, few_records}
 use Rattle.cwr_decode.proofs.AfterAcceptedLine.{HasLine, accept_stands, accept_empties}

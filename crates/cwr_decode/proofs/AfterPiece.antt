@@ -4,18 +4,18 @@ use Rattle.std.specs.Prelude.{IfSome, IsNone, IsSomeAnd}
 use Rattle.std.proofs.lemmas.List.{length-drop, take-append-drop}
 use Rattle.cwr_layouts.specs.declared.kinds.Kind.{Kind}
 use Rattle.cwr_layouts.specs.declared.kinds.Kind.TheVariants.{Hdr, Grh, Grt, Trl}
-use Rattle.cwr_layouts.specs.Records.{RecordValue}
-use Rattle.cwr_layouts.specs.Held.{held_record}
-use Rattle.cwr_shape.specs.Ranges.{LimitValues}
+use Rattle.cwr_layouts.specs.Format.Records.{RecordValue}
+use Rattle.cwr_layouts.specs.Steps.Held.{held_record}
+use Rattle.cwr_shape.specs.Format.Ranges.{LimitValues}
 use Rattle.cwr_values.specs.declared.items.Item.TheVariants as items
 use Rattle.cwr_decode.specs.declared.outcomes.Outcome.{Outcome}
 use Rattle.cwr_decode.specs.declared.outcomes.Outcome.TheVariants as outcomes
 use Rattle.cwr_decode.specs.declared.machine.State.{State}
 use Rattle.cwr_decode.specs.declared.machine.State.TheVariants as states
-use Rattle.cwr_judge.specs.Items.{stands_in_transaction}
-use Rattle.cwr_decode.specs.Machines.{Standing, IsReady, Settles, Enters, EntersHeld, WaitsOutside, again, end_input}
-use Rattle.cwr_decode.specs.Represents.{Represents, IsRight, IsSound, items_out}
-use Rattle.cwr_decode.specs.Calls.{Advances, Fed, Feeds, Finishes, seen_input}
+use Rattle.cwr_judge.specs.Format.Items.{stands_in_transaction}
+use Rattle.cwr_decode.specs.Steps.Machines.{Standing, IsReady, Settles, Enters, EntersHeld, WaitsOutside, again, end_input}
+use Rattle.cwr_decode.specs.Steps.Represents.{Represents, IsRight, IsSound, items_out}
+use Rattle.cwr_decode.specs.Steps.Calls.{Advances, Fed, Feeds, Finishes, seen_input}
 use Rattle.cwr_decode.proofs.StepsWithoutBytes.{settled}
 use Rattle.cwr_decode.proofs.AnsweredAtOnce.{settles_live, if_some}
 

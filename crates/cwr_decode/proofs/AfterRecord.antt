@@ -3,28 +3,29 @@ use Rattle.std.proofs.Common.{◌≡◌, ℕ, ◌≤◌, Bool, true, false, cond
 use Rattle.std.specs.Prelude.{MatchOption, IfSome}
 use Rattle.cwr_layouts.specs.declared.kinds.Kind.{Kind}
 use Rattle.cwr_layouts.specs.declared.kinds.Kind.TheVariants.{Hdr, Grh, Grt, Trl}
-use Rattle.cwr_layouts.specs.Records.{RecordValue}
-use Rattle.cwr_layouts.specs.Held.{IsHeld, empty_line}
+use Rattle.cwr_layouts.specs.Format.Records.{RecordValue}
+use Rattle.cwr_layouts.specs.Steps.Held.{IsHeld, empty_line}
 use Rattle.cwr_shape.specs.declared.symbols.Symbol.{Symbol}
 use Rattle.cwr_shape.specs.declared.symbols.Symbol.TheVariants.{Plain}
-use Rattle.cwr_shape.specs.Outlines.{IsWhole, Continues}
-use Rattle.cwr_shape.specs.Left.{Any}
-use Rattle.cwr_shape.specs.Ranges.{AreInRange}
-use Rattle.cwr_shape.specs.Tallies as tallies
-use Rattle.cwr_shape.specs.Tallies.{TallyValue, place_by, place_after}
+use Rattle.cwr_shape.specs.Format.Outlines.{IsWhole, Continues}
+use Rattle.cwr_shape.specs.Format.AnyTransmission.{Any}
+use Rattle.cwr_shape.specs.Format.Ranges.{AreInRange}
+use Rattle.cwr_shape.specs.Format.NextSymbols as tallies_there
+use Rattle.cwr_shape.specs.Format.NextSymbols.{place_by, place_after}
+use Rattle.cwr_shape.specs.Steps.Tallies.{TallyValue}
 use Rattle.cwr_shape.proofs.OneMore.{last_or-snoc}
 use Rattle.cwr_shape.proofs.WithinByFronts.{none_passed}
 use Rattle.cwr_values.specs.declared.items.Item.{Item}
 use Rattle.cwr_values.specs.declared.items.Item.TheVariants as items
-use Rattle.cwr_values.specs.Values.{symbol_of, symbol_by}
+use Rattle.cwr_values.specs.Format.Values.{symbol_of, symbol_by}
 use Rattle.cwr_values.proofs.OneTransmissionOfRecords.{plain_kind}
 use Rattle.cwr_decode.specs.declared.outcomes.Outcome.{Outcome}
 use Rattle.cwr_decode.specs.declared.outcomes.Outcome.TheVariants as outcomes
 use Rattle.cwr_decode.specs.declared.machine.State.TheVariants as states
-use Rattle.cwr_judge.specs.Items.{stands_in_transaction}
-use Rattle.cwr_decode.specs.Machines.{Standing, Empties, Enters, held_list, reading, stopped, held_of}
-use Rattle.cwr_judge.specs.Open.{items_so_far, open_of, item_of}
-use Rattle.cwr_decode.specs.Represents.{AreAccepted, IsInput, Represents, items_in, text_of}
+use Rattle.cwr_judge.specs.Format.Items.{stands_in_transaction}
+use Rattle.cwr_decode.specs.Steps.Machines.{Standing, Empties, Enters, held_list, reading, stopped, held_of}
+use Rattle.cwr_judge.specs.Steps.Open.{items_so_far, open_of, item_of}
+use Rattle.cwr_decode.specs.Steps.Represents.{AreAccepted, IsInput, Represents, items_in, text_of}
 use Rattle.cwr_judge.proofs.Trailers.{trailer_ends, whole_ends}
 
 -- ---- lists
@@ -100,13 +101,13 @@ around d input given kind r item out new m no_trailer outside own e =
     (subst (λ (is : List Item). Represents (reading d d.held) input (given ++ is)) own_item (reads_on d input given kind r d.held m no_trailer held))
 
 -- the place after a record inside a transaction
-pub inside_last : (kind : Kind) (records : List RecordValue) (r : RecordValue) → r.kind ≡ kind → stands_in_transaction kind ≡ true → tallies.has_open_transaction (place_after (map symbol_of (records ++ r ∷ []))) ≡ true
+pub inside_last : (kind : Kind) (records : List RecordValue) (r : RecordValue) → r.kind ≡ kind → stands_in_transaction kind ≡ true → tallies_there.has_open_transaction (place_after (map symbol_of (records ++ r ∷ []))) ≡ true
 inside_last kind records r e h =
-    ap (λ (xs : List Symbol). tallies.has_open_transaction (place_after xs)) (map-snoc records r)
-    ∙ ap (λ (o : Option Symbol). tallies.has_open_transaction (place_by o)) (last_or-snoc None (map symbol_of records) (symbol_of r) ∙ ap (λ (k : Kind). Some (symbol_by k r)) e)
+    ap (λ (xs : List Symbol). tallies_there.has_open_transaction (place_after xs)) (map-snoc records r)
+    ∙ ap (λ (o : Option Symbol). tallies_there.has_open_transaction (place_by o)) (last_or-snoc None (map symbol_of records) (symbol_of r) ∙ ap (λ (k : Kind). Some (symbol_by k r)) e)
     ∙ by kind h
   where
-    by : (k : Kind) → stands_in_transaction k ≡ true → tallies.has_open_transaction (place_by (Some (symbol_by k r))) ≡ true
+    by : (k : Kind) → stands_in_transaction k ≡ true → tallies_there.has_open_transaction (place_by (Some (symbol_by k r))) ≡ true
     by Hdr f = absurd (true≢false (sym f))
     by Grh f = absurd (true≢false (sym f))
     by Grt f = absurd (true≢false (sym f))

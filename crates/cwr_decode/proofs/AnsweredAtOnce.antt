@@ -1,16 +1,16 @@
 -- What is answered before a piece is looked at.
 use Rattle.std.proofs.Common.{◌≡◌, ℕ, Bool, false, List, [], ◌++◌, Option, Some, None, refl, sym, ap, subst, ◌∙◌, append-nil, arith, inl, true≢false}
 use Rattle.std.specs.Prelude.{IfSome}
-use Rattle.cwr_layouts.specs.Records.{RecordValue}
-use Rattle.cwr_layouts.specs.Held.{held_record}
-use Rattle.cwr_shape.specs.Ranges.{LimitValues}
+use Rattle.cwr_layouts.specs.Format.Records.{RecordValue}
+use Rattle.cwr_layouts.specs.Steps.Held.{held_record}
+use Rattle.cwr_shape.specs.Format.Ranges.{LimitValues}
 use Rattle.cwr_decode.specs.declared.outcomes.Outcome.{Outcome}
 use Rattle.cwr_decode.specs.declared.outcomes.Outcome.TheVariants as outcomes
 use Rattle.cwr_decode.specs.declared.machine.State.{State}
 use Rattle.cwr_decode.specs.declared.machine.State.TheVariants as states
-use Rattle.cwr_decode.specs.Machines.{Standing, IsReady, Settles, EntersHeld, again}
-use Rattle.cwr_decode.specs.Represents.{Represents, IsRight, items_out}
-use Rattle.cwr_decode.specs.Calls.{IsLive, Feeds, seen_input}
+use Rattle.cwr_decode.specs.Steps.Machines.{Standing, IsReady, Settles, EntersHeld, again}
+use Rattle.cwr_decode.specs.Steps.Represents.{Represents, IsRight, items_out}
+use Rattle.cwr_decode.specs.Steps.Calls.{IsLive, Feeds, seen_input}
 use Rattle.cwr_decode.proofs.StepsWithoutBytes.{IsPlain, settled, enters_rest}
 use Rattle.cwr_decode.proofs.RightAnswers.{plain_right}
 

@@ -4,22 +4,22 @@ use Rattle.std.specs.List.{AllZip}
 use Rattle.std.proofs.lemmas.List.{length-append, length-map}
 use Rattle.cwr_layouts.specs.declared.lines.LineEnd.{LineEnd}
 use Rattle.cwr_layouts.specs.declared.lines.LineEnd.TheVariants as line_ends
-use Rattle.cwr_layouts.specs.Records.{RecordValue, Row}
-use Rattle.cwr_layouts.specs.Lines.{IsLineOf}
-use Rattle.cwr_layouts.specs.Held.{text_by}
+use Rattle.cwr_layouts.specs.Format.Records.{RecordValue, Row}
+use Rattle.cwr_layouts.specs.Format.Lines.{IsLineOf}
+use Rattle.cwr_layouts.specs.Steps.Held.{text_by}
 use Rattle.cwr_shape.specs.declared.symbols.Symbol.{Symbol}
-use Rattle.cwr_shape.specs.Outlines.{IsWhole, symbols_of}
-use Rattle.cwr_shape.specs.Tallies.{TallyValue}
+use Rattle.cwr_shape.specs.Format.Outlines.{IsWhole, symbols_of}
+use Rattle.cwr_shape.specs.Steps.Tallies.{TallyValue}
 use Rattle.cwr_values.specs.declared.items.Item.{Item}
-use Rattle.cwr_values.specs.Values.{symbol_of}
-use Rattle.cwr_values.specs.Begins.{rows_so_far}
+use Rattle.cwr_values.specs.Format.Values.{symbol_of}
+use Rattle.cwr_values.specs.Format.Begins.{rows_so_far}
 use Rattle.cwr_values.proofs.RowAt.{length-rows_so_far}
 use Rattle.cwr_judge.proofs.Accepted.{closed_begins}
 use Rattle.cwr_decode.specs.declared.machine.State.{State}
 use Rattle.cwr_decode.specs.declared.machine.State.TheVariants as states
-use Rattle.cwr_decode.specs.Machines.{Standing}
-use Rattle.cwr_decode.specs.Readings.{FeedsOn}
-use Rattle.cwr_decode.specs.Represents.{AreAccepted, Represents, RepresentsSome, RepresentsIn, IsThrough, IsInput, text_of}
+use Rattle.cwr_decode.specs.Steps.Machines.{Standing}
+use Rattle.cwr_decode.specs.Steps.Readings.{FeedsOn}
+use Rattle.cwr_decode.specs.Steps.Represents.{AreAccepted, Represents, RepresentsSome, RepresentsIn, IsThrough, IsInput, text_of}
 
 text_short : (rows : List Row) (lines : List (List ℕ)) → AllZip IsLineOf rows lines → length (text_of lines) ≤ 1025 * length rows
 text_short [] [] h = omega arith

@@ -10,24 +10,24 @@ use Rattle.std.proofs.lemmas.List.Folds.{flat_map-map}
 use Rattle.std.proofs.lemmas.List.Sums.{sum_by-cons, sum_by-append}
 use Rattle.cwr_layouts.specs.declared.kinds.Kind.{Kind}
 use Rattle.cwr_layouts.specs.declared.kinds.Kind.TheVariants as kinds
-use Rattle.cwr_layouts.specs.Records.{RecordValue, IsRecord}
+use Rattle.cwr_layouts.specs.Format.Records.{RecordValue, IsRecord}
 use Rattle.cwr_shape.specs.declared.symbols.Symbol.{Symbol}
-use Rattle.cwr_shape.specs.Ranges.{AreInRange}
-use Rattle.cwr_shape.specs.Outlines.{Continues}
-use Rattle.cwr_shape.specs.Left.{Any}
-use Rattle.cwr_shape.specs.Tallies.{TallyValue}
+use Rattle.cwr_shape.specs.Format.Ranges.{AreInRange}
+use Rattle.cwr_shape.specs.Format.Outlines.{Continues}
+use Rattle.cwr_shape.specs.Format.AnyTransmission.{Any}
+use Rattle.cwr_shape.specs.Steps.Tallies.{TallyValue}
 use Rattle.cwr_values.specs.declared.items.Item.{Item}
 use Rattle.cwr_values.specs.declared.items.Item.TheVariants.{Opened, GroupOpened, Transaction, GroupClosed, Ended}
-use Rattle.cwr_values.specs.Values.{GroupValue, TransmissionValue, symbol_of}
-use Rattle.cwr_values.specs.Rows.{rows, records_of, records_of_group, trailer}
+use Rattle.cwr_values.specs.Format.Values.{GroupValue, TransmissionValue, symbol_of}
+use Rattle.cwr_values.specs.Format.Rows.{rows, records_of, records_of_group, trailer}
 use Rattle.cwr_values.proofs.OneTransmissionOfRecords.{is_trailer}
 use Rattle.cwr_values.proofs.Spelling.{length-rows}
 use Rattle.cwr_decode.specs.declared.machine.State.{State}
 use Rattle.cwr_decode.specs.declared.machine.State.TheVariants as states
-use Rattle.cwr_judge.specs.Items.{stands_in_transaction, group_items, value_items, item_records, records_in, opens_group, is_transaction}
-use Rattle.cwr_decode.specs.Machines.{Standing}
-use Rattle.cwr_judge.specs.Open.{items_so_far, open_of, continues_open, ended_transaction, item_of}
-use Rattle.cwr_decode.specs.Represents.{AreAccepted, IsThrough, Represents, RepresentsIn}
+use Rattle.cwr_judge.specs.Format.Items.{stands_in_transaction, group_items, value_items, item_records, records_in, opens_group, is_transaction}
+use Rattle.cwr_decode.specs.Steps.Machines.{Standing}
+use Rattle.cwr_judge.specs.Steps.Open.{items_so_far, open_of, continues_open, ended_transaction, item_of}
+use Rattle.cwr_decode.specs.Steps.Represents.{AreAccepted, IsThrough, Represents, RepresentsIn}
 use Rattle.cwr_decode.proofs.AfterRecord.{few_records}
 use Rattle.cwr_judge.proofs.EndingRecord.{ends_closes}
 use Rattle.cwr_judge.proofs.ContinuingRecord.{continuing_stays, no_open, no_items}

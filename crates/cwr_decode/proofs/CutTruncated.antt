@@ -2,14 +2,14 @@
 use Rattle.std.proofs.Common.{◌≡◌, ℕ, ◌-◌, Bool, List, [], ◌++◌, length, take, sym, ap, subst, ◌∙◌, arith, append-nil}
 use Rattle.std.specs.List.{AllZip, slice_split}
 use Rattle.std.proofs.lemmas.List.Splits.{length-slice_split}
-use Rattle.cwr_layouts.specs.Lines.{IsLineOf, closed, is_lf, raw_lines}
+use Rattle.cwr_layouts.specs.Format.Lines.{IsLineOf, closed, is_lf, raw_lines}
 use Rattle.cwr_values.specs.declared.items.Item.{Item}
-use Rattle.cwr_values.specs.Begins.{rows_so_far}
+use Rattle.cwr_values.specs.Format.Begins.{rows_so_far}
 use Rattle.cwr_values.proofs.RowAt.{length-rows_so_far}
 use Rattle.cwr_values.proofs.OneSpelling.{lines_without_lf}
-use Rattle.cwr_judge.specs.Ends.{IsTruncated}
-use Rattle.cwr_decode.specs.Machines.{Standing}
-use Rattle.cwr_decode.specs.Represents.{EndsTooEarly, IsInput, text_of}
+use Rattle.cwr_judge.specs.Format.Ends.{IsTruncated}
+use Rattle.cwr_decode.specs.Steps.Machines.{Standing}
+use Rattle.cwr_decode.specs.Steps.Represents.{EndsTooEarly, IsInput, text_of}
 use Rattle.cwr_judge.proofs.AcceptedViable.{accepted_viable}
 use Rattle.cwr_decode.proofs.NoneAcceptedAfter.{none_after_cut}
 use Rattle.cwr_decode.proofs.RawLines.{raw_begins}

@@ -12,11 +12,11 @@ use Rattle.cwr_decode.specs.declared.machine.State.{State}
 use Rattle.cwr_decode.specs.declared.machine.State.TheVariants as states
 use Rattle.cwr_decode.specs.declared.readings.ReadFault.{ReadFault}
 use Rattle.cwr_decode.specs.declared.readings.ReadFault.TheVariants as faults
-use Rattle.cwr_decode.specs.Machines.{Standing, Leaves, Empties, again}
-use Rattle.cwr_shape.specs.Ranges.{LimitValues}
-use Rattle.cwr_decode.specs.Represents.{Represents, RepresentsSome, IsRight, MayFollow, items_out}
-use Rattle.cwr_decode.specs.Calls.{IsLive, RunsOutOfMemory, seen_input}
-use Rattle.cwr_decode.specs.Readings.{answer_of, IsSpent, FeedsOn, Reads, IsRightOf}
+use Rattle.cwr_decode.specs.Steps.Machines.{Standing, Leaves, Empties, again}
+use Rattle.cwr_shape.specs.Format.Ranges.{LimitValues}
+use Rattle.cwr_decode.specs.Steps.Represents.{Represents, RepresentsSome, IsRight, MayFollow, items_out}
+use Rattle.cwr_decode.specs.Steps.Calls.{IsLive, RunsOutOfMemory, seen_input}
+use Rattle.cwr_decode.specs.Steps.Readings.{answer_of, IsSpent, FeedsOn, Reads, IsRightOf}
 use Rattle.cwr_decode.proofs.FromReader.{needs_more, reads_called}
 
 abbrev Answer : Type 0

@@ -1,21 +1,21 @@
 -- The items that a decoder handed out are the first of those of some transmission within its limits.
 use Rattle.std.proofs.Common.{◌≡◌, ℕ, ◌<◌, ◌≤◌, ◌^◌, List, [], ◌∷◌, ◌++◌, length, map, sym, ap, subst, ◌∙◌, arith, append_assoc}
 use Rattle.std.proofs.lemmas.List.{length-append}
-use Rattle.cwr_layouts.specs.Records.{RecordValue}
-use Rattle.cwr_shape.specs.Ranges.{AreInRange}
-use Rattle.cwr_shape.specs.Left.{Any}
-use Rattle.cwr_shape.specs.Outlines.{Continues}
-use Rattle.cwr_shape.specs.Tallies.{TallyValue}
+use Rattle.cwr_layouts.specs.Format.Records.{RecordValue}
+use Rattle.cwr_shape.specs.Format.Ranges.{AreInRange}
+use Rattle.cwr_shape.specs.Format.AnyTransmission.{Any}
+use Rattle.cwr_shape.specs.Format.Outlines.{Continues}
+use Rattle.cwr_shape.specs.Steps.Tallies.{TallyValue}
 use Rattle.cwr_values.specs.declared.items.Item.{Item}
-use Rattle.cwr_values.specs.Values.{symbol_of}
-use Rattle.cwr_judge.specs.Items.{AreFirstItems}
-use Rattle.cwr_judge.specs.Open.{items_so_far, item_of, Closes}
+use Rattle.cwr_values.specs.Format.Values.{symbol_of}
+use Rattle.cwr_judge.specs.Format.Items.{AreFirstItems}
+use Rattle.cwr_judge.specs.Steps.Open.{items_so_far, item_of, Closes}
 use Rattle.cwr_judge.proofs.BegunItems.{begun_items}
 use Rattle.cwr_judge.proofs.EndingRecord.{ends_closes}
 use Rattle.cwr_decode.specs.declared.machine.State.{State}
 use Rattle.cwr_decode.specs.declared.machine.State.TheVariants as states
-use Rattle.cwr_decode.specs.Machines.{Standing}
-use Rattle.cwr_decode.specs.Represents.{AreAccepted, IsPending, IsThrough, Represents, RepresentsIn}
+use Rattle.cwr_decode.specs.Steps.Machines.{Standing}
+use Rattle.cwr_decode.specs.Steps.Represents.{AreAccepted, IsPending, IsThrough, Represents, RepresentsIn}
 use Rattle.cwr_decode.proofs.BoundedInputs.{accepted_few}
 
 first_of : (tally : TallyValue) (lines : List (List ℕ)) (records : List RecordValue) (given : List Item) → AreInRange tally.limits → AreAccepted tally lines records → given ≡ items_so_far records

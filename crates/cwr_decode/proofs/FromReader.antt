@@ -5,7 +5,7 @@ use Rattle.std.proofs.lemmas.List.{length-append, take-append-le}
 use Rattle.std.proofs.KnownBytes.{starts_with_rest, Consumes-nil, Consumes-trans}
 use Rattle.std.specs.Io.{StartsWith}
 use Rattle.std.specs.Io.KnownBytes.{Consumes, Keeps}
-use Rattle.cwr_shape.specs.Ranges.{LimitValues}
+use Rattle.cwr_shape.specs.Format.Ranges.{LimitValues}
 use Rattle.cwr_values.specs.declared.items.Item.{Item}
 use Rattle.cwr_values.specs.declared.items.Item.TheVariants as items
 use Rattle.cwr_decode.specs.declared.outcomes.Outcome.{Outcome}
@@ -14,11 +14,11 @@ use Rattle.cwr_decode.specs.declared.machine.State.{State}
 use Rattle.cwr_decode.specs.declared.machine.State.TheVariants as states
 use Rattle.cwr_decode.specs.declared.readings.ReadFault.{ReadFault}
 use Rattle.cwr_decode.specs.declared.readings.ReadFault.TheVariants as faults
-use Rattle.cwr_decode.specs.Machines.{Standing, IsReady, Settles, Leaves, Empties, again}
-use Rattle.cwr_decode.specs.Represents.{Represents, RepresentsSome, IsRight, ComesAt, MayFollow, EndsLine, items_out}
-use Rattle.cwr_decode.specs.Headline.{IsEndOf, outcome_end}
-use Rattle.cwr_decode.specs.Calls.{IsLive, RunsOutOfMemory}
-use Rattle.cwr_decode.specs.Readings.{answer_of, items_read, EmptiesRead, EndsLineOf, IsRightOf, LeavesRead, IsSpent, FeedsOn, Reads}
+use Rattle.cwr_decode.specs.Steps.Machines.{Standing, IsReady, Settles, Leaves, Empties, again}
+use Rattle.cwr_decode.specs.Steps.Represents.{Represents, RepresentsSome, IsRight, ComesAt, MayFollow, EndsLine, items_out}
+use Rattle.cwr_decode.specs.Format.Headline.{IsEndOf, outcome_end}
+use Rattle.cwr_decode.specs.Steps.Calls.{IsLive, RunsOutOfMemory}
+use Rattle.cwr_decode.specs.Steps.Readings.{answer_of, items_read, EmptiesRead, EndsLineOf, IsRightOf, LeavesRead, IsSpent, FeedsOn, Reads}
 use Rattle.cwr_decode.proofs.StepsWithoutBytes.{settled}
 use Rattle.cwr_decode.proofs.AnsweredAtOnce.{settles_live}
 

@@ -2,15 +2,15 @@
 use Rattle.std.proofs.Common.{◌≡◌, ◌≢◌, ℕ, Bool, List, length, Option, Some, None, refl, sym, subst}
 use Rattle.std.specs.Prelude.{IsSome, IsSomeAnd}
 use Rattle.cwr_layouts.specs.declared.lines.LineEnd.TheVariants.{Open}
-use Rattle.cwr_layouts.specs.Records.{RecordValue}
-use Rattle.cwr_layouts.specs.Held.{HeldLine, IsHeld, Takes, empty_line}
-use Rattle.cwr_shape.specs.Tallies.{TallyValue}
+use Rattle.cwr_layouts.specs.Format.Records.{RecordValue}
+use Rattle.cwr_layouts.specs.Steps.Held.{HeldLine, IsHeld, Takes, empty_line}
+use Rattle.cwr_shape.specs.Steps.Tallies.{TallyValue}
 use Rattle.cwr_values.specs.declared.items.Item.TheVariants as items
 use Rattle.cwr_decode.specs.declared.outcomes.Outcome.TheVariants as outcomes
 use Rattle.cwr_decode.specs.declared.machine.Found.{Found}
 use Rattle.cwr_decode.specs.declared.machine.Found.TheVariants.{Added, Ends}
 use Rattle.cwr_decode.specs.declared.machine.State.TheVariants as states
-use Rattle.cwr_decode.specs.Machines.{FindsCut, FindsFront, Judges, JudgesFront, Standing, with_line}
+use Rattle.cwr_decode.specs.Steps.Machines.{FindsCut, FindsFront, Judges, JudgesFront, Standing, with_line}
 use Rattle.cwr_decode.proofs.AfterInputEnd.{no_bytes}
 
 empty_open : (h : HeldLine) → h.ended ≡ Open → length h.bytes ≡ 0 → h ≡ empty_line

@@ -1,17 +1,18 @@
 -- The answer of a run that read a known text by a reader which didn't fail is the text's one end.
 use Rattle.std.proofs.Common.{◌≡◌, ℕ, List, length, Option, Some, refl, sym, ap, ◌∙◌, arith, inl, inr}
 use Rattle.std.specs.Prelude.{◌⊎◌, Result, Ok, Err, IfOk, IfErr, MatchResult}
-use Rattle.cwr_shape.specs.Ranges.{LimitValues}
-use Rattle.cwr_values.specs.Values.{TransmissionValue}
+use Rattle.cwr_shape.specs.Format.Ranges.{LimitValues}
+use Rattle.cwr_values.specs.Format.Values.{TransmissionValue}
 use Rattle.cwr_judge.specs.declared.refusals.Refusal.{Refusal}
-use Rattle.cwr_judge.specs.Ends.{IsAccepted, IsRefused, IsTruncated}
+use Rattle.cwr_judge.specs.Format.Ends.{IsAccepted, IsRefused, IsTruncated}
 use Rattle.cwr_judge.proofs.Accepted.{accepted_once}
 use Rattle.cwr_judge.proofs.OneEnd.{refused_once, refused_or_truncated}
 use Rattle.cwr_decode.specs.declared.readings.ReadFault.{ReadFault}
 use Rattle.cwr_decode.specs.declared.readings.ReadFault.TheVariants.{Reader, Refused, Truncated, Memory}
-use Rattle.cwr_decode.specs.Headline.{Means}
-use Rattle.cwr_decode.specs.Readings.{CountsFault}
-use Rattle.cwr_decode.specs.Runs.{TakesFront, StopsReading, StopsText}
+use Rattle.cwr_decode.specs.Format.Headline.{Means}
+use Rattle.cwr_decode.specs.Steps.Readings.{CountsFault}
+use Rattle.cwr_decode.specs.Format.Runs.{TakesFront}
+use Rattle.cwr_decode.specs.Steps.Runs.{StopsReading, StopsText}
 
 pub run_means : (limits : LimitValues) (text : List ℕ) (result : Result TransmissionValue ReadFault) (after : Option (List ℕ)) → IfOk result (λ v. TakesFront limits (Some text) v after)
     → IfErr result (λ fault. StopsReading limits fault (Some text) after) → IfErr result (λ fault. CountsFault fault 0 0) → Means limits text result

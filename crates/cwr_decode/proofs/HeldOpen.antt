@@ -5,28 +5,29 @@ use Rattle.std.specs.List.{AllByRecursion}
 use Rattle.std.proofs.lemmas.List.{length-append, length-map, drop-map}
 use Rattle.cwr_layouts.specs.declared.kinds.Kind.{Kind}
 use Rattle.cwr_layouts.specs.declared.kinds.Kind.TheVariants.{Hdr, Grh, Grt, Trl}
-use Rattle.cwr_layouts.specs.Records.{RecordValue, IsRecord}
-use Rattle.cwr_layouts.specs.Held.{HeldLine}
+use Rattle.cwr_layouts.specs.Format.Records.{RecordValue, IsRecord}
+use Rattle.cwr_layouts.specs.Steps.Held.{HeldLine}
 use Rattle.cwr_shape.specs.declared.symbols.Symbol.{Symbol}
-use Rattle.cwr_shape.specs.Shapes.{BeginsShape}
-use Rattle.cwr_shape.specs.Outlines.{Continues}
-use Rattle.cwr_shape.specs.Left.{Any}
-use Rattle.cwr_shape.specs.Ranges.{AreInRange}
-use Rattle.cwr_shape.specs.Tallies.{TallyValue, IsTallyOf as CountsFor, open_records}
+use Rattle.cwr_shape.specs.Format.Shapes.{BeginsShape}
+use Rattle.cwr_shape.specs.Format.Outlines.{Continues}
+use Rattle.cwr_shape.specs.Format.AnyTransmission.{Any}
+use Rattle.cwr_shape.specs.Format.Ranges.{AreInRange}
+use Rattle.cwr_shape.specs.Format.NextSymbols.{open_records}
+use Rattle.cwr_shape.specs.Steps.Tallies.{TallyValue, IsTallyOf as CountsFor}
 use Rattle.cwr_shape.proofs.OpenTransactions.{open_begins}
 use Rattle.cwr_shape.proofs.WithinByFronts.{fits_along, none_passed}
-use Rattle.cwr_values.specs.Values.{symbol_of}
-use Rattle.cwr_values.specs.Begun.{BeginsWithOneMore}
+use Rattle.cwr_values.specs.Format.Values.{symbol_of}
+use Rattle.cwr_values.specs.Format.Begun.{BeginsWithOneMore}
 use Rattle.cwr_decode.specs.declared.machine.State.{State}
 use Rattle.cwr_decode.specs.declared.machine.State.TheVariants as states
-use Rattle.cwr_judge.specs.Items.{stands_in_transaction}
-use Rattle.cwr_judge.specs.Judged.{IsNext}
-use Rattle.cwr_judge.specs.Open.{open_of, continues_open}
+use Rattle.cwr_judge.specs.Format.Items.{stands_in_transaction}
+use Rattle.cwr_judge.specs.Steps.Judged.{IsNext}
+use Rattle.cwr_judge.specs.Steps.Open.{open_of, continues_open}
 use Rattle.cwr_judge.proofs.EndingRecord.{ends_closes}
 use Rattle.cwr_judge.proofs.ContinuingRecord.{continuing_stays}
-use Rattle.cwr_decode.specs.Machines.{Standing, ClosesLine, HandsOut, HoldsOpen, FitsHeld, FitsWaiting, held_list}
-use Rattle.cwr_decode.specs.Represents.{RepresentsSome, RepresentsIn}
-use Rattle.cwr_decode.specs.Calls.{Fed, TakesEnd}
+use Rattle.cwr_decode.specs.Steps.Machines.{Standing, ClosesLine, HandsOut, HoldsOpen, FitsHeld, FitsWaiting, held_list}
+use Rattle.cwr_decode.specs.Steps.Represents.{RepresentsSome, RepresentsIn}
+use Rattle.cwr_decode.specs.Steps.Calls.{Fed, TakesEnd}
 use Rattle.cwr_decode.proofs.AfterRecord.{few_records, inside_last, symbols-snoc}
 use Rattle.cwr_decode.proofs.AfterAcceptedLine.{all_snoc, list_held}
 

@@ -6,21 +6,21 @@ use Rattle.std.specs.List.{AllByRecursion, flat_map}
 use Rattle.cwr_fields.specs.declared.codes.TransactionType.{TransactionType}
 use Rattle.cwr_fields.specs.declared.codes.TransactionType.TheVariants.{Agreement, NewWork, RevisedWork, Acknowledgement}
 use Rattle.cwr_layouts.specs.declared.kinds.Kind.TheVariants as kinds
-use Rattle.cwr_layouts.specs.Records.{RecordValue}
+use Rattle.cwr_layouts.specs.Format.Records.{RecordValue}
 use Rattle.cwr_shape.specs.declared.symbols.Symbol.{Symbol}
 use Rattle.cwr_shape.specs.declared.symbols.Symbol.TheVariants.{Plain}
-use Rattle.cwr_shape.specs.Numbers.{symbol_kind}
-use Rattle.cwr_shape.specs.Shapes.{IsShape, some, many, carrying, a, block, publisher, writer, tail_record, copy, ◌then◌}
-use Rattle.cwr_shape.specs.Tallies.{header_kind}
+use Rattle.cwr_shape.specs.Format.Numbers.{symbol_kind}
+use Rattle.cwr_shape.specs.Format.Shapes.{IsShape, some, many, carrying, a, block, publisher, writer, tail_record, copy, ◌then◌}
+use Rattle.cwr_shape.specs.Format.NextSymbols.{header_kind}
 use Rattle.cwr_shape.proofs.HeadFirst.{rest_after_head}
 use Rattle.cwr_values.specs.declared.groups.GroupFault.{GroupFault}
 use Rattle.cwr_values.specs.declared.groups.GroupFault.TheVariants as faults
 use Rattle.cwr_values.specs.declared.items.Item.{Item}
 use Rattle.cwr_values.specs.declared.items.Item.TheVariants.{GroupOpened, Transaction, GroupClosed, Ended}
-use Rattle.cwr_values.specs.Values.{GroupValue, TransmissionValue, symbol_of, type_of, IsTransaction, IsGroup, IsRecordOf}
-use Rattle.cwr_values.specs.Begun.{HasHeaderOf, IsWholeTransaction}
-use Rattle.cwr_judge.specs.Items.{group_rest, group_items, value_items}
-use Rattle.cwr_decode.specs.Runs.{AreGroupItems}
+use Rattle.cwr_values.specs.Format.Values.{GroupValue, TransmissionValue, symbol_of, type_of, IsTransaction, IsGroup, IsRecordOf}
+use Rattle.cwr_values.specs.Format.Begun.{HasHeaderOf, IsWholeTransaction}
+use Rattle.cwr_judge.specs.Format.Items.{group_rest, group_items, value_items}
+use Rattle.cwr_decode.specs.Format.Runs.{AreGroupItems}
 use Rattle.cwr_judge.proofs.NumberCells.{symbol_kind-of}
 
 -- ---- a whole transaction begins with its header

@@ -2,28 +2,28 @@
 use Rattle.std.proofs.Common.{◌≡◌, ℕ, ◌<◌, ◌≤◌, ◌^◌, Bool, true, false, List, [], ◌∷◌, ◌++◌, length, map, refl, sym, ap, subst, ◌∙◌, arith, append_assoc, append-nil, inl, inr}
 use Rattle.std.specs.Prelude.{◌⊎◌}
 use Rattle.std.proofs.lemmas.List.{length-append}
-use Rattle.cwr_layouts.specs.Records.{RecordValue}
-use Rattle.cwr_layouts.specs.Lines.{closed}
-use Rattle.cwr_layouts.specs.Held.{held_text}
-use Rattle.cwr_shape.specs.Ranges.{LimitValues, AreInRange}
-use Rattle.cwr_shape.specs.Left.{Any}
-use Rattle.cwr_shape.specs.Outlines.{Continues}
-use Rattle.cwr_shape.specs.Tallies.{TallyValue}
+use Rattle.cwr_layouts.specs.Format.Records.{RecordValue}
+use Rattle.cwr_layouts.specs.Format.Lines.{closed}
+use Rattle.cwr_layouts.specs.Steps.Held.{held_text}
+use Rattle.cwr_shape.specs.Format.Ranges.{LimitValues, AreInRange}
+use Rattle.cwr_shape.specs.Format.AnyTransmission.{Any}
+use Rattle.cwr_shape.specs.Format.Outlines.{Continues}
+use Rattle.cwr_shape.specs.Steps.Tallies.{TallyValue}
 use Rattle.cwr_values.specs.declared.items.Item.{Item}
-use Rattle.cwr_values.specs.Values.{TransmissionValue, IsTransmission, FitsIn, symbol_of}
-use Rattle.cwr_values.specs.Rows.{records_of}
-use Rattle.cwr_values.specs.Begins.{rows_after, rows_so_far}
+use Rattle.cwr_values.specs.Format.Values.{TransmissionValue, IsTransmission, FitsIn, symbol_of}
+use Rattle.cwr_values.specs.Format.Rows.{records_of}
+use Rattle.cwr_values.specs.Format.Begins.{rows_after, rows_so_far}
 use Rattle.cwr_values.proofs.RowAt.{rows_split}
-use Rattle.cwr_judge.specs.Ends.{IsAccepted}
-use Rattle.cwr_judge.specs.Items.{items, items_after, value_items}
-use Rattle.cwr_judge.specs.Open.{items_so_far, item_of, Closes}
+use Rattle.cwr_judge.specs.Format.Ends.{IsAccepted}
+use Rattle.cwr_judge.specs.Format.Items.{items, items_after, value_items}
+use Rattle.cwr_judge.specs.Steps.Open.{items_so_far, item_of, Closes}
 use Rattle.cwr_judge.proofs.EndingRecord.{ends_closes}
 use Rattle.cwr_judge.proofs.ItemLaws.{items_of_parts}
 use Rattle.cwr_judge.proofs.ItemsOfTransactions.{items-append}
 use Rattle.cwr_decode.specs.declared.machine.State.{State}
 use Rattle.cwr_decode.specs.declared.machine.State.TheVariants as states
-use Rattle.cwr_decode.specs.Machines.{Standing}
-use Rattle.cwr_decode.specs.Represents.{AreAccepted, IsInput, IsPending, IsThrough, Represents, RepresentsIn, text_of}
+use Rattle.cwr_decode.specs.Steps.Machines.{Standing}
+use Rattle.cwr_decode.specs.Steps.Represents.{AreAccepted, IsInput, IsPending, IsThrough, Represents, RepresentsIn, text_of}
 use Rattle.cwr_decode.proofs.BoundedInputs.{accepted_few}
 use Rattle.cwr_decode.proofs.ClosedTexts.{closed_more}
 use Rattle.cwr_decode.proofs.NoneAcceptedAfter.{first_records}

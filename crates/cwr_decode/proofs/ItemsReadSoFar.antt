@@ -5,26 +5,27 @@ use Rattle.std.specs.Result.{IsErrAnd}
 use Rattle.std.proofs.Math.Seq.{drop-append_seam}
 use Rattle.std.proofs.KnownBytes.{Consumes-nil, Consumes-trans}
 use Rattle.std.specs.Io.KnownBytes.{Consumes}
-use Rattle.cwr_shape.specs.Ranges.{LimitValues}
+use Rattle.cwr_shape.specs.Format.Ranges.{LimitValues}
 use Rattle.cwr_values.specs.declared.items.Item.{Item}
 use Rattle.cwr_values.specs.declared.items.Item.TheVariants as items
-use Rattle.cwr_values.specs.Values.{TransmissionValue, IsTransmission}
-use Rattle.cwr_values.specs.Rows.{canonical_text}
+use Rattle.cwr_values.specs.Format.Values.{TransmissionValue, IsTransmission}
+use Rattle.cwr_values.specs.Format.Rows.{canonical_text}
 use Rattle.cwr_decode.specs.declared.outcomes.Outcome.{Outcome}
 use Rattle.cwr_decode.specs.declared.machine.State.{State}
 use Rattle.cwr_decode.specs.declared.machine.State.TheVariants as states
 use Rattle.cwr_decode.specs.declared.readings.ReadFault.{ReadFault}
 use Rattle.cwr_decode.specs.declared.readings.ReadFault.TheVariants as faults
-use Rattle.cwr_judge.specs.Items.{value_items}
-use Rattle.cwr_judge.specs.Ends.{IsAccepted}
-use Rattle.cwr_decode.specs.Machines.{Standing, again}
-use Rattle.cwr_decode.specs.Represents.{MayFollow, RepresentsIn, Represents}
-use Rattle.cwr_decode.specs.Calls.{IsLive}
-use Rattle.cwr_decode.specs.Readings.{answer_of, items_read, IsRightOf, LeavesRead, IsSpent, Reads}
-use Rattle.cwr_decode.specs.Runs.{HasRead, EndsWhole, HasReadAll, LacksRoom, IsReadingOn, AreItems, TakesFront, StopsRun, StopsReading, ReportsAccepted, ReportsCanonical}
+use Rattle.cwr_judge.specs.Format.Items.{value_items}
+use Rattle.cwr_judge.specs.Format.Ends.{IsAccepted}
+use Rattle.cwr_decode.specs.Steps.Machines.{Standing, again}
+use Rattle.cwr_decode.specs.Steps.Represents.{MayFollow, RepresentsIn, Represents}
+use Rattle.cwr_decode.specs.Steps.Calls.{IsLive}
+use Rattle.cwr_decode.specs.Steps.Readings.{answer_of, items_read, IsRightOf, LeavesRead, IsSpent, Reads}
+use Rattle.cwr_decode.specs.Format.Runs.{AreItems, TakesFront, ReportsAccepted, ReportsCanonical}
+use Rattle.cwr_decode.specs.Steps.Runs.{HasRead, EndsWhole, HasReadAll, LacksRoom, IsReadingOn, StopsRun, StopsReading}
 use Rattle.cwr_judge.proofs.Accepted.{accepted_once, canonical_accepted}
 use Rattle.cwr_decode.specs.declared.endings.End.TheVariants as ends
-use Rattle.cwr_decode.specs.Headline.{EndsSo}
+use Rattle.cwr_decode.specs.Format.Headline.{EndsSo}
 use Rattle.cwr_decode.proofs.CountedItems.{bounded}
 use Rattle.cwr_decode.proofs.WholeLinesAccepted.{spells_whole, accepts_whole}
 

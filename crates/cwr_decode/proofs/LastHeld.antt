@@ -6,7 +6,7 @@ use Rattle.std.proofs.lemmas.List.{length-append, length-drop}
 use Rattle.std.proofs.KnownBytes.{Consumes-nil, Consumes-trans}
 use Rattle.std.specs.Io.KnownBytes.{Consumes}
 use Rattle.cwr_decode.specs.declared.last_bytes.LastBytes.{LastBytes}
-use Rattle.cwr_decode.specs.LastReads.{AreHeld, HoldsLast, ReadsLast, bytes_read, last_held}
+use Rattle.cwr_decode.specs.Steps.LastReads.{AreHeld, HoldsLast, ReadsLast, bytes_read, last_held}
 
 -- an empty list was extended by a text for which there is room
 pub filled_by : {T E : Type 0} (r : Result T E) (old new xs : List ℕ) → old ≡ [] → length xs ≤ 4096 → (length old + length xs ≤ 4096 → IsOk r) → OnOk r (new ≡ old ++ xs) → new ≡ xs

@@ -4,23 +4,24 @@ use Rattle.std.specs.Prelude.{◌==◌, Result, Ok, Err, MatchResult, MatchOptio
 use Rattle.std.proofs.lemmas.Bool.{eq-eqb, ne_eqb}
 use Rattle.cwr_layouts.specs.declared.kinds.Kind.{Kind}
 use Rattle.cwr_layouts.specs.declared.kinds.Kind.TheVariants.{Hdr, Grh, Grt, Trl}
-use Rattle.cwr_layouts.specs.Records.{RecordValue, IsRecord}
-use Rattle.cwr_layouts.specs.Held.{HeldLine, carried_by, held_cells, held_excess, held_kind, held_record}
+use Rattle.cwr_layouts.specs.Format.Records.{RecordValue, IsRecord}
+use Rattle.cwr_layouts.specs.Steps.Held.{HeldLine, carried_by, held_cells, held_excess, held_kind, held_record}
 use Rattle.cwr_shape.specs.declared.symbols.Symbol.{Symbol}
 use Rattle.cwr_shape.specs.declared.tallies.Place.{Place}
 use Rattle.cwr_shape.specs.declared.tallies.Place.TheVariants as places
-use Rattle.cwr_shape.specs.Tallies.{TallyValue, IsTallyOf, has_open_transaction}
+use Rattle.cwr_shape.specs.Format.NextSymbols.{has_open_transaction}
+use Rattle.cwr_shape.specs.Steps.Tallies.{TallyValue, IsTallyOf}
 use Rattle.cwr_values.specs.declared.items.Item.{Item}
 use Rattle.cwr_values.specs.declared.items.Item.TheVariants as items
 use Rattle.std.specs.declared.alloc.AllocError.{AllocError}
 use Rattle.cwr_decode.specs.declared.outcomes.Outcome.{Outcome}
 use Rattle.cwr_judge.specs.declared.judging.LineFault.{LineFault}
-use Rattle.cwr_judge.specs.Judged.{IsNext, IsOfNone, IsFirstFault}
+use Rattle.cwr_judge.specs.Steps.Judged.{IsNext, IsOfNone, IsFirstFault}
 use Rattle.cwr_decode.specs.declared.outcomes.Outcome.TheVariants as outcomes
 use Rattle.cwr_decode.specs.declared.machine.State.TheVariants as states
-use Rattle.cwr_judge.specs.Items.{stands_in_transaction as inside_kind}
-use Rattle.cwr_judge.specs.Open.{continues_open}
-use Rattle.cwr_decode.specs.Machines.{Standing, Adds, FinishesRecord, Enters, Follows, HandsOut, Judges, ReportsFault, with_tally, held_list, reading, stopped}
+use Rattle.cwr_judge.specs.Format.Items.{stands_in_transaction as inside_kind}
+use Rattle.cwr_judge.specs.Steps.Open.{continues_open}
+use Rattle.cwr_decode.specs.Steps.Machines.{Standing, Adds, FinishesRecord, Enters, Follows, HandsOut, Judges, ReportsFault, with_tally, held_list, reading, stopped}
 
 -- ---- whether a record continues the open transaction
 

@@ -4,7 +4,7 @@ use Rattle.std.specs.Prelude.{◌⊎◌, ◌==◌}
 use Rattle.std.proofs.lemmas.Bool.{ne_eqb, eqb-true}
 use Rattle.std.proofs.lemmas.List.{length-append}
 use Rattle.cwr_fields.proofs.LineFeeds.{NoLf, NoLf-append}
-use Rattle.cwr_layouts.specs.Lines.{closed}
+use Rattle.cwr_layouts.specs.Format.Lines.{closed}
 use Rattle.cwr_layouts.proofs.LineLaws.{text_of-cons}
 use Rattle.cwr_decode.proofs.ClosedTexts.{closed_line, closed_more}
 

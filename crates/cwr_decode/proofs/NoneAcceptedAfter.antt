@@ -8,25 +8,26 @@ use Rattle.std.proofs.lemmas.Grind.{flat_map-append}
 use Rattle.cwr_fields.proofs.LineFeeds.{NoLf, has_lf}
 use Rattle.cwr_layouts.specs.declared.lines.LineEnd.{LineEnd}
 use Rattle.cwr_layouts.specs.declared.lines.LineEnd.TheVariants.{Line}
-use Rattle.cwr_layouts.specs.Records.{RecordValue, IsRecord, Row, IsRow, record_of}
-use Rattle.cwr_layouts.specs.Lines.{IsLineOf, closed, longest_line}
-use Rattle.cwr_layouts.specs.Held.{HeldLine, IsHeld, HoldsBy, text_by, held_text}
+use Rattle.cwr_layouts.specs.Format.Records.{RecordValue, IsRecord, Row, IsRow, record_of}
+use Rattle.cwr_layouts.specs.Format.Lines.{IsLineOf, closed, longest_line}
+use Rattle.cwr_layouts.specs.Steps.Held.{HeldLine, IsHeld, HoldsBy, text_by, held_text}
 use Rattle.cwr_layouts.proofs.RowLaws.{IsRow-row_of}
 use Rattle.cwr_layouts.proofs.LineLaws.{first_line, lines_agree, text_of-cons}
 use Rattle.cwr_shape.specs.declared.symbols.Symbol.{Symbol}
-use Rattle.cwr_shape.specs.Ranges.{LimitValues}
-use Rattle.cwr_shape.specs.Outlines.{symbols_of, IsWhole}
-use Rattle.cwr_shape.specs.Tallies.{TallyValue, MayCome}
+use Rattle.cwr_shape.specs.Format.Ranges.{LimitValues}
+use Rattle.cwr_shape.specs.Format.Outlines.{symbols_of, IsWhole}
+use Rattle.cwr_shape.specs.Format.NextSymbols.{MayCome}
+use Rattle.cwr_shape.specs.Steps.Tallies.{TallyValue}
 use Rattle.cwr_shape.proofs.PrefixFree.{prefix_free}
-use Rattle.cwr_values.specs.Values.{TransmissionValue, IsTransmission, FitsIn, symbol_of, outline_of}
-use Rattle.cwr_values.specs.Rows.{records_of, rows}
-use Rattle.cwr_values.specs.Begins.{row_after, rows_after, rows_so_far}
+use Rattle.cwr_values.specs.Format.Values.{TransmissionValue, IsTransmission, FitsIn, symbol_of, outline_of}
+use Rattle.cwr_values.specs.Format.Rows.{records_of, rows}
+use Rattle.cwr_values.specs.Format.Begins.{row_after, rows_after, rows_so_far}
 use Rattle.cwr_values.proofs.Spelling.{records_in_order}
 use Rattle.cwr_values.proofs.OneSpelling.{symbols-outline, outline_whole, records-rows, rows_are_rows, lines_without_lf, rows_of_front}
 use Rattle.cwr_values.proofs.RowAt.{rows_split}
-use Rattle.cwr_judge.specs.Ends.{IsAccepted, IsNotAccepted}
-use Rattle.cwr_judge.specs.Judged.{IsOfNone}
-use Rattle.cwr_decode.specs.Represents.{AreAccepted, text_of}
+use Rattle.cwr_judge.specs.Format.Ends.{IsAccepted, IsNotAccepted}
+use Rattle.cwr_judge.specs.Steps.Judged.{IsOfNone}
+use Rattle.cwr_decode.specs.Steps.Represents.{AreAccepted, text_of}
 use Rattle.cwr_judge.proofs.NextLines.{line_is_next}
 use Rattle.cwr_judge.proofs.EndingRecord.{records_back}
 

@@ -1,16 +1,16 @@
 -- A decoder of which nothing was read represents no input and no items.
 use Rattle.std.proofs.Common.{◌≡◌, List, [], ◌∷◌, ◌++◌, None, refl, sym, ap, subst, arith}
 use Rattle.std.specs.List.{AllZip}
-use Rattle.cwr_layouts.specs.Lines.{IsLineOf}
+use Rattle.cwr_layouts.specs.Format.Lines.{IsLineOf}
 use Rattle.cwr_shape.specs.declared.symbols.Symbol.{Symbol}
-use Rattle.cwr_shape.specs.Ranges.{LimitValues, AreInRange}
-use Rattle.cwr_shape.specs.Outlines.{GroupOutline, symbols_of}
-use Rattle.cwr_shape.specs.Tallies as tallies
-use Rattle.cwr_shape.specs.Tallies.{passed_limit}
+use Rattle.cwr_shape.specs.Format.Ranges.{LimitValues, AreInRange}
+use Rattle.cwr_shape.specs.Format.Outlines.{GroupOutline, symbols_of}
+use Rattle.cwr_shape.specs.Steps.Tallies as tallies
+use Rattle.cwr_shape.specs.Format.NextSymbols.{passed_limit}
 use Rattle.cwr_shape.proofs.WithinByFronts.{passes_none}
-use Rattle.cwr_values.specs.Begins.{rows_after, rows_so_far}
-use Rattle.cwr_decode.specs.Machines.{Standing, at_start, held_of}
-use Rattle.cwr_decode.specs.Represents.{Represents}
+use Rattle.cwr_values.specs.Format.Begins.{rows_after, rows_so_far}
+use Rattle.cwr_decode.specs.Steps.Machines.{Standing, at_start, held_of}
+use Rattle.cwr_decode.specs.Steps.Represents.{Represents}
 use Rattle.cwr_judge.proofs.ContinuingRecord.{no_open, no_items}
 
 -- ---- the start

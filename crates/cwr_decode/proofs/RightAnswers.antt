@@ -3,10 +3,10 @@ use Rattle.std.proofs.Common.{◌≡◌, ℕ, Bool, true, false, List, [], ◌�
 use Rattle.std.specs.Prelude.{◌⊎◌, IfSome}
 use Rattle.cwr_layouts.specs.declared.lines.LineEnd.{LineEnd}
 use Rattle.cwr_layouts.specs.declared.lines.LineEnd.TheVariants.{Open, Line, Over}
-use Rattle.cwr_layouts.specs.Held.{HeldLine, FillsLongest, held_kind, held_text, text_by}
+use Rattle.cwr_layouts.specs.Steps.Held.{HeldLine, FillsLongest, held_kind, held_text, text_by}
 use Rattle.cwr_shape.specs.declared.symbols.Symbol.{Symbol}
-use Rattle.cwr_shape.specs.Ranges.{LimitValues}
-use Rattle.cwr_shape.specs.Tallies as tallies
+use Rattle.cwr_shape.specs.Format.Ranges.{LimitValues}
+use Rattle.cwr_shape.specs.Steps.Tallies as tallies
 use Rattle.cwr_values.specs.declared.items.Item.{Item}
 use Rattle.cwr_values.specs.declared.items.Item.TheVariants as items
 use Rattle.cwr_decode.specs.declared.outcomes.Outcome.{Outcome}
@@ -14,11 +14,11 @@ use Rattle.cwr_decode.specs.declared.outcomes.Outcome.TheVariants as outcomes
 use Rattle.cwr_decode.specs.declared.machine.State.{State}
 use Rattle.cwr_decode.specs.declared.machine.State.TheVariants as states
 use Rattle.cwr_judge.specs.declared.judging.LineFault.{LineFault}
-use Rattle.cwr_judge.specs.Ends.{IsRefused}
-use Rattle.cwr_judge.specs.Judged.{IsOfNone, IsFirstFault}
-use Rattle.cwr_decode.specs.Machines.{Standing, Leaves, Judges, ReportsFault, with_tally, stopped}
+use Rattle.cwr_judge.specs.Format.Ends.{IsRefused}
+use Rattle.cwr_judge.specs.Steps.Judged.{IsOfNone, IsFirstFault}
+use Rattle.cwr_decode.specs.Steps.Machines.{Standing, Leaves, Judges, ReportsFault, with_tally, stopped}
 use Rattle.cwr_decode.specs.declared.endings.End.TheVariants as ends
-use Rattle.cwr_decode.specs.Represents.{Represents, RepresentsIn, IsInput, IsRight, IsStopped, MayFollow, IsEndAlways, EndsInLf, GoesTooFar, EndsLine, items_out, text_of}
+use Rattle.cwr_decode.specs.Steps.Represents.{Represents, RepresentsIn, IsInput, IsRight, IsStopped, MayFollow, IsEndAlways, EndsInLf, GoesTooFar, EndsLine, items_out, text_of}
 use Rattle.cwr_decode.proofs.WholeLinesAccepted.{accepts_whole}
 use Rattle.cwr_decode.proofs.StoppedRefused.{refused_line, refused_long}
 use Rattle.cwr_decode.proofs.AfterAcceptedLine.{HasLine}

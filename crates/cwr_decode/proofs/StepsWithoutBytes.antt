@@ -4,18 +4,18 @@ use Rattle.std.specs.Prelude.{◌≢◌, IfSome, IfNone, IsSomeAnd, MatchOption}
 use Rattle.cwr_layouts.specs.declared.kinds.Kind.{Kind}
 use Rattle.cwr_layouts.specs.declared.kinds.Kind.TheVariants.{Hdr, Grh, Grt, Trl}
 use Rattle.cwr_layouts.specs.declared.lines.LineEnd.TheVariants.{Open}
-use Rattle.cwr_layouts.specs.Records.{RecordValue, IsRecord}
-use Rattle.cwr_layouts.specs.Held.{held_record}
-use Rattle.cwr_shape.specs.Tallies.{TallyValue}
+use Rattle.cwr_layouts.specs.Format.Records.{RecordValue, IsRecord}
+use Rattle.cwr_layouts.specs.Steps.Held.{held_record}
+use Rattle.cwr_shape.specs.Steps.Tallies.{TallyValue}
 use Rattle.cwr_values.specs.declared.items.Item.{Item}
 use Rattle.cwr_values.specs.declared.items.Item.TheVariants as items
 use Rattle.cwr_decode.specs.declared.outcomes.Outcome.{Outcome}
 use Rattle.cwr_decode.specs.declared.outcomes.Outcome.TheVariants as outcomes
 use Rattle.cwr_decode.specs.declared.machine.State.{State}
 use Rattle.cwr_decode.specs.declared.machine.State.TheVariants as states
-use Rattle.cwr_decode.specs.Machines.{Standing, IsReady, Leaves, Empties, state_after, Enters, EntersHeld, Follows, Settles, pending, reading, stopped, held_list}
-use Rattle.cwr_decode.specs.Represents.{Represents, items_in}
-use Rattle.cwr_decode.specs.Calls.{IsLive, Moves}
+use Rattle.cwr_decode.specs.Steps.Machines.{Standing, IsReady, Leaves, Empties, state_after, Enters, EntersHeld, Follows, Settles, pending, reading, stopped, held_list}
+use Rattle.cwr_decode.specs.Steps.Represents.{Represents, items_in}
+use Rattle.cwr_decode.specs.Steps.Calls.{IsLive, Moves}
 use Rattle.cwr_decode.proofs.AfterLine.{waiting_stands, waiting_empties}
 
 -- ---- what else is left after a step

@@ -4,23 +4,23 @@ use Rattle.std.specs.Prelude.{Option, Some, None, slice_get, option_and_then}
 use Rattle.std.specs.List.{AllZip, AllByRecursion, last_or}
 use Rattle.cwr_layouts.specs.declared.kinds.Kind.{Kind}
 use Rattle.cwr_layouts.specs.declared.kinds.Kind.TheVariants as kinds
-use Rattle.cwr_layouts.specs.Records.{RecordValue, IsRecord}
-use Rattle.cwr_layouts.specs.Lines.{IsLineOf, line_kind}
-use Rattle.cwr_layouts.specs.Held.{HoldsLine}
+use Rattle.cwr_layouts.specs.Format.Records.{RecordValue, IsRecord}
+use Rattle.cwr_layouts.specs.Format.Lines.{IsLineOf, line_kind}
+use Rattle.cwr_layouts.specs.Steps.Held.{HoldsLine}
 use Rattle.cwr_layouts.proofs.CutLaws.{line_is_cut}
 use Rattle.cwr_layouts.proofs.HeldLaws.{held_line_is_cut}
 use Rattle.cwr_layouts.proofs.RowLaws.{IsRow-row_of}
 use Rattle.cwr_shape.specs.declared.symbols.Symbol.{Symbol}
 use Rattle.cwr_shape.specs.declared.tallies.Place.{Place}
-use Rattle.cwr_shape.specs.Levels.{level_of, place_after_kind}
-use Rattle.cwr_shape.specs.Tallies.{place_by, place_after}
+use Rattle.cwr_shape.specs.Format.Levels.{level_of, place_after_kind}
+use Rattle.cwr_shape.specs.Format.NextSymbols.{place_by, place_after}
 use Rattle.cwr_values.specs.declared.items.Item.{Item}
-use Rattle.cwr_values.specs.Values.{symbol_of, symbol_by}
-use Rattle.cwr_values.specs.Begins.{row_after, rows_after, rows_so_far}
+use Rattle.cwr_values.specs.Format.Values.{symbol_of, symbol_by}
+use Rattle.cwr_values.specs.Format.Begins.{row_after, rows_after, rows_so_far}
 use Rattle.cwr_judge.specs.declared.refusals.Refusal.{Refusal}
-use Rattle.cwr_judge.specs.Ends.{last_kind}
-use Rattle.cwr_decode.specs.Machines.{Standing}
-use Rattle.cwr_decode.specs.Represents.{IsStopped}
+use Rattle.cwr_judge.specs.Format.Ends.{last_kind}
+use Rattle.cwr_decode.specs.Steps.Machines.{Standing}
+use Rattle.cwr_decode.specs.Steps.Represents.{IsStopped}
 
 -- what is open after a record follows from its kind
 place_of_record : (r : RecordValue) → place_by (Some (symbol_of r)) ≡ place_after_kind (Some r.kind)

@@ -3,20 +3,20 @@ use Rattle.std.proofs.Common.{◌≡◌, ℕ, zero, suc, ◌+◌, ◌<◌, ◌�
 use Rattle.std.specs.Prelude.{Option, Some, None}
 use Rattle.std.specs.List.{AllZip}
 use Rattle.cwr_layouts.specs.declared.kinds.Kind.{Kind}
-use Rattle.cwr_layouts.specs.Records.{RecordValue}
-use Rattle.cwr_layouts.specs.Lines.{IsLineOf, line_kind, closed, raw_lines}
-use Rattle.cwr_layouts.specs.Held.{HeldLine, IsHeld, HoldsLine, IsCutAs, held_kind}
+use Rattle.cwr_layouts.specs.Format.Records.{RecordValue}
+use Rattle.cwr_layouts.specs.Format.Lines.{IsLineOf, line_kind, closed, raw_lines}
+use Rattle.cwr_layouts.specs.Steps.Held.{HeldLine, IsHeld, HoldsLine, IsCutAs, held_kind}
 use Rattle.cwr_layouts.proofs.HeldLaws.{held_line_is_cut}
 use Rattle.cwr_shape.specs.declared.symbols.Symbol.{Symbol}
 use Rattle.cwr_shape.specs.declared.reasons.Reason.{Reason}
-use Rattle.cwr_shape.specs.Ranges.{LimitValues}
-use Rattle.cwr_shape.specs.Tallies.{TallyValue}
-use Rattle.cwr_values.specs.Values.{symbol_of}
-use Rattle.cwr_values.specs.Begins.{rows_so_far}
-use Rattle.cwr_judge.specs.Places.{Viable, IsBadAt, IsFirstBad, last_place}
-use Rattle.cwr_judge.specs.GoodFronts.{HasGoodFront}
-use Rattle.cwr_judge.specs.Judged.{IsFirstBy, IsFirstFault, IsWrongAt}
-use Rattle.cwr_decode.specs.Represents.{AreAccepted}
+use Rattle.cwr_shape.specs.Format.Ranges.{LimitValues}
+use Rattle.cwr_shape.specs.Steps.Tallies.{TallyValue}
+use Rattle.cwr_values.specs.Format.Values.{symbol_of}
+use Rattle.cwr_values.specs.Format.Begins.{rows_so_far}
+use Rattle.cwr_judge.specs.Format.Places.{Viable, IsBadAt, IsFirstBad, last_place}
+use Rattle.cwr_judge.specs.Format.GoodFronts.{HasGoodFront}
+use Rattle.cwr_judge.specs.Steps.Judged.{IsFirstBy, IsFirstFault, IsWrongAt}
+use Rattle.cwr_decode.specs.Steps.Represents.{AreAccepted}
 use Rattle.cwr_judge.proofs.AcceptedViable.{accepted_viable}
 use Rattle.cwr_judge.proofs.FrontsBeforeFaults.{wrong_field, front_before}
 use Rattle.cwr_judge.proofs.NoneAtFaults.{none_at_fault}

@@ -5,20 +5,20 @@ use Rattle.std.proofs.lemmas.List.{length-append}
 use Rattle.std.proofs.Math.Seq.{take-append_seam}
 use Rattle.cwr_layouts.specs.declared.lines.LineEnd.{LineEnd}
 use Rattle.cwr_layouts.specs.declared.lines.LineEnd.TheVariants.{Line, Over}
-use Rattle.cwr_layouts.specs.Lines.{closed, longest_line, raw_lines}
-use Rattle.cwr_layouts.specs.Held.{HoldsBy, HoldsLine, FillsLongest, held_text, text_by}
+use Rattle.cwr_layouts.specs.Format.Lines.{closed, longest_line, raw_lines}
+use Rattle.cwr_layouts.specs.Steps.Held.{HoldsBy, HoldsLine, FillsLongest, held_text, text_by}
 use Rattle.cwr_layouts.proofs.HeldLaws.{held_line_is_cut}
 use Rattle.cwr_values.specs.declared.items.Item.{Item}
-use Rattle.cwr_values.specs.Begins.{rows_so_far}
+use Rattle.cwr_values.specs.Format.Begins.{rows_so_far}
 use Rattle.cwr_values.proofs.RowAt.{length-rows_so_far}
 use Rattle.cwr_values.proofs.OneSpelling.{lines_without_lf}
 use Rattle.cwr_judge.specs.declared.refusals.Refusal.{Refusal}
-use Rattle.cwr_judge.specs.Ends.{IsNotAccepted, IsRefused}
-use Rattle.cwr_judge.specs.Places.{IsFirstBad}
+use Rattle.cwr_judge.specs.Format.Ends.{IsNotAccepted, IsRefused}
+use Rattle.cwr_judge.specs.Format.Places.{IsFirstBad}
 use Rattle.cwr_judge.proofs.FirstReasons.{first_reason}
 use Rattle.cwr_judge.proofs.LineRecords.{as_many}
-use Rattle.cwr_decode.specs.Machines.{Standing}
-use Rattle.cwr_decode.specs.Represents.{IsInput, IsStopped, MayFollow, text_of}
+use Rattle.cwr_decode.specs.Steps.Machines.{Standing}
+use Rattle.cwr_decode.specs.Steps.Represents.{IsInput, IsStopped, MayFollow, text_of}
 use Rattle.cwr_decode.proofs.NoneAcceptedAfter.{none_after_line, none_after_long}
 use Rattle.cwr_decode.proofs.LongLines.{long_line}
 use Rattle.cwr_decode.proofs.RawLines.{raw_after}

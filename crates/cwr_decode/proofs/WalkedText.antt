@@ -6,25 +6,25 @@ use Rattle.std.proofs.lemmas.List.{length-drop, length-map, length-take-le, take
 use Rattle.cwr_layouts.specs.declared.kinds.Kind.TheVariants.{Trl}
 use Rattle.cwr_layouts.specs.declared.lines.LineEnd.{LineEnd}
 use Rattle.cwr_layouts.specs.declared.lines.LineEnd.TheVariants.{Open, Line, Over}
-use Rattle.cwr_layouts.specs.Records.{RecordValue}
-use Rattle.cwr_layouts.specs.Lines.{closed}
-use Rattle.cwr_layouts.specs.Held.{HeldLine, Stops, empty_line, held_text, text_by}
+use Rattle.cwr_layouts.specs.Format.Records.{RecordValue}
+use Rattle.cwr_layouts.specs.Format.Lines.{closed}
+use Rattle.cwr_layouts.specs.Steps.Held.{HeldLine, Stops, empty_line, held_text, text_by}
 use Rattle.cwr_shape.specs.declared.symbols.Symbol.{Symbol}
 use Rattle.cwr_shape.specs.declared.symbols.Symbol.TheVariants.{Plain}
-use Rattle.cwr_shape.specs.Ranges.{LimitValues, AreInRange}
-use Rattle.cwr_shape.specs.Left.{Any}
-use Rattle.cwr_shape.specs.Outlines.{Continues, IsWhole}
-use Rattle.cwr_shape.specs.Tallies as tallies
-use Rattle.cwr_shape.specs.Tallies.{TallyValue}
-use Rattle.cwr_values.specs.Values.{TransmissionValue, symbol_of}
+use Rattle.cwr_shape.specs.Format.Ranges.{LimitValues, AreInRange}
+use Rattle.cwr_shape.specs.Format.AnyTransmission.{Any}
+use Rattle.cwr_shape.specs.Format.Outlines.{Continues, IsWhole}
+use Rattle.cwr_shape.specs.Steps.Tallies as tallies
+use Rattle.cwr_shape.specs.Steps.Tallies.{TallyValue}
+use Rattle.cwr_values.specs.Format.Values.{TransmissionValue, symbol_of}
 use Rattle.cwr_judge.specs.declared.refusals.Refusal.{Refusal}
-use Rattle.cwr_judge.specs.Ends.{IsAccepted, IsRefused, IsTruncated}
-use Rattle.cwr_judge.specs.Open.{items_so_far}
+use Rattle.cwr_judge.specs.Format.Ends.{IsAccepted, IsRefused, IsTruncated}
+use Rattle.cwr_judge.specs.Steps.Open.{items_so_far}
 use Rattle.cwr_judge.proofs.Trailers.{trailer_ends, whole_ends}
 use Rattle.cwr_decode.specs.declared.machine.State.TheVariants as states
-use Rattle.cwr_decode.specs.Machines.{Standing, at_start}
-use Rattle.cwr_decode.specs.Represents.{AreAccepted, IsInput, IsStopped, MayFollow, text_of}
-use Rattle.cwr_decode.specs.TextLines.{AcceptsLine, FirstLine, IsCutOff, IsLastLine, RefusesLine}
+use Rattle.cwr_decode.specs.Steps.Machines.{Standing, at_start}
+use Rattle.cwr_decode.specs.Steps.Represents.{AreAccepted, IsInput, IsStopped, MayFollow, text_of}
+use Rattle.cwr_decode.specs.Steps.TextLines.{AcceptsLine, FirstLine, IsCutOff, IsLastLine, RefusesLine}
 use Rattle.cwr_decode.proofs.CutTruncated.{cut_truncated}
 use Rattle.cwr_decode.proofs.WholeLinesAccepted.{accepts_whole}
 use Rattle.cwr_decode.proofs.NothingRead.{nothing_read}

@@ -2,21 +2,21 @@
 use Rattle.std.proofs.Common.{◌≡◌, ℕ, ◌<◌, ◌^◌, Bool, true, false, List, [], ◌++◌, length, map, Some, refl, sym, ap, ap₂, subst, ◌∙◌, arith, append_assoc, append-nil}
 use Rattle.std.specs.List.{AllZip}
 use Rattle.std.proofs.lemmas.List.{length-append}
-use Rattle.cwr_layouts.specs.Records.{RecordValue, Row}
-use Rattle.cwr_layouts.specs.Lines.{IsLineOf, closed}
-use Rattle.cwr_shape.specs.Ranges.{LimitValues, AreInRange}
-use Rattle.cwr_shape.specs.Outlines.{IsWithin, IsWhole}
-use Rattle.cwr_shape.specs.Tallies.{TallyValue}
+use Rattle.cwr_layouts.specs.Format.Records.{RecordValue, Row}
+use Rattle.cwr_layouts.specs.Format.Lines.{IsLineOf, closed}
+use Rattle.cwr_shape.specs.Format.Ranges.{LimitValues, AreInRange}
+use Rattle.cwr_shape.specs.Format.Outlines.{IsWithin, IsWhole}
+use Rattle.cwr_shape.specs.Steps.Tallies.{TallyValue}
 use Rattle.cwr_shape.proofs.WithinByFronts.{along_fits}
 use Rattle.cwr_values.specs.declared.items.Item.{Item}
-use Rattle.cwr_values.specs.Values.{TransmissionValue, IsTransmission, FitsIn, symbol_of}
-use Rattle.cwr_values.specs.Rows.{rows, Spells}
-use Rattle.cwr_values.specs.Begins.{rows_so_far}
+use Rattle.cwr_values.specs.Format.Values.{TransmissionValue, IsTransmission, FitsIn, symbol_of}
+use Rattle.cwr_values.specs.Format.Rows.{rows, Spells}
+use Rattle.cwr_values.specs.Format.Begins.{rows_so_far}
 use Rattle.cwr_values.proofs.OneTransmissionOfRecords.{built}
 use Rattle.cwr_values.proofs.RowAt.{rows_whole}
-use Rattle.cwr_judge.specs.Items.{items, value_items}
-use Rattle.cwr_judge.specs.Open.{items_so_far}
-use Rattle.cwr_decode.specs.Represents.{text_of, IsInput, AreAccepted, IsEndAlways}
+use Rattle.cwr_judge.specs.Format.Items.{items, value_items}
+use Rattle.cwr_judge.specs.Steps.Open.{items_so_far}
+use Rattle.cwr_decode.specs.Steps.Represents.{text_of, IsInput, AreAccepted, IsEndAlways}
 use Rattle.cwr_decode.specs.declared.endings.End.TheVariants as ends
 use Rattle.cwr_judge.proofs.Accepted.{closed_begins}
 use Rattle.cwr_judge.proofs.ItemLaws.{items_of_parts}

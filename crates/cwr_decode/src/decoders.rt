@@ -1,14 +1,14 @@
 //! Reading a transmission in pieces of any size.
 
 ghost use Rattle.std.specs.Prelude.{◌≡◌, ◌≢◌, ◌≤◌, ◌++◌, [], List, ℕ, length, take, IfSome, IsNone, IsTrue, IsFalse, Option, None, true, false};
-ghost use Rattle.cwr_decode.specs.Calls.{Fed, Feeds, RefusesLast, RunsOutOfMemory, seen_input};
-ghost use Rattle.cwr_decode.specs.Decoding.{StandsAfter, accepted_records, final_answer, has_ended, limits_of};
-ghost use Rattle.cwr_decode.specs.Machines.{Empties, WaitsOutside, held_list, end_input};
-ghost use Rattle.cwr_decode.specs.Readings.{FeedsOn};
-ghost use Rattle.cwr_decode.specs.Represents.{IsRight, RepresentsSome, Represents, items_out};
-ghost use Rattle.cwr_decode.specs.LastReads.{stage_of_records};
-ghost use Rattle.cwr_shape.specs.Stages.{stage_after};
-ghost use Rattle.cwr_shape.specs.Tallies.{IsTallyOf};
+ghost use Rattle.cwr_decode.specs.Steps.Calls.{Fed, Feeds, RefusesLast, RunsOutOfMemory, seen_input};
+ghost use Rattle.cwr_decode.specs.Steps.Decoding.{StandsAfter, accepted_records, final_answer, has_ended, limits_of};
+ghost use Rattle.cwr_decode.specs.Steps.Machines.{Empties, WaitsOutside, held_list, end_input};
+ghost use Rattle.cwr_decode.specs.Steps.Readings.{FeedsOn};
+ghost use Rattle.cwr_decode.specs.Steps.Represents.{IsRight, RepresentsSome, Represents, items_out};
+ghost use Rattle.cwr_decode.specs.Steps.LastReads.{stage_of_records};
+ghost use Rattle.cwr_shape.specs.Steps.Stages.{stage_after};
+ghost use Rattle.cwr_shape.specs.Steps.Tallies.{IsTallyOf};
 ghost use Rattle.cwr_shape.specs.declared.symbols.Symbol.{Symbol};
 ghost use Rattle.cwr_values.specs.declared.items.Item.{Item};
 
@@ -26,8 +26,8 @@ pub struct Decoder {
 }
 
 impl Model for Decoder {
-    ghost use Rattle.cwr_decode.specs.Machines.{Standing};
-    ghost use Rattle.cwr_decode.specs.Represents.{IsSound};
+    ghost use Rattle.cwr_decode.specs.Steps.Machines.{Standing};
+    ghost use Rattle.cwr_decode.specs.Steps.Represents.{IsSound};
 
     ghost Value = { Standing };
 

@@ -1,11 +1,11 @@
 //! The end of a text in memory.
 
 ghost use Rattle.std.specs.Prelude.{◌≡◌, ◌≢◌, ◌↔◌, ◌++◌, [], ◌∷◌, List, length, IsNone, IsTrue, IfSome, IfOk, IfErr};
-ghost use Rattle.cwr_layouts.specs.Held.{empty_line};
+ghost use Rattle.cwr_layouts.specs.Steps.Held.{empty_line};
 ghost use Rattle.cwr_shape.specs.declared.symbols.Symbol.{Symbol};
-ghost use Rattle.cwr_shape.specs.Tallies.{IsTallyOf};
-ghost use Rattle.cwr_decode.specs.Headline.{HasEnd};
-ghost use Rattle.cwr_decode.specs.TextLines.{AcceptsLine, FirstLine, RefusesLine};
+ghost use Rattle.cwr_shape.specs.Steps.Tallies.{IsTallyOf};
+ghost use Rattle.cwr_decode.specs.Format.Headline.{HasEnd};
+ghost use Rattle.cwr_decode.specs.Steps.TextLines.{AcceptsLine, FirstLine, RefusesLine};
 
 use cwr_judge::{Refusal, judge};
 use cwr_layouts::{Kind, LineBuf, LineEnd};

@@ -1,7 +1,7 @@
 //! The last bytes that were read.
 
 ghost use Rattle.std.specs.Prelude.{◌≡◌, ◌+◌, ◌-◌, ◌≤◌, ℕ, List, [], ◌++◌, drop, length};
-ghost use Rattle.cwr_decode.specs.LastReads.{HoldsLast, bytes_read, last_held};
+ghost use Rattle.cwr_decode.specs.Steps.LastReads.{HoldsLast, bytes_read, last_held};
 
 use arrayvec::ArrayVec;
 

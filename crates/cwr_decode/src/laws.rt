@@ -2,20 +2,20 @@
 
 ghost use Rattle.std.specs.Prelude.{List, [], length, true, ℕ, ◌++◌, ◌*◌, ◌≡◌, ◌≤◌};
 ghost use Rattle.std.specs.Prelude.{suc, ◌↔◌};
-ghost use Rattle.cwr_shape.specs.Ranges.{LimitValues};
-ghost use Rattle.cwr_judge.specs.GoodFronts.{ContinuesFrom};
-ghost use Rattle.cwr_judge.specs.Places.{Viable};
-ghost use Rattle.cwr_judge.specs.Ends.{IsAccepted, IsNotAccepted, IsRefused, IsTruncated};
-ghost use Rattle.cwr_judge.specs.Items.{AreFirstItems, items, value_items};
-ghost use Rattle.cwr_judge.specs.Places.{IsFirstBad};
+ghost use Rattle.cwr_shape.specs.Format.Ranges.{LimitValues};
+ghost use Rattle.cwr_judge.specs.Format.GoodFronts.{ContinuesFrom};
+ghost use Rattle.cwr_judge.specs.Format.Places.{Viable};
+ghost use Rattle.cwr_judge.specs.Format.Ends.{IsAccepted, IsNotAccepted, IsRefused, IsTruncated};
+ghost use Rattle.cwr_judge.specs.Format.Items.{AreFirstItems, items, value_items};
+ghost use Rattle.cwr_judge.specs.Format.Places.{IsFirstBad};
 ghost use Rattle.cwr_judge.specs.declared.refusals.Refusal.{Refusal};
 ghost use Rattle.cwr_values.specs.declared.items.Item.{Item};
-ghost use Rattle.cwr_decode.specs.Machines.{Standing};
-ghost use Rattle.cwr_decode.specs.Represents.{Represents};
-ghost use Rattle.cwr_layouts.specs.Lines.{closed, raw_lines};
+ghost use Rattle.cwr_decode.specs.Steps.Machines.{Standing};
+ghost use Rattle.cwr_decode.specs.Steps.Represents.{Represents};
+ghost use Rattle.cwr_layouts.specs.Format.Lines.{closed, raw_lines};
 ghost use Rattle.cwr_shape.specs.declared.limits.Limits.{Limits};
-ghost use Rattle.cwr_values.specs.Rows.{canonical_text, rows};
-ghost use Rattle.cwr_values.specs.Values.{FitsIn, IsTransmission, TransmissionValue};
+ghost use Rattle.cwr_values.specs.Format.Rows.{canonical_text, rows};
+ghost use Rattle.cwr_values.specs.Format.Values.{FitsIn, IsTransmission, TransmissionValue};
 
 pub use cwr_shape::laws::no_transmission_continues;
 pub use cwr_values::laws::{

@@ -1,18 +1,18 @@
 //! The steps of a decoder.
 
 ghost use Rattle.std.specs.Prelude.{List, ◌∷◌, ◌++◌, [], ◌≡◌, ◌≢◌, ◌<◌, ◌≤◌, length, take, true, false, None, Some, IsTrue, IsFalse, IsSome, IsSomeAnd, IsNone, IfSome, OnOk, OnErr};
-ghost use Rattle.cwr_layouts.specs.Held.{IsHeld, Takes, held_kind, held_record};
-ghost use Rattle.cwr_layouts.specs.Kinds.{kind_of};
-ghost use Rattle.cwr_shape.specs.Ranges.{AreInRange};
-ghost use Rattle.cwr_shape.specs.Stages.{stage_after};
-ghost use Rattle.cwr_shape.specs.Tallies.{IsAdmitted, IsTallyOf};
+ghost use Rattle.cwr_layouts.specs.Steps.Held.{IsHeld, Takes, held_kind, held_record};
+ghost use Rattle.cwr_layouts.specs.Format.Kinds.{kind_of};
+ghost use Rattle.cwr_shape.specs.Format.Ranges.{AreInRange};
+ghost use Rattle.cwr_shape.specs.Steps.Stages.{stage_after};
+ghost use Rattle.cwr_shape.specs.Steps.Tallies.{IsAdmitted, IsTallyOf};
 ghost use Rattle.cwr_shape.specs.declared.symbols.Symbol.{Symbol};
-ghost use Rattle.cwr_judge.specs.Items.{stands_in_transaction};
-ghost use Rattle.cwr_judge.specs.Open.{continues_open};
-ghost use Rattle.cwr_decode.specs.Machines.{Adds, ClosesLine, EntersHeld, FindsCut, FindsFront, FindsLine, FinishesRecord, HandsOut, HasRecord, HoldsOpen, FitsHeld, FitsWaiting, IsReady, Judges, Settles, ReportsFault, at_start, emptied, held_list, reading, stopped};
-ghost use Rattle.cwr_decode.specs.Represents.{IsSound};
-ghost use Rattle.cwr_decode.specs.Calls.{Advances, Fed, TakesEnd, Feeds, Finishes};
-ghost use Rattle.cwr_values.specs.Begun.{BeginsWithOneMore};
+ghost use Rattle.cwr_judge.specs.Format.Items.{stands_in_transaction};
+ghost use Rattle.cwr_judge.specs.Steps.Open.{continues_open};
+ghost use Rattle.cwr_decode.specs.Steps.Machines.{Adds, ClosesLine, EntersHeld, FindsCut, FindsFront, FindsLine, FinishesRecord, HandsOut, HasRecord, HoldsOpen, FitsHeld, FitsWaiting, IsReady, Judges, Settles, ReportsFault, at_start, emptied, held_list, reading, stopped};
+ghost use Rattle.cwr_decode.specs.Steps.Represents.{IsSound};
+ghost use Rattle.cwr_decode.specs.Steps.Calls.{Advances, Fed, TakesEnd, Feeds, Finishes};
+ghost use Rattle.cwr_values.specs.Format.Begun.{BeginsWithOneMore};
 
 use crate::outcomes::{Outcome, Step};
 use cwr_fields::SpelledPair;
@@ -68,7 +68,7 @@ pub struct Machine {
 }
 
 impl Model for Machine {
-    ghost use Rattle.cwr_decode.specs.Machines.{Standing};
+    ghost use Rattle.cwr_decode.specs.Steps.Machines.{Standing};
 
     ghost Value = { Standing };
 

@@ -2,10 +2,10 @@
 
 ghost use Rattle.std.specs.Prelude.{◌≡◌, ◌≤◌, ◌⊎◌, ℕ, List, length, Some, Ok, Err, IfErr};
 ghost use Rattle.cwr_judge.specs.declared.refusals.Refusal.{Refusal};
-ghost use Rattle.cwr_judge.specs.Ends.{IsAccepted, IsRefused, IsTruncated};
-ghost use Rattle.cwr_values.specs.Values.{TransmissionValue};
-ghost use Rattle.cwr_decode.specs.Headline.{Means, text_in};
-ghost use Rattle.cwr_decode.specs.Runs.{StopsText};
+ghost use Rattle.cwr_judge.specs.Format.Ends.{IsAccepted, IsRefused, IsTruncated};
+ghost use Rattle.cwr_values.specs.Format.Values.{TransmissionValue};
+ghost use Rattle.cwr_decode.specs.Format.Headline.{Means, text_in};
+ghost use Rattle.cwr_decode.specs.Steps.Runs.{StopsText};
 
 use crate::readings::ReadFault;
 use crate::whole::read_all;
@@ -27,7 +27,7 @@ struct Pieces<'a> {
 }
 
 impl<'a> Pieces<'a> {
-    ghost use Rattle.cwr_decode.specs.PiecesLeft.{text_left};
+    ghost use Rattle.cwr_decode.specs.Steps.PiecesLeft.{text_left};
 
     /// All pieces, one after another.
     fn new(pieces: &'a [&'a [u8]]) -> Pieces<'a>
@@ -59,7 +59,7 @@ impl<'a> Pieces<'a> {
 }
 
 impl Source for Pieces<'_> {
-    ghost use Rattle.cwr_decode.specs.PiecesLeft.{text_left};
+    ghost use Rattle.cwr_decode.specs.Steps.PiecesLeft.{text_left};
 
     ghost remaining = { λ p. Some (text_left p) };
 

@@ -1,11 +1,11 @@
 //! Reading a transmission from a reader, item by item.
 
 ghost use Rattle.std.specs.Prelude.{◌≡◌, ◌<◌, ◌⊎◌, ℕ, List, [], ◌++◌, Option, Err, IfNone, IfSome, IsSome, IsSomeAnd, None, Some, true, false};
-ghost use Rattle.cwr_decode.specs.Decoding.{HasWaiting, accepted_records, final_answer, has_ended, limits_of};
-ghost use Rattle.cwr_decode.specs.Represents.{RepresentsSome, Represents};
-ghost use Rattle.cwr_decode.specs.Machines.{WaitsOutside, again};
-ghost use Rattle.cwr_decode.specs.Readings.{answer_of, CountsQuickly, CountsReader, FeedsOn, Reads, ReadsQuickly};
-ghost use Rattle.cwr_decode.specs.LastReads.{AreHeld, HoldsLast, ReadsLast, stage_of_records};
+ghost use Rattle.cwr_decode.specs.Steps.Decoding.{HasWaiting, accepted_records, final_answer, has_ended, limits_of};
+ghost use Rattle.cwr_decode.specs.Steps.Represents.{RepresentsSome, Represents};
+ghost use Rattle.cwr_decode.specs.Steps.Machines.{WaitsOutside, again};
+ghost use Rattle.cwr_decode.specs.Steps.Readings.{answer_of, CountsQuickly, CountsReader, FeedsOn, Reads, ReadsQuickly};
+ghost use Rattle.cwr_decode.specs.Steps.LastReads.{AreHeld, HoldsLast, ReadsLast, stage_of_records};
 
 use crate::decoders::Decoder;
 use crate::last_bytes::LastBytes;

@@ -2,10 +2,11 @@
 
 ghost use Rattle.std.specs.Prelude.{◌≡◌, ◌<◌, ◌∷◌, ◌++◌, [], length, IfErr, IfOk, MatchResult, OnOk};
 ghost use Rattle.std.specs.Vec.Iter.{into_iter_items};
-ghost use Rattle.cwr_values.specs.Values.{type_of, IsTransaction};
-ghost use Rattle.cwr_judge.specs.Items.{group_rest, value_items};
-ghost use Rattle.cwr_decode.specs.Readings.{CountsFault};
-ghost use Rattle.cwr_decode.specs.Runs.{AreGroupItems, AreItems, HasReadAll, StopsReading, TakesFront, ReportsAccepted, ReportsCanonical};
+ghost use Rattle.cwr_values.specs.Format.Values.{type_of, IsTransaction};
+ghost use Rattle.cwr_judge.specs.Format.Items.{group_rest, value_items};
+ghost use Rattle.cwr_decode.specs.Steps.Readings.{CountsFault};
+ghost use Rattle.cwr_decode.specs.Format.Runs.{AreGroupItems, AreItems, TakesFront, ReportsAccepted, ReportsCanonical};
+ghost use Rattle.cwr_decode.specs.Steps.Runs.{HasReadAll, StopsReading};
 
 use crate::readings::{ReadFault, Reading};
 use cwr_fields::Source;

@@ -5,26 +5,27 @@ use Rattle.std.specs.List.{AllByRecursion, flat_map}
 use Rattle.std.proofs.lemmas.List.{map-append}
 use Rattle.std.proofs.lemmas.List.Concat.{flat_map-append}
 use Rattle.cwr_layouts.specs.declared.kinds.Kind.{Kind}
-use Rattle.cwr_layouts.specs.Records.{RecordValue, IsRecord, row_of}
+use Rattle.cwr_layouts.specs.Format.Records.{RecordValue, IsRecord, row_of}
 use Rattle.cwr_shape.specs.declared.symbols.Symbol.{Symbol}
 use Rattle.cwr_shape.specs.declared.symbols.Symbol.TheVariants.{Plain}
 use Rattle.cwr_shape.specs.declared.tallies.Bar.{Bar}
-use Rattle.cwr_shape.specs.Ranges.{LimitValues}
-use Rattle.cwr_shape.specs.Outlines.{IsWithin, Continues}
-use Rattle.cwr_shape.specs.Tallies as tallies
-use Rattle.cwr_shape.specs.Tallies.{MayCome, Answers}
+use Rattle.cwr_shape.specs.Format.Ranges.{LimitValues}
+use Rattle.cwr_shape.specs.Format.Outlines.{IsWithin, Continues}
+use Rattle.cwr_shape.specs.Steps.Tallies as tallies
+use Rattle.cwr_shape.specs.Format.NextSymbols.{MayCome, Answers}
 use Rattle.cwr_shape.proofs.OneMore.{last_or-snoc}
 use Rattle.cwr_shape.proofs.WhatMayCome.{comes_unbarred}
-use Rattle.cwr_values.specs.Values.{symbol_of, symbol_by}
-use Rattle.cwr_values.specs.Rows.{canonical_line}
-use Rattle.cwr_values.specs.Begins.{numbers_after, row_after, rows_after, rows_so_far}
+use Rattle.cwr_values.specs.Format.Values.{symbol_of, symbol_by}
+use Rattle.cwr_values.specs.Format.Rows.{canonical_line}
+use Rattle.cwr_values.specs.Format.Begins.{numbers_after, row_after, rows_after, rows_so_far}
 use Rattle.cwr_values.proofs.RowAt.{rows_after-append}
 use Rattle.cwr_encode.specs.declared.encoders.Encoder.{Encoder}
 use Rattle.cwr_encode.specs.declared.encoders.Reached.TheVariants as reached_to
 use Rattle.cwr_encode.specs.declared.encoders.EncodeFault.{EncodeFault}
 use Rattle.cwr_encode.specs.declared.encoders.EncodeFault.TheVariants.{Writer}
-use Rattle.cwr_encode.specs.Sinks.{HasWritten, Puts}
-use Rattle.cwr_encode.specs.Encoders.{part_of, reached, reached_by, Encodes, JudgesCall, RepresentsMore, AddsRecords, bytes_written}
+use Rattle.cwr_encode.specs.Steps.Sinks.{HasWritten, Puts}
+use Rattle.cwr_encode.specs.Format.Encoders.{part_of, reached, reached_by, JudgesCall}
+use Rattle.cwr_encode.specs.Steps.Encoders.{Encodes, RepresentsMore, AddsRecords, bytes_written}
 
 -- ---- the part grows by the rows of what comes
 

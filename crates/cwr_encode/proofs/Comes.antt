@@ -14,24 +14,29 @@ use Rattle.cwr_shape.specs.declared.stages.Stage.TheVariants as stages
 use Rattle.cwr_shape.specs.declared.stages.TransactionStep.{TransactionStep}
 use Rattle.cwr_shape.specs.declared.stages.TransactionStep.TheVariants as steps
 use Rattle.cwr_shape.specs.declared.tallies.Counts.{Counts}
-use Rattle.cwr_shape.specs.Ranges.{LimitValues}
+use Rattle.cwr_shape.specs.Format.Ranges.{LimitValues}
 use Rattle.cwr_shape.specs.declared.tallies.Place.TheVariants as places
-use Rattle.cwr_shape.specs.Shapes.{IsShape, is_carried_symbol, without_carried}
-use Rattle.cwr_shape.specs.Outlines.{GroupOutline, IsGroupOutline, IsWithin, Continues}
-use Rattle.cwr_shape.specs.Stages.{is_grh, is_ipa, is_ipa_of, is_writer, other_role, latest, group_of, pwr_step, stage_by}
-use Rattle.cwr_shape.specs.NextStages.{header_step, within, next_stage}
-use Rattle.cwr_shape.specs.Needs.{needs_at}
-use Rattle.cwr_shape.specs.Left.{Any, StandsAt}
-use Rattle.cwr_shape.specs.Tallies.{TallyValue, IsTallyOf, MayCome, open_records}
-use Rattle.cwr_shape.specs.Tallies as tallies
-use Rattle.cwr_shape.specs.Tallies.{place_by}
-use Rattle.cwr_shape.specs.Counting.{open_at, place_at}
+use Rattle.cwr_shape.specs.Format.Shapes.{IsShape, is_carried_symbol, without_carried}
+use Rattle.cwr_shape.specs.Format.Outlines.{GroupOutline, IsGroupOutline, IsWithin, Continues}
+use Rattle.cwr_shape.specs.Format.LastSymbols.{is_grh, latest, group_of}
+use Rattle.cwr_shape.specs.Steps.Stages.{is_ipa, is_ipa_of, is_writer, other_role, pwr_step, stage_by}
+use Rattle.cwr_shape.specs.Steps.NextStages.{header_step, within, next_stage}
+use Rattle.cwr_shape.specs.Steps.Needs.{needs_at}
+use Rattle.cwr_shape.specs.Format.AnyTransmission.{Any}
+use Rattle.cwr_shape.specs.Steps.Left.{StandsAt}
+use Rattle.cwr_shape.specs.Format.NextSymbols.{MayCome, open_records}
+use Rattle.cwr_shape.specs.Steps.Tallies.{TallyValue, IsTallyOf}
+use Rattle.cwr_shape.specs.Format.NextSymbols as tallies_there
+use Rattle.cwr_shape.specs.Steps.Tallies as tallies
+use Rattle.cwr_shape.specs.Format.NextSymbols.{place_by}
+use Rattle.cwr_shape.specs.Steps.Counting.{open_at, place_at}
 use Rattle.cwr_shape.proofs.PlacesNamed.{AreLast, last_without, carried_opens, place_stands}
 use Rattle.cwr_shape.proofs.StageStands.{next_exact, next_stands}
 use Rattle.cwr_shape.proofs.TransactionNumbers.{Headed, headed_shape}
 use Rattle.cwr_shape.proofs.LimitsByNeeds.{records_reach, groups_reach, within_goes, open_named, kept_within, kept_next}
 use Rattle.cwr_encode.specs.declared.encoders.Reached.TheVariants as reached_to
-use Rattle.cwr_encode.specs.Encoders.{reached, reached_by, reached_at, MayBeginGroup}
+use Rattle.cwr_encode.specs.Format.Encoders.{reached, reached_by, MayBeginGroup}
+use Rattle.cwr_encode.specs.Steps.Encoders.{reached_at}
 
 -- ---- stages and the last record
 
@@ -103,7 +108,7 @@ comes_by t xs s stage next st at goes no_group r g n closed =
     let records = (records_reach t.limits xs stage here).0 (within.0, within.1, within.2.0, within.3) in
     let groups = (groups_reach t.limits xs stage here).0 (within.0, within.1, within.2.1, within.3) in
     let counted : count_by is_grh (xs ++ s ∷ []) ≡ count_by is_grh xs + count_by is_grh (s ∷ []) = sum_by-append (λ x. cond (is_grh x) 1 0) xs (s ∷ []) in
-    let none : open_records (xs ++ s ∷ []) ≡ 0 = open_named (xs ++ s ∷ []) next on ∙ closed (tallies.counts_of (xs ++ s ∷ [])) in
+    let none : open_records (xs ++ s ∷ []) ≡ 0 = open_named (xs ++ s ∷ []) next on ∙ closed (tallies_there.counts_of (xs ++ s ∷ [])) in
     within_goes t.limits (xs ++ s ∷ []) next on one (kept_next t.limits xs s (kept_within t.limits xs within) (omega (arith, none)))
     (omega (arith, records, r, length-append xs (s ∷ []))) (omega (arith, groups, g, counted, no_group)) (omega (arith, none, n, one))
 

@@ -2,12 +2,12 @@
 use Rattle.std.proofs.Common.{◌≡◌, ℕ, zero, suc, ◌+◌, List, [], ◌∷◌, ◌++◌, map, take, drop, Some, None, sym, ap, subst, ◌∙◌, arith, append_assoc}
 use Rattle.std.specs.Prelude.{slice_get}
 use Rattle.std.proofs.lemmas.List.{map-append, take_all}
-use Rattle.cwr_layouts.specs.Records.{RecordValue}
+use Rattle.cwr_layouts.specs.Format.Records.{RecordValue}
 use Rattle.cwr_shape.specs.declared.symbols.Symbol.{Symbol}
-use Rattle.cwr_shape.specs.Ranges.{LimitValues}
-use Rattle.cwr_shape.specs.Outlines.{IsWithin, Continues}
-use Rattle.cwr_shape.specs.Tallies.{TallyValue, IsTallyOf, IsAdmitted}
-use Rattle.cwr_values.specs.Values.{symbol_of}
+use Rattle.cwr_shape.specs.Format.Ranges.{LimitValues}
+use Rattle.cwr_shape.specs.Format.Outlines.{IsWithin, Continues}
+use Rattle.cwr_shape.specs.Steps.Tallies.{TallyValue, IsTallyOf, IsAdmitted}
+use Rattle.cwr_values.specs.Format.Values.{symbol_of}
 use Rattle.cwr_encode.proofs.PutRows.{none_within}
 
 split_at : (t : List RecordValue) (i : ℕ) (r : RecordValue) → Some r ≡ slice_get t i → t ≡ take i t ++ (r ∷ drop (suc i) t)

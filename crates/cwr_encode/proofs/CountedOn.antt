@@ -5,9 +5,9 @@ use Rattle.std.proofs.lemmas.Bool.{and_parts}
 use Rattle.cwr_fields.specs.declared.codes.TransactionType.{TransactionType}
 use Rattle.cwr_shape.specs.declared.symbols.Symbol.{Symbol}
 use Rattle.cwr_shape.specs.declared.tallies.Counts.{Counts}
-use Rattle.cwr_shape.specs.Shapes.{IsShape}
-use Rattle.cwr_shape.specs.Tallies.{open_type, counts_of, type_after}
-use Rattle.cwr_shape.specs.Counting.{counts_with, counts_with_header, counts_with_other}
+use Rattle.cwr_shape.specs.Format.Shapes.{IsShape}
+use Rattle.cwr_shape.specs.Format.NextSymbols.{open_type, counts_of, type_after}
+use Rattle.cwr_shape.specs.Steps.Counting.{counts_with, counts_with_header, counts_with_other}
 use Rattle.cwr_shape.proofs.OneMore.{open_type-snoc, counts-snoc}
 use Rattle.cwr_shape.proofs.TransactionNumbers.{is_inner, headed_shape, inner_symbol}
 

@@ -4,24 +4,25 @@ use Rattle.std.specs.Prelude.{Result, Ok, Err, IfOk, IfErr, unwrap_or}
 use Rattle.std.specs.List.{AllByRecursion, flat_map, last_or}
 use Rattle.std.specs.Io.KnownBytes.{Appends, Keeps}
 use Rattle.cwr_layouts.specs.declared.kinds.Kind.TheVariants as kinds
-use Rattle.cwr_layouts.specs.Records.{RecordValue, IsRecord}
+use Rattle.cwr_layouts.specs.Format.Records.{RecordValue, IsRecord}
 use Rattle.cwr_shape.specs.declared.symbols.Symbol.{Symbol}
 use Rattle.cwr_shape.specs.declared.symbols.Symbol.TheVariants.{Plain}
 use Rattle.cwr_shape.specs.declared.stages.Stage.{Stage}
 use Rattle.cwr_shape.specs.declared.stages.Stage.TheVariants as stages
-use Rattle.cwr_shape.specs.Numbers.{number_in}
-use Rattle.cwr_shape.specs.Ranges.{LimitValues}
-use Rattle.cwr_shape.specs.Outlines.{symbols_of, IsWhole, IsWithin}
-use Rattle.cwr_shape.specs.Stages.{stage_by}
-use Rattle.cwr_shape.specs.Left.{StandsAt}
-use Rattle.cwr_shape.specs.Tallies.{TallyValue, IsTallyOf, MayCome}
+use Rattle.cwr_shape.specs.Format.Numbers.{number_in}
+use Rattle.cwr_shape.specs.Format.Ranges.{LimitValues}
+use Rattle.cwr_shape.specs.Format.Outlines.{symbols_of, IsWhole, IsWithin}
+use Rattle.cwr_shape.specs.Steps.Stages.{stage_by}
+use Rattle.cwr_shape.specs.Steps.Left.{StandsAt}
+use Rattle.cwr_shape.specs.Format.NextSymbols.{MayCome}
+use Rattle.cwr_shape.specs.Steps.Tallies.{TallyValue, IsTallyOf}
 use Rattle.cwr_shape.proofs.OneMore.{last_or-snoc}
 use Rattle.cwr_shape.proofs.PrefixFree.{prefix_free}
 use Rattle.cwr_shape.proofs.StageNames.{stage_after-snoc}
 use Rattle.cwr_shape.proofs.StageStands.{stands_leaves}
-use Rattle.cwr_values.specs.Values.{TransmissionValue, symbol_of}
-use Rattle.cwr_values.specs.Rows.{trailer, canonical_line, canonical_text}
-use Rattle.cwr_values.specs.Begins.{numbers_after, rows_so_far}
+use Rattle.cwr_values.specs.Format.Values.{TransmissionValue, symbol_of}
+use Rattle.cwr_values.specs.Format.Rows.{trailer, canonical_line, canonical_text}
+use Rattle.cwr_values.specs.Format.Begins.{numbers_after, rows_so_far}
 use Rattle.cwr_values.proofs.OneTransmissionOfRecords.{Built, built}
 use Rattle.cwr_values.proofs.RowAt.{rows_whole}
 use Rattle.cwr_encode.specs.declared.encoders.Encoder.{Encoder}
@@ -29,11 +30,13 @@ use Rattle.cwr_encode.specs.declared.encoders.Reached.{Reached}
 use Rattle.cwr_encode.specs.declared.encoders.Reached.TheVariants as reached_to
 use Rattle.cwr_encode.specs.declared.encoders.EncodeFault.{EncodeFault}
 use Rattle.cwr_encode.specs.declared.encoders.EncodeFault.TheVariants.{OutOfOrder, WrongKind, Incomplete, Limit, Writer}
-use Rattle.cwr_fields.specs.Failures.{one_more_failure}
+use Rattle.cwr_fields.specs.Format.Failures.{one_more_failure}
 use Rattle.cwr_encode.specs.declared.sinks.Sink.{Sink}
-use Rattle.cwr_encode.specs.Sinks.{HasWritten, has_failed, writer_of, written_of}
-use Rattle.cwr_encode.specs.Encoders.{part_of, reached, Encodes, AddsRecords, end_fault, is_stopped, target_of, bytes_written}
-use Rattle.cwr_encode.specs.Finishing.{IsBeforeTrailer, JudgesEnd, Completes, HasAll, HasFront, FinishesWriting}
+use Rattle.cwr_encode.specs.Steps.Sinks.{HasWritten, has_failed, writer_of, written_of}
+use Rattle.cwr_encode.specs.Format.Encoders.{part_of, reached}
+use Rattle.cwr_encode.specs.Steps.Encoders.{Encodes, AddsRecords, end_fault, is_stopped, target_of, bytes_written}
+use Rattle.cwr_encode.specs.Format.Finishing.{IsBeforeTrailer, JudgesEnd, Completes, HasAll, HasFront}
+use Rattle.cwr_encode.specs.Steps.Finishing.{FinishesWriting}
 use Rattle.cwr_encode.proofs.Adding.{symbols_more, judged_taken}
 use Rattle.cwr_encode.proofs.Comes.{trailer_comes}
 

@@ -5,18 +5,18 @@ use Rattle.std.specs.List.{AllByRecursion}
 use Rattle.std.proofs.lemmas.List.{length-map}
 use Rattle.std.proofs.lemmas.List.Sums.{sum_by-cons}
 use Rattle.cwr_fields.specs.declared.codes.TransactionType.{TransactionType}
-use Rattle.cwr_layouts.specs.Records.{RecordValue}
+use Rattle.cwr_layouts.specs.Format.Records.{RecordValue}
 use Rattle.cwr_shape.specs.declared.limits.Limits.{Limits}
-use Rattle.cwr_shape.specs.Ranges.{AreInRange}
-use Rattle.cwr_shape.specs.Numbers.{group_records, all_records}
-use Rattle.cwr_shape.specs.Outlines.{symbols_of}
-use Rattle.cwr_shape.specs.Shapes.{IsShape}
+use Rattle.cwr_shape.specs.Format.Ranges.{AreInRange}
+use Rattle.cwr_shape.specs.Format.Numbers.{group_records, all_records}
+use Rattle.cwr_shape.specs.Format.Outlines.{symbols_of}
+use Rattle.cwr_shape.specs.Format.Shapes.{IsShape}
 use Rattle.cwr_shape.proofs.TransactionNumbers.{Headed, headed_shape}
-use Rattle.cwr_values.specs.Values.{GroupValue, TransmissionValue, IsTransmission, IsTransaction, IsGroup, FitsIn, type_of, symbol_of, outline_of, outline_of_group}
-use Rattle.cwr_values.specs.Rows.{records_of, lengths_of_value}
+use Rattle.cwr_values.specs.Format.Values.{GroupValue, TransmissionValue, IsTransmission, IsTransaction, IsGroup, FitsIn, type_of, symbol_of, outline_of, outline_of_group}
+use Rattle.cwr_values.specs.Format.Rows.{records_of, lengths_of_value}
 use Rattle.cwr_values.proofs.Spelling.{length-records_of}
 use Rattle.cwr_values.proofs.OneSpelling.{symbols-outline}
-use Rattle.cwr_encode.specs.GroupTexts.{HasFewRecords, IsFew}
+use Rattle.cwr_encode.specs.Steps.GroupTexts.{HasFewRecords, IsFew}
 
 some_length : {A : Type 0} (x : A) (l : List A) → 1 ≤ length (x ∷ l)
 some_length x l = omega arith

@@ -3,20 +3,22 @@ use Rattle.std.proofs.Common.{◌≡◌, ℕ, Bool, true, false, true≢false, L
 use Rattle.std.specs.Prelude.{◌↔◌, unwrap_or, Err}
 use Rattle.cwr_layouts.specs.declared.kinds.Kind.{Kind}
 use Rattle.cwr_layouts.specs.declared.kinds.Kind.TheVariants as kinds
-use Rattle.cwr_layouts.specs.Records.{RecordValue}
+use Rattle.cwr_layouts.specs.Format.Records.{RecordValue}
 use Rattle.cwr_shape.specs.declared.symbols.Symbol.{Symbol}
 use Rattle.cwr_shape.specs.declared.symbols.Symbol.TheVariants.{Plain, Grh}
 use Rattle.cwr_shape.specs.declared.tallies.Bar.{Bar}
 use Rattle.cwr_shape.specs.declared.tallies.Bar.TheVariants.{Misplaced, Limit}
-use Rattle.cwr_shape.specs.Numbers.{symbol_kind, number_in, IsNumberAt}
-use Rattle.cwr_shape.specs.Outlines.{Continues}
-use Rattle.cwr_shape.specs.Left.{Any}
-use Rattle.cwr_shape.specs.Tallies.{TallyValue, IsTallyOf, MayCome, IsBarred, open_type, counts_of}
-use Rattle.cwr_shape.specs.Counting.{expected_numbers}
+use Rattle.cwr_shape.specs.Format.Numbers.{symbol_kind, number_in, IsNumberAt}
+use Rattle.cwr_shape.specs.Format.Outlines.{Continues}
+use Rattle.cwr_shape.specs.Format.AnyTransmission.{Any}
+use Rattle.cwr_shape.specs.Format.NextSymbols.{MayCome, IsBarred, open_type, counts_of}
+use Rattle.cwr_shape.specs.Steps.Tallies.{TallyValue, IsTallyOf}
+use Rattle.cwr_shape.specs.Format.ExpectedNumbers.{expected_numbers}
 use Rattle.cwr_shape.proofs.NumbersAreCounted.{numbers_counted}
-use Rattle.cwr_values.specs.Values.{symbol_of, symbol_by, type_of}
-use Rattle.cwr_values.specs.Begins.{numbers_after}
-use Rattle.cwr_encode.specs.Encoders.{reached, IsBetween, MayBeginGroup, JudgesGroup, IsInGroup, JudgesFoot, fault_of_bar}
+use Rattle.cwr_values.specs.Format.Values.{symbol_of, symbol_by, type_of}
+use Rattle.cwr_values.specs.Format.Begins.{numbers_after}
+use Rattle.cwr_encode.specs.Format.Encoders.{reached, IsBetween, MayBeginGroup, JudgesGroup, IsInGroup, JudgesFoot}
+use Rattle.cwr_encode.specs.Steps.Encoders.{fault_of_bar}
 use Rattle.cwr_encode.specs.declared.encoders.Reached.{Reached}
 use Rattle.cwr_encode.specs.declared.encoders.EncodeFault.TheVariants.{Incomplete}
 use Rattle.cwr_encode.proofs.Comes.{head_goes, foot_comes}

@@ -5,26 +5,29 @@ use Rattle.std.specs.List.{last_or}
 use Rattle.cwr_fields.specs.declared.codes.TransactionType.{TransactionType}
 use Rattle.cwr_fields.specs.declared.codes.TransactionType.TheVariants.{Agreement, NewWork, RevisedWork, Acknowledgement}
 use Rattle.cwr_layouts.specs.declared.kinds.Kind.TheVariants as kinds
-use Rattle.cwr_layouts.specs.Records.{RecordValue}
+use Rattle.cwr_layouts.specs.Format.Records.{RecordValue}
 use Rattle.cwr_shape.specs.declared.symbols.Symbol.{Symbol}
 use Rattle.cwr_shape.specs.declared.symbols.Symbol.TheVariants.{Plain, Grh}
 use Rattle.cwr_shape.specs.declared.stages.Stage.{Stage}
 use Rattle.cwr_shape.specs.declared.stages.Stage.TheVariants as stages
 use Rattle.cwr_shape.specs.declared.stages.TransactionStep.{TransactionStep}
 use Rattle.cwr_shape.specs.declared.stages.TransactionStep.TheVariants as steps
-use Rattle.cwr_shape.specs.Ranges.{LimitValues}
-use Rattle.cwr_shape.specs.Outlines.{Continues}
-use Rattle.cwr_shape.specs.NextStages.{header_step, step_on, may_end, within, next_or_foot, on_or_next, next_stage}
-use Rattle.cwr_shape.specs.Left.{Any, StandsAt}
-use Rattle.cwr_shape.specs.Tallies.{TallyValue, IsTallyOf, header_kind, open_type}
+use Rattle.cwr_shape.specs.Format.Ranges.{LimitValues}
+use Rattle.cwr_shape.specs.Format.Outlines.{Continues}
+use Rattle.cwr_shape.specs.Steps.NextStages.{header_step, step_on, may_end, within, next_or_foot, on_or_next, next_stage}
+use Rattle.cwr_shape.specs.Format.AnyTransmission.{Any}
+use Rattle.cwr_shape.specs.Steps.Left.{StandsAt}
+use Rattle.cwr_shape.specs.Format.NextSymbols.{header_kind, open_type}
+use Rattle.cwr_shape.specs.Steps.Tallies.{TallyValue, IsTallyOf}
 use Rattle.cwr_shape.proofs.StageStands.{next_exact}
 use Rattle.cwr_shape.proofs.TallySteps.{stands_type}
-use Rattle.cwr_values.specs.Values.{symbol_of, type_of}
-use Rattle.cwr_values.specs.Begun.{HasHeaderOf, IsWholeTransaction}
+use Rattle.cwr_values.specs.Format.Values.{symbol_of, type_of}
+use Rattle.cwr_values.specs.Format.Begun.{HasHeaderOf, IsWholeTransaction}
 use Rattle.cwr_encode.specs.declared.encoders.EncodeFault.{EncodeFault}
 use Rattle.cwr_encode.specs.declared.encoders.EncodeFault.TheVariants.{OutOfOrder, WrongKind, Incomplete, Limit, Writer}
 use Rattle.cwr_encode.specs.declared.encoders.Reached.TheVariants as reached_to
-use Rattle.cwr_encode.specs.Encoders.{reached, reached_at, IsInGroup, MayBeginGroup, JudgesCall, JudgesOpening, JudgesGroup, JudgesTransaction, JudgesFoot, IsNoMistake}
+use Rattle.cwr_encode.specs.Format.Encoders.{reached, IsInGroup, MayBeginGroup, JudgesCall, JudgesOpening, JudgesGroup, JudgesTransaction, JudgesFoot, IsNoMistake}
+use Rattle.cwr_encode.specs.Steps.Encoders.{reached_at}
 use Rattle.cwr_encode.proofs.Comes.{reached_stands, foot_inside, opening_at}
 use Rattle.cwr_encode.proofs.Adding.{plain_symbol}
 use Rattle.cwr_encode.proofs.Groups.{head_symbol}

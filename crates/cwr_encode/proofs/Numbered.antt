@@ -3,9 +3,9 @@ use Rattle.std.proofs.Common.{◌≡◌, ℕ, zero, suc, ◌+◌, true, true≢f
 use Rattle.std.specs.Prelude.{slice_get, Result, Ok, Err, IsErr}
 use Rattle.std.specs.List.{AllByRecursion, flat_map, enumerate_from}
 use Rattle.std.proofs.lemmas.List.{take_all}
-use Rattle.cwr_fields.specs.Failures.{one_more_failure}
+use Rattle.cwr_fields.specs.Format.Failures.{one_more_failure}
 use Rattle.cwr_encode.specs.declared.sinks.Sink.{Sink}
-use Rattle.cwr_encode.specs.Sinks.{writer_of, has_failed, HasWritten, Puts, CountsOn}
+use Rattle.cwr_encode.specs.Steps.Sinks.{writer_of, has_failed, HasWritten, Puts, CountsOn}
 use Rattle.cwr_encode.proofs.PutRows.{none_within, written_longer}
 
 -- the texts of things that are numbered from k on

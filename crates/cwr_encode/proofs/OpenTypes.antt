@@ -10,12 +10,14 @@ use Rattle.cwr_shape.specs.declared.stages.Stage.{Stage}
 use Rattle.cwr_shape.specs.declared.stages.Stage.TheVariants as stages
 use Rattle.cwr_shape.specs.declared.stages.TransactionStep.{TransactionStep}
 use Rattle.cwr_shape.specs.declared.stages.TransactionStep.TheVariants as steps
-use Rattle.cwr_shape.specs.Outlines.{Continues}
-use Rattle.cwr_shape.specs.Left.{Any, StandsAt}
-use Rattle.cwr_shape.specs.Tallies.{TallyValue, IsTallyOf}
+use Rattle.cwr_shape.specs.Format.Outlines.{Continues}
+use Rattle.cwr_shape.specs.Format.AnyTransmission.{Any}
+use Rattle.cwr_shape.specs.Steps.Left.{StandsAt}
+use Rattle.cwr_shape.specs.Steps.Tallies.{TallyValue, IsTallyOf}
 use Rattle.cwr_shape.proofs.TallySteps.{stands_type}
 use Rattle.cwr_encode.specs.declared.encoders.Reached.TheVariants as reached_to
-use Rattle.cwr_encode.specs.Encoders.{reached, reached_at, IsInGroup, IsBetween, TakesTransactions}
+use Rattle.cwr_encode.specs.Format.Encoders.{reached, IsInGroup, IsBetween}
+use Rattle.cwr_encode.specs.Steps.Encoders.{reached_at, TakesTransactions}
 use Rattle.cwr_encode.proofs.Comes.{reached_stands, foot_inside}
 
 reached_is : (t : TallyValue) (stage : Stage) (xs : List Symbol) → IsTallyOf t xs → stage ≡ t.stage → reached xs ≡ reached_at stage

@@ -1,16 +1,16 @@
 -- The part of some records is the canonical text of the rows with which each transmission begins that they begin.
 use Rattle.std.proofs.Common.{◌≡◌, ℕ, List, [], ◌∷◌, ◌++◌, length, map, take, refl, sym, ap, ap₂, subst, ◌∙◌}
 use Rattle.std.specs.List.{AllByRecursion, flat_map}
-use Rattle.cwr_layouts.specs.Records.{RecordValue, IsRecord, Row}
+use Rattle.cwr_layouts.specs.Format.Records.{RecordValue, IsRecord, Row}
 use Rattle.cwr_shape.specs.declared.limits.Limits.{Limits}
-use Rattle.cwr_shape.specs.Outlines.{IsWithin, Continues}
-use Rattle.cwr_values.specs.Values.{TransmissionValue, IsTransmission, symbol_of}
-use Rattle.cwr_values.specs.Rows.{records_of, rows, canonical_line}
-use Rattle.cwr_values.specs.Begins.{rows_so_far, rows_after}
+use Rattle.cwr_shape.specs.Format.Outlines.{IsWithin, Continues}
+use Rattle.cwr_values.specs.Format.Values.{TransmissionValue, IsTransmission, symbol_of}
+use Rattle.cwr_values.specs.Format.Rows.{records_of, rows, canonical_line}
+use Rattle.cwr_values.specs.Format.Begins.{rows_so_far, rows_after}
 use Rattle.cwr_values.proofs.RowAt.{rows_split, length-rows_so_far, same_rows}
 use Rattle.cwr_values.proofs.Witnesses.{completed}
-use Rattle.cwr_encode.specs.Encoders.{part_of}
-use Rattle.cwr_encode.specs.Written.{IsPart}
+use Rattle.cwr_encode.specs.Format.Encoders.{part_of}
+use Rattle.cwr_encode.specs.Format.Written.{IsPart}
 
 taken : (xs ys : List Row) → take (length xs) (xs ++ ys) ≡ xs
 taken [] ys = refl

@@ -1,13 +1,13 @@
 -- What is put, row by row, of a transaction.
 use Rattle.std.proofs.Common.{◌≡◌, ℕ, zero, suc, ◌+◌, ◌<◌, ◌≤◌, true, true≢false, List, [], ◌∷◌, ◌++◌, length, take, drop, Option, Some, None, refl, sym, ap, subst, ◌∙◌, arith, append_assoc}
 use Rattle.std.specs.Prelude.{slice_get, Result, Ok, Err, IsErr}
-use Rattle.cwr_fields.specs.Failures.{one_more_failure}
+use Rattle.cwr_fields.specs.Format.Failures.{one_more_failure}
 use Rattle.std.proofs.lemmas.List.{take_all}
-use Rattle.cwr_layouts.specs.Records.{RecordValue, row_of}
-use Rattle.cwr_values.specs.Rows.{canonical_line}
+use Rattle.cwr_layouts.specs.Format.Records.{RecordValue, row_of}
+use Rattle.cwr_values.specs.Format.Rows.{canonical_line}
 use Rattle.cwr_encode.specs.declared.sinks.Sink.{Sink}
-use Rattle.cwr_encode.specs.Sinks.{writer_of, has_failed, HasWritten, Puts}
-use Rattle.cwr_encode.specs.Texts.{text_from}
+use Rattle.cwr_encode.specs.Steps.Sinks.{writer_of, has_failed, HasWritten, Puts}
+use Rattle.cwr_encode.specs.Steps.Texts.{text_from}
 use Rattle.cwr_encode.proofs.TransactionTexts.{text-snoc}
 
 pub found_within : {A : Type 0} (xs : List A) (i : ℕ) (x : A) → Some x ≡ slice_get xs i → i < length xs

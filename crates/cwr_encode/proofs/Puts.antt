@@ -4,7 +4,7 @@ use Rattle.std.proofs.lemmas.List.{length-append, length-take-le, take-append-dr
 use Rattle.std.specs.Prelude.{Result, Ok, Err, OnOk}
 use Rattle.std.specs.Io.KnownBytes.{Appends}
 use Rattle.cwr_encode.specs.declared.sinks.Sink.{Sink}
-use Rattle.cwr_encode.specs.Sinks.{written_of, writer_of, has_failed, counted_up, GrowsBy, HasWritten}
+use Rattle.cwr_encode.specs.Steps.Sinks.{written_of, writer_of, has_failed, counted_up, GrowsBy, HasWritten}
 use Rattle.cwr_encode.proofs.Moves.{appends_both}
 
 -- a sink that hasn't failed has written all

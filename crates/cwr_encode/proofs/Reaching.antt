@@ -10,17 +10,20 @@ use Rattle.cwr_shape.specs.declared.symbols.Symbol.TheVariants.{Plain}
 use Rattle.cwr_shape.specs.declared.stages.Stage.{Stage}
 use Rattle.cwr_shape.specs.declared.limits.LimitKind.TheVariants.{Records, Groups, Transaction}
 use Rattle.cwr_shape.specs.declared.tallies.Counts.{Counts}
-use Rattle.cwr_shape.specs.Shapes.{IsShape}
-use Rattle.cwr_shape.specs.Stages.{is_grh, stage_after}
-use Rattle.cwr_shape.specs.Needs.{needs_at}
-use Rattle.cwr_shape.specs.Outlines.{KeepsTo, IsWithin, Continues}
-use Rattle.cwr_shape.specs.Left.{Any, StandsAt}
-use Rattle.cwr_shape.specs.Tallies.{TallyValue, IsTallyOf, open_type, counts_of, open_records}
-use Rattle.cwr_shape.specs.Counting.{counts_with, counts_with_header}
+use Rattle.cwr_shape.specs.Format.Shapes.{IsShape}
+use Rattle.cwr_shape.specs.Format.LastSymbols.{is_grh}
+use Rattle.cwr_shape.specs.Steps.Stages.{stage_after}
+use Rattle.cwr_shape.specs.Steps.Needs.{needs_at}
+use Rattle.cwr_shape.specs.Format.Outlines.{KeepsTo, IsWithin, Continues}
+use Rattle.cwr_shape.specs.Format.AnyTransmission.{Any}
+use Rattle.cwr_shape.specs.Steps.Left.{StandsAt}
+use Rattle.cwr_shape.specs.Format.NextSymbols.{open_type, counts_of, open_records}
+use Rattle.cwr_shape.specs.Steps.Tallies.{TallyValue, IsTallyOf}
+use Rattle.cwr_shape.specs.Steps.Counting.{counts_with, counts_with_header}
 use Rattle.cwr_shape.proofs.TransactionNumbers.{headed_shape}
 use Rattle.cwr_shape.proofs.WithinByFronts.{Keeps, is_of_transaction, open_by, inner_forth}
 use Rattle.cwr_shape.proofs.LimitsByNeeds.{records_reach, groups_reach, transaction_reach, transaction_goes, within_goes, open_named, KeptSoFar, kept_within, to_start}
-use Rattle.cwr_encode.specs.Encoders.{reached, IsInGroup, IsBetween}
+use Rattle.cwr_encode.specs.Format.Encoders.{reached, IsInGroup, IsBetween}
 use Rattle.cwr_encode.proofs.Comes.{Ending, ending_at, least_transaction}
 use Rattle.cwr_encode.proofs.CountedOn.{counted_after_transaction}
 use Rattle.cwr_encode.proofs.Ready.{takes}

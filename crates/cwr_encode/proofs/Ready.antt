@@ -10,14 +10,16 @@ use Rattle.cwr_shape.specs.declared.stages.Stage.{Stage}
 use Rattle.cwr_shape.specs.declared.stages.Stage.TheVariants as stages
 use Rattle.cwr_shape.specs.declared.stages.TransactionStep.{TransactionStep}
 use Rattle.cwr_shape.specs.declared.stages.TransactionStep.TheVariants as steps
-use Rattle.cwr_shape.specs.Shapes.{Pattern, many, Matches, IsShape, pattern_of, a}
-use Rattle.cwr_shape.specs.Outlines.{IsWhole, Continues}
-use Rattle.cwr_shape.specs.Left.{Any, StandsAt, left, left_of, any_group, rest_of, closing}
-use Rattle.cwr_shape.specs.Tallies.{open_type}
+use Rattle.cwr_shape.specs.Format.Shapes.{Pattern, many, Matches, IsShape, pattern_of, a}
+use Rattle.cwr_shape.specs.Format.Outlines.{IsWhole, Continues}
+use Rattle.cwr_shape.specs.Format.AnyTransmission.{Any}
+use Rattle.cwr_shape.specs.Steps.Left.{StandsAt, left, left_of, any_group, rest_of, closing}
+use Rattle.cwr_shape.specs.Format.NextSymbols.{open_type}
 use Rattle.cwr_shape.proofs.StageStands.{stands_leaves}
 use Rattle.cwr_shape.proofs.TallySteps.{stands_type}
 use Rattle.cwr_encode.specs.declared.encoders.Reached.TheVariants as reached_to
-use Rattle.cwr_encode.specs.Encoders.{reached, reached_at, IsInGroup, IsBetween}
+use Rattle.cwr_encode.specs.Format.Encoders.{reached, IsInGroup, IsBetween}
+use Rattle.cwr_encode.specs.Steps.Encoders.{reached_at}
 use Rattle.cwr_encode.proofs.Comes.{reached_stands, ending_at, Ending}
 
 -- GRT and TRL

@@ -3,10 +3,10 @@ use Rattle.std.proofs.Common.{◌≡◌, ℕ, zero, suc, ◌+◌, ◌-◌, ◌^�
 use Rattle.std.specs.Prelude.{slice_get, sum_by}
 use Rattle.std.proofs.lemmas.List.{take_all}
 use Rattle.std.proofs.lemmas.List.Sums.{sum_by-cons}
-use Rattle.cwr_layouts.specs.Records.{RecordValue}
-use Rattle.cwr_shape.specs.Numbers.{group_records, all_records}
-use Rattle.cwr_values.specs.Values.{GroupValue, TransmissionValue}
-use Rattle.cwr_values.specs.Rows.{lengths_of_value}
+use Rattle.cwr_layouts.specs.Format.Records.{RecordValue}
+use Rattle.cwr_shape.specs.Format.Numbers.{group_records, all_records}
+use Rattle.cwr_values.specs.Format.Values.{GroupValue, TransmissionValue}
+use Rattle.cwr_values.specs.Format.Rows.{lengths_of_value}
 use Rattle.cwr_values.proofs.Grouping.{count_records, group_counted}
 use Rattle.cwr_encode.proofs.PutRows.{none_within}
 

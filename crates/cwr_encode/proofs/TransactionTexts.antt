@@ -5,18 +5,18 @@ use Rattle.std.specs.List.{list_all, flat_map}
 use Rattle.std.proofs.lemmas.Bool.{and_parts}
 use Rattle.std.proofs.lemmas.List.{map-append}
 use Rattle.cwr_fields.specs.declared.codes.TransactionType.{TransactionType}
-use Rattle.cwr_layouts.specs.Records.{RecordValue, row_of}
+use Rattle.cwr_layouts.specs.Format.Records.{RecordValue, row_of}
 use Rattle.cwr_shape.specs.declared.symbols.Symbol.{Symbol}
-use Rattle.cwr_shape.specs.Numbers.{symbol_kind}
-use Rattle.cwr_shape.specs.Shapes.{IsShape}
-use Rattle.cwr_shape.specs.Tallies.{open_type, counts_of}
-use Rattle.cwr_shape.specs.Counting.{expected_numbers}
+use Rattle.cwr_shape.specs.Format.Numbers.{symbol_kind}
+use Rattle.cwr_shape.specs.Format.Shapes.{IsShape}
+use Rattle.cwr_shape.specs.Format.NextSymbols.{open_type, counts_of}
+use Rattle.cwr_shape.specs.Format.ExpectedNumbers.{expected_numbers}
 use Rattle.cwr_shape.proofs.TransactionNumbers.{Headed, is_inner, headed_shape, inner_symbol}
-use Rattle.cwr_values.specs.Values.{symbol_of}
-use Rattle.cwr_values.specs.Rows.{canonical_line}
-use Rattle.cwr_values.specs.Begins.{numbers_after, rows_after}
+use Rattle.cwr_values.specs.Format.Values.{symbol_of}
+use Rattle.cwr_values.specs.Format.Rows.{canonical_line}
+use Rattle.cwr_values.specs.Format.Begins.{numbers_after, rows_after}
 use Rattle.cwr_values.proofs.RowAt.{kind_of_symbol}
-use Rattle.cwr_encode.specs.Texts.{text_from}
+use Rattle.cwr_encode.specs.Steps.Texts.{text_from}
 use Rattle.cwr_encode.proofs.CountedOn.{Inside, inside_header, inside_more}
 
 -- with one more record

@@ -6,29 +6,31 @@ use Rattle.cwr_fields.specs.declared.codes.TransactionType.{TransactionType}
 use Rattle.cwr_fields.specs.declared.codes.TransactionType.TheVariants.{Agreement, NewWork, RevisedWork, Acknowledgement}
 use Rattle.cwr_layouts.specs.declared.kinds.Kind.{Kind}
 use Rattle.cwr_layouts.specs.declared.kinds.Kind.TheVariants as kinds
-use Rattle.cwr_layouts.specs.Records.{RecordValue}
+use Rattle.cwr_layouts.specs.Format.Records.{RecordValue}
 use Rattle.cwr_shape.specs.declared.symbols.Symbol.{Symbol}
 use Rattle.cwr_shape.specs.declared.symbols.Symbol.TheVariants.{Plain}
 use Rattle.cwr_shape.specs.declared.limits.LimitKind.{LimitKind}
 use Rattle.cwr_shape.specs.declared.limits.LimitKind.TheVariants.{Records, Groups, Transaction}
 use Rattle.cwr_shape.specs.declared.tallies.Counts.{Counts}
-use Rattle.cwr_shape.specs.Numbers.{number_in}
-use Rattle.cwr_shape.specs.Shapes.{IsShape}
-use Rattle.cwr_shape.specs.Outlines.{IsWithin, Continues}
-use Rattle.cwr_shape.specs.Left.{Any}
-use Rattle.cwr_shape.specs.Tallies.{TallyValue, IsTallyOf, KeepsTally, header_kind, open_type, counts_of}
-use Rattle.cwr_shape.specs.Counting.{expected_numbers}
-use Rattle.cwr_values.specs.Values.{symbol_of}
-use Rattle.cwr_values.specs.Begun.{IsBegun, HasHeaderOf, IsWholeTransaction}
-use Rattle.cwr_values.specs.Begins.{numbers_after}
+use Rattle.cwr_shape.specs.Format.Numbers.{number_in}
+use Rattle.cwr_shape.specs.Format.Shapes.{IsShape}
+use Rattle.cwr_shape.specs.Format.Outlines.{IsWithin, Continues}
+use Rattle.cwr_shape.specs.Format.AnyTransmission.{Any}
+use Rattle.cwr_shape.specs.Format.NextSymbols.{header_kind, open_type, counts_of}
+use Rattle.cwr_shape.specs.Steps.Tallies.{TallyValue, IsTallyOf, KeepsTally}
+use Rattle.cwr_shape.specs.Format.ExpectedNumbers.{expected_numbers}
+use Rattle.cwr_values.specs.Format.Values.{symbol_of}
+use Rattle.cwr_values.specs.Format.Begun.{IsBegun, HasHeaderOf, IsWholeTransaction}
+use Rattle.cwr_values.specs.Format.Begins.{numbers_after}
 use Rattle.cwr_values.proofs.Grouping.{of_type}
 use Rattle.cwr_values.proofs.RowAt.{kind_of_symbol}
 use Rattle.cwr_encode.specs.declared.encoders.Encoder.{Encoder}
 use Rattle.cwr_encode.specs.declared.encoders.EncodeFault.{EncodeFault}
 use Rattle.cwr_encode.specs.declared.encoders.EncodeFault.TheVariants.{Limit, WrongKind}
-use Rattle.cwr_encode.specs.Sinks.{HasWritten, Puts}
-use Rattle.cwr_encode.specs.Texts.{text_from}
-use Rattle.cwr_encode.specs.Encoders.{part_of, TakesTransactions, IsNextNumber, passed_with, JudgesTransaction, RepresentsMore}
+use Rattle.cwr_encode.specs.Steps.Sinks.{HasWritten, Puts}
+use Rattle.cwr_encode.specs.Steps.Texts.{text_from}
+use Rattle.cwr_encode.specs.Format.Encoders.{part_of, JudgesTransaction}
+use Rattle.cwr_encode.specs.Steps.Encoders.{TakesTransactions, IsNextNumber, passed_with, RepresentsMore}
 use Rattle.cwr_encode.proofs.Adding.{part-append, all_more}
 use Rattle.cwr_encode.proofs.Reaching.{Reaches, reaches, goes_front}
 use Rattle.cwr_encode.proofs.TransactionTexts.{transaction_text}

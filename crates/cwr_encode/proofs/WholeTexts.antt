@@ -4,13 +4,13 @@ use Rattle.std.specs.Prelude.{sum_by}
 use Rattle.std.specs.List.{flat_map, enumerate_from}
 use Rattle.std.proofs.lemmas.List.{length-map}
 use Rattle.std.proofs.lemmas.List.Concat.{flat_map-append}
-use Rattle.cwr_layouts.specs.Records.{RecordValue, Row, row_of}
-use Rattle.cwr_shape.specs.Numbers.{group_records, all_records}
-use Rattle.cwr_values.specs.Values.{GroupValue, TransmissionValue}
-use Rattle.cwr_values.specs.Rows.{canonical_line, canonical_text, lengths_of_value, trailer}
+use Rattle.cwr_layouts.specs.Format.Records.{RecordValue, Row, row_of}
+use Rattle.cwr_shape.specs.Format.Numbers.{group_records, all_records}
+use Rattle.cwr_values.specs.Format.Values.{GroupValue, TransmissionValue}
+use Rattle.cwr_values.specs.Format.Rows.{canonical_line, canonical_text, lengths_of_value, trailer}
 use Rattle.cwr_values.proofs.RowsByParts.{rows_inside, rows_of_transactions, rows_of_group, rows_of_groups, foot_row, trailer_row, rows-parts}
-use Rattle.cwr_encode.specs.Texts.{text_from}
-use Rattle.cwr_encode.specs.GroupTexts.{text_of_group, text_of_groups}
+use Rattle.cwr_encode.specs.Steps.Texts.{text_from}
+use Rattle.cwr_encode.specs.Steps.GroupTexts.{text_of_group, text_of_groups}
 
 inside_text : (j k : ℕ) (rs : List RecordValue) → flat_map canonical_line (rows_inside j k rs) ≡ text_from j k rs
 inside_text j k [] = refl

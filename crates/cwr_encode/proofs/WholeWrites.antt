@@ -2,15 +2,15 @@
 use Rattle.std.proofs.Common.{◌≡◌, ℕ, List, [], ◌∷◌, Option, refl, sym, ap, subst, ◌∙◌}
 use Rattle.std.specs.Prelude.{Result, Ok, Err, IfOk, IfErr}
 use Rattle.std.specs.Io.KnownBytes.{Keeps}
-use Rattle.cwr_fields.specs.Failures.{one_more_failure}
-use Rattle.cwr_layouts.specs.Records.{RecordValue, row_of}
-use Rattle.cwr_values.specs.Rows.{canonical_line}
+use Rattle.cwr_fields.specs.Format.Failures.{one_more_failure}
+use Rattle.cwr_layouts.specs.Format.Records.{RecordValue, row_of}
+use Rattle.cwr_values.specs.Format.Rows.{canonical_line}
 use Rattle.cwr_encode.specs.declared.encoders.EncodeFault.{EncodeFault}
 use Rattle.cwr_encode.specs.declared.encoders.EncodeFault.TheVariants.{Writer}
 use Rattle.cwr_encode.specs.declared.sinks.Sink.{Sink}
-use Rattle.cwr_encode.specs.Sinks.{HasWritten, Puts, writer_of, written_of}
-use Rattle.cwr_encode.specs.Finishing.{HasFront}
-use Rattle.cwr_encode.specs.Whole.{WritesAll}
+use Rattle.cwr_encode.specs.Steps.Sinks.{HasWritten, Puts, writer_of, written_of}
+use Rattle.cwr_encode.specs.Format.Finishing.{HasFront}
+use Rattle.cwr_encode.specs.Format.Whole.{WritesAll}
 use Rattle.cwr_encode.proofs.Ends.{all_written, appends_kept, kept_same}
 
 -- the line of three numbers

@@ -4,11 +4,12 @@ ghost use Rattle.std.specs.Prelude.{◌≡◌, ◌↔◌, ◌≤◌, List, [], �
 ghost use Rattle.cwr_layouts.specs.declared.kinds.Kind.TheVariants.{Grt};
 ghost use Rattle.cwr_shape.specs.declared.symbols.Symbol.{Symbol};
 ghost use Rattle.cwr_shape.specs.declared.symbols.Symbol.TheVariants.{Plain};
-ghost use Rattle.cwr_shape.specs.Left.{Any, StandsAt};
-ghost use Rattle.cwr_shape.specs.Outlines.{IsWithin, Continues};
-ghost use Rattle.cwr_shape.specs.Tallies.{KeepsTally, IsTallyOf};
-ghost use Rattle.cwr_values.specs.Values.{symbol_of as symbol_by_cells};
-ghost use Rattle.cwr_encode.specs.Encoders.{passed_with};
+ghost use Rattle.cwr_shape.specs.Format.AnyTransmission.{Any};
+ghost use Rattle.cwr_shape.specs.Steps.Left.{StandsAt};
+ghost use Rattle.cwr_shape.specs.Format.Outlines.{IsWithin, Continues};
+ghost use Rattle.cwr_shape.specs.Steps.Tallies.{KeepsTally, IsTallyOf};
+ghost use Rattle.cwr_values.specs.Format.Values.{symbol_of as symbol_by_cells};
+ghost use Rattle.cwr_encode.specs.Steps.Encoders.{passed_with};
 
 use cwr_layouts::Kind;
 use cwr_shape::{LimitKind, Stage, Symbol, Tally};

@@ -1,18 +1,20 @@
 //! Transmissions that are written call by call.
 
 ghost use Rattle.std.specs.Prelude.{◌≡◌, ◌↔◌, ◌≤◌, IsTrue, ℕ, List, Option, [], ◌∷◌, length, map, true, false, IfErr, MatchOption, IfOk, Err, Some};
-ghost use Rattle.cwr_layouts.specs.Records.{RecordValue, row_of};
+ghost use Rattle.cwr_layouts.specs.Format.Records.{RecordValue, row_of};
 ghost use Rattle.cwr_shape.specs.declared.symbols.Symbol.{Symbol};
-ghost use Rattle.cwr_shape.specs.Tallies.{IsTallyOf};
-ghost use Rattle.cwr_values.specs.Values.{symbol_of as symbol_by_cells};
-ghost use Rattle.cwr_values.specs.Rows.{canonical_line, trailer};
-ghost use Rattle.cwr_encode.specs.Sinks.{Puts, writer_of, written_of};
-ghost use Rattle.cwr_encode.specs.Texts.{text_from};
-ghost use Rattle.cwr_encode.specs.Encoders.{Encodes, IsUnlimited, AddsRecords, AnswersAgain, IsBetween, IsInGroup, IsNextNumber, TakesTransactions, JudgesTransaction, JudgesFoot, JudgesGroup, JudgesOpening, MayBeginGroup, end_fault, fault_of_bar, reached, reached_at, is_stopped, encoder_limits, target_of, bytes_written};
+ghost use Rattle.cwr_shape.specs.Steps.Tallies.{IsTallyOf};
+ghost use Rattle.cwr_values.specs.Format.Values.{symbol_of as symbol_by_cells};
+ghost use Rattle.cwr_values.specs.Format.Rows.{canonical_line, trailer};
+ghost use Rattle.cwr_encode.specs.Steps.Sinks.{Puts, writer_of, written_of};
+ghost use Rattle.cwr_encode.specs.Steps.Texts.{text_from};
+ghost use Rattle.cwr_encode.specs.Format.Encoders.{IsUnlimited, IsBetween, IsInGroup, JudgesTransaction, JudgesFoot, JudgesGroup, JudgesOpening, MayBeginGroup, reached};
+ghost use Rattle.cwr_encode.specs.Steps.Encoders.{Encodes, AddsRecords, AnswersAgain, IsNextNumber, TakesTransactions, end_fault, fault_of_bar, reached_at, is_stopped, encoder_limits, target_of, bytes_written};
 ghost use Rattle.std.specs.Io.KnownBytes.{Keeps};
-ghost use Rattle.cwr_fields.specs.Failures.{one_more_failure};
-ghost use Rattle.cwr_encode.specs.EncodeFaultTexts.{encode_fault_text};
-ghost use Rattle.cwr_encode.specs.Finishing.{FinishesWriting, JudgesEnd};
+ghost use Rattle.cwr_fields.specs.Format.Failures.{one_more_failure};
+ghost use Rattle.cwr_encode.specs.Format.EncodeFaultTexts.{encode_fault_text};
+ghost use Rattle.cwr_encode.specs.Format.Finishing.{JudgesEnd};
+ghost use Rattle.cwr_encode.specs.Steps.Finishing.{FinishesWriting};
 
 use crate::checks::{count_all, group_may_end, limit_passed};
 use crate::rows::{put_row, put_transaction};

@@ -2,10 +2,10 @@
 
 ghost use Rattle.std.specs.Prelude.{◌≡◌, ◌≤◌, false, length, map, IfErr, sum_by};
 ghost use Rattle.std.specs.List.{AllByRecursion};
-ghost use Rattle.cwr_shape.specs.Numbers.{group_records, all_records};
-ghost use Rattle.cwr_values.specs.Rows.{lengths_of_value};
-ghost use Rattle.cwr_encode.specs.Sinks.{Puts, has_failed, written_of};
-ghost use Rattle.cwr_encode.specs.GroupTexts.{text_of_transactions, text_of_group, text_of_groups, HasFewRecords, IsFew};
+ghost use Rattle.cwr_shape.specs.Format.Numbers.{group_records, all_records};
+ghost use Rattle.cwr_values.specs.Format.Rows.{lengths_of_value};
+ghost use Rattle.cwr_encode.specs.Steps.Sinks.{Puts, has_failed, written_of};
+ghost use Rattle.cwr_encode.specs.Steps.GroupTexts.{text_of_transactions, text_of_group, text_of_groups, HasFewRecords, IsFew};
 
 use crate::rows::{put_row, put_transaction};
 use crate::sinks::{Sink, SinkFault};

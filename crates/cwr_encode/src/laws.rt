@@ -2,17 +2,18 @@
 
 ghost use Rattle.std.specs.Prelude.{◌≡◌, ℕ, List, [], ◌∷◌, ◌++◌, map, Result};
 ghost use Rattle.std.specs.List.{AllByRecursion};
-ghost use Rattle.cwr_layouts.specs.Records.{RecordValue, IsRecord};
+ghost use Rattle.cwr_layouts.specs.Format.Records.{RecordValue, IsRecord};
 ghost use Rattle.cwr_shape.specs.declared.limits.Limits.{Limits};
 ghost use Rattle.cwr_shape.specs.declared.symbols.Symbol.{Symbol};
-ghost use Rattle.cwr_shape.specs.Left.{Any};
-ghost use Rattle.cwr_shape.specs.Outlines.{IsWithin, Continues};
-ghost use Rattle.cwr_shape.specs.Tallies.{IsTallyOf, TallyValue, open_type};
-ghost use Rattle.cwr_values.specs.Begun.{HasHeaderOf, IsWholeTransaction};
-ghost use Rattle.cwr_values.specs.Values.{symbol_of};
+ghost use Rattle.cwr_shape.specs.Format.AnyTransmission.{Any};
+ghost use Rattle.cwr_shape.specs.Format.Outlines.{IsWithin, Continues};
+ghost use Rattle.cwr_shape.specs.Format.NextSymbols.{open_type};
+ghost use Rattle.cwr_shape.specs.Steps.Tallies.{IsTallyOf, TallyValue};
+ghost use Rattle.cwr_values.specs.Format.Begun.{HasHeaderOf, IsWholeTransaction};
+ghost use Rattle.cwr_values.specs.Format.Values.{symbol_of};
 ghost use Rattle.cwr_encode.specs.declared.encoders.EncodeFault.{EncodeFault};
-ghost use Rattle.cwr_encode.specs.Encoders.{IsNoMistake, JudgesFoot, JudgesGroup, JudgesOpening, JudgesTransaction, part_of};
-ghost use Rattle.cwr_encode.specs.Written.{IsPart};
+ghost use Rattle.cwr_encode.specs.Format.Encoders.{IsNoMistake, JudgesFoot, JudgesGroup, JudgesOpening, JudgesTransaction, part_of};
+ghost use Rattle.cwr_encode.specs.Format.Written.{IsPart};
 
 use cwr_layouts::Kind;
 

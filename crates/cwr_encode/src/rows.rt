@@ -1,10 +1,10 @@
 //! Rows that are put to a sink, line by line.
 
 ghost use Rattle.std.specs.Prelude.{◌≡◌, ◌≤◌, [], ◌∷◌, length, false, IfErr};
-ghost use Rattle.cwr_layouts.specs.Records.{row_of};
-ghost use Rattle.cwr_values.specs.Rows.{canonical_line};
-ghost use Rattle.cwr_encode.specs.Sinks.{Puts, has_failed, written_of};
-ghost use Rattle.cwr_encode.specs.Texts.{text_from};
+ghost use Rattle.cwr_layouts.specs.Format.Records.{row_of};
+ghost use Rattle.cwr_values.specs.Format.Rows.{canonical_line};
+ghost use Rattle.cwr_encode.specs.Steps.Sinks.{Puts, has_failed, written_of};
+ghost use Rattle.cwr_encode.specs.Steps.Texts.{text_from};
 
 use crate::sinks::{Sink, SinkFault};
 use cwr_fields::Target;

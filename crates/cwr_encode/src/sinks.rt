@@ -2,9 +2,9 @@
 
 ghost use Rattle.std.specs.Prelude.{◌≡◌, ◌≤◌, ℕ, List, Option, [], ◌++◌, IfErr, OnErr, OnOk, IsErr, is_err, true, false, length, take, Some};
 ghost use Rattle.std.specs.Io.KnownBytes.{Appends};
-ghost use Rattle.cwr_fields.specs.Failures.{CountsFailure};
-ghost use Rattle.cwr_encode.specs.EncodeFaultTexts.{writer_fault_text};
-ghost use Rattle.cwr_encode.specs.Sinks.{written_of, writer_of, has_failed, CountsOn, GrowsBy, HasWritten};
+ghost use Rattle.cwr_fields.specs.Format.Failures.{CountsFailure};
+ghost use Rattle.cwr_encode.specs.Format.EncodeFaultTexts.{writer_fault_text};
+ghost use Rattle.cwr_encode.specs.Steps.Sinks.{written_of, writer_of, has_failed, CountsOn, GrowsBy, HasWritten};
 
 use cwr_fields::Target;
 use std::error::Error;

@@ -1,12 +1,12 @@
 //! Whole transmissions that are written.
 
 ghost use Rattle.std.specs.Prelude.{◌≡◌, false, Err, None, Some, IfErr};
-ghost use Rattle.cwr_values.specs.Fits.{value_fault};
-ghost use Rattle.cwr_values.specs.Rows.{canonical_text};
+ghost use Rattle.cwr_values.specs.Format.Fits.{value_fault};
+ghost use Rattle.cwr_values.specs.Format.Rows.{canonical_text};
 ghost use Rattle.cwr_values.specs.declared.transmissions.ValueFault.{ValueFault};
-ghost use Rattle.cwr_encode.specs.Sinks.{Puts, has_failed, written_of};
-ghost use Rattle.cwr_encode.specs.GroupTexts.{IsFew};
-ghost use Rattle.cwr_encode.specs.Whole.{refusal_of, WritesAll};
+ghost use Rattle.cwr_encode.specs.Steps.Sinks.{Puts, has_failed, written_of};
+ghost use Rattle.cwr_encode.specs.Steps.GroupTexts.{IsFew};
+ghost use Rattle.cwr_encode.specs.Format.Whole.{refusal_of, WritesAll};
 
 use crate::encoders::{EncodeFault, flushed, trailer};
 use crate::group_rows::{put_groups, totals};

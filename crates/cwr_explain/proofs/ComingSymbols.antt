@@ -8,9 +8,10 @@ use Rattle.cwr_layouts.specs.declared.kinds.Kind.TheVariants as kinds
 use Rattle.cwr_shape.specs.declared.symbols.Symbol.{Symbol}
 use Rattle.cwr_shape.specs.declared.symbols.Symbol.TheVariants.{Plain, Ipa, Grh}
 use Rattle.cwr_shape.specs.declared.stages.Stage.{Stage}
-use Rattle.cwr_shape.specs.Outlines.{Continues}
-use Rattle.cwr_shape.specs.Left.{Any, StandsAt}
-use Rattle.cwr_explain.specs.Coming.{AreComing, HaveCome}
+use Rattle.cwr_shape.specs.Format.Outlines.{Continues}
+use Rattle.cwr_shape.specs.Format.AnyTransmission.{Any}
+use Rattle.cwr_shape.specs.Steps.Left.{StandsAt}
+use Rattle.cwr_explain.specs.Steps.Coming.{AreComing, HaveCome}
 
 -- each symbol
 abbrev pub all_symbols : List Symbol

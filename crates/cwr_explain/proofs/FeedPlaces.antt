@@ -5,8 +5,8 @@ use Rattle.std.specs.List.{list_any}
 use Rattle.std.proofs.lemmas.Bool.{eqb-true, or_from, false_from_ne_true}
 use Rattle.std.proofs.lemmas.List.{get_or-drop, length-drop, take_all}
 use Rattle.memchr.specs.Find.{IsLastByte, is_byte}
-use Rattle.cwr_layouts.specs.Lines.{is_lf}
-use Rattle.cwr_explain.specs.LinesAtEnd.{IsAfterFeed}
+use Rattle.cwr_layouts.specs.Format.Lines.{is_lf}
+use Rattle.cwr_explain.specs.Steps.LinesAtEnd.{IsAfterFeed}
 
 -- no place holds a line feed
 no_feed : (xs : List ℕ) → ((k : ℕ) → k < length xs → (get_or xs k 0 == 10) ≡ true → ⊥) → list_any is_lf xs ≡ false

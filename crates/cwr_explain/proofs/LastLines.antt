@@ -7,13 +7,13 @@ use Rattle.std.proofs.lemmas.List.{append_cancel_right, drop-append-le, length-a
 use Rattle.std.proofs.Math.Seq.{drop-append_seam}
 use Rattle.cwr_layouts.specs.declared.lines.LineEnd.{LineEnd}
 use Rattle.cwr_layouts.specs.declared.lines.LineEnd.TheVariants as line_ends
-use Rattle.cwr_layouts.specs.Lines.{is_lf}
-use Rattle.cwr_layouts.specs.Held.{FillsLongest, HeldLine, IsHeld, Stops, Takes, empty_line, text_by}
+use Rattle.cwr_layouts.specs.Format.Lines.{is_lf}
+use Rattle.cwr_layouts.specs.Steps.Held.{FillsLongest, HeldLine, IsHeld, Stops, Takes, empty_line, text_by}
 use Rattle.cwr_decode.specs.declared.last_bytes.LastBytes.{LastBytes}
-use Rattle.cwr_decode.specs.LastReads.{HoldsLast, bytes_read, last_held}
-use Rattle.cwr_decode.specs.Represents.{EndsInLf}
+use Rattle.cwr_decode.specs.Steps.LastReads.{HoldsLast, bytes_read, last_held}
+use Rattle.cwr_decode.specs.Steps.Represents.{EndsInLf}
 use Rattle.cwr_explain.specs.declared.lines_at_end.LineAtEnd.{LineAtEnd}
-use Rattle.cwr_explain.specs.LinesAtEnd.{EndsWithLine, IsAfterFeed, IsBeforeLine, IsFound}
+use Rattle.cwr_explain.specs.Steps.LinesAtEnd.{EndsWithLine, IsAfterFeed, IsBeforeLine, IsFound}
 
 abbrev pub NoLf : List ℕ → Type 0
 NoLf line = IsFalse (list_any is_lf line)

@@ -6,14 +6,14 @@ use Rattle.std.specs.List.{flat_map}
 use Rattle.std.proofs.lemmas.List.{append_cancel_right, length-append}
 use Rattle.cwr_layouts.specs.declared.lines.LineEnd.{LineEnd}
 use Rattle.cwr_layouts.specs.declared.lines.LineEnd.TheVariants as line_ends
-use Rattle.cwr_layouts.specs.Lines.{closed}
-use Rattle.cwr_layouts.specs.Held.{HeldLine, FillsLongest, IsHeld, held_text, text_by}
+use Rattle.cwr_layouts.specs.Format.Lines.{closed}
+use Rattle.cwr_layouts.specs.Steps.Held.{HeldLine, FillsLongest, IsHeld, held_text, text_by}
 use Rattle.cwr_values.specs.declared.items.Item.{Item}
 use Rattle.cwr_judge.specs.declared.refusals.Refusal.{Refusal}
-use Rattle.cwr_decode.specs.Machines.{Standing}
-use Rattle.cwr_decode.specs.Represents.{EndsInLf, IsInput, IsStopped, text_of}
+use Rattle.cwr_decode.specs.Steps.Machines.{Standing}
+use Rattle.cwr_decode.specs.Steps.Represents.{EndsInLf, IsInput, IsStopped, text_of}
 use Rattle.cwr_decode.proofs.ClosedTexts.{closed_text}
-use Rattle.cwr_explain.specs.LinesAtEnd.{EndsWithLine, IsBeforeLine}
+use Rattle.cwr_explain.specs.Steps.LinesAtEnd.{EndsWithLine, IsBeforeLine}
 use Rattle.cwr_explain.proofs.LastLines.{NoLf, starts_later}
 
 -- nothing stands before the first line, and a line feed before each other

@@ -4,14 +4,16 @@ use Rattle.std.specs.Prelude.{◌^◌, min, Result, Ok, Err, is_err}
 use Rattle.std.specs.Io.KnownBytes.{Appends, Consumes, Keeps}
 use Rattle.std.proofs.KnownBytes.{Appends-nil, Appends-trans, Consumes-kept, Consumes-nil, Consumes-trans}
 use Rattle.std.proofs.lemmas.List.{length-append}
-use Rattle.cwr_fields.specs.Failures.{one_more_failure}
+use Rattle.cwr_fields.specs.Format.Failures.{one_more_failure}
 use Rattle.cwr_shape.specs.declared.limits.Limits.{Limits}
 use Rattle.cwr_tools.specs.declared.verdicts.Verdict.{Verdict}
 use Rattle.cwr_tools.specs.declared.verdicts.ToolFault.{ToolFault}
 use Rattle.cwr_tools.specs.declared.verdicts.ToolFault.TheVariants as faults
-use Rattle.cwr_tools.specs.Reports.{CountsReaderFault, CountsWriterFault, Reports, lines_of_explained}
+use Rattle.cwr_tools.specs.Format.Reports.{CountsReaderFault, CountsWriterFault, lines_of_explained}
+use Rattle.cwr_tools.specs.Steps.Reports.{Reports}
 use Rattle.cwr_explain.specs.declared.trailing.Trailing.{Trailing}
-use Rattle.cwr_explain.specs.Explained.{AddsWords, Explains, IsAnswerAfter, IsAnswerTo, IsTrailing, ReadsOnly, TakesMore, TakesPiece, WritesOnly}
+use Rattle.cwr_explain.specs.Format.Explained.{AddsWords, IsAnswerAfter, IsAnswerTo, IsTrailing, ReadsOnly, TakesMore, WritesOnly}
+use Rattle.cwr_explain.specs.Steps.Explained.{Explains, TakesPiece}
 
 -- known bytes that stay are none that were taken
 pub takes_none : (left after : Option (List ℕ)) → Keeps left after → TakesMore left after

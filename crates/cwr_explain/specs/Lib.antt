@@ -1,4 +1,2 @@
-pub mod LinesAtEnd
-pub mod Coming
-pub mod Explained
-pub mod Laws
+pub mod Format
+pub mod Steps

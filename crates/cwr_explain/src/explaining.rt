@@ -1,8 +1,9 @@
 //! Checking a transmission, and explaining what was found.
 
-ghost use Rattle.cwr_tools.specs.Verdicts.{JudgesText};
-ghost use Rattle.cwr_tools.specs.Reports.{CountsReaderFault, CountsWriterFault};
-ghost use Rattle.cwr_explain.specs.Explained.{AddsWords, Explains, IsAnswerTo, ReadsOnly, TakesMore, WritesOnly};
+ghost use Rattle.cwr_tools.specs.Format.Verdicts.{JudgesText};
+ghost use Rattle.cwr_tools.specs.Format.Reports.{CountsReaderFault, CountsWriterFault};
+ghost use Rattle.cwr_explain.specs.Format.Explained.{AddsWords, IsAnswerTo, ReadsOnly, TakesMore, WritesOnly};
+ghost use Rattle.cwr_explain.specs.Steps.Explained.{Explains};
 
 use crate::causes::{Refused, add_trailing, add_truncated, kind_of};
 use crate::lines_at_end::line_at_end;

@@ -4,9 +4,9 @@ ghost use Rattle.std.specs.Prelude.{◌≡◌, ◌≢◌, ◌≤◌, ℕ, List, 
 ghost use Rattle.std.specs.List.{list_any};
 ghost use Rattle.cwr_layouts.specs.declared.lines.TheConstants.{LONGEST_LINE};
 ghost use Rattle.cwr_layouts.specs.declared.lines.LineEnd.{LineEnd};
-ghost use Rattle.cwr_layouts.specs.Lines.{is_lf};
-ghost use Rattle.cwr_decode.specs.LastReads.{HoldsLast};
-ghost use Rattle.cwr_explain.specs.LinesAtEnd.{EndsWithLine, IsAfterFeed, IsFound};
+ghost use Rattle.cwr_layouts.specs.Format.Lines.{is_lf};
+ghost use Rattle.cwr_decode.specs.Steps.LastReads.{HoldsLast};
+ghost use Rattle.cwr_explain.specs.Steps.LinesAtEnd.{EndsWithLine, IsAfterFeed, IsFound};
 
 use cwr_decode::LastBytes;
 use cwr_layouts::{LineBuf, LineEnd};

@@ -2,9 +2,10 @@
 
 ghost use Rattle.std.specs.Prelude.{◌↔◌, List, [], ◌∷◌, ◌++◌, IsTrue, IfOk, OnOk};
 ghost use Rattle.cwr_shape.specs.declared.symbols.Symbol.{Symbol};
-ghost use Rattle.cwr_shape.specs.Outlines.{Continues};
-ghost use Rattle.cwr_shape.specs.Left.{Any, StandsAt};
-ghost use Rattle.cwr_explain.specs.Coming.{AreComing, AsksOne};
+ghost use Rattle.cwr_shape.specs.Format.Outlines.{Continues};
+ghost use Rattle.cwr_shape.specs.Format.AnyTransmission.{Any};
+ghost use Rattle.cwr_shape.specs.Steps.Left.{StandsAt};
+ghost use Rattle.cwr_explain.specs.Steps.Coming.{AreComing, AsksOne};
 
 use cwr_fields::{Role, TransactionType};
 use cwr_layouts::Kind;

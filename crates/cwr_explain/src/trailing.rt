@@ -1,7 +1,8 @@
 //! What stands after a transmission.
 
 ghost use Rattle.std.specs.Prelude.{◌≡◌, ◌+◌, ◌-◌, ◌^◌, min, length, IfOk, OnErr, OnOk};
-ghost use Rattle.cwr_explain.specs.Explained.{IsTrailing, ReadsOnly, TakesMore, TakesPiece};
+ghost use Rattle.cwr_explain.specs.Format.Explained.{IsTrailing, ReadsOnly, TakesMore};
+ghost use Rattle.cwr_explain.specs.Steps.Explained.{TakesPiece};
 
 use cwr_fields::Source;
 use cwr_tools::ToolFault;

@@ -3,7 +3,7 @@ use Rattle.std.proofs.Common.{◌≡◌, ℕ, zero, suc, ◌<◌, Bool, true, fa
 use Rattle.std.specs.Prelude.{◌↔◌, ◌⊎◌, ◌==◌, IsTrue}
 use Rattle.std.specs.List.{list_all}
 use Rattle.std.proofs.lemmas.Bool.{eqb-true, and_parts, lt-ltb}
-use Rattle.cwr_fields.specs.Bytes.{is_spaces, is_plain, is_control, has_control}
+use Rattle.cwr_fields.specs.Format.Bytes.{is_spaces, is_plain, is_control, has_control}
 
 -- a cell of one byte throughout
 replicate_of : (b : ℕ) (cell : List ℕ) → list_all (λ x. x == b) cell ≡ true → cell ≡ replicate (length cell) b

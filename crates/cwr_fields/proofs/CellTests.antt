@@ -11,9 +11,9 @@ use Rattle.cwr_fields.specs.declared.cell_types.CellType.{CellType}
 use Rattle.cwr_fields.specs.declared.cell_types.CellType.TheVariants.{Text, Required, Number, OptNumber, Date, OptDate, Time, OptTime, OptDuration, Share, Flag, Code, OptCode, Constant}
 use Rattle.cwr_fields.specs.declared.tables.Table.{Table}
 use Rattle.cwr_fields.specs.declared.tables.Table.TheVariants as tables
-use Rattle.cwr_fields.specs.Bytes.{is_plain, is_spaces, digits, number_of, filled}
-use Rattle.cwr_fields.specs.Codes.{codes_of, code_width, word_text}
-use Rattle.cwr_fields.specs.Cells.{Holds, SpellsNumber, SpellsDay, SpellsTime, SpellsShare, SpellsCode, flag_texts}
+use Rattle.cwr_fields.specs.Format.Bytes.{is_plain, is_spaces, digits, number_of, filled}
+use Rattle.cwr_fields.specs.Format.Codes.{codes_of, code_width, word_text}
+use Rattle.cwr_fields.specs.Format.Cells.{Holds, SpellsNumber, SpellsDay, SpellsTime, SpellsShare, SpellsCode, flag_texts}
 use Rattle.cwr_fields.proofs.NumbersInParts.{year_part, month_part, day_part}
 
 same : (xs ys : List ℕ) → bytes_eq xs ys ≡ true → xs ≡ ys

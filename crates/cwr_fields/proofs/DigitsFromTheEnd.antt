@@ -2,8 +2,8 @@
 use Rattle.std.proofs.Common.{◌≡◌, ◌≢◌, ℕ, suc, ◌+◌, ◌-◌, ◌/◌, ◌%◌, ◌≤◌, length, take, get_or, sym, List, [], ◌∷◌, ◌++◌, refl, ap, ap₂, subst, ◌∙◌, arith}
 use Rattle.std.specs.Prelude.{◌↔◌}
 use Rattle.std.proofs.lemmas.List.{length-append}
-use Rattle.cwr_fields.specs.Bytes.{digits}
-use Rattle.cwr_fields.specs.NumberLaws.{snoc_equal}
+use Rattle.cwr_fields.specs.Format.Bytes.{digits}
+use Rattle.cwr_fields.specs.Format.NumberLaws.{snoc_equal}
 use Rattle.cwr_fields.proofs.Trims.{ends_in}
 
 -- the cell is the digits of the number

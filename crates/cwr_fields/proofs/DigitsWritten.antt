@@ -3,8 +3,8 @@ use Rattle.std.proofs.Common.{◌≡◌, ℕ, suc, ◌+◌, ◌-◌, ◌/◌, �
 use Rattle.std.specs.Prelude.{◌↔◌, ◌⊎◌, IsTrue}
 use Rattle.std.proofs.lemmas.List.{drop-set, length-set, take-append-drop, drop-drop}
 use Rattle.cwr_fields.specs.declared.cell_types.CellType.TheVariants as types
-use Rattle.cwr_fields.specs.Bytes.{digits, number_of, are_digits, is_spaces}
-use Rattle.cwr_fields.specs.Cells.{Holds, SpellsTime}
+use Rattle.cwr_fields.specs.Format.Bytes.{digits, number_of, are_digits, is_spaces}
+use Rattle.cwr_fields.specs.Format.Cells.{Holds, SpellsTime}
 use Rattle.cwr_fields.proofs.Blanks.{spaces}
 use Rattle.cwr_fields.proofs.Spellings.{are_digits-append, are_digits-split, digits-number_of, part_spelled, parts_joined, same_parts, share_spelled}
 

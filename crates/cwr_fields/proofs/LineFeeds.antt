@@ -10,9 +10,9 @@ use Rattle.cwr_fields.specs.declared.tables.Table.{Table}
 use Rattle.cwr_fields.specs.declared.tables.Table.TheVariants as tables
 use Rattle.cwr_fields.specs.declared.cell_types.Word.{Word}
 use Rattle.cwr_fields.specs.declared.cell_types.Word.TheVariants as words
-use Rattle.cwr_fields.specs.Bytes.{digits, is_plain, is_spaces, is_control}
-use Rattle.cwr_fields.specs.Codes.{codes_of, code_width, word_text}
-use Rattle.cwr_fields.specs.Cells.{Holds, SpellsDay, SpellsTime, SpellsCode, IsCodeOf, flag_texts}
+use Rattle.cwr_fields.specs.Format.Bytes.{digits, is_plain, is_spaces, is_control}
+use Rattle.cwr_fields.specs.Format.Codes.{codes_of, code_width, word_text}
+use Rattle.cwr_fields.specs.Format.Cells.{Holds, SpellsDay, SpellsTime, SpellsCode, IsCodeOf, flag_texts}
 
 -- no byte is a line feed
 abbrev pub has_lf : List ℕ → Bool

@@ -9,10 +9,11 @@ use Rattle.std.proofs.Math.ListN.{drop_of_length-le}
 use Rattle.std.proofs.lemmas.List.{take-append-drop}
 use Rattle.std.proofs.lemmas.Slice.Eq.{bytes_eq-Decides}
 use denote.Ref.{Bor}
-use Rattle.cwr_fields.specs.Bytes.{filled, is_spaces}
-use Rattle.cwr_fields.specs.Members.{listed, coded, listed_with, member_with}
-use Rattle.cwr_fields.specs.MemberLaws.{find_passes}
-use Rattle.cwr_fields.specs.Cells.{IsCodeOf}
+use Rattle.cwr_fields.specs.Format.Bytes.{filled, is_spaces}
+use Rattle.cwr_fields.specs.Format.Members.{coded, member_with}
+use Rattle.cwr_fields.specs.Steps.Members.{listed, listed_with}
+use Rattle.cwr_fields.specs.Format.MemberLaws.{find_passes}
+use Rattle.cwr_fields.specs.Format.Cells.{IsCodeOf}
 use Rattle.cwr_fields.proofs.Blanks.{blank, spaces}
 
 -- a cell that begins with the code is that code filled up, where the rest is spaces

@@ -2,7 +2,7 @@
 -- below ten are zeros and one digit.
 use Rattle.std.proofs.Common.{◌≡◌, ◌≢◌, ℕ, ◌+◌, ◌/◌, ◌%◌, ◌<◌, List, [], ◌∷◌, ◌++◌, slice_index_or, slice_set, refl, ap, ap₂, subst, ◌∙◌, arith}
 use Rattle.std.specs.Prelude.{slice_index}
-use Rattle.cwr_fields.specs.Bytes.{digits}
+use Rattle.cwr_fields.specs.Format.Bytes.{digits}
 
 pub zeros : 48 ∷ 48 ∷ 48 ∷ 48 ∷ 48 ∷ 48 ∷ 48 ∷ 48 ∷ [] ≡ digits 8 0
 unfolding digits

@@ -2,8 +2,8 @@
 use Rattle.std.proofs.Common.{◌≡◌, ℕ, ◌+◌, ◌-◌, ◌*◌, ◌≤◌, ◌⊎◌, inl, inr, Bool, true, false, ◌&&◌, ◌||◌, eqb, List, [], ◌∷◌, length, get_or, replicate, refl, sym, ap, ap₂, subst, ◌∙◌, arith, lit≤, lit<, true≢false}
 use Rattle.std.proofs.lemmas.Bool.{and_parts, eqb-true, leb-true}
 use Rattle.cwr_fields.specs.declared.cell_types.CellType.TheVariants as types
-use Rattle.cwr_fields.specs.Bytes.{is_digit, are_digits, is_spaces, number_of, digits}
-use Rattle.cwr_fields.specs.Cells.{Holds}
+use Rattle.cwr_fields.specs.Format.Bytes.{is_digit, are_digits, is_spaces, number_of, digits}
+use Rattle.cwr_fields.specs.Format.Cells.{Holds}
 use Rattle.cwr_fields.proofs.DigitsWritten.{share_or, one_byte}
 use Rattle.cwr_fields.proofs.Blanks.{blank}
 

@@ -7,10 +7,10 @@ use Rattle.cwr_fields.specs.declared.tables.Table.TheVariants as tables
 use Rattle.cwr_fields.specs.declared.numbers.Number.{Number}
 use Rattle.cwr_fields.specs.declared.sender_types.SenderType.{SenderType}
 use Rattle.cwr_fields.specs.declared.sender_types.SenderType.TheVariants.{Digits}
-use Rattle.cwr_fields.specs.Bytes.{digits, number_of, are_digits}
-use Rattle.cwr_fields.specs.Cells.{SpellsCode}
-use Rattle.cwr_fields.specs.Members.{member_with}
-use Rattle.cwr_fields.specs.SenderCodes.{sender_text, senders}
+use Rattle.cwr_fields.specs.Format.Bytes.{digits, number_of, are_digits}
+use Rattle.cwr_fields.specs.Format.Cells.{SpellsCode}
+use Rattle.cwr_fields.specs.Format.Members.{member_with}
+use Rattle.cwr_fields.specs.Format.SenderCodes.{sender_text, senders}
 use Rattle.cwr_fields.proofs.Members.{found_where_code}
 use Rattle.cwr_fields.proofs.Spellings.{are_digits-digits, digits-number_of, number_of-fits}
 

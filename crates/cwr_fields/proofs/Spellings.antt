@@ -5,9 +5,9 @@ use Rattle.std.specs.List.{fold}
 use Rattle.std.proofs.lemmas.List.{length-take-le, length-drop, take-append-drop, drop-drop}
 use Rattle.std.proofs.lemmas.List.Folds.{list_all-append}
 use Rattle.std.proofs.lemmas.Bool.{and_parts, and_from, leb-true, le-leb}
-use Rattle.cwr_fields.specs.Bytes.{digits, number_of, is_digit, are_digits}
+use Rattle.cwr_fields.specs.Format.Bytes.{digits, number_of, is_digit, are_digits}
 use Rattle.jiff.specs.Words.{IsDate}
-use Rattle.cwr_fields.specs.Cells.{SpellsNumber, SpellsDay, SpellsTime, SpellsShare}
+use Rattle.cwr_fields.specs.Format.Cells.{SpellsNumber, SpellsDay, SpellsTime, SpellsShare}
 use Rattle.cwr_fields.proofs.Digits.{number_of-digits}
 use Rattle.cwr_fields.proofs.NumbersInParts.{year_part, month_part, day_part, day_of_parts, time_of_parts}
 

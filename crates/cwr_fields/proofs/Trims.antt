@@ -2,7 +2,7 @@
 use Rattle.std.proofs.lemmas.List.{take_more, take_all}
 use Rattle.std.proofs.Common.{◌≡◌, ◌≢◌, ℕ, ◌+◌, ◌-◌, ◌<◌, ◌≤◌, length, take, get_or, sym, false, eqb, List, [], ◌∷◌, ◌++◌, refl, ap, ◌∙◌, arith}
 use Rattle.std.proofs.lemmas.Bool.{ne_eqb}
-use Rattle.cwr_fields.specs.Bytes.{trimmed, before_trimmed}
+use Rattle.cwr_fields.specs.Format.Bytes.{trimmed, before_trimmed}
 
 -- a space at the end goes
 pub trimmed-space : (text : List ℕ) → trimmed (text ++ 32 ∷ []) ≡ trimmed text

@@ -6,8 +6,8 @@ use Rattle.std.proofs.lemmas.Bool.{leb-true}
 use Rattle.std.proofs.lemmas.List.{get_or-map, length-map}
 use Rattle.std.proofs.lemmas.List.Sums.{sum_by_more, AllPass-from_list_all}
 use Rattle.std.proofs.lemmas.Slice.Zip.{length-zip, get_or-zip}
-use Rattle.cwr_fields.specs.Bytes.{are_digits, is_digit}
-use Rattle.cwr_fields.specs.Iswc.{factors}
+use Rattle.cwr_fields.specs.Format.Bytes.{are_digits, is_digit}
+use Rattle.cwr_fields.specs.Format.Iswc.{factors}
 use Rattle.cwr_fields.proofs.Spellings.{digit_bounds}
 
 -- the factors with the digits' values

@@ -1,7 +1,7 @@
 //! What runs of bytes are made of: spaces, control bytes, digits.
 
 ghost use Rattle.std.specs.Prelude.{◌≡◌, ◌↔◌, ◌≤◌, ◌<◌, ◌^◌, IsSome, IfSome, IsTrue, length, position, take, drop, ◌+◌, ◌++◌};
-ghost use Rattle.cwr_fields.specs.Bytes.{is_spaces, is_control, has_control, are_digits, number_of, trimmed, digits};
+ghost use Rattle.cwr_fields.specs.Format.Bytes.{is_spaces, is_control, has_control, are_digits, number_of, trimmed, digits};
 
 use crate::lanes::{LANES, has_control_in_lanes};
 

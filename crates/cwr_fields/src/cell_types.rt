@@ -46,7 +46,7 @@ pub enum Word {
 
 impl Word {
     ghost use Rattle.std.specs.Prelude.{◌≡◌};
-    ghost use Rattle.cwr_fields.specs.Codes.{word_text};
+    ghost use Rattle.cwr_fields.specs.Format.Codes.{word_text};
 
     /// The word's letters.
     pub fn text(self) -> &'static [u8]

@@ -2,9 +2,9 @@
 
 ghost use Rattle.std.specs.Prelude.{◌≡◌, ◌↔◌, IsTrue, IsFalse, OnOk, IfErr, length, if◌then◌else◌};
 ghost use Rattle.std.specs.Option.{ForSome};
-ghost use Rattle.cwr_fields.specs.Bytes.{is_spaces, is_plain};
-ghost use Rattle.cwr_fields.specs.Cells.{Holds, HasFault, SpellsNumber, type_width};
-ghost use Rattle.cwr_fields.specs.Codes.{code_width};
+ghost use Rattle.cwr_fields.specs.Format.Bytes.{is_spaces, is_plain};
+ghost use Rattle.cwr_fields.specs.Format.Cells.{Holds, HasFault, SpellsNumber, type_width};
+ghost use Rattle.cwr_fields.specs.Format.Codes.{code_width};
 
 use crate::byte_runs::{are_digits, has_control, is_spaces, number_in};
 use crate::cell_types::{CellFault, CellType};

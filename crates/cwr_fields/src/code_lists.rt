@@ -1,10 +1,11 @@
 //! The codes of each table, as its cells hold them, and whether a cell is one of them.
 
 ghost use Rattle.std.specs.Prelude.{◌≡◌, ◌↔◌, IsTrue, Any, length, map};
-ghost use Rattle.cwr_fields.specs.Cells.{SpellsCode};
-ghost use Rattle.cwr_fields.specs.Codes.{code_width};
-ghost use Rattle.cwr_fields.specs.Members.{listed, coded};
-ghost use Rattle.cwr_fields.specs.SenderCodes.{sender_text, senders};
+ghost use Rattle.cwr_fields.specs.Format.Cells.{SpellsCode};
+ghost use Rattle.cwr_fields.specs.Format.Codes.{code_width};
+ghost use Rattle.cwr_fields.specs.Format.Members.{coded};
+ghost use Rattle.cwr_fields.specs.Steps.Members.{listed};
+ghost use Rattle.cwr_fields.specs.Format.SenderCodes.{sender_text, senders};
 
 use crate::agreement_codes::{
     AgreementType, InclusionExclusion, PostTermCollectionStatus, PriorRoyaltyStatus,

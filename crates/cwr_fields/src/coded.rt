@@ -2,9 +2,10 @@
 
 ghost use Rattle.std.specs.Prelude.{◌≡◌, ◌↔◌, ℕ, ◌≤◌, IsTrue, List, length, map, slice_get, Some};
 ghost use Rattle.cwr_fields.specs.declared.tables.Table.{Table};
-ghost use Rattle.cwr_fields.specs.Bytes.{filled};
-ghost use Rattle.cwr_fields.specs.Members.{listed, coded, listed_with, member_with};
-ghost use Rattle.cwr_fields.specs.Cells.{IsCodeOf, SpellsCode};
+ghost use Rattle.cwr_fields.specs.Format.Bytes.{filled};
+ghost use Rattle.cwr_fields.specs.Format.Members.{coded, member_with};
+ghost use Rattle.cwr_fields.specs.Steps.Members.{listed, listed_with};
+ghost use Rattle.cwr_fields.specs.Format.Cells.{IsCodeOf, SpellsCode};
 
 use crate::byte_runs::is_spaces;
 use crate::cell_types::CellType;
@@ -86,7 +87,7 @@ pub(crate) fn fill(code: &str, cell: &mut [u8])
 
 impl<C: Coded> Cell for C {
     ghost use Rattle.cwr_fields.specs.declared.cell_types.CellType.TheVariants.{Code};
-    ghost use Rattle.cwr_fields.specs.MemberLaws.{length-filled, cell_is_code, same_member};
+    ghost use Rattle.cwr_fields.specs.Format.MemberLaws.{length-filled, cell_is_code, same_member};
 
     const TYPE: CellType = CellType::Code(C::TABLE);
 

@@ -3,7 +3,7 @@
 ghost use Rattle.std.specs.Prelude.{Some};
 ghost use Rattle.std.proofs.Common.{rules};
 ghost use Rattle.cwr_fields.specs.declared.tables.Table.TheVariants as tables;
-ghost use Rattle.cwr_fields.specs.Codes.{role_code, roles, type_code, transaction_types};
+ghost use Rattle.cwr_fields.specs.Format.Codes.{role_code, roles, type_code, transaction_types};
 
 use crate::code_lists::{ROLE, TRANSACTION_TYPE};
 use crate::coded::Coded;

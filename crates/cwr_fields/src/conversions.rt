@@ -189,7 +189,7 @@ impl From<PlayingTime> for DurationCell {
 }
 
 impl Display for Flag {
-    ghost use Rattle.cwr_fields.specs.Flags.{flag_text};
+    ghost use Rattle.cwr_fields.specs.Format.Flags.{flag_text};
 
     ghost output = { λ x. Some (flag_text x) };
 

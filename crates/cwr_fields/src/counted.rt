@@ -27,8 +27,8 @@ pub struct Counted<T> {
 
 impl<T> Counted<T> {
     ghost use Rattle.std.specs.Prelude.{◌+◌, ◌<◌};
-    ghost use Rattle.cwr_fields.specs.Failures.{most_failures};
-    ghost use Rattle.cwr_fields.specs.Counted.{inner_of, ahead_of, shown_of, failures_of};
+    ghost use Rattle.cwr_fields.specs.Format.Failures.{most_failures};
+    ghost use Rattle.cwr_fields.specs.Steps.Counted.{inner_of, ahead_of, shown_of, failures_of};
 
     /// A reader or a writer that hasn't failed.
     pub fn new(inner: T) -> Counted<T>
@@ -80,8 +80,8 @@ impl<T> Counted<T> {
 
 impl<R: Read> Counted<R> {
     ghost use Rattle.std.specs.Io.KnownBytes.{prepend_known, Keeps, IsAtEnd};
-    ghost use Rattle.cwr_fields.specs.Failures.{CountsFailure};
-    ghost use Rattle.cwr_fields.specs.Counted.{inner_of, ahead_of, shown_of, failures_of};
+    ghost use Rattle.cwr_fields.specs.Format.Failures.{CountsFailure};
+    ghost use Rattle.cwr_fields.specs.Steps.Counted.{inner_of, ahead_of, shown_of, failures_of};
 
     /// Reads where nothing is left of what was read ahead, and shows all of it.
     fn load(&mut self) -> Result<(), DeviceFault>
@@ -112,7 +112,7 @@ impl<R: Read> Counted<R> {
 
 impl<R: Read> Source for Counted<R> {
     ghost use Rattle.std.specs.Io.KnownBytes.{prepend_known};
-    ghost use Rattle.cwr_fields.specs.Counted.{inner_of, ahead_of, shown_of, failures_of};
+    ghost use Rattle.cwr_fields.specs.Steps.Counted.{inner_of, ahead_of, shown_of, failures_of};
 
     ghost remaining = { λ counted. prepend_known (ahead_of counted) (R.remaining (inner_of counted)) };
 
@@ -133,7 +133,7 @@ impl<R: Read> Source for Counted<R> {
 }
 
 impl<W: Write> Target for Counted<W> {
-    ghost use Rattle.cwr_fields.specs.Counted.{inner_of, failures_of};
+    ghost use Rattle.cwr_fields.specs.Steps.Counted.{inner_of, failures_of};
 
     ghost contents = { λ counted. W.contents (inner_of counted) };
 

@@ -66,7 +66,7 @@ impl CivilDate {
 
 impl Cell for CivilDate {
     ghost use Rattle.cwr_fields.specs.declared.cell_types.CellType.TheVariants as types;
-    ghost use Rattle.cwr_fields.specs.DateLaws.{day_text, day_width, day_fits, day_equal};
+    ghost use Rattle.cwr_fields.specs.Format.DateLaws.{day_text, day_width, day_fits, day_equal};
     ghost use Rattle.std.specs.Coded.{le_prop};
     ghost use denote.Struct.Props.{props};
     ghost use mathlib.Core.HLevel.{is_prop→PathP};
@@ -123,7 +123,7 @@ pub enum DateCell {
 
 impl Cell for DateCell {
     ghost use Rattle.cwr_fields.specs.declared.cell_types.CellType.TheVariants as types;
-    ghost use Rattle.cwr_fields.specs.DateCells.{date_text, date_width, date_fits, date_equal};
+    ghost use Rattle.cwr_fields.specs.Format.DateCells.{date_text, date_width, date_fits, date_equal};
 
     const TYPE: CellType = CellType::OptDate;
 

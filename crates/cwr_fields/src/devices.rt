@@ -5,7 +5,8 @@ ghost use Rattle.std.specs.Io.{StartsWith};
 ghost use Rattle.std.specs.Io.BufRead.{Rests};
 ghost use Rattle.std.specs.Io.KnownBytes.{Keeps, WriteAppends};
 ghost use types.Logic.{sem};
-ghost use Rattle.cwr_fields.specs.Failures.{CountsFailure, shown_by};
+ghost use Rattle.cwr_fields.specs.Format.Failures.{CountsFailure};
+ghost use Rattle.cwr_fields.specs.Steps.Failures.{shown_by};
 
 /// A device failed. The device counted it.
 #[derive(Clone, Copy, Debug, PartialEq, Eq)]

@@ -74,7 +74,7 @@ pub enum DurationCell {
 
 impl Cell for DurationCell {
     ghost use Rattle.cwr_fields.specs.declared.cell_types.CellType.TheVariants as types;
-    ghost use Rattle.cwr_fields.specs.DurationCells.{duration_text, duration_width, duration_fits, duration_equal};
+    ghost use Rattle.cwr_fields.specs.Format.DurationCells.{duration_text, duration_width, duration_fits, duration_equal};
 
     const TYPE: CellType = CellType::OptDuration;
 

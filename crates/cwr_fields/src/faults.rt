@@ -1,7 +1,7 @@
 //! The texts of faults, for people who read them.
 
 ghost use Rattle.std.specs.Prelude.{◌≡◌, ◌≤◌, Some, length};
-ghost use Rattle.cwr_fields.specs.FaultTexts.{fault_text};
+ghost use Rattle.cwr_fields.specs.Format.FaultTexts.{fault_text};
 
 use crate::cell_types::CellFault;
 use crate::devices::DeviceFault;

@@ -18,7 +18,7 @@ pub enum Flag {
 
 impl Cell for Flag {
     ghost use Rattle.cwr_fields.specs.declared.cell_types.CellType.TheVariants as types;
-    ghost use Rattle.cwr_fields.specs.Flags.{flag_text, flag_width, flag_fits, flag_equal};
+    ghost use Rattle.cwr_fields.specs.Format.Flags.{flag_text, flag_width, flag_fits, flag_equal};
 
     const TYPE: CellType = CellType::Flag;
 

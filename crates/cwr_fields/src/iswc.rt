@@ -2,8 +2,8 @@
 
 ghost use Rattle.std.specs.Prelude.{◌≡◌, ◌+◌, ◌-◌, ◌*◌, ◌<◌, IsTrue, length, map, zip};
 ghost use Rattle.std.specs.List.{sum_by};
-ghost use Rattle.cwr_fields.specs.Bytes.{are_digits};
-ghost use Rattle.cwr_fields.specs.Iswc.{factors, is_iswc};
+ghost use Rattle.cwr_fields.specs.Format.Bytes.{are_digits};
+ghost use Rattle.cwr_fields.specs.Format.Iswc.{factors, is_iswc};
 
 use crate::byte_runs::are_digits;
 

@@ -1,7 +1,7 @@
 //! Control bytes, thirty-two at a time.
 
 ghost use Rattle.std.specs.Prelude.{◌≡◌, ◌↔◌, ◌+◌, ◌≤◌, false, length, take, drop, nat_lt, ◌==◌, All};
-ghost use Rattle.cwr_fields.specs.Bytes.{has_control};
+ghost use Rattle.cwr_fields.specs.Format.Bytes.{has_control};
 
 use std::simd::prelude::*;
 

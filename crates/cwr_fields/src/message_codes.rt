@@ -3,7 +3,7 @@
 ghost use Rattle.std.specs.Prelude.{Some};
 ghost use Rattle.std.proofs.Common.{rules};
 ghost use Rattle.cwr_fields.specs.declared.tables.Table.TheVariants as tables;
-ghost use Rattle.cwr_fields.specs.MessageCodes.{status_code, transaction_statuses, level_code, message_levels};
+ghost use Rattle.cwr_fields.specs.Format.MessageCodes.{status_code, transaction_statuses, level_code, message_levels};
 
 use crate::code_lists::{MESSAGE, STATUS};
 use crate::coded::Coded;

@@ -40,10 +40,10 @@ impl<const W: usize> Number<W> {
 
 impl<const W: usize> Cell for Number<W> {
     ghost use Rattle.cwr_fields.specs.declared.cell_types.CellType.TheVariants as types;
-    ghost use Rattle.cwr_fields.specs.Bytes.{digits};
+    ghost use Rattle.cwr_fields.specs.Format.Bytes.{digits};
     ghost use mathlib.Core.HLevel.{is_prop→PathP};
     ghost use Rattle.std.specs.Coded.{le_prop};
-    ghost use Rattle.cwr_fields.specs.NumberLaws.{number_width, number_fits, number_equal};
+    ghost use Rattle.cwr_fields.specs.Format.NumberLaws.{number_width, number_fits, number_equal};
 
     const TYPE: CellType = CellType::Number;
 
@@ -113,7 +113,7 @@ impl Share {
 
 impl Cell for Share {
     ghost use Rattle.cwr_fields.specs.declared.cell_types.CellType.TheVariants as types;
-    ghost use Rattle.cwr_fields.specs.ShareLaws.{share_text, share_width, share_fits, share_equal, whole_prop};
+    ghost use Rattle.cwr_fields.specs.Format.ShareLaws.{share_text, share_width, share_fits, share_equal, whole_prop};
     ghost use mathlib.Core.HLevel.{is_prop→PathP};
 
     const TYPE: CellType = CellType::Share;

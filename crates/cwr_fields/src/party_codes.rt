@@ -3,7 +3,7 @@
 ghost use Rattle.std.specs.Prelude.{Some};
 ghost use Rattle.std.proofs.Common.{rules};
 ghost use Rattle.cwr_fields.specs.declared.tables.Table.TheVariants as tables;
-ghost use Rattle.cwr_fields.specs.PartyCodes.{publisher_code, publisher_types, designation_code, designations};
+ghost use Rattle.cwr_fields.specs.Format.PartyCodes.{publisher_code, publisher_types, designation_code, designations};
 
 use crate::code_lists::{DESIGNATION, PUBLISHER};
 use crate::coded::Coded;

@@ -2,8 +2,8 @@
 
 ghost use Rattle.std.specs.Prelude.{◌≡◌, IsTrue, length};
 ghost use Rattle.std.specs.Option.{ForSome};
-ghost use Rattle.cwr_fields.specs.Bytes.{is_digit, is_plain, is_spaces};
-ghost use Rattle.cwr_fields.specs.Cells.{Holds, type_width};
+ghost use Rattle.cwr_fields.specs.Format.Bytes.{is_digit, is_plain, is_spaces};
+ghost use Rattle.cwr_fields.specs.Format.Cells.{Holds, type_width};
 
 use crate::byte_runs::is_spaces;
 use crate::cell_types::CellType;

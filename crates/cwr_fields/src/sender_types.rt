@@ -1,7 +1,7 @@
 //! The types of senders.
 
 ghost use Rattle.std.specs.Prelude.{Some};
-ghost use Rattle.cwr_fields.specs.SenderCodes.{sender_text};
+ghost use Rattle.cwr_fields.specs.Format.SenderCodes.{sender_text};
 
 use crate::cell_types::CellType;
 use crate::code_lists::senders;
@@ -31,7 +31,7 @@ pub enum SenderType {
 impl Cell for SenderType {
     ghost use Rattle.cwr_fields.specs.declared.cell_types.CellType.TheVariants.{Code};
     ghost use Rattle.cwr_fields.specs.declared.tables.Table.TheVariants as tables;
-    ghost use Rattle.cwr_fields.specs.SenderLaws.{sender_width, sender_fits, sender_equal};
+    ghost use Rattle.cwr_fields.specs.Format.SenderLaws.{sender_width, sender_fits, sender_equal};
 
     const TYPE: CellType = CellType::Code(Table::Sender);
 

@@ -1,7 +1,7 @@
 //! Numbers that are kept with their digits, so that a cell is compared with a text and no number is written anew.
 
 ghost use Rattle.std.specs.Prelude.{◌≡◌, ◌≢◌, ◌<◌, ◌+◌, IsTrue, length, take, drop, slice_index};
-ghost use Rattle.cwr_fields.specs.Bytes.{digits};
+ghost use Rattle.cwr_fields.specs.Format.Bytes.{digits};
 
 use crate::byte_runs::write_digits;
 

@@ -46,7 +46,7 @@ pub enum Table {
 
 impl Table {
     ghost use Rattle.std.specs.Prelude.{◌≡◌};
-    ghost use Rattle.cwr_fields.specs.Codes.{code_width};
+    ghost use Rattle.cwr_fields.specs.Format.Codes.{code_width};
 
     /// The width of the table's cells in bytes.
     pub fn width(self) -> usize

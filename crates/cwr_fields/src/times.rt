@@ -58,7 +58,7 @@ impl TimeOfDay {
 
 impl Cell for TimeOfDay {
     ghost use Rattle.cwr_fields.specs.declared.cell_types.CellType.TheVariants as types;
-    ghost use Rattle.cwr_fields.specs.TimeLaws.{time_text, time_width, time_fits, time_equal};
+    ghost use Rattle.cwr_fields.specs.Format.TimeLaws.{time_text, time_width, time_fits, time_equal};
     ghost use Rattle.std.proofs.Common.{arith};
     ghost use Rattle.std.specs.Coded.{le_prop};
     ghost use mathlib.Core.HLevel.{is_prop→PathP};

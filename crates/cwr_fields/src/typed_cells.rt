@@ -2,7 +2,7 @@
 
 ghost use Rattle.std.specs.Prelude.{◌≡◌, ◌↔◌, ℕ, ◌<◌, ◌≤◌, IsTrue, List, length, IsSome, IfSome};
 ghost use Rattle.cwr_fields.specs.declared.cell_types.CellType.{CellType};
-ghost use Rattle.cwr_fields.specs.Cells.{Holds};
+ghost use Rattle.cwr_fields.specs.Format.Cells.{Holds};
 
 use crate::cell_types::CellType;
 

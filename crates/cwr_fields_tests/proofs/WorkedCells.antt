@@ -4,9 +4,9 @@ use Rattle.std.specs.Prelude.{codes, ◌⊎◌, slice_index, slice_index_or}
 use Rattle.std.proofs.lemmas.Int.{ints}
 use Rattle.cwr_fields.specs.declared.cell_types.CellType.TheVariants.{Text, Required, Date, OptDate, Time, OptDuration, Share, Flag}
 use Rattle.cwr_fields.specs.declared.cell_types.CellFault.TheVariants.{Blank, Control, NotADate, NotATime, OverShare, NotDigits, NotACode}
-use Rattle.cwr_fields.specs.Bytes.{digits, number_of}
-use Rattle.cwr_fields.specs.Cells.{Holds, HasFault}
-use Rattle.cwr_fields.specs.Iswc.{is_iswc}
+use Rattle.cwr_fields.specs.Format.Bytes.{digits, number_of}
+use Rattle.cwr_fields.specs.Format.Cells.{Holds, HasFault}
+use Rattle.cwr_fields.specs.Format.Iswc.{is_iswc}
 use Rattle.cwr_fields.proofs.Digits.{number_of-digits}
 use Rattle.cwr_fields.proofs.NumbersInParts.{day_of_parts, time_of_parts}
 

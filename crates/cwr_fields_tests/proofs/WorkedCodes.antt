@@ -9,9 +9,9 @@ use Rattle.cwr_fields.specs.declared.cell_types.CellType.TheVariants.{Code, OptC
 use Rattle.cwr_fields.specs.declared.cell_types.CellFault.TheVariants.{Blank, NotACode}
 use Rattle.cwr_fields.specs.declared.tables.Table.{Table}
 use Rattle.cwr_fields.specs.declared.tables.Table.TheVariants as tables
-use Rattle.cwr_fields.specs.Bytes.{digits, filled}
-use Rattle.cwr_fields.specs.Codes.{codes_of, code_width}
-use Rattle.cwr_fields.specs.Cells.{Holds, HasFault, IsCodeOf, SpellsCode}
+use Rattle.cwr_fields.specs.Format.Bytes.{digits, filled}
+use Rattle.cwr_fields.specs.Format.Codes.{codes_of, code_width}
+use Rattle.cwr_fields.specs.Format.Cells.{Holds, HasFault, IsCodeOf, SpellsCode}
 use Rattle.cwr_fields.proofs.CellTests.{holds_test}
 
 -- the cells of each table

@@ -2,14 +2,14 @@
 use Rattle.std.proofs.Common.{◌≡◌, ℕ, ◌<◌, ◌≤◌, min, Bool, true, false, cond, List, [], ◌∷◌, ◌++◌, length, refl, sym, ap, ◌∙◌, append_assoc, append-nil, arith, inl, inr}
 use Rattle.std.specs.Prelude.{◌⊎◌}
 use Rattle.std.proofs.lemmas.List.{length-append}
-use Rattle.cwr_layouts.specs.Lines.{closed}
+use Rattle.cwr_layouts.specs.Format.Lines.{closed}
 use Rattle.cwr_shape.specs.declared.limits.Limits.{Limits}
-use Rattle.cwr_values.specs.Values.{TransmissionValue, IsTransmission, FitsIn}
-use Rattle.cwr_values.specs.Rows.{canonical_text}
+use Rattle.cwr_values.specs.Format.Values.{TransmissionValue, IsTransmission, FitsIn}
+use Rattle.cwr_values.specs.Format.Rows.{canonical_text}
 use Rattle.cwr_values.proofs.Spelling.{canonical_spells}
 use Rattle.cwr_values.proofs.OneSpelling.{spelled_once}
-use Rattle.cwr_judge.specs.Places.{IsFirstBad}
-use Rattle.cwr_judge.specs.Ends.{IsAccepted}
+use Rattle.cwr_judge.specs.Format.Places.{IsFirstBad}
+use Rattle.cwr_judge.specs.Format.Ends.{IsAccepted}
 
 pub accepted_once : (limits : Limits) (text : List ℕ) (v w : TransmissionValue) (m n : ℕ) → IsAccepted limits text v m → IsAccepted limits text w n → (v ≡ w) × (m ≡ n)
 accepted_once limits text v w m n h k =

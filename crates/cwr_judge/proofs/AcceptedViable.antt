@@ -1,16 +1,16 @@
 -- Some transmission within the limits continues from each place in the lines that were accepted.
 use Rattle.std.proofs.Common.{◌≡◌, ℕ, List, [], ◌∷◌, ◌++◌, map, take, refl, sym, ap, subst, ◌∙◌, append_assoc}
 use Rattle.std.specs.List.{AllZip, AllByRecursion}
-use Rattle.cwr_layouts.specs.Records.{RecordValue, Row, IsRecord, IsRow}
-use Rattle.cwr_layouts.specs.Lines.{IsLineOf}
+use Rattle.cwr_layouts.specs.Format.Records.{RecordValue, Row, IsRecord, IsRow}
+use Rattle.cwr_layouts.specs.Format.Lines.{IsLineOf}
 use Rattle.cwr_layouts.proofs.CutLaws.{line_is_cut}
-use Rattle.cwr_shape.specs.Ranges.{LimitValues}
-use Rattle.cwr_shape.specs.Outlines.{IsWithin, Continues}
-use Rattle.cwr_values.specs.Values.{symbol_of}
-use Rattle.cwr_values.specs.Begins.{rows_after, rows_so_far}
+use Rattle.cwr_shape.specs.Format.Ranges.{LimitValues}
+use Rattle.cwr_shape.specs.Format.Outlines.{IsWithin, Continues}
+use Rattle.cwr_values.specs.Format.Values.{symbol_of}
+use Rattle.cwr_values.specs.Format.Begins.{rows_after, rows_so_far}
 use Rattle.cwr_values.proofs.Witnesses.{completed}
 use Rattle.cwr_values.proofs.RowAt.{rows_split}
-use Rattle.cwr_judge.specs.Places.{Viable}
+use Rattle.cwr_judge.specs.Format.Places.{Viable}
 use Rattle.cwr_judge.proofs.RecordsBefore.{rows_well}
 
 -- rows of lines, cut at that of one line

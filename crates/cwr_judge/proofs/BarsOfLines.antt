@@ -1,19 +1,19 @@
 -- What the lines of records bar is what the records bar.
 use Rattle.std.proofs.Common.{ℕ, List, [], ◌∷◌, ◌++◌, map}
 use Rattle.std.specs.List.{AllZip, AllByRecursion}
-use Rattle.cwr_layouts.specs.Records.{RecordValue, IsRecord}
-use Rattle.cwr_layouts.specs.Lines.{IsLineOf}
+use Rattle.cwr_layouts.specs.Format.Records.{RecordValue, IsRecord}
+use Rattle.cwr_layouts.specs.Format.Lines.{IsLineOf}
 use Rattle.cwr_shape.specs.declared.symbols.Symbol.{Symbol}
 use Rattle.cwr_shape.specs.declared.limits.LimitKind.TheVariants as limit_kinds
 use Rattle.cwr_shape.specs.declared.tallies.Bar.{Bar}
 use Rattle.cwr_shape.specs.declared.tallies.Bar.TheVariants as bars
-use Rattle.cwr_shape.specs.Ranges.{LimitValues}
-use Rattle.cwr_shape.specs.Outlines.{GroupOutline, KeepsTo, IsWithin}
-use Rattle.cwr_shape.specs.Left.{Any}
-use Rattle.cwr_shape.specs.Bars.{Bars}
-use Rattle.cwr_shape.specs.Tallies.{ContinuesWith, IsBarredFirst}
-use Rattle.cwr_values.specs.Values.{symbol_of}
-use Rattle.cwr_values.specs.Begins.{rows_so_far}
+use Rattle.cwr_shape.specs.Format.Ranges.{LimitValues}
+use Rattle.cwr_shape.specs.Format.Outlines.{GroupOutline, KeepsTo, IsWithin}
+use Rattle.cwr_shape.specs.Format.AnyTransmission.{Any}
+use Rattle.cwr_shape.specs.Format.Bars.{Bars}
+use Rattle.cwr_shape.specs.Format.NextSymbols.{ContinuesWith, IsBarredFirst}
+use Rattle.cwr_values.specs.Format.Values.{symbol_of}
+use Rattle.cwr_values.specs.Format.Begins.{rows_so_far}
 use Rattle.cwr_judge.proofs.SymbolsOfLines.{named_by_lines, among_with, with_among}
 
 -- no transmission continues with one of these symbols, or none that keeps to the limit

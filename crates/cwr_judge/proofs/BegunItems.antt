@@ -1,15 +1,15 @@
 -- The items of accepted records are the first of those of some transmission within the limits.
 use Rattle.std.proofs.Common.{◌<◌, ◌^◌, List, [], map, sym, ap, subst, ◌∙◌}
 use Rattle.std.specs.List.{AllByRecursion}
-use Rattle.cwr_layouts.specs.Records.{RecordValue, IsRecord}
-use Rattle.cwr_shape.specs.Ranges.{LimitValues}
-use Rattle.cwr_shape.specs.Outlines.{Continues, IsWithin}
-use Rattle.cwr_values.specs.Values.{symbol_of}
-use Rattle.cwr_values.specs.Begins.{rows_after, rows_so_far}
+use Rattle.cwr_layouts.specs.Format.Records.{RecordValue, IsRecord}
+use Rattle.cwr_shape.specs.Format.Ranges.{LimitValues}
+use Rattle.cwr_shape.specs.Format.Outlines.{Continues, IsWithin}
+use Rattle.cwr_values.specs.Format.Values.{symbol_of}
+use Rattle.cwr_values.specs.Format.Begins.{rows_after, rows_so_far}
 use Rattle.cwr_values.proofs.RowAt.{rows_split}
 use Rattle.cwr_values.proofs.Witnesses.{completed}
-use Rattle.cwr_judge.specs.Items.{AreFirstItems, items, items_after}
-use Rattle.cwr_judge.specs.Open.{items_so_far}
+use Rattle.cwr_judge.specs.Format.Items.{AreFirstItems, items, items_after}
+use Rattle.cwr_judge.specs.Steps.Open.{items_so_far}
 use Rattle.cwr_judge.proofs.ItemsOfTransactions.{items-append}
 use Rattle.cwr_judge.proofs.ItemLaws.{items_of_parts}
 

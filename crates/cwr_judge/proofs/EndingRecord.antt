@@ -5,20 +5,20 @@ use Rattle.std.specs.List.{AllByRecursion, last_or, after_last, suffix_len}
 use Rattle.std.proofs.lemmas.List.{length-append, length-map, length-drop, drop-map}
 use Rattle.cwr_layouts.specs.declared.kinds.Kind.{Kind}
 use Rattle.cwr_layouts.specs.declared.kinds.Kind.TheVariants as kinds
-use Rattle.cwr_layouts.specs.Records.{RecordValue, IsRecord, Row, record_of}
+use Rattle.cwr_layouts.specs.Format.Records.{RecordValue, IsRecord, Row, record_of}
 use Rattle.cwr_layouts.proofs.RowLaws.{record_of-row_of}
 use Rattle.cwr_shape.specs.declared.symbols.Symbol.{Symbol}
-use Rattle.cwr_shape.specs.Outlines.{Continues}
-use Rattle.cwr_shape.specs.Stages.{is_grh}
-use Rattle.cwr_shape.specs.Left.{Any}
-use Rattle.cwr_shape.specs.Tallies.{is_header_of, open_type, open_group, open_records}
+use Rattle.cwr_shape.specs.Format.Outlines.{Continues}
+use Rattle.cwr_shape.specs.Format.LastSymbols.{is_grh}
+use Rattle.cwr_shape.specs.Format.AnyTransmission.{Any}
+use Rattle.cwr_shape.specs.Format.NextSymbols.{is_header_of, open_type, open_group, open_records}
 use Rattle.cwr_values.specs.declared.items.Item.{Item}
 use Rattle.cwr_values.specs.declared.items.Item.TheVariants.{Opened, GroupOpened, Transaction, GroupClosed}
-use Rattle.cwr_values.specs.Values.{symbol_of}
-use Rattle.cwr_values.specs.Begins.{row_after, rows_after, rows_so_far}
+use Rattle.cwr_values.specs.Format.Values.{symbol_of}
+use Rattle.cwr_values.specs.Format.Begins.{row_after, rows_after, rows_so_far}
 use Rattle.cwr_values.proofs.RowAt.{rows_so_far-snoc, length-rows_so_far}
-use Rattle.cwr_judge.specs.Items.{stands_in_transaction, record_sequence, continues_transaction, ends_transaction, transaction_at_end, own_item, items_at, items_after, items}
-use Rattle.cwr_judge.specs.Open.{items_so_far, open_of, continues_open, ended_transaction, item_of, Closes}
+use Rattle.cwr_judge.specs.Format.Items.{stands_in_transaction, record_sequence, continues_transaction, ends_transaction, transaction_at_end, own_item, items_at, items_after, items}
+use Rattle.cwr_judge.specs.Steps.Open.{items_so_far, open_of, continues_open, ended_transaction, item_of, Closes}
 use Rattle.cwr_judge.proofs.ItemsOfTransactions.{items-append, last-snoc, idle, snoc_of, all_last}
 use Rattle.cwr_judge.proofs.OneMoreRecord.{inner_record_symbol, is_header, count_after_header, first_sequence, row_sequence, goes_inside, open_inside, open_outside, some_open, open_header}
 

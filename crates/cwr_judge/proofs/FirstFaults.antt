@@ -13,15 +13,15 @@ use Rattle.cwr_fields.specs.declared.codes.Role.{Role}
 use Rattle.cwr_fields.specs.declared.codes.Role.TheVariants.{Assignor, Acquirer}
 use Rattle.cwr_fields.specs.declared.codes.TransactionType.{TransactionType}
 use Rattle.cwr_fields.specs.declared.codes.TransactionType.TheVariants.{Agreement, NewWork, RevisedWork, Acknowledgement}
-use Rattle.cwr_fields.specs.Codes.{role_code, type_code}
-use Rattle.cwr_fields.specs.Cells.{Holds}
+use Rattle.cwr_fields.specs.Format.Codes.{role_code, type_code}
+use Rattle.cwr_fields.specs.Format.Cells.{Holds}
 use Rattle.cwr_fields.proofs.CellTests.{holds_test, holds_sound}
 use Rattle.cwr_layouts.specs.declared.kinds.Kind.{Kind}
 use Rattle.cwr_layouts.specs.declared.kinds.Kind.TheVariants as kinds
 use Rattle.cwr_layouts.specs.declared.layouts.Field.{Field}
-use Rattle.cwr_layouts.specs.Layouts.{FieldLayout, layout, field_at, field_placed}
-use Rattle.cwr_layouts.specs.Views.{field_view}
-use Rattle.cwr_layouts.specs.Held.{HeldLine, held_kind, held_cell}
+use Rattle.cwr_layouts.specs.Format.Layouts.{FieldLayout, layout, field_at, field_placed}
+use Rattle.cwr_layouts.specs.Steps.Views.{field_view}
+use Rattle.cwr_layouts.specs.Steps.Held.{HeldLine, held_kind, held_cell}
 use Rattle.cwr_layouts.proofs.FieldStarts.{field_at-placed}
 use Rattle.cwr_layouts.proofs.HeldLaws.{held_cell_there}
 use Rattle.cwr_shape.specs.declared.symbols.Symbol.{Symbol}
@@ -29,12 +29,12 @@ use Rattle.cwr_shape.specs.declared.symbols.Symbol.TheVariants.{Ipa, Grh}
 use Rattle.cwr_shape.specs.declared.reasons.Reason.{Reason}
 use Rattle.cwr_shape.specs.declared.tallies.Bar.{Bar}
 use Rattle.cwr_shape.specs.declared.tallies.Bar.TheVariants as bars
-use Rattle.cwr_shape.specs.Ranges.{LimitValues}
-use Rattle.cwr_shape.specs.Numbers.{symbol_kind, number_in, IsNumberAt}
-use Rattle.cwr_shape.specs.Candidates.{candidates, role_in, type_in}
-use Rattle.cwr_shape.specs.Tallies.{IsBarred, IsBarredAmong}
+use Rattle.cwr_shape.specs.Format.Ranges.{LimitValues}
+use Rattle.cwr_shape.specs.Format.Numbers.{symbol_kind, number_in, IsNumberAt}
+use Rattle.cwr_shape.specs.Format.Candidates.{candidates, role_in, type_in}
+use Rattle.cwr_shape.specs.Format.NextSymbols.{IsBarred, IsBarredAmong}
 use Rattle.cwr_shape.proofs.WhatMayCome.{comes_any}
-use Rattle.cwr_judge.specs.Judged.{named_symbol, bar_reason, IsTextFault, IsGoodNextCell, IsFaultBy, IsGoodAt, HasReasonAt, MayComeOf, IsWrongAt, barred, IsFirstWrong, IsFirstBy, IsFirstFault}
+use Rattle.cwr_judge.specs.Steps.Judged.{named_symbol, bar_reason, IsTextFault, IsGoodNextCell, IsFaultBy, IsGoodAt, HasReasonAt, MayComeOf, IsWrongAt, barred, IsFirstWrong, IsFirstBy, IsFirstFault}
 use Rattle.cwr_judge.proofs.NumberCells.{one_number, at_place}
 use Rattle.cwr_judge.proofs.NextLines.{numbers_next, number_next, some_number}
 

@@ -5,27 +5,27 @@ use Rattle.std.specs.List.{IsAmong}
 use Rattle.std.proofs.lemmas.Option.{get_or_from_slice_get}
 use Rattle.std.proofs.lemmas.List.{length-map}
 use Rattle.cwr_fields.specs.declared.cell_types.CellFault.{CellFault}
-use Rattle.cwr_fields.specs.Bytes.{digits}
-use Rattle.cwr_fields.specs.Cells.{Holds, HasFault}
+use Rattle.cwr_fields.specs.Format.Bytes.{digits}
+use Rattle.cwr_fields.specs.Format.Cells.{Holds, HasFault}
 use Rattle.cwr_layouts.specs.declared.kinds.Kind.{Kind}
-use Rattle.cwr_layouts.specs.Layouts.{FieldLayout, field_at}
-use Rattle.cwr_layouts.specs.Records.{RecordValue}
-use Rattle.cwr_layouts.specs.Lines.{line_kind}
-use Rattle.cwr_layouts.specs.Held.{HeldLine, held_cell, held_cells}
+use Rattle.cwr_layouts.specs.Format.Layouts.{FieldLayout, field_at}
+use Rattle.cwr_layouts.specs.Format.Records.{RecordValue}
+use Rattle.cwr_layouts.specs.Format.Lines.{line_kind}
+use Rattle.cwr_layouts.specs.Steps.Held.{HeldLine, held_cell, held_cells}
 use Rattle.cwr_layouts.proofs.HeldLaws.{held_cell-at, length-held_cell}
 use Rattle.cwr_shape.specs.declared.symbols.Symbol.{Symbol}
 use Rattle.cwr_shape.specs.declared.reasons.Reason.TheVariants as reasons
 use Rattle.cwr_shape.specs.declared.tallies.Bar.TheVariants as bars
-use Rattle.cwr_shape.specs.Ranges.{LimitValues}
-use Rattle.cwr_shape.specs.Outlines.{GroupOutline, IsWithin, symbols_of}
-use Rattle.cwr_shape.specs.Numbers.{IsNumberAt, symbol_kind, number_in, numbers_of, lengths_of}
-use Rattle.cwr_shape.specs.Candidates.{BeginsAmong}
-use Rattle.cwr_shape.specs.Tallies.{ContinuesWith}
-use Rattle.cwr_values.specs.Values.{symbol_of}
-use Rattle.cwr_values.specs.Begins.{rows_so_far}
+use Rattle.cwr_shape.specs.Format.Ranges.{LimitValues}
+use Rattle.cwr_shape.specs.Format.Outlines.{GroupOutline, IsWithin, symbols_of}
+use Rattle.cwr_shape.specs.Format.Numbers.{IsNumberAt, symbol_kind, number_in, numbers_of, lengths_of}
+use Rattle.cwr_shape.specs.Format.Candidates.{BeginsAmong}
+use Rattle.cwr_shape.specs.Format.NextSymbols.{ContinuesWith}
+use Rattle.cwr_values.specs.Format.Values.{symbol_of}
+use Rattle.cwr_values.specs.Format.Begins.{rows_so_far}
 use Rattle.cwr_values.proofs.RowAt.{length-rows_so_far}
-use Rattle.cwr_judge.specs.Reasons.{Applies, IsReason, IsNumber, cell_of, field_of}
-use Rattle.cwr_judge.specs.Judged.{MayComeOf, named_symbol}
+use Rattle.cwr_judge.specs.Format.Reasons.{Applies, IsReason, IsNumber, cell_of, field_of}
+use Rattle.cwr_judge.specs.Steps.Judged.{MayComeOf, named_symbol}
 use Rattle.cwr_judge.proofs.FirstFaults.{candidate_kind}
 use Rattle.cwr_judge.proofs.FrontsBeforeFaults.{GoodBelow, symbol_below}
 use Rattle.cwr_judge.proofs.NoneAtFaults.{among_all}

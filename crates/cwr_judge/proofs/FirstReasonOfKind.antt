@@ -4,10 +4,10 @@ use Rattle.std.specs.Prelude.{Option, Some, None, slice_index_or, option_and_the
 use Rattle.std.specs.List.{AllZip, AllByRecursion}
 use Rattle.cwr_fields.specs.declared.cell_types.CellFault.{CellFault}
 use Rattle.cwr_layouts.specs.declared.kinds.Kind.{Kind}
-use Rattle.cwr_layouts.specs.Layouts.{FieldLayout, field_at}
-use Rattle.cwr_layouts.specs.Records.{RecordValue, IsRecord}
-use Rattle.cwr_layouts.specs.Lines.{IsLineOf, line_kind}
-use Rattle.cwr_layouts.specs.Held.{HeldLine, IsCutAs, held_kind, held_cells}
+use Rattle.cwr_layouts.specs.Format.Layouts.{FieldLayout, field_at}
+use Rattle.cwr_layouts.specs.Format.Records.{RecordValue, IsRecord}
+use Rattle.cwr_layouts.specs.Format.Lines.{IsLineOf, line_kind}
+use Rattle.cwr_layouts.specs.Steps.Held.{HeldLine, IsCutAs, held_kind, held_cells}
 use Rattle.cwr_shape.specs.declared.symbols.Symbol.{Symbol}
 use Rattle.cwr_shape.specs.declared.limits.LimitKind.{LimitKind}
 use Rattle.cwr_shape.specs.declared.limits.LimitKind.TheVariants as limit_kinds
@@ -15,17 +15,17 @@ use Rattle.cwr_shape.specs.declared.reasons.Reason.{Reason}
 use Rattle.cwr_shape.specs.declared.reasons.Reason.TheVariants as reasons
 use Rattle.cwr_shape.specs.declared.tallies.Bar.{Bar}
 use Rattle.cwr_shape.specs.declared.tallies.Bar.TheVariants as bars
-use Rattle.cwr_shape.specs.Ranges.{LimitValues}
-use Rattle.cwr_shape.specs.Outlines.{KeepsTo}
-use Rattle.cwr_shape.specs.Left.{Any}
-use Rattle.cwr_shape.specs.Numbers.{numbers_of, lengths_of}
-use Rattle.cwr_shape.specs.Candidates.{candidates, ContinuesAmong}
-use Rattle.cwr_shape.specs.Bars.{Bars}
-use Rattle.cwr_shape.specs.Tallies.{ContinuesWith, IsBarredAmong, IsBarredFirst}
-use Rattle.cwr_values.specs.Values.{symbol_of}
-use Rattle.cwr_values.specs.Begins.{rows_so_far}
-use Rattle.cwr_judge.specs.Reasons.{Applies, IsReason, field_of, line_candidates, rank}
-use Rattle.cwr_judge.specs.Judged.{bar_reason}
+use Rattle.cwr_shape.specs.Format.Ranges.{LimitValues}
+use Rattle.cwr_shape.specs.Format.Outlines.{KeepsTo}
+use Rattle.cwr_shape.specs.Format.AnyTransmission.{Any}
+use Rattle.cwr_shape.specs.Format.Numbers.{numbers_of, lengths_of}
+use Rattle.cwr_shape.specs.Format.Candidates.{candidates, ContinuesAmong}
+use Rattle.cwr_shape.specs.Format.Bars.{Bars}
+use Rattle.cwr_shape.specs.Format.NextSymbols.{ContinuesWith, IsBarredAmong, IsBarredFirst}
+use Rattle.cwr_values.specs.Format.Values.{symbol_of}
+use Rattle.cwr_values.specs.Format.Begins.{rows_so_far}
+use Rattle.cwr_judge.specs.Format.Reasons.{Applies, IsReason, field_of, line_candidates, rank}
+use Rattle.cwr_judge.specs.Steps.Judged.{bar_reason}
 use Rattle.cwr_judge.proofs.RecordType.{type_holds, type_has_no_number}
 use Rattle.cwr_judge.proofs.BarsOfLines.{BarsWith, bars_seen, seen_bars, first_bars, any_with}
 use Rattle.cwr_judge.proofs.SymbolsOfLines.{named_by_lines, with_among}

@@ -4,12 +4,12 @@ use Rattle.std.specs.Prelude.{Option, Some, None, IsSomeAnd, slice_get, option_a
 use Rattle.std.specs.List.{AllZip, AllByRecursion, IsAmong}
 use Rattle.std.proofs.lemmas.Option.{slice_get_past}
 use Rattle.std.proofs.lemmas.List.{take_all}
-use Rattle.cwr_fields.specs.Cells.{Holds}
+use Rattle.cwr_fields.specs.Format.Cells.{Holds}
 use Rattle.cwr_layouts.specs.declared.kinds.Kind.{Kind}
-use Rattle.cwr_layouts.specs.Layouts.{FieldLayout, layout, fields_after_type, field_at}
-use Rattle.cwr_layouts.specs.Records.{RecordValue, IsRecord}
-use Rattle.cwr_layouts.specs.Lines.{IsLineOf, line_kind}
-use Rattle.cwr_layouts.specs.Held.{HeldLine, IsCutAs, held_kind, held_cell, held_cells, held_excess}
+use Rattle.cwr_layouts.specs.Format.Layouts.{FieldLayout, layout, fields_after_type, field_at}
+use Rattle.cwr_layouts.specs.Format.Records.{RecordValue, IsRecord}
+use Rattle.cwr_layouts.specs.Format.Lines.{IsLineOf, line_kind}
+use Rattle.cwr_layouts.specs.Steps.Held.{HeldLine, IsCutAs, held_kind, held_cell, held_cells, held_excess}
 use Rattle.cwr_layouts.proofs.HeldLaws.{length-held_cells}
 use Rattle.cwr_shape.specs.declared.symbols.Symbol.{Symbol}
 use Rattle.cwr_shape.specs.declared.limits.LimitKind.TheVariants as limit_kinds
@@ -17,18 +17,18 @@ use Rattle.cwr_shape.specs.declared.reasons.Reason.{Reason}
 use Rattle.cwr_shape.specs.declared.reasons.Reason.TheVariants as reasons
 use Rattle.cwr_shape.specs.declared.tallies.Bar.{Bar}
 use Rattle.cwr_shape.specs.declared.tallies.Bar.TheVariants as bars
-use Rattle.cwr_shape.specs.Ranges.{LimitValues}
-use Rattle.cwr_shape.specs.Outlines.{GroupOutline, Continues, KeepsTo, IsWithin}
-use Rattle.cwr_shape.specs.Left.{Any}
-use Rattle.cwr_shape.specs.Numbers.{IsNumberAt}
-use Rattle.cwr_shape.specs.Candidates.{candidates}
-use Rattle.cwr_shape.specs.Tallies.{ContinuesWith, IsBarred, IsBarredFirst}
-use Rattle.cwr_values.specs.Values.{symbol_of}
-use Rattle.cwr_values.specs.Begins.{rows_so_far}
-use Rattle.cwr_judge.specs.Places.{last_place}
-use Rattle.cwr_judge.specs.Reasons.{Applies, IsReason, field_of}
-use Rattle.cwr_judge.specs.Judged as judged
-use Rattle.cwr_judge.specs.Judged.{IsFirstBy, IsFirstFault, IsWrongAt, HasReasonAt, MayComeOf, named_symbol, bar_reason, barred, cell, past_last}
+use Rattle.cwr_shape.specs.Format.Ranges.{LimitValues}
+use Rattle.cwr_shape.specs.Format.Outlines.{GroupOutline, Continues, KeepsTo, IsWithin}
+use Rattle.cwr_shape.specs.Format.AnyTransmission.{Any}
+use Rattle.cwr_shape.specs.Format.Numbers.{IsNumberAt}
+use Rattle.cwr_shape.specs.Format.Candidates.{candidates}
+use Rattle.cwr_shape.specs.Format.NextSymbols.{ContinuesWith, IsBarred, IsBarredFirst}
+use Rattle.cwr_values.specs.Format.Values.{symbol_of}
+use Rattle.cwr_values.specs.Format.Begins.{rows_so_far}
+use Rattle.cwr_judge.specs.Format.Places.{last_place}
+use Rattle.cwr_judge.specs.Format.Reasons.{Applies, IsReason, field_of}
+use Rattle.cwr_judge.specs.Steps.Judged as judged
+use Rattle.cwr_judge.specs.Steps.Judged.{IsFirstBy, IsFirstFault, IsWrongAt, HasReasonAt, MayComeOf, named_symbol, bar_reason, barred, cell, past_last}
 use Rattle.cwr_judge.proofs.FrontsBeforeFaults.{GoodBelow, symbol_below}
 use Rattle.cwr_judge.proofs.NoneAtFaults.{there_of, named_holds}
 use Rattle.cwr_judge.proofs.SymbolsOfLines.{named_by_lines}

@@ -6,21 +6,21 @@ use Rattle.cwr_fields.specs.declared.codes.Role.{Role}
 use Rattle.cwr_fields.specs.declared.codes.Role.TheVariants.{Assignor, Acquirer}
 use Rattle.cwr_fields.specs.declared.codes.TransactionType.{TransactionType}
 use Rattle.cwr_fields.specs.declared.codes.TransactionType.TheVariants.{Agreement, NewWork, RevisedWork, Acknowledgement}
-use Rattle.cwr_fields.specs.Bytes.{filled}
+use Rattle.cwr_fields.specs.Format.Bytes.{filled}
 use Rattle.cwr_layouts.specs.declared.kinds.Kind.{Kind}
 use Rattle.cwr_layouts.specs.declared.kinds.Kind.TheVariants as kinds
-use Rattle.cwr_layouts.specs.Kinds.{letters, kind_of}
-use Rattle.cwr_layouts.specs.Layouts.{FieldLayout, fields_after_type}
-use Rattle.cwr_layouts.specs.Records.{RecordValue, IsRecord, rest_if, row_cells, row_of}
-use Rattle.cwr_layouts.specs.GoodCells.{AreGood}
-use Rattle.cwr_layouts.specs.Lines.{line_kind, line_cells, line_body, cells_as}
+use Rattle.cwr_layouts.specs.Format.Kinds.{letters, kind_of}
+use Rattle.cwr_layouts.specs.Format.Layouts.{FieldLayout, fields_after_type}
+use Rattle.cwr_layouts.specs.Format.Records.{RecordValue, IsRecord, rest_if, row_cells, row_of}
+use Rattle.cwr_layouts.specs.Format.GoodCells.{AreGood}
+use Rattle.cwr_layouts.specs.Format.Lines.{line_kind, line_cells, line_body, cells_as}
 use Rattle.cwr_layouts.proofs.AllKinds.{kind_of-letters}
 use Rattle.cwr_layouts.proofs.RowLaws.{letters-injective}
 use Rattle.cwr_layouts.proofs.GoodLinesAreRows.{good_cells}
 use Rattle.cwr_shape.specs.declared.symbols.Symbol.{Symbol}
 use Rattle.cwr_shape.specs.declared.symbols.Symbol.TheVariants.{Plain, Ipa, Grh}
-use Rattle.cwr_shape.specs.Candidates.{candidates, role_in, type_in, parties_of, groups_of}
-use Rattle.cwr_values.specs.Values.{symbol_of}
+use Rattle.cwr_shape.specs.Format.Candidates.{candidates, role_in, type_in, parties_of, groups_of}
+use Rattle.cwr_values.specs.Format.Values.{symbol_of}
 use Rattle.cwr_judge.proofs.MixedCells.{taken_at, taken_none, line_parts}
 use Rattle.cwr_judge.proofs.GoodFrontsContinue.{role_held, type_held}
 

@@ -6,26 +6,26 @@ use Rattle.cwr_fields.specs.declared.cell_types.CellType.TheVariants as types
 use Rattle.cwr_fields.specs.declared.tables.Table.TheVariants as tables
 use Rattle.cwr_fields.specs.declared.codes.Role.{Role}
 use Rattle.cwr_fields.specs.declared.codes.TransactionType.{TransactionType}
-use Rattle.cwr_fields.specs.Bytes.{digits}
-use Rattle.cwr_fields.specs.Cells.{Holds}
+use Rattle.cwr_fields.specs.Format.Bytes.{digits}
+use Rattle.cwr_fields.specs.Format.Cells.{Holds}
 use Rattle.cwr_layouts.specs.declared.kinds.Kind.{Kind}
 use Rattle.cwr_layouts.specs.declared.kinds.Kind.TheVariants as kinds
-use Rattle.cwr_layouts.specs.Layouts.{FieldLayout, layout, fields_after_type}
-use Rattle.cwr_layouts.specs.Records.{IsGoodCell, rest_if}
-use Rattle.cwr_layouts.specs.GoodCells.{AreGood}
-use Rattle.cwr_layouts.specs.Held.{HeldLine, IsCutAs, held_kind, held_cell, held_cells}
+use Rattle.cwr_layouts.specs.Format.Layouts.{FieldLayout, layout, fields_after_type}
+use Rattle.cwr_layouts.specs.Format.Records.{IsGoodCell, rest_if}
+use Rattle.cwr_layouts.specs.Format.GoodCells.{AreGood}
+use Rattle.cwr_layouts.specs.Steps.Held.{HeldLine, IsCutAs, held_kind, held_cell, held_cells}
 use Rattle.cwr_layouts.proofs.HeldLaws.{held_cell-at, length-held_cell, length-held_cells}
 use Rattle.cwr_shape.specs.declared.symbols.Symbol.{Symbol}
 use Rattle.cwr_shape.specs.declared.symbols.Symbol.TheVariants.{Ipa, Grh}
 use Rattle.cwr_shape.specs.declared.reasons.Reason.{Reason}
-use Rattle.cwr_shape.specs.Ranges.{LimitValues}
-use Rattle.cwr_shape.specs.Candidates.{candidates, role_in, type_in, parties_of, groups_of}
-use Rattle.cwr_shape.specs.Tallies.{open_type, counts_of, MayCome}
+use Rattle.cwr_shape.specs.Format.Ranges.{LimitValues}
+use Rattle.cwr_shape.specs.Format.Candidates.{candidates, role_in, type_in, parties_of, groups_of}
+use Rattle.cwr_shape.specs.Format.NextSymbols.{open_type, counts_of, MayCome}
 use Rattle.cwr_shape.proofs.WhatMayCome.{comes_any}
-use Rattle.cwr_values.specs.Begins.{numbers_after}
-use Rattle.cwr_judge.specs.GoodFronts.{HasGoodFront}
-use Rattle.cwr_judge.specs.Judged as judged
-use Rattle.cwr_judge.specs.Judged.{IsGoodAt, MayComeOf, IsWrongAt, IsFirstWrong, named_symbol, barred, cell, past_last}
+use Rattle.cwr_values.specs.Format.Begins.{numbers_after}
+use Rattle.cwr_judge.specs.Format.GoodFronts.{HasGoodFront}
+use Rattle.cwr_judge.specs.Steps.Judged as judged
+use Rattle.cwr_judge.specs.Steps.Judged.{IsGoodAt, MayComeOf, IsWrongAt, IsFirstWrong, named_symbol, barred, cell, past_last}
 use Rattle.std.proofs.lemmas.List.{length-drop}
 use Rattle.cwr_judge.proofs.FirstFaults.{candidate_kind}
 use Rattle.cwr_judge.proofs.GoodLines.{good_here}

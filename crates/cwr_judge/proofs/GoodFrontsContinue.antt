@@ -9,29 +9,29 @@ use Rattle.cwr_fields.specs.declared.codes.Role.{Role}
 use Rattle.cwr_fields.specs.declared.codes.Role.TheVariants.{Assignor, Acquirer}
 use Rattle.cwr_fields.specs.declared.codes.TransactionType.{TransactionType}
 use Rattle.cwr_fields.specs.declared.codes.TransactionType.TheVariants.{Agreement, NewWork, RevisedWork, Acknowledgement}
-use Rattle.cwr_fields.specs.Bytes.{filled}
-use Rattle.cwr_fields.specs.Codes.{role_code, type_code}
-use Rattle.cwr_fields.specs.Cells.{Holds}
+use Rattle.cwr_fields.specs.Format.Bytes.{filled}
+use Rattle.cwr_fields.specs.Format.Codes.{role_code, type_code}
+use Rattle.cwr_fields.specs.Format.Cells.{Holds}
 use Rattle.cwr_layouts.specs.declared.kinds.Kind.{Kind}
 use Rattle.cwr_layouts.specs.declared.kinds.Kind.TheVariants as kinds
-use Rattle.cwr_layouts.specs.Kinds.{letters}
-use Rattle.cwr_layouts.specs.Layouts.{FieldLayout, layout, fields_after_type}
-use Rattle.cwr_layouts.specs.Records.{RecordValue, Row, IsRecord, row_cells, row_of}
-use Rattle.cwr_layouts.specs.Lines.{IsLineOf, line_kind, line_cells, has_bad_excess}
+use Rattle.cwr_layouts.specs.Format.Kinds.{letters}
+use Rattle.cwr_layouts.specs.Format.Layouts.{FieldLayout, layout, fields_after_type}
+use Rattle.cwr_layouts.specs.Format.Records.{RecordValue, Row, IsRecord, row_cells, row_of}
+use Rattle.cwr_layouts.specs.Format.Lines.{IsLineOf, line_kind, line_cells, has_bad_excess}
 use Rattle.cwr_layouts.proofs.RowLaws.{row_fits}
-use Rattle.cwr_layouts.specs.GoodCells.{AreGood}
+use Rattle.cwr_layouts.specs.Format.GoodCells.{AreGood}
 use Rattle.cwr_layouts.proofs.GoodLinesAreRows.{carried_in, cells_again, good_cells}
 use Rattle.cwr_shape.specs.declared.symbols.Symbol.{Symbol}
 use Rattle.cwr_shape.specs.declared.symbols.Symbol.TheVariants.{Plain, Ipa, Grh}
-use Rattle.cwr_shape.specs.Ranges.{LimitValues}
-use Rattle.cwr_shape.specs.Outlines.{IsWithin, Continues}
-use Rattle.cwr_shape.specs.Candidates.{candidates, role_in, type_in, parties_of, groups_of}
-use Rattle.cwr_values.specs.Values.{symbol_of}
-use Rattle.cwr_values.specs.Rows.{records_of}
-use Rattle.cwr_values.specs.Begins.{numbers_after, row_after, rows_after, rows_so_far}
+use Rattle.cwr_shape.specs.Format.Ranges.{LimitValues}
+use Rattle.cwr_shape.specs.Format.Outlines.{IsWithin, Continues}
+use Rattle.cwr_shape.specs.Format.Candidates.{candidates, role_in, type_in, parties_of, groups_of}
+use Rattle.cwr_values.specs.Format.Values.{symbol_of}
+use Rattle.cwr_values.specs.Format.Rows.{records_of}
+use Rattle.cwr_values.specs.Format.Begins.{numbers_after, row_after, rows_after, rows_so_far}
 use Rattle.cwr_values.proofs.Witnesses.{witness, witness_fits, completed}
 use Rattle.cwr_values.proofs.RowAt.{rows_split}
-use Rattle.cwr_judge.specs.Places.{Viable}
+use Rattle.cwr_judge.specs.Format.Places.{Viable}
 use Rattle.cwr_judge.proofs.MixedCells.{mixed, mixed_good, mixed_wide, mixed_front, mixed_at_front, mixed_at_back, taken_at, MixedNext, taken_none, wide_only, wide_length, line_parts}
 
 -- ---- the symbol

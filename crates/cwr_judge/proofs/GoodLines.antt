@@ -2,29 +2,29 @@
 use Rattle.std.proofs.Common.{◌≡◌, ℕ, zero, suc, ◌+◌, ◌≤◌, ◌<◌, Bool, true, false, not, cond, List, [], ◌∷◌, length, map, filter, slice_get, refl, sym, ap, subst, ◌∙◌, arith, true≢false}
 use Rattle.std.specs.Prelude.{Option, Some, None, IfSome, IsSomeAnd, option_map, unwrap_or}
 use Rattle.std.specs.List.{AllZip, zip}
-use Rattle.cwr_fields.specs.Bytes.{digits, filled}
+use Rattle.cwr_fields.specs.Format.Bytes.{digits, filled}
 use Rattle.cwr_fields.specs.declared.cell_types.CellType.TheVariants as types
 use Rattle.cwr_fields.specs.declared.tables.Table.TheVariants as tables
 use Rattle.cwr_fields.specs.declared.codes.Role.{Role}
 use Rattle.cwr_fields.specs.declared.codes.Role.TheVariants.{Assignor, Acquirer}
 use Rattle.cwr_fields.specs.declared.codes.TransactionType.{TransactionType}
 use Rattle.cwr_fields.specs.declared.codes.TransactionType.TheVariants.{Agreement, NewWork, RevisedWork, Acknowledgement}
-use Rattle.cwr_fields.specs.Cells.{Holds}
+use Rattle.cwr_fields.specs.Format.Cells.{Holds}
 use Rattle.cwr_layouts.specs.declared.kinds.Kind.{Kind}
 use Rattle.cwr_layouts.specs.declared.kinds.Kind.TheVariants as kinds
-use Rattle.cwr_layouts.specs.Layouts.{FieldLayout, layout, field_at, record_type}
-use Rattle.cwr_layouts.specs.Records.{RecordValue, IsCellOf, IsRecord}
-use Rattle.cwr_layouts.specs.Held.{HeldLine, held_kind, held_cell, held_cells, held_excess, carried_by}
+use Rattle.cwr_layouts.specs.Format.Layouts.{FieldLayout, layout, field_at, record_type}
+use Rattle.cwr_layouts.specs.Format.Records.{RecordValue, IsCellOf, IsRecord}
+use Rattle.cwr_layouts.specs.Steps.Held.{HeldLine, held_kind, held_cell, held_cells, held_excess, carried_by}
 use Rattle.cwr_layouts.proofs.CarriedCells.{carried_in-at}
 use Rattle.cwr_layouts.proofs.HeldLaws.{held_cell-at, length-held_cell, length-held_cells}
 use Rattle.cwr_layouts.proofs.GoodLinesAreRows.{carried_in}
 use Rattle.cwr_shape.specs.declared.symbols.Symbol.{Symbol}
 use Rattle.cwr_shape.specs.declared.symbols.Symbol.TheVariants.{Ipa, Grh}
-use Rattle.cwr_shape.specs.Ranges.{LimitValues}
-use Rattle.cwr_shape.specs.Candidates.{role_in, type_in}
-use Rattle.cwr_shape.specs.Tallies.{MayCome}
-use Rattle.cwr_values.specs.Values.{symbol_of, symbol_by}
-use Rattle.cwr_judge.specs.Judged.{IsNext, IsOfNone, IsGoodNextCell, IsGoodAt, IsNumberCell, HasNumbers, MayComeOf, named_symbol}
+use Rattle.cwr_shape.specs.Format.Ranges.{LimitValues}
+use Rattle.cwr_shape.specs.Format.Candidates.{role_in, type_in}
+use Rattle.cwr_shape.specs.Format.NextSymbols.{MayCome}
+use Rattle.cwr_values.specs.Format.Values.{symbol_of, symbol_by}
+use Rattle.cwr_judge.specs.Steps.Judged.{IsNext, IsOfNone, IsGoodNextCell, IsGoodAt, IsNumberCell, HasNumbers, MayComeOf, named_symbol}
 
 -- ---- the carried cells
 

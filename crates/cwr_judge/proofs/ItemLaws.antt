@@ -7,21 +7,21 @@ use Rattle.std.proofs.lemmas.List.Sums.{sum_by-cons}
 use Rattle.cwr_fields.specs.declared.codes.TransactionType.{TransactionType}
 use Rattle.cwr_layouts.specs.declared.kinds.Kind.{Kind}
 use Rattle.cwr_layouts.specs.declared.kinds.Kind.TheVariants as kinds
-use Rattle.cwr_layouts.specs.Records.{RecordValue, IsRecord, Row, row_of, record_of}
+use Rattle.cwr_layouts.specs.Format.Records.{RecordValue, IsRecord, Row, row_of, record_of}
 use Rattle.cwr_layouts.proofs.RowLaws.{record_of-row_of}
 use Rattle.cwr_shape.specs.declared.limits.Limits.{Limits}
-use Rattle.cwr_shape.specs.Outlines.{symbols_of}
-use Rattle.cwr_shape.specs.Numbers.{group_records}
+use Rattle.cwr_shape.specs.Format.Outlines.{symbols_of}
+use Rattle.cwr_shape.specs.Format.Numbers.{group_records}
 use Rattle.cwr_shape.proofs.HeadFirst.{part_class}
-use Rattle.cwr_values.specs.Values.{GroupValue, TransmissionValue, IsTransaction, IsTransmission, IsGroup, FitsIn, type_of, symbol_of, outline_of}
-use Rattle.cwr_values.specs.Rows.{rows, records_of, lengths_of_value}
+use Rattle.cwr_values.specs.Format.Values.{GroupValue, TransmissionValue, IsTransaction, IsTransmission, IsGroup, FitsIn, type_of, symbol_of, outline_of}
+use Rattle.cwr_values.specs.Format.Rows.{rows, records_of, lengths_of_value}
 use Rattle.cwr_values.proofs.OneCutIntoParts.{IsOnePart}
 use Rattle.cwr_values.proofs.Spelling.{length-records_of}
 use Rattle.cwr_values.proofs.RowsByParts.{rows_of_transactions, rows_of_group, rows_of_groups, foot_row, trailer_row, rows-parts}
 use Rattle.cwr_values.proofs.OneSpelling.{parts_of, symbols-outline}
 use Rattle.cwr_values.specs.declared.items.Item.{Item}
 use Rattle.cwr_values.specs.declared.items.Item.TheVariants.{Opened, GroupOpened, Transaction, GroupClosed, Ended}
-use Rattle.cwr_judge.specs.Items.{stands_in_transaction, record_sequence, continues_transaction, own_item, items_at, items_after, items, group_items, value_items}
+use Rattle.cwr_judge.specs.Format.Items.{stands_in_transaction, record_sequence, continues_transaction, own_item, items_at, items_after, items, group_items, value_items}
 use Rattle.cwr_judge.proofs.ItemsOfTransactions.{items-append, inside_kind, Ready, idle, start, IsInsideRow, items_given, transactions_walked}
 
 -- ---- group by group

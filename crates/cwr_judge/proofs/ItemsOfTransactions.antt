@@ -6,21 +6,21 @@ use Rattle.std.proofs.lemmas.Bool.{ne_eqb}
 use Rattle.std.proofs.lemmas.List.{length-append}
 use Rattle.std.proofs.lemmas.List.Sums.{sum_by-cons}
 use Rattle.std.proofs.Math.Seq.{drop-append_seam}
-use Rattle.cwr_fields.specs.Bytes.{digits, number_of}
+use Rattle.cwr_fields.specs.Format.Bytes.{digits, number_of}
 use Rattle.cwr_fields.proofs.Digits.{number_of-digits}
 use Rattle.cwr_fields.specs.declared.codes.TransactionType.{TransactionType}
 use Rattle.cwr_layouts.specs.declared.kinds.Kind.{Kind}
 use Rattle.cwr_layouts.specs.declared.kinds.Kind.TheVariants as kinds
-use Rattle.cwr_layouts.specs.Layouts.{fields_after_type}
-use Rattle.cwr_layouts.specs.Records.{RecordValue, IsRecord, Row, row_cells, row_of, record_of}
+use Rattle.cwr_layouts.specs.Format.Layouts.{fields_after_type}
+use Rattle.cwr_layouts.specs.Format.Records.{RecordValue, IsRecord, Row, row_cells, row_of, record_of}
 use Rattle.cwr_layouts.proofs.RowLaws.{record_of-row_of}
 use Rattle.cwr_shape.proofs.HeadFirst.{part_class}
-use Rattle.cwr_values.specs.Values.{symbol_by}
+use Rattle.cwr_values.specs.Format.Values.{symbol_by}
 use Rattle.cwr_values.proofs.RowsByParts.{rows_inside, rows_of_transactions}
 use Rattle.cwr_values.specs.declared.items.Item.{Item}
 use Rattle.cwr_values.specs.declared.items.Item.TheVariants.{Transaction}
-use Rattle.cwr_judge.specs.Items.{stands_in_transaction, record_sequence, continues_transaction, ends_transaction, transaction_at_end, own_item, items_at, items_after}
-use Rattle.cwr_judge.specs.Items.{stands_in_transaction, record_sequence, continues_transaction, ends_transaction, transaction_at_end, own_item, items_at, items_after}
+use Rattle.cwr_judge.specs.Format.Items.{stands_in_transaction, record_sequence, continues_transaction, ends_transaction, transaction_at_end, own_item, items_at, items_after}
+use Rattle.cwr_judge.specs.Format.Items.{stands_in_transaction, record_sequence, continues_transaction, ends_transaction, transaction_at_end, own_item, items_at, items_after}
 
 pub items-append : (before xs ys : List Row) → items_after before (xs ++ ys) ≡ items_after before xs ++ items_after (before ++ xs) ys
 unfolding items_after

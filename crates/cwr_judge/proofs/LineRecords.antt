@@ -6,21 +6,21 @@ use Rattle.std.proofs.lemmas.List.{take_all}
 use Rattle.cwr_fields.proofs.LineFeeds.{NoLf}
 use Rattle.cwr_layouts.specs.declared.kinds.Kind.{Kind}
 use Rattle.cwr_layouts.specs.declared.kinds.Kind.TheVariants as kinds
-use Rattle.cwr_layouts.specs.Layouts.{FieldLayout, layout, fields_after_type}
-use Rattle.cwr_layouts.specs.Records.{RecordValue, Row, IsRecord, row_of}
-use Rattle.cwr_layouts.specs.GoodCells.{AreGood}
-use Rattle.cwr_layouts.specs.Lines.{IsLineOf, line_kind, line_cells}
+use Rattle.cwr_layouts.specs.Format.Layouts.{FieldLayout, layout, fields_after_type}
+use Rattle.cwr_layouts.specs.Format.Records.{RecordValue, Row, IsRecord, row_of}
+use Rattle.cwr_layouts.specs.Format.GoodCells.{AreGood}
+use Rattle.cwr_layouts.specs.Format.Lines.{IsLineOf, line_kind, line_cells}
 use Rattle.cwr_layouts.proofs.CutLaws.{line_is_cut}
 use Rattle.cwr_layouts.proofs.RowLaws.{IsRow-row_of}
 use Rattle.cwr_layouts.proofs.GoodLinesAreRows.{good_line_is_row}
 use Rattle.cwr_shape.specs.declared.symbols.Symbol.{Symbol}
 use Rattle.cwr_shape.specs.declared.symbols.Symbol.TheVariants.{Plain}
-use Rattle.cwr_shape.specs.Ranges.{LimitValues}
-use Rattle.cwr_shape.specs.Candidates.{candidates}
-use Rattle.cwr_shape.specs.Tallies.{MayCome}
-use Rattle.cwr_values.specs.Values.{symbol_of}
-use Rattle.cwr_values.specs.Begins.{numbers_after}
-use Rattle.cwr_judge.specs.GoodFronts.{HasGoodFront}
+use Rattle.cwr_shape.specs.Format.Ranges.{LimitValues}
+use Rattle.cwr_shape.specs.Format.Candidates.{candidates}
+use Rattle.cwr_shape.specs.Format.NextSymbols.{MayCome}
+use Rattle.cwr_values.specs.Format.Values.{symbol_of}
+use Rattle.cwr_values.specs.Format.Begins.{numbers_after}
+use Rattle.cwr_judge.specs.Format.GoodFronts.{HasGoodFront}
 use Rattle.cwr_judge.proofs.FrontCells.{symbol_named}
 use Rattle.cwr_judge.proofs.MixedCells.{line_parts, wide_length}
 use Rattle.cwr_judge.proofs.GoodFrontsContinue.{party_symbol, group_symbol, only_among}

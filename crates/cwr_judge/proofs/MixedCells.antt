@@ -3,17 +3,17 @@ use Rattle.std.proofs.Common.{◌≡◌, ℕ, zero, suc, ◌+◌, ◌-◌, ◌<�
 use Rattle.std.specs.Prelude.{Option, Some, None, slice_get}
 use Rattle.std.specs.List.{AllZip}
 use Rattle.std.proofs.lemmas.List.{length-append, length-replicate, length-drop, replicate-append-replicate, take-append-le}
-use Rattle.cwr_fields.specs.Bytes.{filled}
+use Rattle.cwr_fields.specs.Format.Bytes.{filled}
 use Rattle.cwr_layouts.specs.declared.kinds.Kind.{Kind}
-use Rattle.cwr_layouts.specs.Kinds.{letters}
-use Rattle.cwr_layouts.specs.Layouts.{FieldLayout, fields_after_type, total_width, line_width, record_type}
-use Rattle.cwr_layouts.specs.Records.{RecordValue, IsRecord, rest_if, row_of}
-use Rattle.cwr_layouts.specs.Lines.{line_kind, line_cells, line_body, cells_as, pieces}
+use Rattle.cwr_layouts.specs.Format.Kinds.{letters}
+use Rattle.cwr_layouts.specs.Format.Layouts.{FieldLayout, fields_after_type, total_width, line_width, record_type}
+use Rattle.cwr_layouts.specs.Format.Records.{RecordValue, IsRecord, rest_if, row_of}
+use Rattle.cwr_layouts.specs.Format.Lines.{line_kind, line_cells, line_body, cells_as, pieces}
 use Rattle.cwr_layouts.proofs.RowLaws.{Fits}
-use Rattle.cwr_layouts.specs.GoodCells.{AreGood}
+use Rattle.cwr_layouts.specs.Format.GoodCells.{AreGood}
 use Rattle.cwr_layouts.proofs.GoodLinesAreRows.{total-cons, pieces_wide, letters-of}
 use Rattle.cwr_shape.specs.declared.symbols.Symbol.{Symbol}
-use Rattle.cwr_values.specs.Values.{symbol_of}
+use Rattle.cwr_values.specs.Format.Values.{symbol_of}
 
 -- ---- the first cells of one list, and the others of another
 

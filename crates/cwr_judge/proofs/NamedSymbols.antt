@@ -9,8 +9,8 @@ use Rattle.cwr_layouts.specs.declared.kinds.Kind.{Kind}
 use Rattle.cwr_layouts.specs.declared.kinds.Kind.TheVariants as kinds
 use Rattle.cwr_shape.specs.declared.symbols.Symbol.{Symbol}
 use Rattle.cwr_shape.specs.declared.symbols.Symbol.TheVariants.{Ipa, Grh}
-use Rattle.cwr_shape.specs.Candidates.{candidates, role_in, type_in, parties_of, groups_of}
-use Rattle.cwr_judge.specs.Judged.{named_symbol}
+use Rattle.cwr_shape.specs.Format.Candidates.{candidates, role_in, type_in, parties_of, groups_of}
+use Rattle.cwr_judge.specs.Steps.Judged.{named_symbol}
 use Rattle.cwr_judge.proofs.FrontCells.{among_itself}
 use Rattle.cwr_judge.proofs.MixedCells.{taken_at, taken_none}
 

@@ -4,13 +4,13 @@ use Rattle.std.specs.Prelude.{Option, Some, None, ◌==◌}
 use Rattle.std.proofs.lemmas.Bool.{eqb-true}
 use Rattle.cwr_fields.specs.declared.cell_types.CellType.{CellType}
 use Rattle.cwr_fields.specs.declared.cell_types.CellType.TheVariants as types
-use Rattle.cwr_fields.specs.Cells.{Holds}
+use Rattle.cwr_fields.specs.Format.Cells.{Holds}
 use Rattle.cwr_layouts.specs.declared.kinds.Kind.{Kind}
 use Rattle.cwr_layouts.specs.declared.kinds.Kind.TheVariants as kinds
-use Rattle.cwr_layouts.specs.Layouts.{FieldLayout, field_at}
+use Rattle.cwr_layouts.specs.Format.Layouts.{FieldLayout, field_at}
 use Rattle.cwr_shape.specs.declared.symbols.Symbol.TheVariants.{Ipa, Grh}
-use Rattle.cwr_shape.specs.Candidates.{role_in, type_in}
-use Rattle.cwr_judge.specs.Judged.{named_symbol}
+use Rattle.cwr_shape.specs.Format.Candidates.{role_in, type_in}
+use Rattle.cwr_judge.specs.Steps.Judged.{named_symbol}
 use Rattle.cwr_judge.proofs.FirstFaults.{no_role, no_type}
 
 abbrev type_at : Option FieldLayout → CellType

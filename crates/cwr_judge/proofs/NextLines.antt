@@ -5,30 +5,30 @@ use Rattle.std.specs.List.{AllZip, list_any, zip}
 use Rattle.std.proofs.lemmas.Bool.{or_parts}
 use Rattle.std.proofs.lemmas.List.{length-drop}
 use Rattle.cwr_fields.specs.declared.codes.TransactionType.{TransactionType}
-use Rattle.cwr_fields.specs.Bytes.{digits}
+use Rattle.cwr_fields.specs.Format.Bytes.{digits}
 use Rattle.cwr_fields.proofs.LineFeeds.{NoLf}
 use Rattle.cwr_layouts.specs.declared.kinds.Kind.{Kind}
 use Rattle.cwr_layouts.specs.declared.kinds.Kind.TheVariants as kinds
-use Rattle.cwr_layouts.specs.Layouts.{FieldLayout, fields_after_type, field_at}
-use Rattle.cwr_layouts.specs.Records.{RecordValue, IsRecord, IsCellOf, IsGoodCell, carried_fields, rest_if, record_of, row_of}
-use Rattle.cwr_layouts.specs.Lines.{IsLineOf}
-use Rattle.cwr_layouts.specs.Held.{HeldLine, IsHeld, HoldsLine, held_kind, held_cells, held_cell, held_record, carried_by}
+use Rattle.cwr_layouts.specs.Format.Layouts.{FieldLayout, fields_after_type, field_at}
+use Rattle.cwr_layouts.specs.Format.Records.{RecordValue, IsRecord, IsCellOf, IsGoodCell, carried_fields, rest_if, record_of, row_of}
+use Rattle.cwr_layouts.specs.Format.Lines.{IsLineOf}
+use Rattle.cwr_layouts.specs.Steps.Held.{HeldLine, IsHeld, HoldsLine, held_kind, held_cells, held_cell, held_record, carried_by}
 use Rattle.cwr_layouts.proofs.HeldLaws.{held_line_is_cut, length-held_cells, held_cell-at}
 use Rattle.cwr_layouts.proofs.CutLaws.{line_is_cut}
 use Rattle.cwr_layouts.proofs.RowLaws.{IsRow-row_of, record_of-row_of}
-use Rattle.cwr_layouts.specs.GoodCells.{AreGood}
+use Rattle.cwr_layouts.specs.Format.GoodCells.{AreGood}
 use Rattle.cwr_layouts.proofs.GoodLinesAreRows.{carried_in, good_line_is_row, line_is_good}
 use Rattle.cwr_shape.specs.declared.symbols.Symbol.{Symbol}
 use Rattle.cwr_shape.specs.declared.symbols.Symbol.TheVariants.{Plain}
 use Rattle.cwr_shape.specs.declared.tallies.Counts.{Counts}
-use Rattle.cwr_shape.specs.Ranges.{LimitValues}
-use Rattle.cwr_shape.specs.Numbers.{symbol_kind, number_in, IsNumberAt}
-use Rattle.cwr_shape.specs.Tallies.{MayCome, open_type, counts_of, is_header_of}
-use Rattle.cwr_shape.specs.Counting.{expected_numbers, expected_inside}
+use Rattle.cwr_shape.specs.Format.Ranges.{LimitValues}
+use Rattle.cwr_shape.specs.Format.Numbers.{symbol_kind, number_in, IsNumberAt}
+use Rattle.cwr_shape.specs.Format.NextSymbols.{MayCome, open_type, counts_of, is_header_of}
+use Rattle.cwr_shape.specs.Format.ExpectedNumbers.{expected_numbers, expected_inside}
 use Rattle.cwr_shape.proofs.NumbersAreCounted.{numbers_counted}
 use Rattle.cwr_shape.proofs.WhatMayCome.{comes_any}
-use Rattle.cwr_values.specs.Values.{symbol_of}
-use Rattle.cwr_judge.specs.Judged.{HasNumbers, IsNext}
+use Rattle.cwr_values.specs.Format.Values.{symbol_of}
+use Rattle.cwr_judge.specs.Steps.Judged.{HasNumbers, IsNext}
 use Rattle.cwr_judge.proofs.NumberCells.{one_number, known_of, symbol_kind-of}
 
 -- the numbers of the next record, if it is of the kind

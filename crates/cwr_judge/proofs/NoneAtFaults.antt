@@ -7,16 +7,16 @@ use Rattle.cwr_fields.specs.declared.cell_types.CellType.{CellType}
 use Rattle.cwr_fields.specs.declared.cell_types.CellType.TheVariants as types
 use Rattle.cwr_fields.specs.declared.codes.Role.{Role}
 use Rattle.cwr_fields.specs.declared.codes.TransactionType.{TransactionType}
-use Rattle.cwr_fields.specs.Bytes.{digits}
-use Rattle.cwr_fields.specs.Cells.{Holds}
+use Rattle.cwr_fields.specs.Format.Bytes.{digits}
+use Rattle.cwr_fields.specs.Format.Cells.{Holds}
 use Rattle.cwr_fields.proofs.Digits.{length-digits}
 use Rattle.cwr_fields.proofs.Spellings.{are_digits-digits, number_spelled}
 use Rattle.cwr_layouts.specs.declared.kinds.Kind.{Kind}
 use Rattle.cwr_layouts.specs.declared.kinds.Kind.TheVariants as kinds
-use Rattle.cwr_layouts.specs.Layouts.{FieldLayout, layout, fields_after_type}
-use Rattle.cwr_layouts.specs.Records.{IsGoodCell, rest_if}
-use Rattle.cwr_layouts.specs.GoodCells.{AreGood}
-use Rattle.cwr_layouts.specs.Held.{HeldLine, IsCutAs, held_kind, held_cell, held_cells, held_excess}
+use Rattle.cwr_layouts.specs.Format.Layouts.{FieldLayout, layout, fields_after_type}
+use Rattle.cwr_layouts.specs.Format.Records.{IsGoodCell, rest_if}
+use Rattle.cwr_layouts.specs.Format.GoodCells.{AreGood}
+use Rattle.cwr_layouts.specs.Steps.Held.{HeldLine, IsCutAs, held_kind, held_cell, held_cells, held_excess}
 use Rattle.cwr_layouts.proofs.HeldLaws.{length-held_cell}
 use Rattle.cwr_shape.specs.declared.symbols.Symbol.{Symbol}
 use Rattle.cwr_shape.specs.declared.symbols.Symbol.TheVariants.{Ipa, Grh}
@@ -25,14 +25,14 @@ use Rattle.cwr_shape.specs.declared.reasons.Reason.{Reason}
 use Rattle.cwr_shape.specs.declared.reasons.Reason.TheVariants as reasons
 use Rattle.cwr_shape.specs.declared.tallies.Bar.{Bar}
 use Rattle.cwr_shape.specs.declared.tallies.Bar.TheVariants as bars
-use Rattle.cwr_shape.specs.Ranges.{LimitValues}
-use Rattle.cwr_shape.specs.Candidates.{candidates, role_in, type_in, parties_of, groups_of}
-use Rattle.cwr_shape.specs.Tallies.{open_type, counts_of, MayCome, IsBarred, IsBarredAmong}
+use Rattle.cwr_shape.specs.Format.Ranges.{LimitValues}
+use Rattle.cwr_shape.specs.Format.Candidates.{candidates, role_in, type_in, parties_of, groups_of}
+use Rattle.cwr_shape.specs.Format.NextSymbols.{open_type, counts_of, MayCome, IsBarred, IsBarredAmong}
 use Rattle.cwr_shape.proofs.WhatMayCome.{comes_any, comes_unbarred}
-use Rattle.cwr_values.specs.Begins.{numbers_after}
-use Rattle.cwr_judge.specs.GoodFronts.{HasGoodFront}
-use Rattle.cwr_judge.specs.Judged as judged
-use Rattle.cwr_judge.specs.Judged.{MayComeOf, HasReasonAt, IsWrongAt, named_symbol, barred, cell, past_last}
+use Rattle.cwr_values.specs.Format.Begins.{numbers_after}
+use Rattle.cwr_judge.specs.Format.GoodFronts.{HasGoodFront}
+use Rattle.cwr_judge.specs.Steps.Judged as judged
+use Rattle.cwr_judge.specs.Steps.Judged.{MayComeOf, HasReasonAt, IsWrongAt, named_symbol, barred, cell, past_last}
 use Rattle.cwr_judge.proofs.FirstFaults.{candidate_kind}
 use Rattle.cwr_judge.proofs.FrontCells.{of_parties, of_groups}
 use Rattle.cwr_judge.proofs.FrontsBeforeFaults.{GoodIn}

@@ -4,29 +4,29 @@ use Rattle.std.specs.Prelude.{Option, Some, None, IsTrue, IsSomeAnd}
 use Rattle.std.specs.List.{list_any}
 use Rattle.std.proofs.lemmas.Bool.{or_parts}
 use Rattle.std.proofs.lemmas.List.{length-drop, length-take-le}
-use Rattle.cwr_fields.specs.Bytes.{digits}
-use Rattle.cwr_fields.specs.Cells.{type_width}
+use Rattle.cwr_fields.specs.Format.Bytes.{digits}
+use Rattle.cwr_fields.specs.Format.Cells.{type_width}
 use Rattle.cwr_layouts.specs.declared.kinds.Kind.{Kind}
 use Rattle.cwr_layouts.specs.declared.kinds.Kind.TheVariants as kinds
 use Rattle.cwr_layouts.specs.declared.layouts.Field.{Field}
-use Rattle.cwr_layouts.specs.Kinds.{is_in_transaction}
-use Rattle.cwr_layouts.specs.Layouts.{FieldLayout, layout, field_at, field_placed}
-use Rattle.cwr_layouts.specs.Views.{field_view}
-use Rattle.cwr_layouts.specs.Records.{RecordValue}
-use Rattle.cwr_layouts.specs.Held.{HeldLine, held_kind, held_cell, held_cells, held_record, carried_by}
+use Rattle.cwr_layouts.specs.Format.Kinds.{is_in_transaction}
+use Rattle.cwr_layouts.specs.Format.Layouts.{FieldLayout, layout, field_at, field_placed}
+use Rattle.cwr_layouts.specs.Steps.Views.{field_view}
+use Rattle.cwr_layouts.specs.Format.Records.{RecordValue}
+use Rattle.cwr_layouts.specs.Steps.Held.{HeldLine, held_kind, held_cell, held_cells, held_record, carried_by}
 use Rattle.cwr_layouts.proofs.FieldStarts.{field_at-placed}
 use Rattle.cwr_layouts.proofs.HeldLaws.{length-held_cell}
 use Rattle.cwr_layouts.proofs.TypeWidths.{type_width-field}
 use Rattle.cwr_shape.specs.declared.symbols.Symbol.{Symbol}
 use Rattle.cwr_shape.specs.declared.tallies.Bar.{Bar}
-use Rattle.cwr_shape.specs.Ranges.{LimitValues}
-use Rattle.cwr_shape.specs.Outlines.{Continues}
-use Rattle.cwr_shape.specs.Left.{Any}
-use Rattle.cwr_shape.specs.Numbers.{symbol_kind, IsNumberAt}
-use Rattle.cwr_shape.specs.Tallies.{MayCome, IsBarred}
+use Rattle.cwr_shape.specs.Format.Ranges.{LimitValues}
+use Rattle.cwr_shape.specs.Format.Outlines.{Continues}
+use Rattle.cwr_shape.specs.Format.AnyTransmission.{Any}
+use Rattle.cwr_shape.specs.Format.Numbers.{symbol_kind, IsNumberAt}
+use Rattle.cwr_shape.specs.Format.NextSymbols.{MayCome, IsBarred}
 use Rattle.cwr_shape.proofs.WhatMayCome.{comes_any, comes_unbarred}
-use Rattle.cwr_values.specs.Values.{symbol_of, symbol_by}
-use Rattle.cwr_judge.specs.Judged.{HasNumberAt, HasNumbers, Lacks, IsNext}
+use Rattle.cwr_values.specs.Format.Values.{symbol_of, symbol_by}
+use Rattle.cwr_judge.specs.Steps.Judged.{HasNumberAt, HasNumbers, Lacks, IsNext}
 
 -- where some record of the kind may come, one number belongs in its field
 pub one_number : (xs : List Symbol) (kind : Kind) (j : ℕ) (m n : Option ℕ) (s : Symbol) → symbol_kind s ≡ kind → Continues Any (xs ++ s ∷ []) → IsNumberAt xs kind j m → IsNumberAt xs kind j n → m ≡ n

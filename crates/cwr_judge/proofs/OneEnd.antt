@@ -3,20 +3,20 @@ use Rattle.std.proofs.Common.{◌≡◌, ℕ, ◌≤◌, Bool, true, false, List
 use Rattle.std.specs.Prelude.{option_and_then, ◌⊎◌}
 use Rattle.std.proofs.lemmas.Bool.{eqb-true, eq-eqb}
 use Rattle.cwr_fields.specs.declared.cell_types.CellFault.{CellFault}
-use Rattle.cwr_fields.specs.Cells.{fault_of}
+use Rattle.cwr_fields.specs.Format.Cells.{fault_of}
 use Rattle.cwr_layouts.specs.declared.kinds.Kind.{Kind}
-use Rattle.cwr_layouts.specs.Layouts.{FieldLayout, field_at}
-use Rattle.cwr_layouts.specs.Lines.{line_kind}
+use Rattle.cwr_layouts.specs.Format.Layouts.{FieldLayout, field_at}
+use Rattle.cwr_layouts.specs.Format.Lines.{line_kind}
 use Rattle.cwr_shape.specs.declared.limits.Limits.{Limits}
 use Rattle.cwr_shape.specs.declared.limits.LimitKind.{LimitKind}
 use Rattle.cwr_shape.specs.declared.limits.LimitKind.TheVariants as limit_kinds
 use Rattle.cwr_shape.specs.declared.reasons.Reason.{Reason}
 use Rattle.cwr_shape.specs.declared.reasons.Reason.TheVariants.{UnknownKind, Misplaced, Cell, Number, Limit, Excess}
-use Rattle.cwr_shape.specs.Candidates.{ContinuesAmong}
-use Rattle.cwr_shape.specs.Levels.{level_of, place_after_kind}
+use Rattle.cwr_shape.specs.Format.Candidates.{ContinuesAmong}
+use Rattle.cwr_shape.specs.Format.Levels.{level_of, place_after_kind}
 use Rattle.cwr_judge.specs.declared.refusals.Refusal.{Refusal}
-use Rattle.cwr_judge.specs.Reasons.{Applies, IsReason, IsNumber, cell_of, line_candidates, rank}
-use Rattle.cwr_judge.specs.Ends.{IsRefused, IsTruncated, last_kind}
+use Rattle.cwr_judge.specs.Format.Reasons.{Applies, IsReason, IsNumber, cell_of, line_candidates, rank}
+use Rattle.cwr_judge.specs.Format.Ends.{IsRefused, IsTruncated, last_kind}
 use Rattle.cwr_judge.proofs.Accepted.{one_place}
 
 -- the line after as many others is the same

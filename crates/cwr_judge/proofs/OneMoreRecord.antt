@@ -7,33 +7,35 @@ use Rattle.cwr_fields.specs.declared.codes.TransactionType.{TransactionType}
 use Rattle.cwr_fields.specs.declared.codes.TransactionType.TheVariants.{Agreement, NewWork, RevisedWork, Acknowledgement}
 use Rattle.cwr_layouts.specs.declared.kinds.Kind.{Kind}
 use Rattle.cwr_layouts.specs.declared.kinds.Kind.TheVariants as kinds
-use Rattle.cwr_layouts.specs.Records.{RecordValue, row_of}
+use Rattle.cwr_layouts.specs.Format.Records.{RecordValue, row_of}
 use Rattle.cwr_shape.specs.declared.symbols.Symbol.{Symbol}
 use Rattle.cwr_shape.specs.declared.symbols.Symbol.TheVariants.{Plain, Grh}
 use Rattle.cwr_shape.specs.declared.tallies.Counts.{Counts}
-use Rattle.cwr_shape.specs.Tallies as tallies
-use Rattle.cwr_shape.specs.Tallies.{is_header_of, transactions_begun, open_type, after_header, counts_of, place_by, place_after, open_records}
-use Rattle.cwr_shape.specs.Counting.{counts_with, counts_with_header, counts_with_other, expected_numbers, expected_inside}
+use Rattle.cwr_shape.specs.Format.NextSymbols as tallies_there
+use Rattle.cwr_shape.specs.Steps.Tallies as tallies
+use Rattle.cwr_shape.specs.Format.NextSymbols.{is_header_of, transactions_begun, open_type, after_header, counts_of, place_by, place_after, open_records}
+use Rattle.cwr_shape.specs.Format.ExpectedNumbers.{expected_numbers, expected_inside}
+use Rattle.cwr_shape.specs.Steps.Counting.{counts_with, counts_with_header, counts_with_other}
 use Rattle.cwr_shape.proofs.OneMore.{last_or-snoc, counts-snoc}
-use Rattle.cwr_values.specs.Values.{symbol_of, symbol_by}
-use Rattle.cwr_values.specs.Begins.{row_after}
-use Rattle.cwr_judge.specs.Items.{stands_in_transaction, record_sequence}
-use Rattle.cwr_judge.specs.Open.{open_of, continues_open}
+use Rattle.cwr_values.specs.Format.Values.{symbol_of, symbol_by}
+use Rattle.cwr_values.specs.Format.Begins.{row_after}
+use Rattle.cwr_judge.specs.Format.Items.{stands_in_transaction, record_sequence}
+use Rattle.cwr_judge.specs.Steps.Open.{open_of, continues_open}
 use Rattle.cwr_judge.proofs.ItemsOfTransactions.{sequence_of}
 
 -- ---- a record and its symbol
 
 -- a symbol stands in a transaction
 abbrev pub IsInner : Symbol → Type 0
-IsInner s = tallies.has_open_transaction (place_by (Some s)) ≡ true
+IsInner s = tallies_there.has_open_transaction (place_by (Some s)) ≡ true
 
-inner_by : (kind : Kind) (r : RecordValue) → tallies.has_open_transaction (place_by (Some (symbol_by kind r))) ≡ stands_in_transaction kind
+inner_by : (kind : Kind) (r : RecordValue) → tallies_there.has_open_transaction (place_by (Some (symbol_by kind r))) ≡ stands_in_transaction kind
 inner_by kinds.Ipa r = refl
 inner_by kinds.Grh r = refl
 inner_by kind r = refl
 
 -- a record stands in a transaction where its symbol does
-pub inner_record_symbol : (r : RecordValue) → tallies.has_open_transaction (place_by (Some (symbol_of r))) ≡ stands_in_transaction r.kind
+pub inner_record_symbol : (r : RecordValue) → tallies_there.has_open_transaction (place_by (Some (symbol_of r))) ≡ stands_in_transaction r.kind
 inner_record_symbol r = inner_by r.kind r
 
 -- it is a header where the symbol of its kind is one
@@ -105,8 +107,8 @@ after-snoc xs s h = ap (λ (c : Counts). c.after_header) (sym (counts-snoc xs s)
 begun-snoc : (xs : List Symbol) (s : Symbol) → IsInner s → transactions_begun Acknowledgement (xs ++ s ∷ []) ≡ transactions_begun Acknowledgement xs + cond (is_header_of (open_type xs) s) 1 0
 begun-snoc xs s h = ap (λ (c : Counts). c.transactions) (sym (counts-snoc xs s)) ∙ with_begun (open_type xs) (counts_of xs) s h
 
-pub place-snoc : (xs : List Symbol) (s : Symbol) → tallies.has_open_transaction (place_after (xs ++ s ∷ [])) ≡ tallies.has_open_transaction (place_by (Some s))
-place-snoc xs s = ap (λ (o : Option Symbol). tallies.has_open_transaction (place_by o)) (last_or-snoc None xs s)
+pub place-snoc : (xs : List Symbol) (s : Symbol) → tallies_there.has_open_transaction (place_after (xs ++ s ∷ [])) ≡ tallies_there.has_open_transaction (place_by (Some s))
+place-snoc xs s = ap (λ (o : Option Symbol). tallies_there.has_open_transaction (place_by o)) (last_or-snoc None xs s)
 
 -- a symbol in a transaction continues it where it is no header
 pub goes_inside : (xs : List Symbol) (s : Symbol) → IsInner s → continues_open xs s ≡ not (is_header_of (open_type xs) s)
@@ -147,7 +149,7 @@ open_header records r inside h =
     drop_at records (r ∷ []) (length (records ++ r ∷ []) - open_records (map symbol_of (records ++ r ∷ []))) (omega (arith, one, length-append records (r ∷ [])))
 
 -- any other record is one more of the open one
-pub open_longer : (records : List RecordValue) (r : RecordValue) → stands_in_transaction r.kind ≡ true → is_header records r ≡ false → tallies.has_open_transaction (place_after (map symbol_of records)) ≡ true
+pub open_longer : (records : List RecordValue) (r : RecordValue) → stands_in_transaction r.kind ≡ true → is_header records r ≡ false → tallies_there.has_open_transaction (place_after (map symbol_of records)) ≡ true
     → open_of (records ++ r ∷ []) ≡ open_of records ++ r ∷ []
 open_longer records r inside h is_open =
     let xs : List Symbol = map symbol_of records in

@@ -4,17 +4,17 @@ use Rattle.std.specs.Prelude.{Option, Some, None, find, zip, option_map, slice_i
 use Rattle.std.specs.List.{list_all}
 use Rattle.std.proofs.lemmas.Bool.{and_parts}
 use Rattle.cwr_fields.specs.declared.cell_types.CellType.TheVariants as types
-use Rattle.cwr_fields.specs.Bytes.{filled}
-use Rattle.cwr_fields.specs.Cells.{Holds}
+use Rattle.cwr_fields.specs.Format.Bytes.{filled}
+use Rattle.cwr_fields.specs.Format.Cells.{Holds}
 use Rattle.cwr_fields.proofs.CellTests.{holds_test, holds_sound}
 use Rattle.cwr_layouts.specs.declared.kinds.Kind.{Kind}
 use Rattle.cwr_layouts.specs.declared.kinds.Kind.TheVariants as kinds
-use Rattle.cwr_layouts.specs.Kinds.{letters}
-use Rattle.cwr_layouts.specs.Layouts.{FieldLayout, field_at, record_type, line_width}
-use Rattle.cwr_layouts.specs.Lines.{cells_as, line_body, line_kind}
+use Rattle.cwr_layouts.specs.Format.Kinds.{letters}
+use Rattle.cwr_layouts.specs.Format.Layouts.{FieldLayout, field_at, record_type, line_width}
+use Rattle.cwr_layouts.specs.Format.Lines.{cells_as, line_body, line_kind}
 use Rattle.cwr_layouts.proofs.GoodLinesAreRows.{letters-of, three-filled}
-use Rattle.cwr_shape.specs.Numbers.{number_fields, number_in}
-use Rattle.cwr_judge.specs.Reasons.{cell_of}
+use Rattle.cwr_shape.specs.Format.Numbers.{number_fields, number_in}
+use Rattle.cwr_judge.specs.Format.Reasons.{cell_of}
 
 -- ---- its cell
 

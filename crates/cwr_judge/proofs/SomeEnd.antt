@@ -1,10 +1,10 @@
 -- A text has some end: one that isn't accepted, and in which no place is the first bad one, is truncated.
 use Rattle.std.proofs.Common.{◌≡◌, ℕ, zero, suc, ◌<◌, ◌≤◌, List, length, refl, sym, subst, arith, inl, inr, ap}
 use Rattle.std.specs.Prelude.{◌⊎◌}
-use Rattle.cwr_layouts.specs.Lines.{closed, raw_lines}
+use Rattle.cwr_layouts.specs.Format.Lines.{closed, raw_lines}
 use Rattle.cwr_shape.specs.declared.limits.Limits.{Limits}
-use Rattle.cwr_judge.specs.Places.{IsBadAt, IsFirstBad}
-use Rattle.cwr_judge.specs.Ends.{IsNotAccepted, IsTruncated}
+use Rattle.cwr_judge.specs.Format.Places.{IsBadAt, IsFirstBad}
+use Rattle.cwr_judge.specs.Format.Ends.{IsNotAccepted, IsTruncated}
 
 -- one number is less than the other, or they are the same
 compared : (a b : ℕ) → (a < b) ⊎ ((a ≡ b) ⊎ (b < a))

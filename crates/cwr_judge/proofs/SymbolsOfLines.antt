@@ -1,14 +1,14 @@
 -- What a transmission continues from by the symbols that accepted lines name is what it continues from by those of their records.
 use Rattle.std.proofs.Common.{◌≡◌, ℕ, List, [], ◌∷◌, ◌++◌, map, ap, ap₂, ◌∙◌, refl}
 use Rattle.std.specs.List.{AllZip, AllByRecursion, IsAmong}
-use Rattle.cwr_layouts.specs.Records.{RecordValue, IsRecord}
-use Rattle.cwr_layouts.specs.Lines.{IsLineOf, line_kind, line_cells}
+use Rattle.cwr_layouts.specs.Format.Records.{RecordValue, IsRecord}
+use Rattle.cwr_layouts.specs.Format.Lines.{IsLineOf, line_kind, line_cells}
 use Rattle.cwr_shape.specs.declared.symbols.Symbol.{Symbol}
-use Rattle.cwr_shape.specs.Outlines.{GroupOutline}
-use Rattle.cwr_shape.specs.Candidates.{candidates, ContinuesAmong}
-use Rattle.cwr_shape.specs.Tallies.{ContinuesWith}
-use Rattle.cwr_values.specs.Values.{symbol_of}
-use Rattle.cwr_values.specs.Begins.{numbers_after, rows_after, rows_so_far}
+use Rattle.cwr_shape.specs.Format.Outlines.{GroupOutline}
+use Rattle.cwr_shape.specs.Format.Candidates.{candidates, ContinuesAmong}
+use Rattle.cwr_shape.specs.Format.NextSymbols.{ContinuesWith}
+use Rattle.cwr_values.specs.Format.Values.{symbol_of}
+use Rattle.cwr_values.specs.Format.Begins.{numbers_after, rows_after, rows_so_far}
 use Rattle.cwr_judge.proofs.LineRecords.{line_names, line_names_it}
 
 -- what the lines name

@@ -2,18 +2,18 @@
 use Rattle.std.proofs.Common.{◌≡◌, ℕ, suc, List, [], ◌∷◌, ◌++◌, length, map, take, sym, ap, subst, ◌∙◌, arith, append_assoc}
 use Rattle.std.specs.List.{AllZip, AllByRecursion}
 use Rattle.std.proofs.lemmas.List.{map-append}
-use Rattle.cwr_layouts.specs.Layouts.{layout}
-use Rattle.cwr_layouts.specs.Records.{RecordValue, Row, IsRecord}
-use Rattle.cwr_layouts.specs.Lines.{IsLineOf, line_cells}
+use Rattle.cwr_layouts.specs.Format.Layouts.{layout}
+use Rattle.cwr_layouts.specs.Format.Records.{RecordValue, Row, IsRecord}
+use Rattle.cwr_layouts.specs.Format.Lines.{IsLineOf, line_cells}
 use Rattle.cwr_layouts.proofs.RowLaws.{row_fits}
 use Rattle.cwr_shape.specs.declared.symbols.Symbol.{Symbol}
-use Rattle.cwr_shape.specs.Ranges.{LimitValues}
-use Rattle.cwr_shape.specs.Outlines.{symbols_of}
-use Rattle.cwr_values.specs.Values.{symbol_of, outline_of}
-use Rattle.cwr_values.specs.Begins.{numbers_after, row_after, rows_so_far}
+use Rattle.cwr_shape.specs.Format.Ranges.{LimitValues}
+use Rattle.cwr_shape.specs.Format.Outlines.{symbols_of}
+use Rattle.cwr_values.specs.Format.Values.{symbol_of, outline_of}
+use Rattle.cwr_values.specs.Format.Begins.{numbers_after, row_after, rows_so_far}
 use Rattle.cwr_values.proofs.OneSpelling.{symbols-outline, outline_whole}
-use Rattle.cwr_judge.specs.Places.{Viable}
-use Rattle.cwr_judge.specs.GoodFronts.{HasGoodFront, ContinuesFrom}
+use Rattle.cwr_judge.specs.Format.Places.{Viable}
+use Rattle.cwr_judge.specs.Format.GoodFronts.{HasGoodFront, ContinuesFrom}
 use Rattle.cwr_judge.proofs.RecordsBefore.{records_before, one_list}
 use Rattle.cwr_judge.proofs.FrontCells.{front_of}
 use Rattle.cwr_judge.proofs.MixedCells.{wide_only, wide_length}

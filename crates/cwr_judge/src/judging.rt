@@ -2,14 +2,14 @@
 
 ghost use Rattle.std.specs.Prelude.{◌≡◌, ◌≤◌, ◌++◌, ◌∷◌, [], List, length, IsTrue, IsFalse, IsNone, IfSome, IfOk, IfErr, OnOk, Some};
 ghost use Rattle.std.specs.Option.{ForSome};
-ghost use Rattle.cwr_fields.specs.Bytes.{digits};
-ghost use Rattle.cwr_fields.specs.Cells.{type_width};
-ghost use Rattle.cwr_layouts.specs.Layouts.{layout as layout_of};
-ghost use Rattle.cwr_layouts.specs.Held.{held_excess, held_kind, held_record};
-ghost use Rattle.cwr_layouts.specs.Records.{IsRecord};
+ghost use Rattle.cwr_fields.specs.Format.Bytes.{digits};
+ghost use Rattle.cwr_fields.specs.Format.Cells.{type_width};
+ghost use Rattle.cwr_layouts.specs.Format.Layouts.{layout as layout_of};
+ghost use Rattle.cwr_layouts.specs.Steps.Held.{held_excess, held_kind, held_record};
+ghost use Rattle.cwr_layouts.specs.Format.Records.{IsRecord};
 ghost use Rattle.cwr_shape.specs.declared.symbols.Symbol.{Symbol};
-ghost use Rattle.cwr_shape.specs.Tallies.{IsAdmitted, IsTallyOf};
-ghost use Rattle.cwr_judge.specs.Judged.{HasNumberAt, HasNumbers, IsCounted, IsNext, IsOfNone, Lacks, named_symbol, bar_reason, IsGoodText, IsTextFault, IsNumberFault, IsGoodAt, HasReasonAt, MayComeOf, IsFirstFault};
+ghost use Rattle.cwr_shape.specs.Steps.Tallies.{IsAdmitted, IsTallyOf};
+ghost use Rattle.cwr_judge.specs.Steps.Judged.{HasNumberAt, HasNumbers, IsCounted, IsNext, IsOfNone, Lacks, named_symbol, bar_reason, IsGoodText, IsTextFault, IsNumberFault, IsGoodAt, HasReasonAt, MayComeOf, IsFirstFault};
 
 use cwr_fields::{Cell, CellType, Role, SpelledPair, TransactionType, fits, spells};
 use cwr_layouts::{CutLine, Kind, RecordRef, field, fields};

@@ -1,7 +1,7 @@
 //! Where and why a text is refused.
 
 ghost use Rattle.std.specs.Prelude.{Some};
-ghost use Rattle.cwr_judge.specs.RefusalTexts.{refusal_text};
+ghost use Rattle.cwr_judge.specs.Format.RefusalTexts.{refusal_text};
 
 use cwr_shape::{Level, Reason};
 use std::fmt::{self, Display, Formatter, Write};

@@ -4,12 +4,12 @@ use Rattle.std.specs.Prelude.{Some}
 use Rattle.std.specs.Str.{bytes_eq}
 use Rattle.std.proofs.lemmas.Bool.{false_from_ne_true}
 use Rattle.std.proofs.lemmas.Slice.Eq.{bytes_eq-Decides}
-use Rattle.cwr_fields.specs.Bytes.{trimmed}
+use Rattle.cwr_fields.specs.Format.Bytes.{trimmed}
 use Rattle.cwr_fields.proofs.LineFeeds.{NoLf}
 use Rattle.cwr_layouts.specs.declared.kinds.Kind.{Kind}
 use Rattle.cwr_layouts.specs.declared.kinds.Kind.TheVariants.{Hdr, Grh, Grt, Trl, Agr, Ter, Ipa, Nwr, Rev, Spu, Opu, Spt, Swr, Owr, Swt, Pwr, Alt, Ewt, Ver, Per, Rec, Orn, Com, Ack, Msg, Opt, Owt, Npn, Npr, Nwn, Npa, Net, Now, Nct, Nvt, Nat, Ins, Ind, Ari, Xrf}
-use Rattle.cwr_layouts.specs.Kinds.{all_kinds, letters, kind_of}
-use Rattle.cwr_layouts.specs.Layouts.{line_width}
+use Rattle.cwr_layouts.specs.Format.Kinds.{all_kinds, letters, kind_of}
+use Rattle.cwr_layouts.specs.Format.Layouts.{line_width}
 use Rattle.cwr_layouts.proofs.TrimmedTexts.{trimmed_three}
 
 -- three letters name one kind

@@ -11,15 +11,15 @@ use Rattle.cwr_fields.specs.declared.cell_types.CellType.{CellType}
 use Rattle.cwr_fields.specs.declared.cell_types.CellType.TheVariants.{Text, Required, Number, OptNumber, Date, OptDate, Time, OptTime, OptDuration, Share, Flag, Code, OptCode, Constant}
 use Rattle.cwr_fields.specs.declared.cell_types.Word.{Word}
 use Rattle.cwr_fields.specs.declared.cell_types.Word.TheVariants.{Edi, Group}
-use Rattle.cwr_fields.specs.Cells.{type_width}
-use Rattle.cwr_fields.specs.Codes.{word_text}
+use Rattle.cwr_fields.specs.Format.Cells.{type_width}
+use Rattle.cwr_fields.specs.Format.Codes.{word_text}
 use Rattle.cwr_layouts.specs.declared.kinds.Kind.{Kind}
 use Rattle.cwr_layouts.specs.declared.layouts.Field.{Field}
-use Rattle.cwr_layouts.specs.Layouts.{FieldLayout, layout, placed_fields, total_width}
-use Rattle.cwr_layouts.specs.Lines.{pieces}
-use Rattle.cwr_layouts.specs.Records.{blank_cell, blank_record}
-use Rattle.cwr_layouts.specs.Carried.{carried_cells, record_in}
-use Rattle.cwr_layouts.specs.Views.{field_view}
+use Rattle.cwr_layouts.specs.Format.Layouts.{FieldLayout, layout, placed_fields, total_width}
+use Rattle.cwr_layouts.specs.Format.Lines.{pieces}
+use Rattle.cwr_layouts.specs.Format.Records.{blank_cell, blank_record}
+use Rattle.cwr_layouts.specs.Steps.Carried.{carried_cells, record_in}
+use Rattle.cwr_layouts.specs.Steps.Views.{field_view}
 use Rattle.cwr_layouts.proofs.AllKinds.{line_width_widest}
 use Rattle.cwr_layouts.proofs.CarriedCells.{widths}
 use Rattle.cwr_layouts.proofs.CellParts.{field_part_within}

@@ -4,10 +4,11 @@ use Rattle.std.specs.Prelude.{Option, Some, None}
 use Rattle.std.specs.List.{AllZip, zip}
 use Rattle.std.specs.Option.{option_and_then}
 use Rattle.cwr_layouts.specs.declared.kinds.Kind.{Kind}
-use Rattle.cwr_layouts.specs.Layouts.{FieldLayout, layout, placed_fields, field_placed, field_at, line_width}
-use Rattle.cwr_layouts.specs.Lines.{pieces}
-use Rattle.cwr_layouts.specs.Records.{RecordValue, IsCellOf, IsRecord, carried_fields}
-use Rattle.cwr_layouts.specs.Carried.{carried_at, carried_placed, carried_before, carried_cells, record_cell, record_in}
+use Rattle.cwr_layouts.specs.Format.Layouts.{FieldLayout, layout, placed_fields, field_placed, field_at, line_width}
+use Rattle.cwr_layouts.specs.Format.Lines.{pieces}
+use Rattle.cwr_layouts.specs.Format.Records.{RecordValue, IsCellOf, IsRecord, carried_fields}
+use Rattle.cwr_layouts.specs.Format.Carried.{carried_at, carried_placed, carried_before, record_cell}
+use Rattle.cwr_layouts.specs.Steps.Carried.{carried_cells, record_in}
 use Rattle.std.proofs.lemmas.List.{length-map}
 use Rattle.cwr_layouts.proofs.HeldLaws.{length-pieces}
 use Rattle.cwr_layouts.proofs.GoodLinesAreRows.{carried_in}

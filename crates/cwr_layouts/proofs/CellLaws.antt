@@ -3,11 +3,11 @@ use Rattle.std.proofs.Common.{◌≡◌, ◌≢◌, ℕ, zero, suc, ◌-◌, ◌
 use Rattle.std.specs.Prelude.{Option, Some, None, IsSome, OnSome, slice_index, unwrap_or}
 use Rattle.std.specs.Option.{option_and_then}
 use Rattle.std.specs.List.{AllZip}
-use Rattle.cwr_fields.specs.Bytes.{digits}
+use Rattle.cwr_fields.specs.Format.Bytes.{digits}
 use Rattle.cwr_layouts.specs.declared.kinds.Kind.{Kind}
-use Rattle.cwr_layouts.specs.Layouts.{FieldLayout, record_type, layout, fields_after_type}
-use Rattle.cwr_layouts.specs.Records.{RecordValue, IsCellOf, IsRecord, carried_fields, rest_if, row_cells, row_of}
-use Rattle.cwr_layouts.specs.Carried.{carried_at, carried_before, record_cell, ShowsSet}
+use Rattle.cwr_layouts.specs.Format.Layouts.{FieldLayout, record_type, layout, fields_after_type}
+use Rattle.cwr_layouts.specs.Format.Records.{RecordValue, IsCellOf, IsRecord, carried_fields, rest_if, row_cells, row_of}
+use Rattle.cwr_layouts.specs.Format.Carried.{carried_at, carried_before, record_cell, ShowsSet}
 use Rattle.cwr_layouts.proofs.CarriedCells.{carried_count, open_some, carried_field-at}
 
 rest_after : (b : Bool) (g : FieldLayout) (fields front : List FieldLayout) (cells : List (List ℕ)) → AllZip IsCellOf (cond (not b) (g ∷ fields) fields) cells

@@ -4,13 +4,13 @@ use Rattle.std.specs.Prelude.{◌==◌, Option, Some, None}
 use Rattle.std.proofs.lemmas.List.{drop-drop}
 use Rattle.std.proofs.lemmas.List.Sums.{sum_by-cons}
 use Rattle.std.proofs.lemmas.Bool.{and_parts}
-use Rattle.cwr_fields.specs.Bytes.{filled, is_control, is_plain}
+use Rattle.cwr_fields.specs.Format.Bytes.{filled, is_control, is_plain}
 use Rattle.cwr_layouts.specs.declared.kinds.Kind.{Kind}
 use Rattle.cwr_layouts.specs.declared.lines.LineEnd.{LineEnd}
 use Rattle.cwr_layouts.specs.declared.lines.LineEnd.TheVariants.{Open, Line, Over}
-use Rattle.cwr_layouts.specs.Layouts.{FieldLayout, layout, placed_fields, field_placed, total_width, line_width}
-use Rattle.cwr_layouts.specs.Lines.{pieces, cells_as}
-use Rattle.cwr_layouts.specs.Held.{HeldLine, held_body, held_kind, held_cell, cell_as, IsFilled, IsKept, IsClosed, line_kept}
+use Rattle.cwr_layouts.specs.Format.Layouts.{FieldLayout, layout, placed_fields, field_placed, total_width, line_width}
+use Rattle.cwr_layouts.specs.Format.Lines.{pieces, cells_as}
+use Rattle.cwr_layouts.specs.Steps.Held.{HeldLine, held_body, held_kind, held_cell, cell_as, IsFilled, IsKept, IsClosed, line_kept}
 use Rattle.cwr_layouts.proofs.FilledTexts.{length-filled}
 
 -- the part of a text that a field takes

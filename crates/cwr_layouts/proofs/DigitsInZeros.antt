@@ -1,7 +1,7 @@
 -- Digits that are written from the last on into a cell of zeros, until only zeros are left.
 use Rattle.std.proofs.Common.{◌≡◌, ℕ, zero, suc, ◌-◌, replicate, List, ◌∷◌, ◌++◌, length, take, drop, set, refl, sym, ap, ◌∙◌, arith}
 use Rattle.std.proofs.lemmas.List.{take-append-drop, take-replicate, take-set, take-take}
-use Rattle.cwr_fields.specs.Bytes.{digits}
+use Rattle.cwr_fields.specs.Format.Bytes.{digits}
 
 -- as many zeros as the cell is wide
 abbrev pub zeros : ℕ → List ℕ

@@ -5,12 +5,13 @@ use Rattle.std.specs.Option.{ForSome}
 use Rattle.std.specs.List.{AllZip, zip}
 use Rattle.std.proofs.lemmas.Result.{on_ok_weaker, IfErr-weaker}
 use Rattle.cwr_fields.specs.declared.cell_types.CellFault.{CellFault}
-use Rattle.cwr_fields.specs.Cells.{Holds, HasFault, type_width}
+use Rattle.cwr_fields.specs.Format.Cells.{Holds, HasFault, type_width}
 use Rattle.cwr_layouts.specs.declared.kinds.Kind.{Kind}
-use Rattle.cwr_layouts.specs.Layouts.{FieldLayout, layout, line_width}
-use Rattle.cwr_layouts.specs.Lines.{pieces}
-use Rattle.cwr_layouts.specs.Records.{RecordValue, IsCellOf, IsRecord}
-use Rattle.cwr_layouts.specs.Carried.{carried_at, carried_placed, carried_cells, record_cell, record_in, FitsAt, HasCellFault}
+use Rattle.cwr_layouts.specs.Format.Layouts.{FieldLayout, layout, line_width}
+use Rattle.cwr_layouts.specs.Format.Lines.{pieces}
+use Rattle.cwr_layouts.specs.Format.Records.{RecordValue, IsCellOf, IsRecord}
+use Rattle.cwr_layouts.specs.Format.Carried.{carried_at, carried_placed, record_cell, FitsAt, HasCellFault}
+use Rattle.cwr_layouts.specs.Steps.Carried.{carried_cells, record_in}
 use Rattle.cwr_layouts.proofs.CellParts.{part}
 use Rattle.cwr_layouts.proofs.HeldLaws.{length-part}
 use Rattle.cwr_layouts.proofs.TypeWidths.{type_width-field}

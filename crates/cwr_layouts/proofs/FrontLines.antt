@@ -3,14 +3,14 @@ use Rattle.std.proofs.Common.{◌≡◌, ◌≢◌, ℕ, ◌+◌, ◌-◌, ◌<�
 use Rattle.std.specs.Prelude.{Option, Some}
 use Rattle.std.specs.List.{list_any}
 use Rattle.std.proofs.lemmas.List.{take_more, take_all, length-take-le, take-take}
-use Rattle.cwr_fields.specs.Bytes.{is_plain, filled}
+use Rattle.cwr_fields.specs.Format.Bytes.{is_plain, filled}
 use Rattle.cwr_fields.proofs.LineFeeds.{NoLf, NoLf-append, NoLf-plain}
 use Rattle.cwr_layouts.specs.declared.kinds.Kind.{Kind}
 use Rattle.cwr_layouts.specs.declared.lines.LineEnd.TheVariants.{Line}
-use Rattle.cwr_layouts.specs.Kinds.{kind_of}
-use Rattle.cwr_layouts.specs.Layouts.{line_width}
-use Rattle.cwr_layouts.specs.Lines.{is_lf, without_cr, longest_line}
-use Rattle.cwr_layouts.specs.Held.{HeldLine, Takes, IsHeld, IsKept, IsClosed, IsFilled, empty_line, held_body, line_kept}
+use Rattle.cwr_layouts.specs.Format.Kinds.{kind_of}
+use Rattle.cwr_layouts.specs.Format.Layouts.{line_width}
+use Rattle.cwr_layouts.specs.Format.Lines.{is_lf, without_cr, longest_line}
+use Rattle.cwr_layouts.specs.Steps.Held.{HeldLine, Takes, IsHeld, IsKept, IsClosed, IsFilled, empty_line, held_body, line_kept}
 use Rattle.cwr_layouts.proofs.AllKinds.{line_width_most}
 use Rattle.cwr_layouts.proofs.FilledTexts.{filled_already, line_width_least}
 use Rattle.cwr_layouts.proofs.RowLaws.{without_cr-added}

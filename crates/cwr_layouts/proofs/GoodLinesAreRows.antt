@@ -10,16 +10,16 @@ use Rattle.std.proofs.lemmas.List.{take-append-le, take-append-drop}
 use Rattle.std.proofs.Math.Seq.{take-add}
 use Rattle.std.proofs.lemmas.List.{take_all}
 use Rattle.std.proofs.lemmas.Slice.Eq.{bytes_eq-Decides}
-use Rattle.cwr_fields.specs.Bytes.{digits, trimmed, before_trimmed, filled, is_spaces}
+use Rattle.cwr_fields.specs.Format.Bytes.{digits, trimmed, before_trimmed, filled, is_spaces}
 use Rattle.cwr_fields.proofs.LineFeeds.{NoLf}
 use Rattle.cwr_layouts.specs.declared.kinds.Kind.{Kind}
-use Rattle.cwr_layouts.specs.Kinds.{all_kinds, letters, kind_of}
-use Rattle.cwr_layouts.specs.Layouts.{FieldLayout, layout, fields_after_type, total_width, line_width, record_type}
-use Rattle.cwr_layouts.specs.Records.{RecordValue, IsCellOf, IsRecord, rest_if, row_cells, row_of, IsGoodCell}
-use Rattle.cwr_layouts.specs.GoodCells.{AreGood}
+use Rattle.cwr_layouts.specs.Format.Kinds.{all_kinds, letters, kind_of}
+use Rattle.cwr_layouts.specs.Format.Layouts.{FieldLayout, layout, fields_after_type, total_width, line_width, record_type}
+use Rattle.cwr_layouts.specs.Format.Records.{RecordValue, IsCellOf, IsRecord, rest_if, row_cells, row_of, IsGoodCell}
+use Rattle.cwr_layouts.specs.Format.GoodCells.{AreGood}
 use Rattle.cwr_layouts.proofs.RowLaws.{IsRow-row_of}
 use Rattle.cwr_layouts.proofs.CutLaws.{line_is_cut}
-use Rattle.cwr_layouts.specs.Lines.{IsLineOf, longest_line, without_cr, is_too_long, line_body, pieces, line_kind, line_cells, cells_as, excess_as, has_bad_excess}
+use Rattle.cwr_layouts.specs.Format.Lines.{IsLineOf, longest_line, without_cr, is_too_long, line_body, pieces, line_kind, line_cells, cells_as, excess_as, has_bad_excess}
 
 -- what is carried in cells, by their fields
 abbrev pub carried_in : List FieldLayout → List (List ℕ) → List (List ℕ)

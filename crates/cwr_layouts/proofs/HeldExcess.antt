@@ -2,13 +2,13 @@
 use Rattle.std.proofs.Common.{◌≡◌, ℕ, zero, suc, ◌-◌, Bool, false, not, ◌||◌, List, [], ◌∷◌, ◌++◌, length, drop, replicate, refl, sym, ap, ◌∙◌, arith, append-nil}
 use Rattle.std.specs.Prelude.{Option, Some}
 use Rattle.std.proofs.lemmas.List.{drop_all, length-replicate}
-use Rattle.cwr_fields.specs.Bytes.{filled, is_spaces}
+use Rattle.cwr_fields.specs.Format.Bytes.{filled, is_spaces}
 use Rattle.cwr_layouts.specs.declared.kinds.Kind.{Kind}
 use Rattle.cwr_layouts.specs.declared.lines.LineEnd.{LineEnd}
 use Rattle.cwr_layouts.specs.declared.lines.LineEnd.TheVariants.{Open, Line, Over}
-use Rattle.cwr_layouts.specs.Layouts.{line_width}
-use Rattle.cwr_layouts.specs.Lines.{excess_as}
-use Rattle.cwr_layouts.specs.Held.{HeldLine, IsFilled, ended_too_long, held_body, held_excess}
+use Rattle.cwr_layouts.specs.Format.Layouts.{line_width}
+use Rattle.cwr_layouts.specs.Format.Lines.{excess_as}
+use Rattle.cwr_layouts.specs.Steps.Held.{HeldLine, IsFilled, ended_too_long, held_body, held_excess}
 
 drop_filled : (width : ℕ) (text : List ℕ) → drop width (filled width text) ≡ drop width text
 drop_filled zero text =

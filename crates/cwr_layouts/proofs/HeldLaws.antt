@@ -3,13 +3,13 @@ use Rattle.std.proofs.Common.{◌≡◌, ℕ, suc, ◌+◌, ◌-◌, ◌≤◌, 
 use Rattle.std.specs.Prelude.{Option, Some, None}
 use Rattle.std.proofs.lemmas.Bool.{lt-ltb}
 use Rattle.std.proofs.lemmas.List.{length-take, length-drop, length-map}
-use Rattle.cwr_fields.specs.Bytes.{filled}
+use Rattle.cwr_fields.specs.Format.Bytes.{filled}
 use Rattle.cwr_layouts.specs.declared.kinds.Kind.{Kind}
 use Rattle.cwr_layouts.specs.declared.lines.LineEnd.{LineEnd}
 use Rattle.cwr_layouts.specs.declared.lines.LineEnd.TheVariants.{Open, Line, Over}
-use Rattle.cwr_layouts.specs.Layouts.{FieldLayout, layout, field_placed, field_at, line_width}
-use Rattle.cwr_layouts.specs.Lines.{longest_line, is_too_long, line_body, body_kind, pieces, cells_as, excess_as}
-use Rattle.cwr_layouts.specs.Held.{HeldLine, IsHeld, HoldsBy, HoldsLine, IsCutAs, held_body, held_kind, held_cells, held_cell, cell_as, ended_too_long}
+use Rattle.cwr_layouts.specs.Format.Layouts.{FieldLayout, layout, field_placed, field_at, line_width}
+use Rattle.cwr_layouts.specs.Format.Lines.{longest_line, is_too_long, line_body, body_kind, pieces, cells_as, excess_as}
+use Rattle.cwr_layouts.specs.Steps.Held.{HeldLine, IsHeld, HoldsBy, HoldsLine, IsCutAs, held_body, held_kind, held_cells, held_cell, cell_as, ended_too_long}
 use Rattle.cwr_layouts.proofs.CutLaws.{not_too_long, body_of}
 use Rattle.cwr_layouts.proofs.FilledTexts.{length-filled}
 use Rattle.cwr_layouts.proofs.FieldStarts.{field_at-placed}

@@ -4,12 +4,12 @@ use Rattle.std.specs.Prelude.{◌↔◌, Option, Some, None, IsSome, IfSome, IsS
 use Rattle.std.proofs.lemmas.List.{length-take, drop-take, take-take}
 use Rattle.std.proofs.lemmas.List.Sums.{sum_by-cons}
 use Rattle.cwr_layouts.specs.declared.kinds.Kind.{Kind}
-use Rattle.cwr_layouts.specs.Layouts.{FieldLayout, layout, total_width, line_width}
-use Rattle.cwr_layouts.specs.Lines.{pieces, cells_as}
-use Rattle.cwr_layouts.specs.Records.{RecordValue, IsRecord, record_of}
-use Rattle.cwr_layouts.specs.Carried.{carried_cells, record_in}
+use Rattle.cwr_layouts.specs.Format.Layouts.{FieldLayout, layout, total_width, line_width}
+use Rattle.cwr_layouts.specs.Format.Lines.{pieces, cells_as}
+use Rattle.cwr_layouts.specs.Format.Records.{RecordValue, IsRecord, record_of}
+use Rattle.cwr_layouts.specs.Steps.Carried.{carried_cells, record_in}
 use Rattle.cwr_layouts.specs.declared.lines.LineEnd.{LineEnd}
-use Rattle.cwr_layouts.specs.Held.{HeldLine, held_body, held_cells, carried_by, held_record, line_kept, IsFilled, IsClosed}
+use Rattle.cwr_layouts.specs.Steps.Held.{HeldLine, held_body, held_cells, carried_by, held_record, line_kept, IsFilled, IsClosed}
 use Rattle.cwr_layouts.proofs.CellParts.{filled_of}
 use Rattle.cwr_layouts.proofs.FilledTexts.{length-filled}
 

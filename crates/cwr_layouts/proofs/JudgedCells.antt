@@ -4,12 +4,13 @@ use Rattle.std.specs.Prelude.{Option, Some, None, Result, Ok}
 use Rattle.cwr_fields.specs.declared.cell_types.CellFault.{CellFault}
 use Rattle.cwr_fields.specs.declared.cell_types.CellType.{CellType}
 use Rattle.cwr_fields.specs.declared.cell_types.CellType.TheVariants.{Text}
-use Rattle.cwr_fields.specs.Bytes.{is_plain}
-use Rattle.cwr_fields.specs.Cells.{Holds}
+use Rattle.cwr_fields.specs.Format.Bytes.{is_plain}
+use Rattle.cwr_fields.specs.Format.Cells.{Holds}
 use Rattle.cwr_layouts.specs.declared.kinds.Kind.{Kind}
-use Rattle.cwr_layouts.specs.Layouts.{FieldLayout, layout, line_width}
-use Rattle.cwr_layouts.specs.Records.{IsRecord}
-use Rattle.cwr_layouts.specs.Carried.{carried_placed, record_in, FitsAt}
+use Rattle.cwr_layouts.specs.Format.Layouts.{FieldLayout, layout, line_width}
+use Rattle.cwr_layouts.specs.Format.Records.{IsRecord}
+use Rattle.cwr_layouts.specs.Format.Carried.{carried_placed, FitsAt}
+use Rattle.cwr_layouts.specs.Steps.Carried.{record_in}
 use Rattle.cwr_layouts.proofs.CarriedCells.{is_carried, field_at-carried}
 use Rattle.cwr_layouts.proofs.CellParts.{part, plain_part}
 use Rattle.cwr_layouts.proofs.FitCells.{all_fit, fits_before, fits_found, fits_none}

@@ -8,8 +8,8 @@ use Rattle.std.proofs.lemmas.List.{length-take-le}
 use Rattle.cwr_layouts.specs.declared.kinds.Kind.{Kind}
 use Rattle.cwr_layouts.specs.declared.lines.LineEnd.{LineEnd}
 use Rattle.cwr_layouts.specs.declared.lines.LineEnd.TheVariants.{Open, Line, Over}
-use Rattle.cwr_layouts.specs.Layouts.{line_width}
-use Rattle.cwr_layouts.specs.Held.{HeldLine, IsClosed, IsFilled, body_by, filled_as, held_body, line_kept}
+use Rattle.cwr_layouts.specs.Format.Layouts.{line_width}
+use Rattle.cwr_layouts.specs.Steps.Held.{HeldLine, IsClosed, IsFilled, body_by, filled_as, held_body, line_kept}
 use Rattle.cwr_layouts.proofs.AllKinds.{line_width_most}
 use Rattle.cwr_layouts.proofs.FilledTexts.{length-filled}
 

@@ -5,10 +5,10 @@ use Rattle.std.specs.List.{AllByRecursion}
 use Rattle.std.proofs.lemmas.List.{map-append, length-map, length-append, length-drop, length-take-le, drop-append-le, take-append-le}
 use Rattle.std.proofs.Math.Seq.{drop-append_seam, take-length}
 use Rattle.cwr_layouts.specs.declared.record_lists.LineStart.{LineStart}
-use Rattle.cwr_layouts.specs.Layouts.{line_width}
-use Rattle.cwr_layouts.specs.Records.{RecordValue, IsRecord}
-use Rattle.cwr_layouts.specs.Carried.{record_in}
-use Rattle.cwr_layouts.specs.KeptLines.{IsKeptLine, kept_records, line_at, record_at}
+use Rattle.cwr_layouts.specs.Format.Layouts.{line_width}
+use Rattle.cwr_layouts.specs.Format.Records.{RecordValue, IsRecord}
+use Rattle.cwr_layouts.specs.Steps.Carried.{record_in}
+use Rattle.cwr_layouts.specs.Steps.KeptLines.{IsKeptLine, kept_records, line_at, record_at}
 
 -- each of them is in order
 all_in_order : (text : List ℕ) (places : List LineStart) → AllByRecursion (IsKeptLine text) places → AllByRecursion IsRecord (kept_records text places)

@@ -5,7 +5,7 @@ use Rattle.std.specs.List.{list_any}
 use Rattle.std.proofs.lemmas.Bool.{eqb-true, or_from, false_from_ne_true}
 use Rattle.std.proofs.lemmas.List.{get_or-take, length-take}
 use Rattle.memchr.specs.Find.{IsFirstByte, is_byte}
-use Rattle.cwr_layouts.specs.Lines.{is_lf}
+use Rattle.cwr_layouts.specs.Format.Lines.{is_lf}
 
 -- no place holds a line feed
 no_lf_by_places : (xs : List ℕ) → ((k : ℕ) → k < length xs → (get_or xs k 0 == 10) ≡ true → ⊥) → list_any is_lf xs ≡ false

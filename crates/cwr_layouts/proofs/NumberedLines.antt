@@ -6,16 +6,16 @@ use Rattle.std.proofs.lemmas.Bool.{and_parts}
 use Rattle.std.proofs.Math.Seq.{take-append_seam, drop-append_seam}
 use Rattle.std.proofs.lemmas.List.{length-append, length-drop, length-take-le, take-append-drop, drop-drop}
 use Rattle.std.proofs.lemmas.List.Sums.{sum_by-cons}
-use Rattle.cwr_fields.specs.Bytes.{digits}
+use Rattle.cwr_fields.specs.Format.Bytes.{digits}
 use Rattle.cwr_fields.proofs.Digits.{length-digits}
 use Rattle.cwr_layouts.specs.declared.kinds.Kind.{Kind}
 use Rattle.cwr_layouts.specs.declared.kinds.Kind.TheVariants.{Hdr, Grh, Grt, Trl, Agr, Ter, Ipa, Nwr, Rev, Spu, Opu, Spt, Swr, Owr, Swt, Pwr, Alt, Ewt, Ver, Per, Rec, Orn, Com, Ack, Msg, Opt, Owt, Npn, Npr, Nwn, Npa, Net, Now, Nct, Nvt, Nat, Ins, Ind, Ari, Xrf}
-use Rattle.cwr_layouts.specs.Kinds.{letters}
-use Rattle.cwr_layouts.specs.Layouts.{FieldLayout, fields_after_type, in_transaction, number, total_width, line_width}
-use Rattle.cwr_layouts.specs.Lines.{pieces}
-use Rattle.cwr_layouts.specs.Records.{RecordValue, rest_if, row_cells, row_of, full_line}
-use Rattle.cwr_layouts.specs.Carried.{carried_cells, record_in}
-use Rattle.cwr_layouts.specs.Numbered.{numbered_part, with_part}
+use Rattle.cwr_layouts.specs.Format.Kinds.{letters}
+use Rattle.cwr_layouts.specs.Format.Layouts.{FieldLayout, fields_after_type, in_transaction, number, total_width, line_width}
+use Rattle.cwr_layouts.specs.Format.Lines.{pieces}
+use Rattle.cwr_layouts.specs.Format.Records.{RecordValue, rest_if, row_cells, row_of, full_line}
+use Rattle.cwr_layouts.specs.Steps.Carried.{carried_cells, record_in}
+use Rattle.cwr_layouts.specs.Steps.Numbered.{numbered_part, with_part}
 use Rattle.cwr_layouts.proofs.GoodLinesAreRows.{carried_in}
 use Rattle.cwr_layouts.proofs.NumbersOfKinds.{numbered_inside, letters_long, line_width_least}
 

@@ -1,12 +1,12 @@
 -- What is known of the numbered line of each kind.
 use Rattle.std.proofs.Common.{◌≡◌, ℕ, ◌+◌, ◌≤◌, List, ◌++◌, length, drop, refl, lit≤}
 use Rattle.std.specs.Prelude.{slice_index}
-use Rattle.cwr_fields.specs.Bytes.{digits}
+use Rattle.cwr_fields.specs.Format.Bytes.{digits}
 use Rattle.cwr_layouts.specs.declared.kinds.Kind.{Kind}
 use Rattle.cwr_layouts.specs.declared.kinds.Kind.TheVariants.{Hdr, Grh, Grt, Trl, Agr, Ter, Ipa, Nwr, Rev, Spu, Opu, Spt, Swr, Owr, Swt, Pwr, Alt, Ewt, Ver, Per, Rec, Orn, Com, Ack, Msg, Opt, Owt, Npn, Npr, Nwn, Npa, Net, Now, Nct, Nvt, Nat, Ins, Ind, Ari, Xrf}
-use Rattle.cwr_layouts.specs.Kinds.{letters}
-use Rattle.cwr_layouts.specs.Layouts.{line_width}
-use Rattle.cwr_layouts.specs.Numbered.{numbered_part}
+use Rattle.cwr_layouts.specs.Format.Kinds.{letters}
+use Rattle.cwr_layouts.specs.Format.Layouts.{line_width}
+use Rattle.cwr_layouts.specs.Steps.Numbered.{numbered_part}
 
 -- a record inside a transaction
 pub numbered_inside : (kind : Kind) (ns line : List ℕ) → (kind ≡ Hdr → ⊥) → (kind ≡ Grh → ⊥) → (kind ≡ Grt → ⊥) → (kind ≡ Trl → ⊥)

@@ -6,13 +6,14 @@ use Rattle.std.proofs.lemmas.Bool.{ne_eqb}
 use Rattle.std.proofs.lemmas.List.{length-map}
 use Rattle.cwr_fields.specs.declared.cell_types.CellFault.{CellFault}
 use Rattle.cwr_fields.specs.declared.cell_types.CellType.TheVariants.{Text}
-use Rattle.cwr_fields.specs.Bytes.{is_plain}
-use Rattle.cwr_fields.specs.Cells.{Holds, type_width}
+use Rattle.cwr_fields.specs.Format.Bytes.{is_plain}
+use Rattle.cwr_fields.specs.Format.Cells.{Holds, type_width}
 use Rattle.cwr_layouts.specs.declared.kinds.Kind.{Kind}
 use Rattle.cwr_layouts.specs.declared.layouts.Field.{Field}
-use Rattle.cwr_layouts.specs.Layouts.{FieldLayout, layout, line_width, placed_fields, field_placed}
-use Rattle.cwr_layouts.specs.Carried.{carried_placed, record_in, FitsAt}
-use Rattle.cwr_layouts.specs.Views.{field_view}
+use Rattle.cwr_layouts.specs.Format.Layouts.{FieldLayout, layout, line_width, placed_fields, field_placed}
+use Rattle.cwr_layouts.specs.Format.Carried.{carried_placed, FitsAt}
+use Rattle.cwr_layouts.specs.Steps.Carried.{record_in}
+use Rattle.cwr_layouts.specs.Steps.Views.{field_view}
 use Rattle.cwr_layouts.proofs.BlankCells.{IsPlaceAt, length-placed}
 use Rattle.cwr_layouts.proofs.CellParts.{part, plain_part, field_part_within}
 use Rattle.cwr_layouts.proofs.FitCells.{wide_cell, fits_found, fits_none}

@@ -4,13 +4,13 @@ use Rattle.std.specs.Prelude.{Option, Some, None, nat_lt, replicate}
 use Rattle.std.specs.Str.{bytes_eq}
 use Rattle.std.proofs.lemmas.List.{append-nil}
 use Rattle.std.proofs.lemmas.List.Folds.{list_all-append}
-use Rattle.cwr_fields.specs.Bytes.{is_plain, is_control, filled}
+use Rattle.cwr_fields.specs.Format.Bytes.{is_plain, is_control, filled}
 use Rattle.cwr_layouts.specs.declared.kinds.Kind.{Kind}
 use Rattle.cwr_layouts.specs.declared.lines.LineEnd.{LineEnd}
 use Rattle.cwr_layouts.specs.declared.lines.LineEnd.TheVariants.{Line}
-use Rattle.cwr_layouts.specs.Layouts.{line_width}
-use Rattle.cwr_layouts.specs.Lines.{without_cr}
-use Rattle.cwr_layouts.specs.Held.{IsKept, filled_as, held_body, line_kept, return_if}
+use Rattle.cwr_layouts.specs.Format.Layouts.{line_width}
+use Rattle.cwr_layouts.specs.Format.Lines.{without_cr}
+use Rattle.cwr_layouts.specs.Steps.Held.{IsKept, filled_as, held_body, line_kept, return_if}
 use Rattle.cwr_layouts.proofs.CellParts.{plain_take}
 use Rattle.cwr_layouts.proofs.RowLaws.{without_cr-added}
 

@@ -6,14 +6,14 @@ use Rattle.std.specs.Str.{bytes_eq}
 use Rattle.std.proofs.lemmas.List.{length-append, append_cancel_left}
 use Rattle.std.proofs.Math.Seq.{take-append_seam, drop-append_seam}
 use Rattle.std.proofs.lemmas.List.Sums.{sum_by-cons}
-use Rattle.cwr_fields.specs.Bytes.{digits, trimmed}
+use Rattle.cwr_fields.specs.Format.Bytes.{digits, trimmed}
 use Rattle.cwr_fields.proofs.Digits.{length-digits}
 use Rattle.cwr_fields.proofs.LineFeeds.{NoLf, NoLf-append, NoLf-digits, NoLf-Holds}
 use Rattle.cwr_layouts.specs.declared.kinds.Kind.{Kind}
-use Rattle.cwr_layouts.specs.Kinds.{letters, kind_of}
-use Rattle.cwr_layouts.specs.Layouts.{FieldLayout, layout, fields_after_type, total_width, line_width}
-use Rattle.cwr_layouts.specs.Records.{RecordValue, IsCellOf, IsRecord, Row, IsRow, rest_if, row_cells, row_of, full_line, record_of}
-use Rattle.cwr_layouts.specs.Lines.{without_cr, IsLineOf}
+use Rattle.cwr_layouts.specs.Format.Kinds.{letters, kind_of}
+use Rattle.cwr_layouts.specs.Format.Layouts.{FieldLayout, layout, fields_after_type, total_width, line_width}
+use Rattle.cwr_layouts.specs.Format.Records.{RecordValue, IsCellOf, IsRecord, Row, IsRow, rest_if, row_cells, row_of, full_line, record_of}
+use Rattle.cwr_layouts.specs.Format.Lines.{without_cr, IsLineOf}
 use Rattle.cwr_layouts.proofs.TrimmedTexts.{same_from_trimmed}
 use Rattle.cwr_layouts.proofs.AllKinds.{kind_of-letters, length-letters, NoLf-letters, line_width_most, trimmed-letters}
 

@@ -4,9 +4,9 @@ use Rattle.std.specs.Prelude.{Option, Some, None}
 use Rattle.std.proofs.lemmas.List.{take-take, drop-take, drop-drop}
 use Rattle.cwr_layouts.specs.declared.kinds.Kind.{Kind}
 use Rattle.cwr_layouts.specs.declared.kinds.Kind.TheVariants.{Hdr, Grh, Grt, Trl, Agr, Ter, Ipa, Nwr, Rev, Spu, Opu, Spt, Swr, Owr, Swt, Pwr, Alt, Ewt, Ver, Per, Rec, Orn, Com, Ack, Msg, Opt, Owt, Npn, Npr, Nwn, Npa, Net, Now, Nct, Nvt, Nat, Ins, Ind, Ari, Xrf}
-use Rattle.cwr_layouts.specs.Kinds.{is_in_transaction}
-use Rattle.cwr_layouts.specs.Layouts.{FieldLayout, field_placed, fields_after_type, in_transaction, layout, number, placed_fields, record_type}
-use Rattle.cwr_layouts.specs.Held.{HeldLine, IsFilled, held_cell}
+use Rattle.cwr_layouts.specs.Format.Kinds.{is_in_transaction}
+use Rattle.cwr_layouts.specs.Format.Layouts.{FieldLayout, field_placed, fields_after_type, in_transaction, layout, number, placed_fields, record_type}
+use Rattle.cwr_layouts.specs.Steps.Held.{HeldLine, IsFilled, held_cell}
 use Rattle.cwr_layouts.proofs.CellParts.{part, held_cell-part}
 
 -- the fields of a record inside a transaction begin with the two sequences

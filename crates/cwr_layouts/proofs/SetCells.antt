@@ -5,13 +5,14 @@ use Rattle.std.specs.Option.{option_and_then}
 use Rattle.std.specs.List.{splice, refill}
 use Rattle.std.proofs.lemmas.List.{take-append-le, drop-append-le, take-take, drop-take, drop-drop, length-take-le, length-drop, length-append, take_at}
 use Rattle.std.proofs.Math.Seq.{take-append_seam, drop-append_seam}
-use Rattle.cwr_fields.specs.Bytes.{filled}
-use Rattle.cwr_fields.specs.Cells.{Holds, type_width}
+use Rattle.cwr_fields.specs.Format.Bytes.{filled}
+use Rattle.cwr_fields.specs.Format.Cells.{Holds, type_width}
 use Rattle.cwr_layouts.specs.declared.kinds.Kind.{Kind}
-use Rattle.cwr_layouts.specs.Layouts.{FieldLayout, layout, placed_fields, field_placed, field_at, line_width}
-use Rattle.cwr_layouts.specs.Lines.{pieces}
-use Rattle.cwr_layouts.specs.Records.{RecordValue}
-use Rattle.cwr_layouts.specs.Carried.{carried_at, carried_placed, carried_before, carried_cells, record_in, set_cell, Sets}
+use Rattle.cwr_layouts.specs.Format.Layouts.{FieldLayout, layout, placed_fields, field_placed, field_at, line_width}
+use Rattle.cwr_layouts.specs.Format.Lines.{pieces}
+use Rattle.cwr_layouts.specs.Format.Records.{RecordValue}
+use Rattle.cwr_layouts.specs.Format.Carried.{carried_at, carried_placed, carried_before, set_cell, Sets}
+use Rattle.cwr_layouts.specs.Steps.Carried.{carried_cells, record_in}
 use Rattle.cwr_layouts.proofs.CarriedCells.{carried_count, widths, is_carried, carried_at-placed, carried_in-set, carried_within}
 use Rattle.cwr_layouts.proofs.AllKinds.{line_width_widest}
 use Rattle.cwr_layouts.proofs.CellParts.{field_within}

@@ -3,7 +3,7 @@ use Rattle.std.proofs.Common.{◌≡◌, ℕ, suc, ◌+◌, Bool, true, false, c
 use Rattle.std.specs.Prelude.{◌==◌}
 use Rattle.std.proofs.lemmas.Bool.{eqb-true}
 use Rattle.std.proofs.lemmas.List.{length-append, length-replicate}
-use Rattle.cwr_fields.specs.Bytes.{trimmed, before_trimmed}
+use Rattle.cwr_fields.specs.Format.Bytes.{trimmed, before_trimmed}
 
 one_more : (b n : ℕ) (rest : List ℕ) (t : Bool) → (b == 32) ≡ t → rest ≡ replicate n 32 → (m : ℕ) × (b ∷ rest ≡ cond t [] (b ∷ []) ++ replicate m 32)
 one_more b n rest true e h = (suc n, ap (λ (x : ℕ). x ∷ rest) (eqb-true b 32 e) ∙ ap (λ (xs : List ℕ). 32 ∷ xs) h)

@@ -1,10 +1,10 @@
 //! Lines as they are written: a record's cells and its numbers in full width, and the line end.
 
 ghost use Rattle.std.specs.Prelude.{◌≡◌, ◌+◌, ◌≤◌, ◌++◌, ◌∷◌, [], length, replicate, slice_index, take};
-ghost use Rattle.cwr_fields.specs.Bytes.{digits};
-ghost use Rattle.cwr_layouts.specs.Layouts.{line_width};
-ghost use Rattle.cwr_layouts.specs.Records.{full_line, row_of};
-ghost use Rattle.cwr_layouts.specs.Numbered.{numbered_part, with_part};
+ghost use Rattle.cwr_fields.specs.Format.Bytes.{digits};
+ghost use Rattle.cwr_layouts.specs.Format.Layouts.{line_width};
+ghost use Rattle.cwr_layouts.specs.Format.Records.{full_line, row_of};
+ghost use Rattle.cwr_layouts.specs.Steps.Numbered.{numbered_part, with_part};
 
 use crate::kinds::{Kind, letters};
 use crate::records::{RecordRef, WIDEST_LINE};

@@ -3,11 +3,12 @@
 ghost use Rattle.std.specs.Prelude.{◌≡◌, IsTrue, ◌↔◌, ◌+◌, ◌++◌, ◌≤◌, length, IsOk, OnOk, OnErr, IfOk, IfErr};
 ghost use Rattle.std.specs.List.{splice};
 ghost use Rattle.std.specs.Option.{ForSome};
-ghost use Rattle.cwr_fields.specs.Bytes.{filled, is_plain};
-ghost use Rattle.cwr_fields.specs.Cells.{Holds, HasFault, type_width};
-ghost use Rattle.cwr_layouts.specs.Layouts.{line_width};
-ghost use Rattle.cwr_layouts.specs.Records.{IsRecord, blank_cell, blank_record, carried_fields};
-ghost use Rattle.cwr_layouts.specs.Carried.{Sets, IsSetFault, FitsAt, HasCellFault, IsFirstUnfit, record_in};
+ghost use Rattle.cwr_fields.specs.Format.Bytes.{filled, is_plain};
+ghost use Rattle.cwr_fields.specs.Format.Cells.{Holds, HasFault, type_width};
+ghost use Rattle.cwr_layouts.specs.Format.Layouts.{line_width};
+ghost use Rattle.cwr_layouts.specs.Format.Records.{IsRecord, blank_cell, blank_record, carried_fields};
+ghost use Rattle.cwr_layouts.specs.Format.Carried.{Sets, IsSetFault, FitsAt, HasCellFault, IsFirstUnfit};
+ghost use Rattle.cwr_layouts.specs.Steps.Carried.{record_in};
 
 use crate::kind_cells::surely_carries;
 use crate::kinds::Kind;
@@ -154,9 +155,9 @@ pub struct Draft {
 
 impl Model for Draft {
     ghost use Rattle.std.specs.Prelude.{◌≡◌, length};
-    ghost use Rattle.cwr_layouts.specs.Layouts.{line_width};
-    ghost use Rattle.cwr_layouts.specs.Records.{RecordValue};
-    ghost use Rattle.cwr_layouts.specs.Carried.{record_in};
+    ghost use Rattle.cwr_layouts.specs.Format.Layouts.{line_width};
+    ghost use Rattle.cwr_layouts.specs.Format.Records.{RecordValue};
+    ghost use Rattle.cwr_layouts.specs.Steps.Carried.{record_in};
 
     ghost Value = { RecordValue };
 

@@ -3,10 +3,11 @@
 //! listed is proved to be enough: all but the derived ones and plain text.
 
 ghost use Rattle.std.specs.Prelude.{◌≡◌, ◌+◌, ◌<◌, IsTrue, length};
-ghost use Rattle.cwr_fields.specs.Bytes.{is_plain};
-ghost use Rattle.cwr_layouts.specs.Layouts.{layout as layout_of, line_width};
-ghost use Rattle.cwr_layouts.specs.Records.{IsRecord};
-ghost use Rattle.cwr_layouts.specs.Carried.{FitsAt, record_in};
+ghost use Rattle.cwr_fields.specs.Format.Bytes.{is_plain};
+ghost use Rattle.cwr_layouts.specs.Format.Layouts.{layout as layout_of, line_width};
+ghost use Rattle.cwr_layouts.specs.Format.Records.{IsRecord};
+ghost use Rattle.cwr_layouts.specs.Format.Carried.{FitsAt};
+ghost use Rattle.cwr_layouts.specs.Steps.Carried.{record_in};
 
 use crate::kinds::Kind;
 use crate::layouts::layout;

@@ -1,9 +1,9 @@
 //! Laws over the definitions.
 
 ghost use Rattle.std.specs.Prelude.{◌≡◌, ◌-◌, List, ℕ, length, IsSome, OnSome, slice_get};
-ghost use Rattle.cwr_layouts.specs.Carried.{carried_at, record_cell, ShowsSet};
-ghost use Rattle.cwr_layouts.specs.Held.{HeldLine, HoldsLine, IsCutAs, IsHeld};
-ghost use Rattle.cwr_layouts.specs.Records.{RecordValue, IsRecord, carried_fields, row_of};
+ghost use Rattle.cwr_layouts.specs.Format.Carried.{carried_at, record_cell, ShowsSet};
+ghost use Rattle.cwr_layouts.specs.Steps.Held.{HeldLine, HoldsLine, IsCutAs, IsHeld};
+ghost use Rattle.cwr_layouts.specs.Format.Records.{RecordValue, IsRecord, carried_fields, row_of};
 
 /// What a line buffer took of a line of a text has the kind, the cells and the excess of that line: of the whole line
 /// where it has at most 1,024 bytes before its line feed, and else of its first 1,024 bytes.

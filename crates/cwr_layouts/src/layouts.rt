@@ -2,8 +2,8 @@
 //! and the type of its cells. Derived fields hold numbers that are computed from the order of the records.
 
 ghost use Rattle.std.specs.Prelude.{◌≡◌, map};
-ghost use Rattle.cwr_layouts.specs.Layouts.{layout as layout_of, placed_fields};
-ghost use Rattle.cwr_layouts.specs.Views.{field_view};
+ghost use Rattle.cwr_layouts.specs.Format.Layouts.{layout as layout_of, placed_fields};
+ghost use Rattle.cwr_layouts.specs.Steps.Views.{field_view};
 
 use crate::kinds::Kind;
 use cwr_fields::CellType::{

@@ -4,11 +4,11 @@
 
 ghost use Rattle.std.specs.Prelude.{◌≡◌, ◌≢◌, ◌≤◌, ◌<◌, ◌+◌, ◌++◌, length, take, drop, slice_index, ◌↔◌, IsFalse, IsNone, IsSome, IsSomeAnd, IsTrue, IfSome, Some, MatchOption, option_map};
 ghost use Rattle.std.specs.List.{list_any};
-ghost use Rattle.cwr_fields.specs.Bytes.{filled, is_plain};
-ghost use Rattle.cwr_layouts.specs.Lines.{is_lf, without_cr, body_kind};
-ghost use Rattle.cwr_layouts.specs.Kinds.{is_in_transaction, kind_of};
-ghost use Rattle.cwr_layouts.specs.Records.{IsRecord};
-ghost use Rattle.cwr_layouts.specs.Held.{held_record, HeldLine, Takes, IsHeld, empty_line, held_kind, held_cell, held_excess, filled_as, return_if};
+ghost use Rattle.cwr_fields.specs.Format.Bytes.{filled, is_plain};
+ghost use Rattle.cwr_layouts.specs.Format.Lines.{is_lf, without_cr, body_kind};
+ghost use Rattle.cwr_layouts.specs.Format.Kinds.{is_in_transaction, kind_of};
+ghost use Rattle.cwr_layouts.specs.Format.Records.{IsRecord};
+ghost use Rattle.cwr_layouts.specs.Steps.Held.{held_record, HeldLine, Takes, IsHeld, empty_line, held_kind, held_cell, held_excess, filled_as, return_if};
 
 use crate::kinds::{Kind, is_in_transaction};
 use crate::layouts::Field;
@@ -142,8 +142,8 @@ pub struct LineBuf {
 }
 
 impl Model for LineBuf {
-    ghost use Rattle.cwr_layouts.specs.Records.{IsRecord};
-    ghost use Rattle.cwr_layouts.specs.Held.{held_record, HeldLine, line_kept, IsKept};
+    ghost use Rattle.cwr_layouts.specs.Format.Records.{IsRecord};
+    ghost use Rattle.cwr_layouts.specs.Steps.Held.{held_record, HeldLine, line_kept, IsKept};
 
     ghost Value = { HeldLine };
 
@@ -329,7 +329,7 @@ pub struct CutLine<'a> {
 }
 
 impl<'a> Model for CutLine<'a> {
-    ghost use Rattle.cwr_layouts.specs.Held.{HeldLine, line_kept, IsCut};
+    ghost use Rattle.cwr_layouts.specs.Steps.Held.{HeldLine, line_kept, IsCut};
 
     ghost Value = { HeldLine };
 

@@ -1,9 +1,9 @@
 //! What the tables of layouts say of a kind.
 
 ghost use Rattle.std.specs.Prelude.{◌≡◌, option_map, length};
-ghost use Rattle.cwr_layouts.specs.Layouts.{field_placed, layout as layout_of, line_width};
-ghost use Rattle.cwr_layouts.specs.Carried.{carried_placed};
-ghost use Rattle.cwr_layouts.specs.Views.{field_view};
+ghost use Rattle.cwr_layouts.specs.Format.Layouts.{field_placed, layout as layout_of, line_width};
+ghost use Rattle.cwr_layouts.specs.Format.Carried.{carried_placed};
+ghost use Rattle.cwr_layouts.specs.Steps.Views.{field_view};
 
 use crate::kinds::Kind;
 use crate::layouts::{Field, layout};

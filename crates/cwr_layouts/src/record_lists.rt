@@ -2,9 +2,9 @@
 
 ghost use Rattle.std.specs.Prelude.{◌≡◌, ◌+◌, ◌≤◌, List, [], ◌∷◌, ◌++◌, length, slice_get, OnOk, OnErr};
 ghost use Rattle.std.specs.List.{AllByRecursion};
-ghost use Rattle.cwr_layouts.specs.Records.{RecordValue, IsRecord};
-ghost use Rattle.cwr_layouts.specs.Layouts.{line_width};
-ghost use Rattle.cwr_layouts.specs.KeptLines.{IsKeptLine, kept_records, line_at};
+ghost use Rattle.cwr_layouts.specs.Format.Records.{RecordValue, IsRecord};
+ghost use Rattle.cwr_layouts.specs.Format.Layouts.{line_width};
+ghost use Rattle.cwr_layouts.specs.Steps.KeptLines.{IsKeptLine, kept_records, line_at};
 
 use crate::kinds::Kind;
 use crate::lookups::width;
@@ -55,8 +55,8 @@ pub struct RecordList {
 impl Model for RecordList {
     ghost use Rattle.std.specs.Prelude.{List};
     ghost use Rattle.std.specs.List.{AllByRecursion};
-    ghost use Rattle.cwr_layouts.specs.Records.{RecordValue};
-    ghost use Rattle.cwr_layouts.specs.KeptLines.{IsKeptLine, kept_records};
+    ghost use Rattle.cwr_layouts.specs.Format.Records.{RecordValue};
+    ghost use Rattle.cwr_layouts.specs.Steps.KeptLines.{IsKeptLine, kept_records};
 
     ghost Value = { List RecordValue };
 

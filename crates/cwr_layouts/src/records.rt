@@ -1,10 +1,11 @@
 //! Records as values: a kind and the cells that a record of the kind carries, each one of its field.
 
 ghost use Rattle.std.specs.Prelude.{◌≡◌, ◌↔◌, ◌<◌, ◌≤◌, length, option_map, Some, IsSome, IsTrue, IfSome};
-ghost use Rattle.cwr_fields.specs.Bytes.{is_plain};
-ghost use Rattle.cwr_layouts.specs.Layouts.{line_width};
-ghost use Rattle.cwr_layouts.specs.Records.{IsRecord};
-ghost use Rattle.cwr_layouts.specs.Carried.{HasCellOf, record_cell, record_in};
+ghost use Rattle.cwr_fields.specs.Format.Bytes.{is_plain};
+ghost use Rattle.cwr_layouts.specs.Format.Layouts.{line_width};
+ghost use Rattle.cwr_layouts.specs.Format.Records.{IsRecord};
+ghost use Rattle.cwr_layouts.specs.Format.Carried.{HasCellOf, record_cell};
+ghost use Rattle.cwr_layouts.specs.Steps.Carried.{record_in};
 
 use crate::drafts::carries;
 use crate::kinds::Kind;
@@ -69,8 +70,8 @@ pub struct Record {
 }
 
 impl Model for Record {
-    ghost use Rattle.cwr_layouts.specs.Records.{RecordValue};
-    ghost use Rattle.cwr_layouts.specs.Carried.{record_in, KeepsRecord};
+    ghost use Rattle.cwr_layouts.specs.Format.Records.{RecordValue};
+    ghost use Rattle.cwr_layouts.specs.Steps.Carried.{record_in, KeepsRecord};
 
     ghost Value = { RecordValue };
 
@@ -110,8 +111,8 @@ pub struct RecordRef<'a> {
 }
 
 impl<'a> Model for RecordRef<'a> {
-    ghost use Rattle.cwr_layouts.specs.Records.{RecordValue};
-    ghost use Rattle.cwr_layouts.specs.Carried.{record_in, KeepsRecord};
+    ghost use Rattle.cwr_layouts.specs.Format.Records.{RecordValue};
+    ghost use Rattle.cwr_layouts.specs.Steps.Carried.{record_in, KeepsRecord};
 
     ghost Value = { RecordValue };
 

@@ -3,7 +3,7 @@
 ghost use Rattle.std.specs.Prelude.{◌≡◌, ◌<◌, ◌≤◌, List, IfOk, refl};
 ghost use Rattle.cwr_fields.specs.declared.cell_types.CellType.TheVariants.{Constant};
 ghost use Rattle.cwr_fields.specs.declared.cell_types.Word.TheVariants.{Edi};
-ghost use Rattle.cwr_fields.specs.Codes.{word_text};
+ghost use Rattle.cwr_fields.specs.Format.Codes.{word_text};
 
 use cwr_fields::{
     Cell, CellFault, CellType, CivilDate, DateCell, Flag, Number, TimeOfDay, TransactionStatus,

@@ -10,13 +10,13 @@ use Rattle.std.proofs.lemmas.List.Elements.{filter-append}
 use Rattle.cwr_layouts.specs.declared.kinds.Kind.{Kind}
 use Rattle.cwr_layouts.specs.declared.kinds.Kind.TheVariants as kinds
 use Rattle.cwr_fields.specs.declared.codes.Role.{Role}
-use Rattle.cwr_fields.specs.Bytes.{number_of}
-use Rattle.cwr_fields.specs.Codes.{role_code}
-use Rattle.cwr_layouts.specs.Records.{RecordValue, IsRecord, cell_named}
-use Rattle.cwr_levels.specs.Fields.{IsField}
-use Rattle.cwr_levels.specs.Findings.{share_of, is_owner, is_party, of_role}
+use Rattle.cwr_fields.specs.Format.Bytes.{number_of}
+use Rattle.cwr_fields.specs.Format.Codes.{role_code}
+use Rattle.cwr_layouts.specs.Format.Records.{RecordValue, IsRecord, cell_named}
+use Rattle.cwr_levels.specs.Format.Fields.{IsField}
+use Rattle.cwr_levels.specs.Format.Findings.{share_of, is_owner, is_party, of_role}
 use Rattle.cwr_levels.specs.declared.shares.Shares.{Shares}
-use Rattle.cwr_levels.specs.Walks.{AddUpTo, capped, is_kind}
+use Rattle.cwr_levels.specs.Steps.Walks.{AddUpTo, capped, is_kind}
 use Rattle.cwr_levels.proofs.KindTests.{kind_of}
 use Rattle.cwr_levels.proofs.NamedCells.{named_cell, cell_width}
 use Rattle.cwr_levels.proofs.NumberCells.{share_is_number}

@@ -5,12 +5,12 @@ use Rattle.std.proofs.lemmas.Bool.{and_parts, eqb-true}
 use Rattle.std.proofs.lemmas.List.{append-nil, map-append, take_all}
 use Rattle.std.proofs.lemmas.List.Elements.{filter_more}
 use Rattle.cwr_layouts.specs.declared.kinds.Kind.TheVariants as kinds
-use Rattle.cwr_layouts.specs.Records.{RecordValue}
+use Rattle.cwr_layouts.specs.Format.Records.{RecordValue}
 use Rattle.cwr_levels.specs.declared.rules.Rule.{Rule}
 use Rattle.cwr_levels.specs.declared.rules.Rule.TheVariants.{V1, V2, V3, V4, V5, V6, V7, V8, V9, V10, V11}
 use Rattle.cwr_levels.specs.declared.rules.Finding.{Finding}
-use Rattle.cwr_levels.specs.Findings.{breaks, is_a, is_work, is_agreement, field_of_rule, level_of_rule, all_rules, findings_at}
-use Rattle.cwr_levels.specs.Walks.{can_break, is_kind, rules_on}
+use Rattle.cwr_levels.specs.Format.Findings.{breaks, is_a, is_work, is_agreement, field_of_rule, level_of_rule, all_rules, findings_at}
+use Rattle.cwr_levels.specs.Steps.Walks.{can_break, is_kind, rules_on}
 use Rattle.cwr_levels.proofs.RuleTests.{first_of_work, first_of_agreement, or_none}
 
 -- the finding of a rule at a record

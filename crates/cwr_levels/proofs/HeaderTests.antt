@@ -2,11 +2,11 @@
 use Rattle.std.proofs.Common.{◌≡◌, ℕ, ◌<◌, ◌≤◌, Bool, true, false, not, List, [], ◌∷◌, length, refl, sym, ap, ap₂, ◌∙◌, arith, inl, inr, nat_eq, eq-eqb, ne_eqb}
 use Rattle.std.specs.Prelude.{◌&&◌, ◌==◌, ◌^◌, nat_lt}
 use Rattle.std.proofs.lemmas.Bool.{cases_eq, cases_lt, le-ltb}
-use Rattle.cwr_fields.specs.Bytes.{is_spaces, number_of}
+use Rattle.cwr_fields.specs.Format.Bytes.{is_spaces, number_of}
 use Rattle.cwr_layouts.specs.declared.kinds.Kind.TheVariants as kinds
-use Rattle.cwr_layouts.specs.Records.{RecordValue, IsRecord, cell_named}
-use Rattle.cwr_levels.specs.Findings.{is_work, is_agreement, counts_others, ends_before_start}
-use Rattle.cwr_levels.specs.Walks.{capped}
+use Rattle.cwr_layouts.specs.Format.Records.{RecordValue, IsRecord, cell_named}
+use Rattle.cwr_levels.specs.Format.Findings.{is_work, is_agreement, counts_others, ends_before_start}
+use Rattle.cwr_levels.specs.Steps.Walks.{capped}
 use Rattle.cwr_levels.proofs.NamedCells.{named_cell, cell_width}
 use Rattle.cwr_levels.proofs.NumberCells.{day_is_number}
 use Rattle.cwr_levels.proofs.RuleFields.{count_of_nwr, count_of_rev, start_of_agr, end_of_agr}

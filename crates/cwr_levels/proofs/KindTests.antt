@@ -2,10 +2,10 @@
 use Rattle.std.proofs.Common.{◌≡◌, Bool, true, false, ap, refl}
 use Rattle.std.proofs.lemmas.Slice.Eq.{bytes_eq-Decides}
 use Rattle.cwr_layouts.specs.declared.kinds.Kind.{Kind}
-use Rattle.cwr_layouts.specs.Kinds.{letters}
-use Rattle.cwr_layouts.specs.Records.{RecordValue}
+use Rattle.cwr_layouts.specs.Format.Kinds.{letters}
+use Rattle.cwr_layouts.specs.Format.Records.{RecordValue}
 use Rattle.cwr_layouts.proofs.RowLaws.{letters-injective}
-use Rattle.cwr_levels.specs.Findings.{is_a}
+use Rattle.cwr_levels.specs.Format.Findings.{is_a}
 
 pub kind_of : (kind : Kind) (r : RecordValue) → is_a kind r ≡ true → r.kind ≡ kind
 kind_of kind r e = letters-injective r.kind kind ((bytes_eq-Decides (letters r.kind) (letters kind)).0 e)

@@ -6,9 +6,9 @@ use Rattle.std.proofs.lemmas.List.{append-nil}
 use Rattle.std.proofs.lemmas.List.Elements.{filter-append}
 use Rattle.cwr_layouts.specs.declared.kinds.Kind.{Kind}
 use Rattle.cwr_layouts.specs.declared.kinds.Kind.TheVariants as kinds
-use Rattle.cwr_layouts.specs.Records.{RecordValue, cell_named}
-use Rattle.cwr_levels.specs.Findings.{is_a, nearest, is_party, is_territory, in_blocks}
-use Rattle.cwr_levels.specs.Walks.{party_number}
+use Rattle.cwr_layouts.specs.Format.Records.{RecordValue, cell_named}
+use Rattle.cwr_levels.specs.Format.Findings.{is_a, nearest, is_party, is_territory, in_blocks}
+use Rattle.cwr_levels.specs.Steps.Walks.{party_number}
 use Rattle.cwr_levels.proofs.KindTests.{is_of_kind, is_of_no_kind}
 
 last_pushed : (o : Option RecordValue) (xs : List RecordValue) (r : RecordValue) → last_or o (xs ++ r ∷ []) ≡ Some r

@@ -6,10 +6,10 @@ use Rattle.std.specs.Option.{option_and_then}
 use Rattle.std.specs.Str.{bytes_eq}
 use Prim.Native.String.{String}
 use Rattle.cwr_layouts.specs.declared.kinds.Kind.{Kind}
-use Rattle.cwr_layouts.specs.Layouts.{FieldLayout}
-use Rattle.cwr_layouts.specs.Carried.{carried_at, carried_before, record_cell}
-use Rattle.cwr_layouts.specs.Records.{RecordValue, IsRecord, IsCellOf, cell_named, carried_fields}
-use Rattle.cwr_levels.specs.Fields.{IsField, place_of}
+use Rattle.cwr_layouts.specs.Format.Layouts.{FieldLayout}
+use Rattle.cwr_layouts.specs.Format.Carried.{carried_at, carried_before, record_cell}
+use Rattle.cwr_layouts.specs.Format.Records.{RecordValue, IsRecord, IsCellOf, cell_named, carried_fields}
+use Rattle.cwr_levels.specs.Format.Fields.{IsField, place_of}
 
 found_at : (name : List ℕ) (fields : List FieldLayout) (cells : List (List ℕ)) → length cells ≡ length fields
     → option_map (λ (p : FieldLayout × List ℕ). p.1) (find (λ p. bytes_eq p.0.name name) (zip fields cells)) ≡ slice_get cells (place_of name fields)

@@ -3,8 +3,8 @@ use Rattle.std.proofs.Common.{◌≡◌, ℕ, ◌+◌, ◌-◌, ◌*◌, Bool, t
 use Rattle.std.specs.Prelude.{◌&&◌, ◌==◌}
 use Rattle.std.specs.List.{fold}
 use Rattle.std.proofs.lemmas.Bool.{and_parts, eqb-true}
-use Rattle.cwr_fields.specs.Bytes.{is_spaces, number_of}
-use Rattle.cwr_levels.specs.Findings.{is_day}
+use Rattle.cwr_fields.specs.Format.Bytes.{is_spaces, number_of}
+use Rattle.cwr_levels.specs.Format.Findings.{is_day}
 
 pub spaces_are_zero : (cell : List ℕ) → is_spaces cell ≡ true → number_of cell ≡ 0
 spaces_are_zero [] h = refl

@@ -9,9 +9,9 @@ use Rattle.std.proofs.lemmas.List.{take_all}
 use Rattle.std.proofs.lemmas.List.Folds.{list_any-append}
 use Rattle.std.proofs.lemmas.Map.Text.{is_eq-slice_cmp}
 use Rattle.cwr_layouts.specs.declared.kinds.Kind.TheVariants as kinds
-use Rattle.cwr_layouts.specs.Records.{RecordValue, IsRecord, cell_named}
-use Rattle.cwr_levels.specs.Findings.{is_a}
-use Rattle.cwr_levels.specs.Walks.{HasNumbersOf, is_publisher}
+use Rattle.cwr_layouts.specs.Format.Records.{RecordValue, IsRecord, cell_named}
+use Rattle.cwr_levels.specs.Format.Findings.{is_a}
+use Rattle.cwr_levels.specs.Steps.Walks.{HasNumbersOf, is_publisher}
 use Rattle.cwr_levels.proofs.KindTests.{kind_of}
 use Rattle.cwr_levels.proofs.OneMore.{take_more}
 use Rattle.cwr_levels.proofs.RuleTests.{cell_of_field, publisher_of_number}

@@ -4,16 +4,16 @@ use Rattle.std.specs.Prelude.{Option, Some, None, ◌&&◌, ◌||◌, slice_get,
 use Rattle.std.specs.List.{list_any}
 use Rattle.std.proofs.lemmas.Bool.{or_cases, and_parts}
 use Rattle.std.specs.Str.{bytes_eq}
-use Rattle.cwr_fields.specs.Bytes.{is_spaces}
-use Rattle.cwr_fields.specs.Iswc.{is_iswc}
+use Rattle.cwr_fields.specs.Format.Bytes.{is_spaces}
+use Rattle.cwr_fields.specs.Format.Iswc.{is_iswc}
 use Rattle.cwr_layouts.specs.declared.kinds.Kind.{Kind}
 use Rattle.cwr_layouts.specs.declared.kinds.Kind.TheVariants as kinds
-use Rattle.cwr_layouts.specs.Carried.{record_cell}
-use Rattle.cwr_layouts.specs.Records.{RecordValue, IsRecord, cell_named}
+use Rattle.cwr_layouts.specs.Format.Carried.{record_cell}
+use Rattle.cwr_layouts.specs.Format.Records.{RecordValue, IsRecord, cell_named}
 use Rattle.cwr_levels.specs.declared.rules.Rule.TheVariants.{V1, V2, V7}
-use Rattle.cwr_levels.specs.Fields.{IsField}
-use Rattle.cwr_levels.specs.Findings.{breaks, is_a, is_work, is_agreement, is_blank, nearest, has_party_number, names_author, is_author}
-use Rattle.cwr_levels.specs.Walks.{can_break, is_kind, is_number, party_number, is_publisher}
+use Rattle.cwr_levels.specs.Format.Fields.{IsField}
+use Rattle.cwr_levels.specs.Format.Findings.{breaks, is_a, is_work, is_agreement, is_blank, nearest, has_party_number, names_author, is_author}
+use Rattle.cwr_levels.specs.Steps.Walks.{can_break, is_kind, is_number, party_number, is_publisher}
 use Rattle.cwr_levels.proofs.KindTests.{kind_of}
 use Rattle.cwr_levels.proofs.NamedCells.{named_cell}
 use Rattle.cwr_levels.proofs.OneMore.{any_among_first}

@@ -2,7 +2,7 @@
 use Rattle.std.proofs.Common.{◌≡◌, ℕ, List, Option, Result, subst}
 use Rattle.cwr_encode.specs.declared.sinks.Sink.{Sink}
 use Rattle.cwr_encode.specs.declared.sinks.SinkFault.{SinkFault}
-use Rattle.cwr_levels.specs.Putting.{PutsText}
+use Rattle.cwr_levels.specs.Steps.Putting.{PutsText}
 
 pub puts_same : {W : Type 0} (contents : W → Option (List ℕ)) (failures : W → ℕ) (text same : List ℕ) (result : Result (Unit {0}) SinkFault) (old new : Sink W) → text ≡ same
     → PutsText contents failures text result old new → PutsText contents failures same result old new

@@ -1,8 +1,8 @@
 //! What the rules ask of the records before one.
 
 ghost use Rattle.std.specs.Prelude.{◌≡◌, ◌++◌, ◌∷◌, [], List, option_map};
-ghost use Rattle.cwr_layouts.specs.Records.{RecordValue};
-ghost use Rattle.cwr_levels.specs.Walks.{IsBefore};
+ghost use Rattle.cwr_layouts.specs.Format.Records.{RecordValue};
+ghost use Rattle.cwr_levels.specs.Steps.Walks.{IsBefore};
 
 use crate::named_cells::cell;
 use cwr_layouts::{Kind, RecordRef};

@@ -2,12 +2,12 @@
 
 ghost use Rattle.std.specs.Prelude.{◌≡◌, ℕ, ◌+◌, ◌<◌, ◌&&◌, ◌==◌, ◌∷◌, [], not, true, List, take, Some, option_map, slice_get};
 ghost use Rattle.std.specs.List.{list_any};
-ghost use Rattle.cwr_fields.specs.Bytes.{is_spaces};
-ghost use Rattle.cwr_fields.specs.Iswc.{is_iswc};
-ghost use Rattle.cwr_layouts.specs.Records.{RecordValue};
+ghost use Rattle.cwr_fields.specs.Format.Bytes.{is_spaces};
+ghost use Rattle.cwr_fields.specs.Format.Iswc.{is_iswc};
+ghost use Rattle.cwr_layouts.specs.Format.Records.{RecordValue};
 ghost use Rattle.cwr_levels.specs.declared.rules.Rule.TheVariants.{V1, V2, V3, V4, V5, V6, V7, V8, V9, V10, V11};
-ghost use Rattle.cwr_levels.specs.Findings.{breaks, counts_others, ends_before_start, is_agreement, is_blank, is_off, is_work};
-ghost use Rattle.cwr_levels.specs.Walks.{AreTotals, IsBefore, KnowsNumbersOf, capped, is_number};
+ghost use Rattle.cwr_levels.specs.Format.Findings.{breaks, counts_others, ends_before_start, is_agreement, is_blank, is_off, is_work};
+ghost use Rattle.cwr_levels.specs.Steps.Walks.{AreTotals, IsBefore, KnowsNumbersOf, capped, is_number};
 
 use crate::before::Before;
 use crate::named_cells::{cell, is_of, number_of};

@@ -1,9 +1,9 @@
 //! The lines of reports. Each is put to a sink whole, and takes no memory.
 
 ghost use Rattle.std.specs.Prelude.{◌≡◌, ◌+◌, ◌≤◌, ◌++◌, [], ◌∷◌, length, codes, decimal};
-ghost use Rattle.cwr_shape.specs.ReasonTexts.{reason_text};
-ghost use Rattle.cwr_levels.specs.Lines.{finding_line, good_line, input_mark, joined_line, limit_line, refusal_line, split_line, truncated_line, with_numbers};
-ghost use Rattle.cwr_levels.specs.Putting.{PutsText};
+ghost use Rattle.cwr_shape.specs.Format.ReasonTexts.{reason_text};
+ghost use Rattle.cwr_levels.specs.Format.Lines.{finding_line, good_line, input_mark, joined_line, limit_line, refusal_line, split_line, truncated_line, with_numbers};
+ghost use Rattle.cwr_levels.specs.Steps.Putting.{PutsText};
 
 use crate::rules::Finding;
 use arrayvec::ArrayVec;

@@ -1,10 +1,10 @@
 //! The cells that the rules read.
 
 ghost use Rattle.std.specs.Prelude.{◌≡◌, ◌<◌, ◌≤◌, ◌^◌, [], length, unwrap_or};
-ghost use Rattle.cwr_fields.specs.Bytes.{number_of};
-ghost use Rattle.cwr_layouts.specs.Records.{IsRecord};
-ghost use Rattle.cwr_layouts.specs.Carried.{record_cell};
-ghost use Rattle.cwr_levels.specs.Findings.{is_a};
+ghost use Rattle.cwr_fields.specs.Format.Bytes.{number_of};
+ghost use Rattle.cwr_layouts.specs.Format.Records.{IsRecord};
+ghost use Rattle.cwr_layouts.specs.Format.Carried.{record_cell};
+ghost use Rattle.cwr_levels.specs.Format.Findings.{is_a};
 
 use cwr_layouts::{Kind, RecordRef};
 

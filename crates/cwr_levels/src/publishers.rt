@@ -2,7 +2,7 @@
 
 ghost use Rattle.std.specs.Prelude.{◌≡◌, take, IfOk};
 ghost use Rattle.std.specs.List.{list_any};
-ghost use Rattle.cwr_levels.specs.Walks.{HasNumbersOf, KnowsNumbersOf, is_publisher};
+ghost use Rattle.cwr_levels.specs.Steps.Walks.{HasNumbersOf, KnowsNumbersOf, is_publisher};
 
 use crate::named_cells::{cell, is_of};
 use crate::registered::Registered;

@@ -1,7 +1,7 @@
 //! The records that the rules speak of: those of a transaction, or of an acknowledgement those of its copy.
 
 ghost use Rattle.std.specs.Prelude.{◌≡◌, ◌+◌, ◌^◌, ◌<◌, ◌≤◌, drop, length, option_map, slice_get};
-ghost use Rattle.cwr_levels.specs.Findings.{before_copy, stands_before_copy};
+ghost use Rattle.cwr_levels.specs.Format.Findings.{before_copy, stands_before_copy};
 
 use crate::named_cells::is_of;
 use cwr_layouts::{Kind, RecordRef};
@@ -44,7 +44,7 @@ pub(crate) struct Registered<'a> {
 
 impl<'a> Model for Registered<'a> {
     ghost use Rattle.std.specs.Prelude.{List, drop, length, ◌≤◌};
-    ghost use Rattle.cwr_layouts.specs.Records.{RecordValue};
+    ghost use Rattle.cwr_layouts.specs.Format.Records.{RecordValue};
 
     ghost Value = { List RecordValue };
 

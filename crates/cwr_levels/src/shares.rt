@@ -1,10 +1,10 @@
 //! Shares of records, added up.
 
 ghost use Rattle.std.specs.Prelude.{◌≡◌, ◌<◌, ℕ, ◌++◌, ◌∷◌, ◌||◌, [], List, true, drop, if◌then◌else◌};
-ghost use Rattle.cwr_layouts.specs.Records.{RecordValue};
-ghost use Rattle.cwr_levels.specs.Fields.{HasSharesFrom};
-ghost use Rattle.cwr_levels.specs.Findings.{is_off, is_party, parties_after, are_over_whole, have_side_over_whole};
-ghost use Rattle.cwr_levels.specs.Walks.{AddUpTo, SidesAddUpTo, capped, has_shares};
+ghost use Rattle.cwr_layouts.specs.Format.Records.{RecordValue};
+ghost use Rattle.cwr_levels.specs.Format.Fields.{HasSharesFrom};
+ghost use Rattle.cwr_levels.specs.Format.Findings.{is_off, is_party, parties_after, are_over_whole, have_side_over_whole};
+ghost use Rattle.cwr_levels.specs.Steps.Walks.{AddUpTo, SidesAddUpTo, capped, has_shares};
 
 use crate::named_cells::{cell, is_of, number_of};
 use crate::registered::Registered;

@@ -1,9 +1,9 @@
 //! What the rules ask of all records of a transaction: sums and counts.
 
 ghost use Rattle.std.specs.Prelude.{◌≡◌, ◌+◌, ◌^◌, ◌<◌, ◌++◌, ◌∷◌, [], List, length};
-ghost use Rattle.cwr_layouts.specs.Records.{RecordValue};
-ghost use Rattle.cwr_levels.specs.Findings.{is_owner, is_author, names_author};
-ghost use Rattle.cwr_levels.specs.Walks.{AreTotals};
+ghost use Rattle.cwr_layouts.specs.Format.Records.{RecordValue};
+ghost use Rattle.cwr_levels.specs.Format.Findings.{is_owner, is_author, names_author};
+ghost use Rattle.cwr_levels.specs.Steps.Walks.{AreTotals};
 
 use crate::named_cells::{cell, is_of};
 use crate::registered::Registered;

@@ -1,8 +1,8 @@
 //! The walk over a transaction that finds which record breaks which rule.
 
 ghost use Rattle.std.specs.Prelude.{◌≡◌, ◌≢◌, ◌+◌, ◌^◌, ◌<◌, ◌++◌, [], take, true, Some, slice_get, IfOk, OnOk, OnErr};
-ghost use Rattle.cwr_levels.specs.Findings.{field_of_rule, level_of_rule, findings, findings_at};
-ghost use Rattle.cwr_levels.specs.Walks.{AreTotals, IsBefore, KnowsNumbersOf, can_break, rules_on};
+ghost use Rattle.cwr_levels.specs.Format.Findings.{field_of_rule, level_of_rule, findings, findings_at};
+ghost use Rattle.cwr_levels.specs.Steps.Walks.{AreTotals, IsBefore, KnowsNumbersOf, can_break, rules_on};
 
 use crate::before::Before;
 use crate::judging::breaks;

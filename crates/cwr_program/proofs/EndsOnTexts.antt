@@ -8,10 +8,10 @@ use Rattle.cwr_tools.specs.declared.verdicts.Verdict.{Verdict}
 use Rattle.cwr_tools.specs.declared.verdicts.Verdict.TheVariants as verdicts
 use Rattle.cwr_tools.specs.declared.verdicts.ToolFault.{ToolFault}
 use Rattle.cwr_tools.specs.declared.verdicts.ToolFault.TheVariants as tool_faults
-use Rattle.cwr_tools.specs.Verdicts.{JudgesText}
+use Rattle.cwr_tools.specs.Format.Verdicts.{JudgesText}
 use Rattle.cwr_program.specs.declared.commands.Status.{Status}
 use Rattle.cwr_program.specs.declared.faults.Fault.{Fault}
-use Rattle.cwr_program.specs.Endings.{EndsAs, EndsOn, EndsOnInput}
+use Rattle.cwr_program.specs.Format.Endings.{EndsAs, EndsOn, EndsOnInput}
 
 ends_on : (limits : Limits) (text : List ℕ) (outcome : Result Verdict ToolFault) (ending : Result Status Fault) → JudgesText limits (Some text) outcome → EndsAs outcome ending → EndsOn limits text ending
 ends_on limits text (Ok (verdicts.Good groups transactions records)) ending judged ends = subst (EndsOn limits text) (sym ends) (judged.0, judged.1, judged.2)

@@ -1,3 +1,2 @@
-pub mod Endings
-pub mod NumberedFiles
-pub mod Words
+pub mod Format
+pub mod Steps

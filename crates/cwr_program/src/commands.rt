@@ -1,7 +1,7 @@
 //! What each subcommand does, between its files and its lines.
 
 ghost use Rattle.std.specs.Prelude.{◌≡◌, ◌<◌, length, IfErr};
-ghost use Rattle.cwr_program.specs.Endings.{EndsAs, EndsAfterFault, EndsOnInput};
+ghost use Rattle.cwr_program.specs.Format.Endings.{EndsAs, EndsAfterFault, EndsOnInput};
 
 use crate::faults::Fault;
 use crate::new_files::{NewFile, NumberedFiles, with_buffer};

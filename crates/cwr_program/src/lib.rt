@@ -5,7 +5,5 @@ mod commands;
 mod faults;
 mod new_files;
 mod program;
-mod words;
 
 pub use program::{refuse_words, run};
-pub use words::{Task, Work, task_of};

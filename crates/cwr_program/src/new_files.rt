@@ -1,9 +1,9 @@
 //! Files that are written, and that have their names only once they are whole.
 
 ghost use Rattle.std.specs.Prelude.{◌≡◌, ℕ, None, Some, IfOk, IfSome};
-ghost use Rattle.cwr_fields.specs.Counted.{failures_of};
-ghost use Rattle.cwr_fields.specs.Failures.{one_more_failure};
-ghost use Rattle.cwr_program.specs.NumberedFiles.{failed_calls_of, given_up_of, lent_of};
+ghost use Rattle.cwr_fields.specs.Steps.Counted.{failures_of};
+ghost use Rattle.cwr_fields.specs.Format.Failures.{one_more_failure};
+ghost use Rattle.cwr_program.specs.Steps.NumberedFiles.{failed_calls_of, given_up_of, lent_of};
 
 use cwr_fields::Counted;
 use cwr_tools::{OutputFault, Outputs};

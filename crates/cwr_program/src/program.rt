@@ -2,14 +2,14 @@
 
 ghost use Rattle.std.specs.Prelude.{◌≡◌, ◌≢◌, ◌≤◌};
 ghost use Rattle.clap.specs.Values.{kind_of};
-ghost use Rattle.cwr_program.specs.Endings.{EndsOnInput, IsOfInput};
+ghost use Rattle.cwr_program.specs.Format.Endings.{EndsOnInput, IsOfInput};
 
 use crate::commands::{
     Status, check_input, explain_input, join_files, open_input, show_input, split_file,
 };
 use crate::faults::Fault;
-use crate::words::{Task, Work, task_of};
 use clap::error::ErrorKind;
+use cwr_words::{Task, Work, task_of};
 use std::convert::AsStr;
 use std::io;
 use std::io::{Read, Write};

@@ -1,7 +1,7 @@
 //! What the program's words ask for. The limits are those of this profile.
 
-use cwr_program::{Task, Work, task_of};
 use cwr_shape::Limits;
+use cwr_words::{Task, Work, task_of};
 use std::num::NonZeroU32;
 use std::process::Abort;
 

@@ -7,12 +7,13 @@ use Rattle.cwr_shape.specs.declared.limits.LimitKind.{LimitKind}
 use Rattle.cwr_shape.specs.declared.limits.LimitKind.TheVariants.{Records, Groups, Transaction}
 use Rattle.cwr_shape.specs.declared.tallies.Bar.TheVariants.{Limit}
 use Rattle.cwr_shape.specs.declared.tallies.Counts.{Counts}
-use Rattle.cwr_shape.specs.Ranges.{LimitValues}
-use Rattle.cwr_shape.specs.Outlines.{KeepsTo, Continues}
-use Rattle.cwr_shape.specs.Needs.{needs_at}
-use Rattle.cwr_shape.specs.Left.{StandsAt}
-use Rattle.cwr_shape.specs.Tallies.{counts_of, TallyValue, IsTallyOf, open_records, MayCome, IsBarred}
-use Rattle.cwr_shape.specs.Counting.{stage_type, counts_with, open_at, passed_limit_at}
+use Rattle.cwr_shape.specs.Format.Ranges.{LimitValues}
+use Rattle.cwr_shape.specs.Format.Outlines.{KeepsTo, Continues}
+use Rattle.cwr_shape.specs.Steps.Needs.{needs_at}
+use Rattle.cwr_shape.specs.Steps.Left.{StandsAt}
+use Rattle.cwr_shape.specs.Format.NextSymbols.{counts_of, open_records, MayCome, IsBarred}
+use Rattle.cwr_shape.specs.Steps.Tallies.{TallyValue, IsTallyOf}
+use Rattle.cwr_shape.specs.Steps.Counting.{stage_type, counts_with, open_at, passed_limit_at}
 use Rattle.cwr_shape.proofs.TallySteps.{counted_next, goes_next}
 use Rattle.cwr_shape.proofs.LimitsByNeeds.{records_reach, groups_reach, transaction_reach, transaction_goes, within_goes, open_named, KeptSoFar, kept_within, kept_next}
 

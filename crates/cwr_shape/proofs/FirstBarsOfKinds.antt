@@ -19,14 +19,16 @@ use Rattle.cwr_shape.specs.declared.limits.LimitKind.TheVariants.{Records, Group
 use Rattle.cwr_shape.specs.declared.tallies.Bar.{Bar}
 use Rattle.cwr_shape.specs.declared.tallies.Bar.TheVariants.{Misplaced, Limit}
 use Rattle.cwr_shape.specs.declared.tallies.Counts.{Counts}
-use Rattle.cwr_shape.specs.Ranges.{LimitValues}
-use Rattle.cwr_shape.specs.Outlines.{GroupOutline, KeepsTo, IsWithin, Continues}
-use Rattle.cwr_shape.specs.NextStages.{next_stage}
-use Rattle.cwr_shape.specs.Needs.{AreAtMost, needs_at}
-use Rattle.cwr_shape.specs.Left.{Any, StandsAt, is_stage}
-use Rattle.cwr_shape.specs.Candidates.{candidates}
-use Rattle.cwr_shape.specs.Tallies.{has_open_transaction, open_type, counts_of, TallyValue, IsTallyOf, MayCome, IsBarred, ContinuesWith, IsBarredAmong, Answers, AnswersAmong}
-use Rattle.cwr_shape.specs.Counting.{counts_with, place_at, wanted_role}
+use Rattle.cwr_shape.specs.Format.Ranges.{LimitValues}
+use Rattle.cwr_shape.specs.Format.Outlines.{GroupOutline, KeepsTo, IsWithin, Continues}
+use Rattle.cwr_shape.specs.Steps.NextStages.{next_stage}
+use Rattle.cwr_shape.specs.Steps.Needs.{AreAtMost, needs_at}
+use Rattle.cwr_shape.specs.Format.AnyTransmission.{Any}
+use Rattle.cwr_shape.specs.Steps.Left.{StandsAt, is_stage}
+use Rattle.cwr_shape.specs.Format.Candidates.{candidates}
+use Rattle.cwr_shape.specs.Format.NextSymbols.{has_open_transaction, open_type, counts_of, MayCome, IsBarred, ContinuesWith, IsBarredAmong, Answers, AnswersAmong}
+use Rattle.cwr_shape.specs.Steps.Tallies.{TallyValue, IsTallyOf}
+use Rattle.cwr_shape.specs.Steps.Counting.{counts_with, place_at, wanted_role}
 use Rattle.cwr_shape.proofs.StageStands.{stands_leaves, next_exact, next_stands}
 use Rattle.cwr_shape.proofs.PrefixFree.{among_passes}
 use Rattle.cwr_shape.proofs.OneMore.{counts-snoc}

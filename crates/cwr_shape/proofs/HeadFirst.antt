@@ -7,7 +7,7 @@ use Rattle.cwr_fields.specs.declared.codes.TransactionType.TheVariants.{Agreemen
 use Rattle.cwr_layouts.specs.declared.kinds.Kind.TheVariants as kinds
 use Rattle.cwr_shape.specs.declared.symbols.Symbol.{Symbol}
 use Rattle.cwr_shape.specs.declared.symbols.Symbol.TheVariants.{Plain, Grh}
-use Rattle.cwr_shape.specs.Shapes.{Pattern, one_of, ◌then◌, many, carrying, Matches, IsShape, a, some, block, publisher, writer, tail_record, copy}
+use Rattle.cwr_shape.specs.Format.Shapes.{Pattern, one_of, ◌then◌, many, carrying, Matches, IsShape, a, some, block, publisher, writer, tail_record, copy}
 use Rattle.cwr_shape.proofs.PrefixFree.{only, matched_pass}
 
 -- 0 for what stands around transactions, 1 for the header of the type, 2 for any other record

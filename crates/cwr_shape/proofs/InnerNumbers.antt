@@ -7,9 +7,10 @@ use Rattle.cwr_layouts.specs.declared.kinds.Kind.{Kind}
 use Rattle.cwr_layouts.specs.declared.kinds.Kind.TheVariants as kinds
 use Rattle.cwr_shape.specs.declared.tallies.Counts.{Counts}
 use Rattle.cwr_shape.specs.declared.symbols.Symbol.TheVariants.{Plain}
-use Rattle.cwr_shape.specs.Numbers.{number_in}
-use Rattle.cwr_shape.specs.Tallies.{is_header_of}
-use Rattle.cwr_shape.specs.Counting.{expected_numbers, expected_inside, number_inside}
+use Rattle.cwr_shape.specs.Format.Numbers.{number_in}
+use Rattle.cwr_shape.specs.Format.NextSymbols.{is_header_of}
+use Rattle.cwr_shape.specs.Format.ExpectedNumbers.{expected_numbers, expected_inside}
+use Rattle.cwr_shape.specs.Steps.Counting.{number_inside}
 
 -- of two numbers the one of the field
 one_of_two : (p q : Bool) (a b : ℕ) → option_map (λ (f : ℕ × ℕ). f.1) (cond p (Some (2, a)) (cond q (Some (3, b)) None)) ≡ cond p (Some a) (cond q (Some b) None)

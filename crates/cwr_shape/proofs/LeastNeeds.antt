@@ -16,11 +16,11 @@ use Rattle.cwr_shape.specs.declared.stages.Stage.{Stage}
 use Rattle.cwr_shape.specs.declared.stages.Stage.TheVariants as stages
 use Rattle.cwr_shape.specs.declared.stages.TransactionStep.{TransactionStep}
 use Rattle.cwr_shape.specs.declared.stages.TransactionStep.TheVariants as steps
-use Rattle.cwr_shape.specs.Stages.{is_grh}
-use Rattle.cwr_shape.specs.NextStages.{next_stage}
-use Rattle.cwr_shape.specs.Left.{is_stage, is_inside, StandsAt}
-use Rattle.cwr_shape.specs.Tallies.{is_header_of, type_after}
-use Rattle.cwr_shape.specs.Needs.{is_later_of, later_records, first_transaction, transaction_to_come, AreNeeds, needs_at}
+use Rattle.cwr_shape.specs.Format.LastSymbols.{is_grh}
+use Rattle.cwr_shape.specs.Steps.NextStages.{next_stage}
+use Rattle.cwr_shape.specs.Steps.Left.{is_stage, is_inside, StandsAt}
+use Rattle.cwr_shape.specs.Format.NextSymbols.{is_header_of, type_after}
+use Rattle.cwr_shape.specs.Steps.Needs.{is_later_of, later_records, first_transaction, transaction_to_come, AreNeeds, needs_at}
 use Rattle.cwr_shape.proofs.Matcher.{symbol_text, same_text}
 use Rattle.cwr_shape.proofs.AllSymbols.{all_symbols, of_each}
 use Rattle.cwr_shape.proofs.StagePatterns.{next_is_stage}

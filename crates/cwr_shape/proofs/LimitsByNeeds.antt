@@ -16,15 +16,16 @@ use Rattle.cwr_shape.specs.declared.stages.Stage.TheVariants as stages
 use Rattle.cwr_shape.specs.declared.stages.TransactionStep.TheVariants as steps
 use Rattle.cwr_shape.specs.declared.limits.LimitKind.TheVariants.{Records, Groups, Transaction}
 use Rattle.cwr_shape.specs.declared.tallies.Counts.{Counts}
-use Rattle.cwr_shape.specs.Ranges.{LimitValues}
-use Rattle.cwr_shape.specs.Outlines.{IsWhole, KeepsTo, IsWithin, Continues}
+use Rattle.cwr_shape.specs.Format.Ranges.{LimitValues}
+use Rattle.cwr_shape.specs.Format.Outlines.{IsWhole, KeepsTo, IsWithin, Continues}
 use Rattle.cwr_shape.specs.declared.tallies.Place.{Place}
 use Rattle.cwr_shape.specs.declared.tallies.Place.TheVariants as places
-use Rattle.cwr_shape.specs.Stages.{is_grh, is_ipa, is_ipa_of, is_writer, other_role, latest, group_of, pwr_step, stage_by}
-use Rattle.cwr_shape.specs.Left.{is_stage, StandsAt}
-use Rattle.cwr_shape.specs.Tallies.{is_header_of, type_after, open_type, counts_of, has_open_transaction, open_records, place_by}
-use Rattle.cwr_shape.specs.Counting.{counts_with, counts_with_header, counts_with_other, place_at, open_at}
-use Rattle.cwr_shape.specs.Needs.{is_later_of, later_records, first_transaction, needs_at}
+use Rattle.cwr_shape.specs.Format.LastSymbols.{is_grh, latest, group_of}
+use Rattle.cwr_shape.specs.Steps.Stages.{is_ipa, is_ipa_of, is_writer, other_role, pwr_step, stage_by}
+use Rattle.cwr_shape.specs.Steps.Left.{is_stage, StandsAt}
+use Rattle.cwr_shape.specs.Format.NextSymbols.{is_header_of, type_after, open_type, counts_of, has_open_transaction, open_records, place_by}
+use Rattle.cwr_shape.specs.Steps.Counting.{counts_with, counts_with_header, counts_with_other, place_at, open_at}
+use Rattle.cwr_shape.specs.Steps.Needs.{is_later_of, later_records, first_transaction, needs_at}
 use Rattle.cwr_shape.proofs.OneMore.{types_after, open_type_after}
 use Rattle.cwr_shape.proofs.TransactionNumbers.{counts_after, counted}
 use Rattle.cwr_shape.proofs.StageRuns.{run}

@@ -10,11 +10,12 @@ use Rattle.cwr_layouts.specs.declared.kinds.Kind.TheVariants as kinds
 use Rattle.cwr_shape.specs.declared.symbols.Symbol.{Symbol}
 use Rattle.cwr_shape.specs.declared.symbols.Symbol.TheVariants.{Plain}
 use Rattle.cwr_shape.specs.declared.tallies.Counts.{Counts}
-use Rattle.cwr_shape.specs.Shapes.{IsShape, a}
-use Rattle.cwr_shape.specs.Outlines.{GroupOutline, group_symbols, symbols_of, IsGroupOutline, IsOutline}
-use Rattle.cwr_shape.specs.Numbers.{transaction_numbers, group_records, group_numbers, all_records, numbers_of, lengths_of, symbol_kind}
-use Rattle.cwr_shape.specs.Tallies.{is_header_of, open_type, counts_of}
-use Rattle.cwr_shape.specs.Counting.{counts_with_group, counts_with_header, counts_with_other, expected_numbers}
+use Rattle.cwr_shape.specs.Format.Shapes.{IsShape, a}
+use Rattle.cwr_shape.specs.Format.Outlines.{GroupOutline, group_symbols, symbols_of, IsGroupOutline, IsOutline}
+use Rattle.cwr_shape.specs.Format.Numbers.{transaction_numbers, group_records, group_numbers, all_records, numbers_of, lengths_of, symbol_kind}
+use Rattle.cwr_shape.specs.Format.NextSymbols.{is_header_of, open_type, counts_of}
+use Rattle.cwr_shape.specs.Format.ExpectedNumbers.{expected_numbers}
+use Rattle.cwr_shape.specs.Steps.Counting.{counts_with_group, counts_with_header, counts_with_other}
 use Rattle.cwr_shape.proofs.OneMore.{types_after, open_type_after}
 use Rattle.cwr_shape.proofs.TransactionNumbers.{walk, counts_after, walk-append, counts_after-append, types_after-append, walk_at, counted, Moved, walks_transaction}
 

@@ -9,9 +9,9 @@ use Rattle.cwr_fields.specs.declared.codes.TransactionType.TheVariants.{Agreemen
 use Rattle.cwr_shape.specs.declared.symbols.Symbol.{Symbol}
 use Rattle.cwr_shape.specs.declared.symbols.Symbol.TheVariants.{Grh}
 use Rattle.cwr_shape.specs.declared.tallies.Counts.{Counts}
-use Rattle.cwr_shape.specs.Stages.{is_grh, latest, group_of}
-use Rattle.cwr_shape.specs.Tallies.{is_header_of, type_after, transactions_begun, open_type, open_group, after_header, counts_of}
-use Rattle.cwr_shape.specs.Counting.{counts_with, counts_with_group, counts_with_header, counts_with_other}
+use Rattle.cwr_shape.specs.Format.LastSymbols.{is_grh, latest, group_of}
+use Rattle.cwr_shape.specs.Format.NextSymbols.{is_header_of, type_after, transactions_begun, open_type, open_group, after_header, counts_of}
+use Rattle.cwr_shape.specs.Steps.Counting.{counts_with, counts_with_group, counts_with_header, counts_with_other}
 
 pub last_or-snoc : (o : Option Symbol) (xs : List Symbol) (s : Symbol) → last_or o (xs ++ s ∷ []) ≡ Some s
 last_or-snoc o [] s = refl

@@ -9,11 +9,11 @@ use Rattle.cwr_layouts.specs.declared.kinds.Kind.TheVariants as kinds
 use Rattle.cwr_shape.specs.declared.symbols.Symbol.{Symbol}
 use Rattle.cwr_shape.specs.declared.symbols.Symbol.TheVariants.{Plain, Grh}
 use Rattle.cwr_shape.specs.declared.tallies.Counts.{Counts}
-use Rattle.cwr_shape.specs.Shapes.{IsShape, BeginsShape}
-use Rattle.cwr_shape.specs.Outlines.{GroupOutline, group_symbols, symbols_of, IsGroupOutline, IsOutline, Continues}
-use Rattle.cwr_shape.specs.Left.{Any}
-use Rattle.cwr_shape.specs.Tallies.{type_after, open_type, counts_of, place_by, place_after, has_open_transaction, open_records}
-use Rattle.cwr_shape.specs.Counting.{counts_with, counts_with_group, counts_with_header, counts_with_other}
+use Rattle.cwr_shape.specs.Format.Shapes.{IsShape, BeginsShape}
+use Rattle.cwr_shape.specs.Format.Outlines.{GroupOutline, group_symbols, symbols_of, IsGroupOutline, IsOutline, Continues}
+use Rattle.cwr_shape.specs.Format.AnyTransmission.{Any}
+use Rattle.cwr_shape.specs.Format.NextSymbols.{type_after, open_type, counts_of, place_by, place_after, has_open_transaction, open_records}
+use Rattle.cwr_shape.specs.Steps.Counting.{counts_with, counts_with_group, counts_with_header, counts_with_other}
 use Rattle.cwr_shape.proofs.OneMore.{last_or-snoc, open_type-snoc, counts-snoc}
 use Rattle.cwr_shape.proofs.TransactionNumbers.{is_inner, headed_shape, inner_symbol}
 use Rattle.cwr_shape.proofs.WithinByFronts.{is_of_transaction, open_records-snoc, group_then}

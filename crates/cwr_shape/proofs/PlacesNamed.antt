@@ -11,12 +11,13 @@ use Rattle.cwr_shape.specs.declared.stages.Stage.TheVariants as stages
 use Rattle.cwr_shape.specs.declared.stages.TransactionStep.TheVariants as steps
 use Rattle.cwr_shape.specs.declared.tallies.Place.{Place}
 use Rattle.cwr_shape.specs.declared.tallies.Place.TheVariants as places
-use Rattle.cwr_shape.specs.Shapes.{is_carried_symbol, without_carried}
-use Rattle.cwr_shape.specs.Stages.{is_grh, is_ipa, is_ipa_of, is_writer, latest, other_role, pwr_step, group_of, stage_by, stage_of, stage_after}
-use Rattle.cwr_shape.specs.NextStages.{next_stage}
-use Rattle.cwr_shape.specs.Left.{StandsAt}
-use Rattle.cwr_shape.specs.Tallies.{place_by, place_after, has_open_transaction}
-use Rattle.cwr_shape.specs.Counting.{place_at}
+use Rattle.cwr_shape.specs.Format.Shapes.{is_carried_symbol, without_carried}
+use Rattle.cwr_shape.specs.Format.LastSymbols.{is_grh, latest, group_of}
+use Rattle.cwr_shape.specs.Steps.Stages.{is_ipa, is_ipa_of, is_writer, other_role, pwr_step, stage_by, stage_of, stage_after}
+use Rattle.cwr_shape.specs.Steps.NextStages.{next_stage}
+use Rattle.cwr_shape.specs.Steps.Left.{StandsAt}
+use Rattle.cwr_shape.specs.Format.NextSymbols.{place_by, place_after, has_open_transaction}
+use Rattle.cwr_shape.specs.Steps.Counting.{place_at}
 use Rattle.cwr_shape.proofs.Matcher.{without-cons, without-snoc}
 use Rattle.cwr_shape.proofs.OneMore.{last_or-snoc}
 use Rattle.cwr_shape.proofs.PrefixFree.{carried_symbols, carried_passes}

@@ -9,9 +9,9 @@ use Rattle.cwr_shape.specs.declared.symbols.Symbol.TheVariants.{Plain, Ipa, Grh}
 use Rattle.cwr_shape.specs.declared.stages.Stage.{Stage}
 use Rattle.cwr_shape.specs.declared.stages.Stage.TheVariants as stages
 use Rattle.cwr_shape.specs.declared.stages.TransactionStep.TheVariants as steps
-use Rattle.cwr_shape.specs.Shapes.{Matches}
+use Rattle.cwr_shape.specs.Format.Shapes.{Matches}
 use Rattle.cwr_shape.proofs.Matcher.{nullable, after, after_all, accepts_sound}
-use Rattle.cwr_shape.specs.Left.{left, is_stage}
+use Rattle.cwr_shape.specs.Steps.Left.{left, is_stage}
 
 abbrev p : Kind → Symbol
 p = Plain

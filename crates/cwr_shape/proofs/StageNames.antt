@@ -8,10 +8,11 @@ use Rattle.cwr_fields.specs.declared.codes.TransactionType.TheVariants.{Agreemen
 use Rattle.cwr_shape.specs.declared.symbols.Symbol.{Symbol}
 use Rattle.cwr_shape.specs.declared.stages.Stage.{Stage}
 use Rattle.cwr_shape.specs.declared.stages.Stage.TheVariants as stages
-use Rattle.cwr_shape.specs.NextStages.{next_stage}
-use Rattle.cwr_shape.specs.Stages.{is_grh, is_writer, latest, group_of, stage_by, stage_of, stage_after}
-use Rattle.cwr_shape.specs.Left.{is_stage}
-use Rattle.cwr_shape.specs.Shapes.{is_carried_symbol, without_carried}
+use Rattle.cwr_shape.specs.Steps.NextStages.{next_stage}
+use Rattle.cwr_shape.specs.Format.LastSymbols.{is_grh, latest, group_of}
+use Rattle.cwr_shape.specs.Steps.Stages.{is_writer, stage_by, stage_of, stage_after}
+use Rattle.cwr_shape.specs.Steps.Left.{is_stage}
+use Rattle.cwr_shape.specs.Format.Shapes.{is_carried_symbol, without_carried}
 use Rattle.cwr_shape.proofs.Matcher.{without-snoc}
 use Rattle.cwr_shape.proofs.AllSymbols.{all_symbols, of_each}
 use Rattle.cwr_shape.proofs.StagePatterns.{next_is_stage}

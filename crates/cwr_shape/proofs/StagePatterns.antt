@@ -8,9 +8,9 @@ use Rattle.cwr_shape.specs.declared.symbols.Symbol.{Symbol}
 use Rattle.cwr_shape.specs.declared.stages.Stage.{Stage}
 use Rattle.cwr_shape.specs.declared.stages.Stage.TheVariants as stages
 use Rattle.cwr_shape.specs.declared.stages.TransactionStep.TheVariants as steps
-use Rattle.cwr_shape.specs.Shapes.{Pattern, Matches}
-use Rattle.cwr_shape.specs.NextStages.{next_stage}
-use Rattle.cwr_shape.specs.Left.{is_stage, left}
+use Rattle.cwr_shape.specs.Format.Shapes.{Pattern, Matches}
+use Rattle.cwr_shape.specs.Steps.NextStages.{next_stage}
+use Rattle.cwr_shape.specs.Steps.Left.{is_stage, left}
 use Rattle.cwr_shape.proofs.AllSymbols.{all_symbols, of_each}
 use Rattle.cwr_shape.proofs.Matcher.{nullable, after, is_dead, dead_sound}
 use Rattle.cwr_shape.proofs.NormalForms.{same_list, same, same_sound, seq, contains, insert, alt, both, carry, norm, norm_alike, follows}

@@ -5,11 +5,12 @@ use Rattle.std.specs.Option.{option_and_then}
 use Rattle.cwr_shape.specs.declared.symbols.Symbol.{Symbol}
 use Rattle.cwr_shape.specs.declared.stages.Stage.{Stage}
 use Rattle.cwr_shape.specs.declared.stages.Stage.TheVariants as stages
-use Rattle.cwr_shape.specs.Shapes.{Matches}
-use Rattle.cwr_shape.specs.Outlines.{Continues, IsWhole}
-use Rattle.cwr_shape.specs.NextStages.{next_stage}
+use Rattle.cwr_shape.specs.Format.Shapes.{Matches}
+use Rattle.cwr_shape.specs.Format.Outlines.{Continues, IsWhole}
+use Rattle.cwr_shape.specs.Steps.NextStages.{next_stage}
 use Rattle.cwr_shape.proofs.Matcher.{after}
-use Rattle.cwr_shape.specs.Left.{left, is_stage, Any, LeavesAt}
+use Rattle.cwr_shape.specs.Format.AnyTransmission.{Any}
+use Rattle.cwr_shape.specs.Steps.Left.{left, is_stage, LeavesAt}
 use Rattle.cwr_shape.proofs.StagePatterns.{table_continues, goes_back, next_is_stage}
 use Rattle.cwr_shape.proofs.WholePatterns.{whole_matches, matches_whole}
 use Rattle.cwr_shape.proofs.RestsLeft.{left_at}

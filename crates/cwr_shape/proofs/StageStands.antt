@@ -5,10 +5,11 @@ use Rattle.std.specs.Option.{option_and_then}
 use Rattle.cwr_shape.specs.declared.symbols.Symbol.{Symbol}
 use Rattle.cwr_shape.specs.declared.stages.Stage.{Stage}
 use Rattle.cwr_shape.specs.declared.stages.Stage.TheVariants as stages
-use Rattle.cwr_shape.specs.Shapes.{Matches}
-use Rattle.cwr_shape.specs.Outlines.{Continues}
-use Rattle.cwr_shape.specs.NextStages.{next_stage}
-use Rattle.cwr_shape.specs.Left.{left, Any, StandsAt, LeavesAt}
+use Rattle.cwr_shape.specs.Format.Shapes.{Matches}
+use Rattle.cwr_shape.specs.Format.Outlines.{Continues}
+use Rattle.cwr_shape.specs.Steps.NextStages.{next_stage}
+use Rattle.cwr_shape.specs.Format.AnyTransmission.{Any}
+use Rattle.cwr_shape.specs.Steps.Left.{left, StandsAt, LeavesAt}
 use Rattle.cwr_shape.proofs.WholePatterns.{whole_matches, matches_whole}
 use Rattle.cwr_shape.proofs.StageRuns.{run, run_more, run_is_stage, comes_to, comes_back, begins_run, run_begins, leaves_next}
 use Rattle.cwr_shape.proofs.StageNames.{run_names}

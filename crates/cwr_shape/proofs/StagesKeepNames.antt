@@ -10,9 +10,9 @@ use Rattle.cwr_shape.specs.declared.stages.Stage.{Stage}
 use Rattle.cwr_shape.specs.declared.stages.Stage.TheVariants as stages
 use Rattle.cwr_shape.specs.declared.stages.TransactionStep.{TransactionStep}
 use Rattle.cwr_shape.specs.declared.stages.TransactionStep.TheVariants as steps
-use Rattle.cwr_shape.specs.NextStages.{next_stage}
-use Rattle.cwr_shape.specs.Left.{is_stage}
-use Rattle.cwr_shape.specs.Shapes.{is_carried_symbol}
+use Rattle.cwr_shape.specs.Steps.NextStages.{next_stage}
+use Rattle.cwr_shape.specs.Steps.Left.{is_stage}
+use Rattle.cwr_shape.specs.Format.Shapes.{is_carried_symbol}
 use Rattle.cwr_shape.proofs.AllSymbols.{all_symbols}
 use Rattle.cwr_shape.proofs.SymbolsNameStages.{same_type, same_step, same_stage, same_bool, name_of, type_next, writer_next, side_next}
 

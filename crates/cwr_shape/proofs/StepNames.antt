@@ -9,10 +9,11 @@ use Rattle.cwr_shape.specs.declared.stages.Stage.{Stage}
 use Rattle.cwr_shape.specs.declared.stages.Stage.TheVariants as stages
 use Rattle.cwr_shape.specs.declared.stages.TransactionStep.{TransactionStep}
 use Rattle.cwr_shape.specs.declared.stages.TransactionStep.TheVariants as steps
-use Rattle.cwr_shape.specs.Outlines.{GroupOutline, Continues, symbols_of}
-use Rattle.cwr_shape.specs.Stages.{stage_after}
-use Rattle.cwr_shape.specs.NextStages.{header_step, step_on, within, on_or_next, next_stage}
-use Rattle.cwr_shape.specs.Left.{Any, StandsAt, ContinuesIn, in_group, is_inside}
+use Rattle.cwr_shape.specs.Format.Outlines.{GroupOutline, Continues, symbols_of}
+use Rattle.cwr_shape.specs.Steps.Stages.{stage_after}
+use Rattle.cwr_shape.specs.Steps.NextStages.{header_step, step_on, within, on_or_next, next_stage}
+use Rattle.cwr_shape.specs.Format.AnyTransmission.{Any}
+use Rattle.cwr_shape.specs.Steps.Left.{StandsAt, ContinuesIn, in_group, is_inside}
 use Rattle.cwr_shape.proofs.StageRuns.{run}
 use Rattle.cwr_shape.proofs.StageNames.{run_names}
 use Rattle.cwr_shape.proofs.StageStands.{next_stands}

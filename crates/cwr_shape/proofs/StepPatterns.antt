@@ -11,9 +11,9 @@ use Rattle.cwr_shape.specs.declared.symbols.Symbol.{Symbol}
 use Rattle.cwr_shape.specs.declared.symbols.Symbol.TheVariants.{Plain, Ipa}
 use Rattle.cwr_shape.specs.declared.stages.TransactionStep.{TransactionStep}
 use Rattle.cwr_shape.specs.declared.stages.TransactionStep.TheVariants as steps
-use Rattle.cwr_shape.specs.Shapes.{Pattern, Matches, pattern_of, IsShape}
-use Rattle.cwr_shape.specs.NextStages.{header_step, step_on, may_end}
-use Rattle.cwr_shape.specs.Left.{left_of, is_inside, StandsAtStep, ContinuesIn}
+use Rattle.cwr_shape.specs.Format.Shapes.{Pattern, Matches, pattern_of, IsShape}
+use Rattle.cwr_shape.specs.Steps.NextStages.{header_step, step_on, may_end}
+use Rattle.cwr_shape.specs.Steps.Left.{left_of, is_inside, StandsAtStep, ContinuesIn}
 use Rattle.cwr_shape.proofs.Matcher.{nullable, nullable_sound, nullable_complete, after, after_all, is_dead, dead_sound, accepts_sound}
 use Rattle.cwr_shape.proofs.NormalForms.{same_list, same, same_sound, seq, contains, insert, alt, both, carry, norm, norm_alike, follows}
 use Rattle.cwr_shape.proofs.AllSymbols.{all_symbols, of_each}

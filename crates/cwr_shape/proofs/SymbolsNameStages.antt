@@ -14,7 +14,8 @@ use Rattle.cwr_shape.specs.declared.stages.Stage.{Stage}
 use Rattle.cwr_shape.specs.declared.stages.Stage.TheVariants as stages
 use Rattle.cwr_shape.specs.declared.stages.TransactionStep.{TransactionStep}
 use Rattle.cwr_shape.specs.declared.stages.TransactionStep.TheVariants as steps
-use Rattle.cwr_shape.specs.Stages.{is_grh, is_ipa, is_ipa_of, is_writer, latest, pwr_step, step_after, group_of, stage_by}
+use Rattle.cwr_shape.specs.Format.LastSymbols.{is_grh, latest, group_of}
+use Rattle.cwr_shape.specs.Steps.Stages.{is_ipa, is_ipa_of, is_writer, pwr_step, step_after, stage_by}
 use Rattle.cwr_shape.proofs.OneMore.{after_last-snoc}
 
 -- ---- tests of sameness

@@ -7,21 +7,25 @@ use Rattle.cwr_fields.specs.declared.codes.TransactionType.TheVariants.{Agreemen
 use Rattle.cwr_layouts.specs.declared.kinds.Kind.{Kind}
 use Rattle.cwr_layouts.specs.declared.kinds.Kind.TheVariants as kinds
 use Rattle.cwr_shape.specs.declared.symbols.Symbol.{Symbol}
-use Rattle.cwr_layouts.specs.Kinds.{is_carried}
+use Rattle.cwr_layouts.specs.Format.Kinds.{is_carried}
 use Rattle.cwr_shape.specs.declared.symbols.Symbol.TheVariants.{Plain, Ipa, Grh}
 use Rattle.cwr_shape.specs.declared.stages.Stage.{Stage}
 use Rattle.cwr_shape.specs.declared.stages.Stage.TheVariants as stages
 use Rattle.cwr_shape.specs.declared.stages.TransactionStep.{TransactionStep}
 use Rattle.cwr_shape.specs.declared.tallies.Counts.{Counts}
-use Rattle.cwr_shape.specs.Outlines.{Continues, IsWithin}
-use Rattle.cwr_shape.specs.Numbers.{symbol_kind, number_in, numbers_of, lengths_of, IsNumberAt}
+use Rattle.cwr_shape.specs.Format.Outlines.{Continues, IsWithin}
+use Rattle.cwr_shape.specs.Format.Numbers.{symbol_kind, number_in, numbers_of, lengths_of, IsNumberAt}
 use Rattle.cwr_shape.specs.declared.stages.TransactionStep.TheVariants as steps
-use Rattle.cwr_shape.specs.Shapes.{without_carried}
-use Rattle.cwr_shape.specs.Stages.{is_grh, group_of, step_after, stage_by}
-use Rattle.cwr_shape.specs.NextStages.{next_stage}
-use Rattle.cwr_shape.specs.Left.{Any, StandsAt}
-use Rattle.cwr_shape.specs.Tallies.{is_header_of, open_type, counts_of, TallyValue, IsTallyOf}
-use Rattle.cwr_shape.specs.Counting.{stage_type, counts_with, counts_with_header, counts_with_other, expected_numbers}
+use Rattle.cwr_shape.specs.Format.Shapes.{without_carried}
+use Rattle.cwr_shape.specs.Format.LastSymbols.{is_grh, group_of}
+use Rattle.cwr_shape.specs.Steps.Stages.{step_after, stage_by}
+use Rattle.cwr_shape.specs.Steps.NextStages.{next_stage}
+use Rattle.cwr_shape.specs.Format.AnyTransmission.{Any}
+use Rattle.cwr_shape.specs.Steps.Left.{StandsAt}
+use Rattle.cwr_shape.specs.Format.NextSymbols.{is_header_of, open_type, counts_of}
+use Rattle.cwr_shape.specs.Steps.Tallies.{TallyValue, IsTallyOf}
+use Rattle.cwr_shape.specs.Format.ExpectedNumbers.{expected_numbers}
+use Rattle.cwr_shape.specs.Steps.Counting.{stage_type, counts_with, counts_with_header, counts_with_other}
 use Rattle.cwr_shape.proofs.Matcher.{without-cons}
 use Rattle.cwr_shape.proofs.StageStands.{next_exact}
 use Rattle.cwr_shape.proofs.OneMore.{counts-snoc}

@@ -6,11 +6,13 @@ use Rattle.cwr_shape.specs.declared.symbols.Symbol.TheVariants.{Grh}
 use Rattle.cwr_shape.specs.declared.stages.Stage.{Stage}
 use Rattle.cwr_shape.specs.declared.stages.Stage.TheVariants as stages
 use Rattle.cwr_shape.specs.declared.tallies.Counts.{Counts}
-use Rattle.cwr_shape.specs.Ranges.{LimitValues, AreInRange}
-use Rattle.cwr_shape.specs.Outlines.{IsWithin, Continues}
-use Rattle.cwr_shape.specs.Left.{Any, StandsAt}
-use Rattle.cwr_shape.specs.Tallies.{is_header_of, counts_of, TallyValue, IsTallyOf, IsAdmitted, KeepsCounts, KeepsTally, MayCome}
-use Rattle.cwr_shape.specs.Counting.{stage_type, counts_with, counts_with_header, counts_with_other}
+use Rattle.cwr_shape.specs.Format.Ranges.{LimitValues, AreInRange}
+use Rattle.cwr_shape.specs.Format.Outlines.{IsWithin, Continues}
+use Rattle.cwr_shape.specs.Format.AnyTransmission.{Any}
+use Rattle.cwr_shape.specs.Steps.Left.{StandsAt}
+use Rattle.cwr_shape.specs.Format.NextSymbols.{is_header_of, counts_of, MayCome}
+use Rattle.cwr_shape.specs.Steps.Tallies.{TallyValue, IsTallyOf, IsAdmitted, KeepsCounts, KeepsTally}
+use Rattle.cwr_shape.specs.Steps.Counting.{stage_type, counts_with, counts_with_header, counts_with_other}
 use Rattle.cwr_shape.proofs.TallySteps.{goes_next, stands_next}
 use Rattle.cwr_shape.proofs.LimitsByNeeds.{within_goes}
 use Rattle.cwr_shape.proofs.FirstBars.{Next, next_of, room_comes, comes_room}

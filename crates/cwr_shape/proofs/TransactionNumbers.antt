@@ -9,10 +9,11 @@ use Rattle.cwr_layouts.specs.declared.kinds.Kind.TheVariants as kinds
 use Rattle.cwr_shape.specs.declared.symbols.Symbol.{Symbol}
 use Rattle.cwr_shape.specs.declared.symbols.Symbol.TheVariants.{Plain, Ipa, Grh}
 use Rattle.cwr_shape.specs.declared.tallies.Counts.{Counts}
-use Rattle.cwr_shape.specs.Shapes.{Pattern, one_of, ◌then◌, many, carrying, Matches, IsShape, a, some, block, publisher, writer, tail_record, copy}
-use Rattle.cwr_shape.specs.Numbers.{transaction_numbers, symbol_kind}
-use Rattle.cwr_shape.specs.Tallies.{is_header_of, type_after, open_type, counts_of}
-use Rattle.cwr_shape.specs.Counting.{counts_with, counts_with_header, counts_with_other, expected_numbers, expected_inside}
+use Rattle.cwr_shape.specs.Format.Shapes.{Pattern, one_of, ◌then◌, many, carrying, Matches, IsShape, a, some, block, publisher, writer, tail_record, copy}
+use Rattle.cwr_shape.specs.Format.Numbers.{transaction_numbers, symbol_kind}
+use Rattle.cwr_shape.specs.Format.NextSymbols.{is_header_of, type_after, open_type, counts_of}
+use Rattle.cwr_shape.specs.Format.ExpectedNumbers.{expected_numbers, expected_inside}
+use Rattle.cwr_shape.specs.Steps.Counting.{counts_with, counts_with_header, counts_with_other}
 use Rattle.cwr_shape.proofs.PrefixFree.{only, matched_pass}
 use Rattle.cwr_shape.proofs.HeadFirst.{rest_after_head}
 use Rattle.cwr_shape.proofs.OneMore.{types_after, open_type-snoc, counts-snoc}

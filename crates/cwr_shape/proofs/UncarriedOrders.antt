@@ -9,9 +9,9 @@ use Rattle.cwr_fields.specs.declared.codes.TransactionType.TheVariants.{Agreemen
 use Rattle.cwr_layouts.specs.declared.kinds.Kind.TheVariants as kinds
 use Rattle.cwr_shape.specs.declared.symbols.Symbol.{Symbol}
 use Rattle.cwr_shape.specs.declared.symbols.Symbol.TheVariants.{Plain}
-use Rattle.cwr_shape.specs.Shapes.{Pattern, one_of, ◌then◌, many, carrying, Matches, is_carried_symbol, without_carried, IsShape, a, some, block, publisher, writer, tail_record, copy}
-use Rattle.cwr_shape.specs.UncarriedOrder.{IsUncarriedShape, IsUncarriedGroup, IsUncarriedWhole, AreFormer, is_former, uncarried_pattern}
-use Rattle.cwr_shape.specs.Outlines.{GroupOutline, IsGroupOutline, IsWhole}
+use Rattle.cwr_shape.specs.Format.Shapes.{Pattern, one_of, ◌then◌, many, carrying, Matches, is_carried_symbol, without_carried, IsShape, a, some, block, publisher, writer, tail_record, copy}
+use Rattle.cwr_shape.specs.Format.UncarriedOrder.{IsUncarriedShape, IsUncarriedGroup, IsUncarriedWhole, AreFormer, is_former, uncarried_pattern}
+use Rattle.cwr_shape.specs.Format.Outlines.{GroupOutline, IsGroupOutline, IsWhole}
 use Rattle.cwr_shape.proofs.Matcher.{without-cons, empty_only}
 use Rattle.cwr_shape.proofs.HeadFirst.{rest_after_head}
 use Rattle.cwr_shape.proofs.PrefixFree.{only, matched_pass}

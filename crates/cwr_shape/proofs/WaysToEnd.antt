@@ -13,11 +13,12 @@ use Rattle.cwr_shape.specs.declared.stages.Stage.TheVariants as stages
 use Rattle.cwr_shape.specs.declared.stages.TransactionStep.{TransactionStep}
 use Rattle.cwr_shape.specs.declared.stages.TransactionStep.TheVariants as steps
 use Rattle.cwr_shape.specs.declared.stages.Needs.{Needs}
-use Rattle.cwr_shape.specs.Shapes.{Matches, pattern_of}
-use Rattle.cwr_shape.specs.Outlines.{IsWhole}
-use Rattle.cwr_shape.specs.Stages.{is_grh, other_role}
-use Rattle.cwr_shape.specs.Left.{left, left_of, rest_of, is_stage, StandsAt}
-use Rattle.cwr_shape.specs.Needs.{transaction_to_come, needs_at}
+use Rattle.cwr_shape.specs.Format.Shapes.{Matches, pattern_of}
+use Rattle.cwr_shape.specs.Format.Outlines.{IsWhole}
+use Rattle.cwr_shape.specs.Format.LastSymbols.{is_grh}
+use Rattle.cwr_shape.specs.Steps.Stages.{other_role}
+use Rattle.cwr_shape.specs.Steps.Left.{left, left_of, rest_of, is_stage, StandsAt}
+use Rattle.cwr_shape.specs.Steps.Needs.{transaction_to_come, needs_at}
 use Rattle.cwr_shape.proofs.Matcher.{nullable, nullable_complete}
 use Rattle.cwr_shape.proofs.StageRuns.{run, comes_to, comes_back}
 use Rattle.cwr_shape.proofs.StageStands.{stands_leaves}

@@ -4,10 +4,10 @@ use Rattle.cwr_shape.specs.declared.symbols.Symbol.{Symbol}
 use Rattle.cwr_shape.specs.declared.limits.LimitKind.TheVariants.{Records, Groups, Transaction}
 use Rattle.cwr_shape.specs.declared.tallies.Bar.{Bar}
 use Rattle.cwr_shape.specs.declared.tallies.Bar.TheVariants.{Misplaced, Limit}
-use Rattle.cwr_shape.specs.Ranges.{LimitValues}
-use Rattle.cwr_shape.specs.Outlines.{GroupOutline, Continues}
-use Rattle.cwr_shape.specs.Left.{Any}
-use Rattle.cwr_shape.specs.Tallies.{MayCome, IsBarred}
+use Rattle.cwr_shape.specs.Format.Ranges.{LimitValues}
+use Rattle.cwr_shape.specs.Format.Outlines.{GroupOutline, Continues}
+use Rattle.cwr_shape.specs.Format.AnyTransmission.{Any}
+use Rattle.cwr_shape.specs.Format.NextSymbols.{MayCome, IsBarred}
 
 -- any transmission
 pub goes_any : {P : List GroupOutline → Type 0} (xs : List Symbol) → Continues P xs → Continues Any xs

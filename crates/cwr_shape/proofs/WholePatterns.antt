@@ -7,10 +7,10 @@ use Rattle.cwr_layouts.specs.declared.kinds.Kind.TheVariants as kinds
 use Rattle.cwr_shape.specs.declared.symbols.Symbol.{Symbol}
 use Rattle.cwr_shape.specs.declared.symbols.Symbol.TheVariants.{Plain, Grh}
 use Rattle.cwr_shape.specs.declared.stages.Stage.TheVariants as stages
-use Rattle.cwr_shape.specs.Shapes.{one_of, ◌then◌, many, Matches, a, some, pattern_of, IsShape}
-use Rattle.cwr_shape.specs.Outlines.{GroupOutline, group_symbols, symbols_of, IsGroupOutline, IsOutline, IsWhole}
+use Rattle.cwr_shape.specs.Format.Shapes.{one_of, ◌then◌, many, Matches, a, some, pattern_of, IsShape}
+use Rattle.cwr_shape.specs.Format.Outlines.{GroupOutline, group_symbols, symbols_of, IsGroupOutline, IsOutline, IsWhole}
 use Rattle.cwr_shape.proofs.HeadFirst.{rest_after_head, among_one}
-use Rattle.cwr_shape.specs.Left.{group_pattern, any_group, left}
+use Rattle.cwr_shape.specs.Steps.Left.{group_pattern, any_group, left}
 
 -- one symbol
 alone : (s : Symbol) → Matches (one_of (s ∷ [])) (s ∷ [])

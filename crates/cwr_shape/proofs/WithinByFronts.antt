@@ -12,12 +12,12 @@ use Rattle.cwr_shape.specs.declared.symbols.Symbol.{Symbol}
 use Rattle.cwr_shape.specs.declared.symbols.Symbol.TheVariants.{Plain, Grh}
 use Rattle.cwr_shape.specs.declared.limits.LimitKind.TheVariants.{Records, Groups, Transaction}
 use Rattle.cwr_shape.specs.declared.tallies.Counts.{Counts}
-use Rattle.cwr_shape.specs.Ranges.{LimitValues}
-use Rattle.cwr_shape.specs.Shapes.{IsShape, pattern_of}
-use Rattle.cwr_shape.specs.Outlines.{GroupOutline, group_symbols, symbols_of, IsGroupOutline, IsOutline, KeepsTo, IsWithin}
-use Rattle.cwr_shape.specs.Stages.{is_grh}
-use Rattle.cwr_shape.specs.Tallies.{type_after, open_type, counts_of, place_by, has_open_transaction, open_records, passed_limit}
-use Rattle.cwr_shape.specs.Counting.{counts_with, counts_with_group, counts_with_header, counts_with_other}
+use Rattle.cwr_shape.specs.Format.Ranges.{LimitValues}
+use Rattle.cwr_shape.specs.Format.Shapes.{IsShape, pattern_of}
+use Rattle.cwr_shape.specs.Format.Outlines.{GroupOutline, group_symbols, symbols_of, IsGroupOutline, IsOutline, KeepsTo, IsWithin}
+use Rattle.cwr_shape.specs.Format.LastSymbols.{is_grh}
+use Rattle.cwr_shape.specs.Format.NextSymbols.{type_after, open_type, counts_of, place_by, has_open_transaction, open_records, passed_limit}
+use Rattle.cwr_shape.specs.Steps.Counting.{counts_with, counts_with_group, counts_with_header, counts_with_other}
 use Rattle.cwr_shape.proofs.PrefixFree.{only, matched_pass}
 use Rattle.cwr_shape.proofs.OneMore.{last_or-snoc, open_type-snoc, counts-snoc}
 use Rattle.cwr_shape.proofs.TransactionNumbers.{is_inner, headed_shape, inner_symbol}

@@ -1,7 +1,7 @@
 //! The words for limits, reasons, levels, bars and faults.
 
 ghost use Rattle.std.specs.Prelude.{◌≡◌, ◌≤◌, Some, length};
-ghost use Rattle.cwr_shape.specs.ReasonTexts.{level_text, limit_text, reason_text};
+ghost use Rattle.cwr_shape.specs.Format.ReasonTexts.{level_text, limit_text, reason_text};
 
 use crate::limits::{LimitKind, LimitsFault};
 use crate::reasons::{Level, Reason};

@@ -1,13 +1,13 @@
 //! Laws over the order of records.
 
 ghost use Rattle.std.specs.Prelude.{List, [], ◌∷◌, ◌++◌, ◌≡◌, ◌↔◌, length, slice_index_or};
-ghost use Rattle.cwr_shape.specs.Numbers.{numbers_of, lengths_of, symbol_kind};
-ghost use Rattle.cwr_shape.specs.Outlines.{GroupOutline, IsOutline, IsWhole, symbols_of};
+ghost use Rattle.cwr_shape.specs.Format.Numbers.{numbers_of, lengths_of, symbol_kind};
+ghost use Rattle.cwr_shape.specs.Format.Outlines.{GroupOutline, IsOutline, IsWhole, symbols_of};
 ghost use Rattle.cwr_shape.specs.declared.symbols.Symbol.{Symbol};
 ghost use Rattle.cwr_shape.specs.declared.stages.Stage.{Stage};
-ghost use Rattle.cwr_shape.specs.Left.{StandsAt, LeavesAt};
-ghost use Rattle.cwr_shape.specs.Shapes.{IsShape};
-ghost use Rattle.cwr_shape.specs.UncarriedOrder.{IsUncarriedShape, IsUncarriedWhole, AreFormer};
+ghost use Rattle.cwr_shape.specs.Steps.Left.{StandsAt, LeavesAt};
+ghost use Rattle.cwr_shape.specs.Format.Shapes.{IsShape};
+ghost use Rattle.cwr_shape.specs.Format.UncarriedOrder.{IsUncarriedShape, IsUncarriedWhole, AreFormer};
 ghost use Rattle.cwr_fields.specs.declared.codes.TransactionType.{TransactionType};
 
 /// No whole transmission continues to another: after TRL nothing more belongs to it.

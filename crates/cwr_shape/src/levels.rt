@@ -1,8 +1,8 @@
 //! How much each refusal rejects.
 
 ghost use Rattle.std.specs.Prelude.{◌≡◌};
-ghost use Rattle.cwr_layouts.specs.Layouts.{field_at};
-ghost use Rattle.cwr_shape.specs.Levels.{level_in, level_inside, level_of, level_of_place, level_of_type, must_be_filled};
+ghost use Rattle.cwr_layouts.specs.Format.Layouts.{field_at};
+ghost use Rattle.cwr_shape.specs.Format.Levels.{level_in, level_inside, level_of, level_of_place, level_of_type, must_be_filled};
 
 use crate::limits::LimitKind;
 use crate::reasons::{Level, Reason};

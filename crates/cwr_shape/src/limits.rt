@@ -1,7 +1,7 @@
 //! The limits that a caller hands in.
 
 ghost use Rattle.std.specs.Prelude.{◌≡◌, ◌≤◌, None, Some, MatchResult};
-ghost use Rattle.cwr_shape.specs.Ranges.{AreInRange, limit_values, range_fault};
+ghost use Rattle.cwr_shape.specs.Format.Ranges.{AreInRange, limit_values, range_fault};
 
 use std::marker::Model;
 
@@ -26,7 +26,7 @@ pub struct Limits {
 }
 
 impl Model for Limits {
-    ghost use Rattle.cwr_shape.specs.Ranges.{LimitValues, AreInRange};
+    ghost use Rattle.cwr_shape.specs.Format.Ranges.{LimitValues, AreInRange};
 
     ghost Value = { LimitValues };
 

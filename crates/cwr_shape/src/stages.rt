@@ -2,12 +2,13 @@
 
 ghost use Rattle.std.specs.Prelude.{◌≡◌, ◌↔◌, List, [], ◌∷◌, ◌++◌, IsTrue, IsFalse, IsSome, IfSome, None};
 ghost use Rattle.cwr_shape.specs.declared.symbols.Symbol.{Symbol};
-ghost use Rattle.cwr_shape.specs.Outlines.{Continues};
-ghost use Rattle.cwr_shape.specs.Left.{Any, StandsAt, ContinuesIn, StandsAtStep};
-ghost use Rattle.cwr_shape.specs.Shapes.{IsShape};
+ghost use Rattle.cwr_shape.specs.Format.Outlines.{Continues};
+ghost use Rattle.cwr_shape.specs.Format.AnyTransmission.{Any};
+ghost use Rattle.cwr_shape.specs.Steps.Left.{StandsAt, ContinuesIn, StandsAtStep};
+ghost use Rattle.cwr_shape.specs.Format.Shapes.{IsShape};
 ghost use Rattle.cwr_fields.specs.declared.codes.TransactionType.{TransactionType};
-ghost use Rattle.cwr_shape.specs.Needs.{needs_at, AreNeeds};
-ghost use Rattle.cwr_shape.specs.NextStages.{header_step, party_step, tail_step, party_of_work, after_writer, ordered_step, carried_step, step_on, may_end, next_stage};
+ghost use Rattle.cwr_shape.specs.Steps.Needs.{needs_at, AreNeeds};
+ghost use Rattle.cwr_shape.specs.Steps.NextStages.{header_step, party_step, tail_step, party_of_work, after_writer, ordered_step, carried_step, step_on, may_end, next_stage};
 
 use crate::symbols::Symbol;
 use cwr_fields::{Role, TransactionType};

@@ -1,7 +1,7 @@
 //! Records as their order sees them.
 
 ghost use Rattle.std.specs.Prelude.{◌≡◌};
-ghost use Rattle.cwr_shape.specs.Shapes.{is_carried_symbol};
+ghost use Rattle.cwr_shape.specs.Format.Shapes.{is_carried_symbol};
 
 use cwr_fields::{Role, TransactionType};
 use cwr_layouts::{Kind, is_carried};

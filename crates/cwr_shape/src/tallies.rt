@@ -1,13 +1,16 @@
 //! Where a transmission stands, what was counted of it, and what bars a record.
 
-ghost use Rattle.cwr_shape.specs.Ranges.{AreInRange};
+ghost use Rattle.cwr_shape.specs.Format.Ranges.{AreInRange};
 ghost use Rattle.std.specs.Prelude.{◌≡◌, ◌<◌, List, [], ◌∷◌, ◌++◌, length, count_by, IfSome, IsTrue, IsFalse, OnOk};
 ghost use Rattle.cwr_fields.specs.declared.codes.TransactionType.TheVariants.{Acknowledgement};
 ghost use Rattle.cwr_shape.specs.declared.symbols.Symbol.{Symbol};
-ghost use Rattle.cwr_shape.specs.Stages.{is_grh, stage_after};
-ghost use Rattle.cwr_shape.specs.Numbers.{number_in, IsNumberAt};
-ghost use Rattle.cwr_shape.specs.Counting.{counts_with, wanted_role, place_at, stage_type, passed_limit_at, expected_numbers, number_inside, HaveRoom};
-ghost use Rattle.cwr_shape.specs.Tallies.{header_kind, is_header_of, IsTallyOf, IsAdmitted, MayCome, Answers, AnswersKind, transactions_begun, place_after, KeepsTally};
+ghost use Rattle.cwr_shape.specs.Format.LastSymbols.{is_grh};
+ghost use Rattle.cwr_shape.specs.Steps.Stages.{stage_after};
+ghost use Rattle.cwr_shape.specs.Format.Numbers.{number_in, IsNumberAt};
+ghost use Rattle.cwr_shape.specs.Format.ExpectedNumbers.{expected_numbers};
+ghost use Rattle.cwr_shape.specs.Steps.Counting.{counts_with, wanted_role, place_at, stage_type, passed_limit_at, number_inside, HaveRoom};
+ghost use Rattle.cwr_shape.specs.Format.NextSymbols.{header_kind, is_header_of, MayCome, Answers, AnswersKind, transactions_begun, place_after};
+ghost use Rattle.cwr_shape.specs.Steps.Tallies.{IsTallyOf, IsAdmitted, KeepsTally};
 
 use crate::limits::{LimitKind, Limits};
 use crate::stages::{Stage, TransactionStep};
@@ -221,7 +224,7 @@ pub struct Tally {
 }
 
 impl Model for Tally {
-    ghost use Rattle.cwr_shape.specs.Tallies.{TallyValue, KeepsTally};
+    ghost use Rattle.cwr_shape.specs.Steps.Tallies.{TallyValue, KeepsTally};
 
     ghost Value = { TallyValue };
 

@@ -9,8 +9,8 @@ use Rattle.cwr_fields.specs.declared.tables.Table.TheVariants as tables
 use Rattle.cwr_fields.specs.declared.cell_types.Word.TheVariants as words
 use Rattle.cwr_layouts.specs.declared.kinds.Kind.{Kind}
 use Rattle.cwr_layouts.specs.declared.kinds.Kind.TheVariants as kinds
-use Rattle.cwr_layouts.specs.Kinds.{all_kinds}
-use Rattle.cwr_layouts.specs.Layouts.{layout}
+use Rattle.cwr_layouts.specs.Format.Kinds.{all_kinds}
+use Rattle.cwr_layouts.specs.Format.Layouts.{layout}
 use Rattle.cwr_shape.specs.declared.reasons.Reason.{Reason}
 use Rattle.cwr_shape.specs.declared.reasons.Reason.TheVariants as reasons
 use Rattle.cwr_shape.specs.declared.limits.LimitKind.TheVariants as limits
@@ -18,7 +18,7 @@ use Rattle.cwr_shape.specs.declared.reasons.Level.{Level}
 use Rattle.cwr_shape.specs.declared.reasons.Level.TheVariants.{E, G, T, R, F}
 use Rattle.cwr_shape.specs.declared.tallies.Place.{Place}
 use Rattle.cwr_shape.specs.declared.tallies.Place.TheVariants as places
-use Rattle.cwr_shape.specs.Levels.{level_of, level_of_type, place_after_kind}
+use Rattle.cwr_shape.specs.Format.Levels.{level_of, level_of_type, place_after_kind}
 
 abbrev all_places : List Place
 all_places = places.File ∷ places.Group ∷ places.Transaction ∷ []

@@ -8,8 +8,8 @@ use Rattle.cwr_layouts.specs.declared.kinds.Kind.{Kind}
 use Rattle.cwr_layouts.specs.declared.kinds.Kind.TheVariants.{Hdr, Grt, Trl, Agr, Ter, Nwr, Rev, Spu, Opu, Spt, Swr, Owr, Swt, Pwr, Alt, Ewt, Per, Rec, Ack, Msg, Npa, Ind, Ari}
 use Rattle.cwr_shape.specs.declared.symbols.Symbol.{Symbol}
 use Rattle.cwr_shape.specs.declared.symbols.Symbol.TheVariants.{Plain, Ipa, Grh}
-use Rattle.cwr_shape.specs.Shapes.{IsShape, pattern_of, BeginsShape}
-use Rattle.cwr_shape.specs.Outlines.{Continues, group_symbols}
+use Rattle.cwr_shape.specs.Format.Shapes.{IsShape, pattern_of, BeginsShape}
+use Rattle.cwr_shape.specs.Format.Outlines.{Continues, group_symbols}
 use Rattle.cwr_shape.proofs.Matcher.{accepts_sound, no_match, no_begin, nullable, after, after_all, is_dead}
 
 abbrev p : Kind → Symbol

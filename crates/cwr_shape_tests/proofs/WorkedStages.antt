@@ -12,10 +12,11 @@ use Rattle.cwr_shape.specs.declared.symbols.Symbol.TheVariants.{Plain, Ipa, Grh}
 use Rattle.cwr_shape.specs.declared.stages.Stage.TheVariants as stages
 use Rattle.cwr_shape.specs.declared.stages.TransactionStep.TheVariants as steps
 use Rattle.cwr_shape.specs.declared.stages.Needs.{Needs}
-use Rattle.cwr_shape.specs.Outlines.{GroupOutline, symbols_of}
-use Rattle.cwr_shape.specs.Stages.{is_grh, stage_after}
-use Rattle.cwr_shape.specs.Needs.{transaction_to_come}
-use Rattle.cwr_shape.specs.Candidates.{candidates}
+use Rattle.cwr_shape.specs.Format.Outlines.{GroupOutline, symbols_of}
+use Rattle.cwr_shape.specs.Format.LastSymbols.{is_grh}
+use Rattle.cwr_shape.specs.Steps.Stages.{stage_after}
+use Rattle.cwr_shape.specs.Steps.Needs.{transaction_to_come}
+use Rattle.cwr_shape.specs.Format.Candidates.{candidates}
 
 -- shorter names
 

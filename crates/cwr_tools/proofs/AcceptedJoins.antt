@@ -7,25 +7,27 @@ use Rattle.std.proofs.lemmas.Grind.{flat_map-append}
 use Rattle.std.proofs.lemmas.List.Elements.{filter-append}
 use Rattle.cwr_shape.specs.declared.limits.Limits.{Limits}
 use Rattle.cwr_shape.specs.declared.limits.LimitKind.{LimitKind}
-use Rattle.cwr_shape.specs.Outlines.{Continues, IsWithin}
-use Rattle.cwr_shape.specs.Ranges.{LimitValues}
+use Rattle.cwr_shape.specs.Format.Outlines.{Continues, IsWithin}
+use Rattle.cwr_shape.specs.Format.Ranges.{LimitValues}
 use Rattle.cwr_values.specs.declared.items.Item.{Item}
 use Rattle.cwr_values.specs.declared.items.Item.TheVariants.{Opened, Ended}
-use Rattle.cwr_values.specs.Values.{GroupValue, TransmissionValue, FitsIn, IsTransmission, symbol_of}
-use Rattle.cwr_values.specs.Rows.{canonical_text}
-use Rattle.cwr_judge.specs.Ends.{IsAccepted}
-use Rattle.cwr_judge.specs.Items.{group_items, records_in, value_items}
+use Rattle.cwr_values.specs.Format.Values.{GroupValue, TransmissionValue, FitsIn, IsTransmission, symbol_of}
+use Rattle.cwr_values.specs.Format.Rows.{canonical_text}
+use Rattle.cwr_judge.specs.Format.Ends.{IsAccepted}
+use Rattle.cwr_judge.specs.Format.Items.{group_items, records_in, value_items}
 use Rattle.cwr_judge.proofs.Accepted.{accepted_once}
 use Rattle.cwr_decode.specs.declared.readings.ReadFault.TheVariants as read_faults
-use Rattle.cwr_decode.specs.Machines.{Standing}
-use Rattle.cwr_decode.specs.Readings.{IsRightOf, IsSpent}
-use Rattle.cwr_decode.specs.Runs.{HasRead, TakesFront}
+use Rattle.cwr_decode.specs.Steps.Machines.{Standing}
+use Rattle.cwr_decode.specs.Steps.Readings.{IsRightOf, IsSpent}
+use Rattle.cwr_decode.specs.Format.Runs.{TakesFront}
+use Rattle.cwr_decode.specs.Steps.Runs.{HasRead}
 use Rattle.cwr_decode.proofs.ItemsOfAccepted.{items_of_accepted}
 use Rattle.cwr_tools.specs.declared.verdicts.JoinFault.{JoinFault}
 use Rattle.cwr_tools.specs.declared.verdicts.JoinReport.{JoinReport}
 use Rattle.cwr_tools.specs.declared.verdicts.ToolFault.{ToolFault}
 use Rattle.cwr_tools.specs.declared.verdicts.ToolFault.TheVariants.{Reader, Writer, Memory, Refused, Truncated, Limit, Output}
-use Rattle.cwr_tools.specs.Joins.{AreJoined, HasInput, IsOfDevice, Joins, JoinsAccepted, PassesLimit, StopsBy, TakeInputs, is_first, is_joined, join_report, joined_inputs, joined_items, joined_records}
+use Rattle.cwr_tools.specs.Format.Joins.{AreJoined, HasInput, IsOfDevice, JoinsAccepted, TakeInputs, is_first, is_joined, join_report, joined_inputs, joined_items, joined_records}
+use Rattle.cwr_tools.specs.Steps.Joins.{Joins, PassesLimit, StopsBy}
 use Rattle.cwr_tools.proofs.BegunTransmissions.{begins_within, never_barred}
 use Rattle.cwr_tools.proofs.ItemsAdded.{records_in-append, records_in_value}
 use Rattle.cwr_tools.proofs.JoinedItems.{joined_all, joined_whole, next_joined}

@@ -2,16 +2,17 @@
 use Rattle.std.proofs.Common.{◌≡◌, ℕ, List, drop, length, map, Option, Some, None, ap, subst, ◌∙◌}
 use Rattle.std.specs.Prelude.{Result, Ok, Err, MatchResult}
 use Rattle.cwr_shape.specs.declared.limits.Limits.{Limits}
-use Rattle.cwr_values.specs.Values.{TransmissionValue}
-use Rattle.cwr_values.specs.Rows.{canonical_text}
-use Rattle.cwr_judge.specs.Ends.{IsAccepted}
+use Rattle.cwr_values.specs.Format.Values.{TransmissionValue}
+use Rattle.cwr_values.specs.Format.Rows.{canonical_text}
+use Rattle.cwr_judge.specs.Format.Ends.{IsAccepted}
 use Rattle.cwr_judge.proofs.Accepted.{accepted_once}
 use Rattle.cwr_tools.specs.declared.verdicts.SplitReport.{SplitReport}
 use Rattle.cwr_tools.specs.declared.verdicts.ToolFault.{ToolFault}
 use Rattle.cwr_tools.specs.declared.verdicts.ToolFault.TheVariants.{Reader, Writer, Memory, Refused, Truncated, Limit, Output}
-use Rattle.cwr_tools.specs.Outputs.{AddsTexts}
-use Rattle.cwr_tools.specs.Splits.{split_of}
-use Rattle.cwr_tools.specs.Splitting.{IsOfSplitDevice, Splits, SplitsAccepted, split_report}
+use Rattle.cwr_tools.specs.Format.Outputs.{AddsTexts}
+use Rattle.cwr_tools.specs.Format.Splits.{split_of}
+use Rattle.cwr_tools.specs.Format.Splitting.{IsOfSplitDevice, SplitsAccepted, split_report}
+use Rattle.cwr_tools.specs.Steps.Splitting.{Splits}
 
 pub splits_accepted : (limits : Limits) (n : ℕ) (before after : Option (List ℕ)) (old new : Option (List (List ℕ))) (result : Result SplitReport ToolFault) → Splits limits n before after old new result → SplitsAccepted limits n before after old new result
 splits_accepted limits n None after old new result h = tt

@@ -3,20 +3,20 @@
 use Rattle.std.proofs.Common.{◌≡◌, List, ◌++◌, map, ap, subst, ◌∙◌}
 use Rattle.std.specs.Prelude.{Err}
 use Rattle.std.proofs.lemmas.List.{map-append}
-use Rattle.cwr_layouts.specs.Records.{RecordValue}
+use Rattle.cwr_layouts.specs.Format.Records.{RecordValue}
 use Rattle.cwr_shape.specs.declared.symbols.Symbol.{Symbol}
 use Rattle.cwr_shape.specs.declared.limits.LimitKind.{LimitKind}
 use Rattle.cwr_shape.specs.declared.limits.LimitKind.TheVariants as limits
 use Rattle.cwr_shape.specs.declared.tallies.Bar.TheVariants as bars
-use Rattle.cwr_shape.specs.Ranges.{LimitValues}
-use Rattle.cwr_shape.specs.Left.{Any}
-use Rattle.cwr_shape.specs.Outlines.{Continues, IsWithin}
-use Rattle.cwr_shape.specs.Tallies.{IsBarredFirst}
-use Rattle.cwr_values.specs.Values.{TransmissionValue, IsTransmission, FitsIn, symbol_of, outline_of}
-use Rattle.cwr_values.specs.Rows.{records_of}
+use Rattle.cwr_shape.specs.Format.Ranges.{LimitValues}
+use Rattle.cwr_shape.specs.Format.AnyTransmission.{Any}
+use Rattle.cwr_shape.specs.Format.Outlines.{Continues, IsWithin}
+use Rattle.cwr_shape.specs.Format.NextSymbols.{IsBarredFirst}
+use Rattle.cwr_values.specs.Format.Values.{TransmissionValue, IsTransmission, FitsIn, symbol_of, outline_of}
+use Rattle.cwr_values.specs.Format.Rows.{records_of}
 use Rattle.cwr_values.proofs.OneSpelling.{symbols-outline, outline_whole}
 use Rattle.cwr_encode.specs.declared.encoders.EncodeFault.TheVariants.{Limit}
-use Rattle.cwr_encode.specs.Encoders.{JudgesCall}
+use Rattle.cwr_encode.specs.Format.Encoders.{JudgesCall}
 
 -- the symbols of its first records begin a transmission
 pub begins : (v : TransmissionValue) (records rest : List RecordValue) → IsTransmission v → records_of v ≡ records ++ rest → Continues Any (map symbol_of records)

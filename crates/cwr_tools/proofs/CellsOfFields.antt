@@ -6,17 +6,17 @@ use Rattle.std.specs.Option.{option_and_then}
 use Rattle.std.proofs.lemmas.Bool.{and_parts}
 use Rattle.std.proofs.lemmas.List.{length-append, take_all}
 use Rattle.std.proofs.lemmas.Option.{slice_get-get_or}
-use Rattle.cwr_fields.specs.Bytes.{trimmed}
+use Rattle.cwr_fields.specs.Format.Bytes.{trimmed}
 use Rattle.cwr_layouts.specs.declared.kinds.Kind.{Kind}
 use Rattle.cwr_layouts.specs.declared.kinds.Kind.TheVariants.{Hdr, Grh, Grt, Trl, Agr, Ter, Ipa, Nwr, Rev, Spu, Opu, Spt, Swr, Owr, Swt, Pwr, Alt, Ewt, Ver, Per, Rec, Orn, Com, Ack, Msg, Opt, Owt, Npn, Npr, Nwn, Npa, Net, Now, Nct, Nvt, Nat, Ins, Ind, Ari, Xrf}
-use Rattle.cwr_layouts.specs.Layouts.{FieldLayout, layout, record_type, field_at, field_placed}
-use Rattle.cwr_layouts.specs.Records.{RecordValue, IsRecord}
-use Rattle.cwr_layouts.specs.Carried.{carried_at, record_cell}
+use Rattle.cwr_layouts.specs.Format.Layouts.{FieldLayout, layout, record_type, field_at, field_placed}
+use Rattle.cwr_layouts.specs.Format.Records.{RecordValue, IsRecord}
+use Rattle.cwr_layouts.specs.Format.Carried.{carried_at, record_cell}
 use Rattle.cwr_layouts.proofs.TrimmedTexts.{spaces_after}
 use Rattle.cwr_layouts.proofs.FieldStarts.{field_at-placed}
 use Rattle.cwr_layouts.proofs.CarriedCells.{carried_count, open_some, record_cell-at}
-use Rattle.cwr_tools.specs.Texts.{cell_line, cell_lines}
-use Rattle.cwr_tools.specs.FieldLines.{line_of, field_line}
+use Rattle.cwr_tools.specs.Format.Texts.{cell_line, cell_lines}
+use Rattle.cwr_tools.specs.Steps.FieldLines.{line_of, field_line}
 
 -- ---- no line is too long
 

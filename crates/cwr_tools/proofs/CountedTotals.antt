@@ -7,16 +7,16 @@ use Rattle.std.proofs.lemmas.List.Sums.{count_by-le-length, sum_by-append}
 use Rattle.cwr_shape.specs.declared.limits.Limits.{Limits}
 use Rattle.cwr_values.specs.declared.items.Item.{Item}
 use Rattle.cwr_values.specs.declared.items.Item.TheVariants as items
-use Rattle.cwr_values.specs.Values.{GroupValue, TransmissionValue}
-use Rattle.cwr_values.specs.Rows.{rows}
-use Rattle.cwr_judge.specs.Items.{item_records, records_in, opens_group, is_transaction, value_items}
-use Rattle.cwr_decode.specs.Machines.{Standing}
-use Rattle.cwr_decode.specs.Runs.{IsReadingOn}
+use Rattle.cwr_values.specs.Format.Values.{GroupValue, TransmissionValue}
+use Rattle.cwr_values.specs.Format.Rows.{rows}
+use Rattle.cwr_judge.specs.Format.Items.{item_records, records_in, opens_group, is_transaction, value_items}
+use Rattle.cwr_decode.specs.Steps.Machines.{Standing}
+use Rattle.cwr_decode.specs.Steps.Runs.{IsReadingOn}
 use Rattle.cwr_decode.proofs.CountedItems.{all_given, bounded, groups_given, transactions_given}
 use Rattle.cwr_tools.specs.declared.verdicts.Verdict.TheVariants.{Good}
 use Rattle.cwr_tools.specs.declared.totals.Totals.{Totals}
-use Rattle.cwr_tools.specs.Texts.{good_verdict}
-use Rattle.cwr_tools.specs.Verdicts.{totals_with}
+use Rattle.cwr_tools.specs.Format.Texts.{good_verdict}
+use Rattle.cwr_tools.specs.Steps.Verdicts.{totals_with}
 
 -- the numbers are those of the items
 pub record IsCount (c : Totals) (given : List Item) : Type 0 where

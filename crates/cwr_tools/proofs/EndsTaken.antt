@@ -1,21 +1,21 @@
 -- A split takes GRT or TRL: the open group ends, and at TRL the last output is handed over.
 use Rattle.std.proofs.Common.{◌≡◌, ℕ, ◌+◌, ◌*◌, ◌<◌, zero, suc, Bool, false, List, [], ◌∷◌, ◌++◌, length, map, Option, Some, None, refl, sym, ap, subst, ◌∙◌, append-nil, arith}
 use Rattle.std.specs.Prelude.{flat_map, if◌then◌else◌, Ok}
-use Rattle.cwr_layouts.specs.Records.{RecordValue}
+use Rattle.cwr_layouts.specs.Format.Records.{RecordValue}
 use Rattle.cwr_shape.specs.declared.limits.Limits.{Limits}
-use Rattle.cwr_shape.specs.Ranges.{LimitValues}
+use Rattle.cwr_shape.specs.Format.Ranges.{LimitValues}
 use Rattle.cwr_values.specs.declared.items.Item.{Item}
 use Rattle.cwr_values.specs.declared.items.Item.TheVariants.{Opened, GroupClosed, Ended}
-use Rattle.cwr_values.specs.Values.{GroupValue, TransmissionValue, FitsIn, IsTransmission}
-use Rattle.cwr_values.specs.Rows.{canonical_text}
-use Rattle.cwr_judge.specs.Items.{AreFirstItems, group_items, value_items}
+use Rattle.cwr_values.specs.Format.Values.{GroupValue, TransmissionValue, FitsIn, IsTransmission}
+use Rattle.cwr_values.specs.Format.Rows.{canonical_text}
+use Rattle.cwr_judge.specs.Format.Items.{AreFirstItems, group_items, value_items}
 use Rattle.cwr_tools.specs.declared.split_output.SplitOutput.{SplitOutput}
 use Rattle.cwr_tools.specs.declared.splitting.Splitting.{Splitting}
-use Rattle.cwr_tools.specs.Outputs.{AddsTexts}
-use Rattle.cwr_tools.specs.SplitOutputs.{CountsNone, HoldsOutput, Told, blank_end, end_of, open_count, open_end}
-use Rattle.cwr_tools.specs.SplitPlaces.{ArePartGroups, SplitPlace, RemainsBetween, Between, Inside, Over, last_of, open_items, parts_at, split_place_after, total_in, value_of, with_group}
-use Rattle.cwr_tools.specs.SplitItems.{HoldsPlace, IsTaken, MayTake}
-use Rattle.cwr_tools.specs.SplitSteps.{EndsGroup, FinishesOutput, IsHandedOver, IsOutsideOpen, MayEndGroup, MayEndHeld, MayFinish, has_open_group, report_after}
+use Rattle.cwr_tools.specs.Format.Outputs.{AddsTexts}
+use Rattle.cwr_tools.specs.Steps.SplitOutputs.{CountsNone, HoldsOutput, Told, blank_end, end_of, open_count, open_end}
+use Rattle.cwr_tools.specs.Steps.SplitPlaces.{ArePartGroups, SplitPlace, RemainsBetween, Between, Inside, Over, last_of, open_items, parts_at, split_place_after, total_in, value_of, with_group}
+use Rattle.cwr_tools.specs.Steps.SplitItems.{HoldsPlace, IsTaken, MayTake}
+use Rattle.cwr_tools.specs.Steps.SplitSteps.{EndsGroup, FinishesOutput, IsHandedOver, IsOutsideOpen, MayEndGroup, MayEndHeld, MayFinish, has_open_group, report_after}
 use Rattle.cwr_tools.proofs.FrontsFit.{fits_groups}
 use Rattle.cwr_tools.proofs.OutputSteps.{ended_output}
 use Rattle.cwr_tools.proofs.PlacesHeld.{items_closed, some_in, total_with, with_end}

@@ -6,12 +6,12 @@ use Rattle.std.specs.Option.{option_and_then}
 use Rattle.std.specs.Str.{bytes_eq}
 use Rattle.std.proofs.lemmas.Option.{slice_get-get_or}
 use Rattle.cwr_layouts.specs.declared.kinds.Kind.{Kind}
-use Rattle.cwr_layouts.specs.Layouts.{FieldLayout, layout, record_type, field_at, field_placed}
-use Rattle.cwr_layouts.specs.Records.{RecordValue}
-use Rattle.cwr_layouts.specs.Carried.{carried_at, record_cell}
+use Rattle.cwr_layouts.specs.Format.Layouts.{FieldLayout, layout, record_type, field_at, field_placed}
+use Rattle.cwr_layouts.specs.Format.Records.{RecordValue}
+use Rattle.cwr_layouts.specs.Format.Carried.{carried_at, record_cell}
 use Rattle.cwr_layouts.proofs.FieldStarts.{field_at-placed}
-use Rattle.cwr_levels.specs.Fields.{place_of}
-use Rattle.cwr_tools.specs.FindingNotes.{named_line, noted_line, number_of_field}
+use Rattle.cwr_levels.specs.Format.Fields.{place_of}
+use Rattle.cwr_tools.specs.Format.FindingNotes.{named_line, noted_line, number_of_field}
 use Rattle.cwr_tools.proofs.CellsOfFields.{carried_field}
 
 -- ---- how many pass at the front

@@ -4,9 +4,9 @@ use Rattle.std.specs.Prelude.{◌≢◌, nat_lt, slice_get, Result, Err, IsErr}
 use Rattle.std.specs.List.{flat_map}
 use Rattle.std.proofs.lemmas.Bool.{lt-ltb}
 use Rattle.cwr_encode.specs.declared.sinks.Sink.{Sink}
-use Rattle.cwr_encode.specs.Sinks.{writer_of, has_failed, HasWritten, Puts}
+use Rattle.cwr_encode.specs.Steps.Sinks.{writer_of, has_failed, HasWritten, Puts}
 use Rattle.cwr_encode.proofs.Numbered.{numbered, puts_as, step_more, steps_refused, steps_whole}
-use Rattle.cwr_levels.specs.Putting.{PutsText}
+use Rattle.cwr_levels.specs.Steps.Putting.{PutsText}
 use Rattle.cwr_encode.specs.declared.sinks.SinkFault.{SinkFault}
 
 -- a line that is put to a sink that hasn't failed

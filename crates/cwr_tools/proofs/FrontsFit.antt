@@ -4,12 +4,12 @@ use Rattle.std.specs.List.{AllByRecursion, flat_map}
 use Rattle.std.proofs.lemmas.Grind.{flat_map-append}
 use Rattle.std.proofs.lemmas.List.{length-append, length-map, map-append}
 use Rattle.cwr_layouts.specs.declared.kinds.Kind.TheVariants as kinds
-use Rattle.cwr_layouts.specs.Records.{RecordValue}
+use Rattle.cwr_layouts.specs.Format.Records.{RecordValue}
 use Rattle.cwr_shape.specs.declared.limits.Limits.{Limits}
 use Rattle.cwr_shape.specs.declared.symbols.Symbol.{Symbol}
 use Rattle.cwr_shape.specs.declared.symbols.Symbol.TheVariants.{Plain}
-use Rattle.cwr_shape.specs.Outlines.{GroupOutline, group_symbols, symbols_of}
-use Rattle.cwr_values.specs.Values.{GroupValue, FitsIn, symbol_of, outline_of_group}
+use Rattle.cwr_shape.specs.Format.Outlines.{GroupOutline, group_symbols, symbols_of}
+use Rattle.cwr_values.specs.Format.Values.{GroupValue, FitsIn, symbol_of, outline_of_group}
 use Rattle.cwr_tools.proofs.SplitParts.{of_groups, group}
 
 -- ---- what holds of each

@@ -1,13 +1,13 @@
 -- A split takes HDR or GRH: it knows it from then on.
 use Rattle.std.proofs.Common.{◌≡◌, ℕ, List, [], ◌∷◌, Option, Some, refl, sym, subst, arith}
-use Rattle.cwr_layouts.specs.Records.{RecordValue}
+use Rattle.cwr_layouts.specs.Format.Records.{RecordValue}
 use Rattle.cwr_values.specs.declared.items.Item.{Item}
 use Rattle.cwr_values.specs.declared.items.Item.TheVariants.{Opened, GroupOpened}
-use Rattle.cwr_values.specs.Values.{GroupValue}
+use Rattle.cwr_values.specs.Format.Values.{GroupValue}
 use Rattle.cwr_tools.specs.declared.splitting.Splitting.{Splitting}
-use Rattle.cwr_tools.specs.SplitOutputs.{HoldsOutput, Told}
-use Rattle.cwr_tools.specs.SplitPlaces.{SplitPlace, Between, Inside, Start, open_items, parts_at, split_place_after}
-use Rattle.cwr_tools.specs.SplitItems.{HoldsPlace, IsTaken, MayTake}
+use Rattle.cwr_tools.specs.Steps.SplitOutputs.{HoldsOutput, Told}
+use Rattle.cwr_tools.specs.Steps.SplitPlaces.{SplitPlace, Between, Inside, Start, open_items, parts_at, split_place_after}
+use Rattle.cwr_tools.specs.Steps.SplitItems.{HoldsPlace, IsTaken, MayTake}
 use Rattle.cwr_tools.proofs.PlacesOfItems.{adds_none, at_item}
 
 -- ---- HDR

@@ -6,25 +6,27 @@ use Rattle.std.specs.Io.KnownBytes.{Appends}
 use Rattle.std.proofs.Math.Dec.{eqb-suc-zero}
 use Rattle.std.proofs.Math.Seq.{get_or-append_seam, set-append_seam}
 use Rattle.std.proofs.lemmas.List.{length-append}
-use Rattle.cwr_layouts.specs.Records.{RecordValue}
+use Rattle.cwr_layouts.specs.Format.Records.{RecordValue}
 use Rattle.cwr_shape.specs.declared.limits.Limits.{Limits}
-use Rattle.cwr_shape.specs.Outlines.{Continues, IsWithin}
-use Rattle.cwr_shape.specs.Ranges.{LimitValues}
+use Rattle.cwr_shape.specs.Format.Outlines.{Continues, IsWithin}
+use Rattle.cwr_shape.specs.Format.Ranges.{LimitValues}
 use Rattle.cwr_values.specs.declared.items.Item.{Item}
-use Rattle.cwr_values.specs.Values.{TransmissionValue, IsTransmission, symbol_of}
-use Rattle.cwr_judge.specs.Items.{records_in}
+use Rattle.cwr_values.specs.Format.Values.{TransmissionValue, IsTransmission, symbol_of}
+use Rattle.cwr_judge.specs.Format.Items.{records_in}
 use Rattle.cwr_encode.specs.declared.sinks.Sink.{Sink}
-use Rattle.cwr_encode.specs.Sinks as sinks
-use Rattle.cwr_encode.specs.Sinks.{HasWritten, has_failed}
-use Rattle.cwr_encode.specs.Written.{IsPart}
+use Rattle.cwr_encode.specs.Steps.Sinks as sinks
+use Rattle.cwr_encode.specs.Steps.Sinks.{HasWritten, has_failed}
+use Rattle.cwr_encode.specs.Format.Written.{IsPart}
 use Rattle.cwr_encode.specs.declared.encoders.Encoder.{Encoder}
-use Rattle.cwr_encode.specs.Encoders.{Encodes, is_stopped, encoder_limits, part_of}
+use Rattle.cwr_encode.specs.Format.Encoders.{part_of}
+use Rattle.cwr_encode.specs.Steps.Encoders.{Encodes, is_stopped, encoder_limits}
 use Rattle.cwr_encode.proofs.PartLaws.{has_part}
 use Rattle.cwr_tools.specs.declared.joined.Joined.{Joined}
 use Rattle.cwr_tools.specs.declared.verdicts.ToolFault.{ToolFault}
 use Rattle.cwr_tools.specs.declared.verdicts.ToolFault.TheVariants.{Reader, Writer, Memory, Refused, Truncated, Limit, Output}
-use Rattle.cwr_tools.specs.Joins.{CountsInputFault, StopsBy, StopsJoin, TakesInput, TakeInputs, is_first, is_joined, joined_inputs, joined_records, WritesPart}
-use Rattle.cwr_tools.specs.Joined.{AddsInput, HasJoined, IsBetweenInputs, JoinsOn, joined_writer}
+use Rattle.cwr_tools.specs.Format.Joins.{CountsInputFault, TakesInput, TakeInputs, is_first, is_joined, joined_inputs, joined_records, WritesPart}
+use Rattle.cwr_tools.specs.Steps.Joins.{StopsBy, StopsJoin}
+use Rattle.cwr_tools.specs.Steps.Joined.{AddsInput, HasJoined, IsBetweenInputs, JoinsOn, joined_writer}
 use Rattle.cwr_tools.proofs.JoinedItems.{next_joined}
 
 -- so many inputs were accepted and joined, and the others are as they were

@@ -8,21 +8,22 @@ use Rattle.std.proofs.lemmas.List.Folds.{flat_map-map}
 use Rattle.std.proofs.lemmas.List.Sums.{sum_by-append, sum_by-take-drop}
 use Rattle.cwr_fields.specs.declared.codes.TransactionType.{TransactionType}
 use Rattle.cwr_layouts.specs.declared.kinds.Kind.TheVariants as kinds
-use Rattle.cwr_layouts.specs.Records.{RecordValue}
+use Rattle.cwr_layouts.specs.Format.Records.{RecordValue}
 use Rattle.cwr_shape.specs.declared.symbols.Symbol.{Symbol}
-use Rattle.cwr_shape.specs.Outlines.{Continues}
-use Rattle.cwr_shape.specs.Left.{Any}
-use Rattle.cwr_shape.specs.Tallies.{IsTallyOf, TallyValue, open_type}
+use Rattle.cwr_shape.specs.Format.Outlines.{Continues}
+use Rattle.cwr_shape.specs.Format.AnyTransmission.{Any}
+use Rattle.cwr_shape.specs.Format.NextSymbols.{open_type}
+use Rattle.cwr_shape.specs.Steps.Tallies.{IsTallyOf, TallyValue}
 use Rattle.cwr_values.specs.declared.items.Item.{Item}
 use Rattle.cwr_values.specs.declared.items.Item.TheVariants.{Opened, GroupOpened, Transaction, GroupClosed, Ended}
-use Rattle.cwr_values.specs.Values.{GroupValue, TransmissionValue, IsGroup, IsTransaction, IsTransmission, symbol_of, type_of}
-use Rattle.cwr_values.specs.Rows.{records_of, records_of_group, trailer}
-use Rattle.cwr_judge.specs.Items.{group_items, is_transaction, item_records, opens_group, records_in, value_items}
+use Rattle.cwr_values.specs.Format.Values.{GroupValue, TransmissionValue, IsGroup, IsTransaction, IsTransmission, symbol_of, type_of}
+use Rattle.cwr_values.specs.Format.Rows.{records_of, records_of_group, trailer}
+use Rattle.cwr_judge.specs.Format.Items.{group_items, is_transaction, item_records, opens_group, records_in, value_items}
 use Rattle.cwr_decode.proofs.ItemsMakeOneTransmission.{has_header}
 use Rattle.cwr_encode.specs.declared.encoders.EncodeFault.{EncodeFault}
-use Rattle.cwr_encode.specs.Encoders.{IsNoMistake}
+use Rattle.cwr_encode.specs.Format.Encoders.{IsNoMistake}
 use Rattle.cwr_encode.proofs.NoMistakes.{no_mistake_foot, no_mistake_group, no_mistake_opening, no_mistake_transaction}
-use Rattle.cwr_tools.specs.Joined.{JudgesItem}
+use Rattle.cwr_tools.specs.Steps.Joined.{JudgesItem}
 use Rattle.cwr_tools.proofs.OwnTypes.{own_type}
 
 -- ---- the records of items

@@ -1,19 +1,19 @@
 -- A split takes an item: what it holds is then that of the next place, and a part that is whole was handed over.
 use Rattle.std.proofs.Common.{◌≡◌, ℕ, List, Option, Some, None, refl, sym, ap, subst, ◌∙◌}
 use Rattle.std.specs.Prelude.{Result, Ok, Err}
-use Rattle.cwr_fields.specs.Failures.{one_more_failure}
-use Rattle.cwr_layouts.specs.Records.{RecordValue}
-use Rattle.cwr_shape.specs.Ranges.{LimitValues}
+use Rattle.cwr_fields.specs.Format.Failures.{one_more_failure}
+use Rattle.cwr_layouts.specs.Format.Records.{RecordValue}
+use Rattle.cwr_shape.specs.Format.Ranges.{LimitValues}
 use Rattle.cwr_values.specs.declared.items.Item.{Item}
 use Rattle.cwr_values.specs.declared.items.Item.TheVariants.{Opened, GroupOpened, Transaction, GroupClosed, Ended}
 use Rattle.cwr_tools.specs.declared.split_output.SplitOutput.{SplitOutput}
 use Rattle.cwr_tools.specs.declared.splitting.Splitting.{Splitting}
 use Rattle.cwr_tools.specs.declared.verdicts.ToolFault.{ToolFault}
 use Rattle.cwr_tools.specs.declared.verdicts.ToolFault.TheVariants as tool_faults
-use Rattle.cwr_tools.specs.SplitOutputs.{FailsWith, HoldsOutput, Told, open_failures}
-use Rattle.cwr_tools.specs.SplitPlaces.{open_items}
-use Rattle.cwr_tools.specs.SplitItems.{MayTake, TakesItem}
-use Rattle.cwr_tools.specs.SplitSteps.{AddsTransaction, EndsGroup, FailsOpen, FinishesOutput, MayAddTransaction, MayEndGroup, MayFinish}
+use Rattle.cwr_tools.specs.Steps.SplitOutputs.{FailsWith, HoldsOutput, Told, open_failures}
+use Rattle.cwr_tools.specs.Steps.SplitPlaces.{open_items}
+use Rattle.cwr_tools.specs.Steps.SplitItems.{MayTake, TakesItem}
+use Rattle.cwr_tools.specs.Steps.SplitSteps.{AddsTransaction, EndsGroup, FailsOpen, FinishesOutput, MayAddTransaction, MayEndGroup, MayFinish}
 use Rattle.cwr_tools.proofs.EndsTaken.{end_taken, foot_taken, may_end_group, may_finish}
 use Rattle.cwr_tools.proofs.HeadsTaken.{head_taken, opening_taken}
 use Rattle.cwr_tools.proofs.TransactionsTaken.{may_add, transaction_taken}

@@ -5,13 +5,13 @@ use Rattle.std.specs.List.{AllByRecursion, flat_map}
 use Rattle.std.proofs.lemmas.Grind.{flat_map-append}
 use Rattle.std.proofs.lemmas.List.{length-append}
 use Rattle.std.proofs.lemmas.List.Elements.{filter-append}
-use Rattle.cwr_layouts.specs.Records.{RecordValue}
+use Rattle.cwr_layouts.specs.Format.Records.{RecordValue}
 use Rattle.cwr_values.specs.declared.items.Item.{Item}
 use Rattle.cwr_values.specs.declared.items.Item.TheVariants.{Opened, GroupOpened, Transaction, GroupClosed, Ended}
-use Rattle.cwr_values.specs.Values.{GroupValue, TransmissionValue, IsGroup, IsTransmission}
-use Rattle.cwr_judge.specs.Items.{group_items, value_items}
-use Rattle.cwr_tools.specs.Splits.{join_of}
-use Rattle.cwr_tools.specs.Joins.{AreJoined, is_first, is_joined, joined_inputs, joined_items}
+use Rattle.cwr_values.specs.Format.Values.{GroupValue, TransmissionValue, IsGroup, IsTransmission}
+use Rattle.cwr_judge.specs.Format.Items.{group_items, value_items}
+use Rattle.cwr_tools.specs.Format.Splits.{join_of}
+use Rattle.cwr_tools.specs.Format.Joins.{AreJoined, is_first, is_joined, joined_inputs, joined_items}
 
 -- ---- the items of groups are all joined
 

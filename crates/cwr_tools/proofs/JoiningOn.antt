@@ -3,28 +3,30 @@ use Rattle.std.proofs.Common.{◌≡◌, ◌+◌, ◌≤◌, ℕ, false, List, [
 use Rattle.std.specs.Prelude.{Result, Ok, Err}
 use Rattle.std.specs.List.{AllByRecursion}
 use Rattle.std.proofs.lemmas.List.{length-append, length-map, map-append}
-use Rattle.cwr_layouts.specs.Records.{RecordValue}
+use Rattle.cwr_layouts.specs.Format.Records.{RecordValue}
 use Rattle.cwr_shape.specs.declared.symbols.Symbol.{Symbol}
 use Rattle.cwr_shape.specs.declared.limits.LimitKind.{LimitKind}
 use Rattle.cwr_shape.specs.declared.tallies.Bar.TheVariants as bars
-use Rattle.cwr_shape.specs.Ranges.{LimitValues}
-use Rattle.cwr_shape.specs.Left.{Any}
-use Rattle.cwr_shape.specs.Outlines.{Continues}
-use Rattle.cwr_shape.specs.Tallies.{IsBarredFirst, IsTallyOf, TallyValue}
+use Rattle.cwr_shape.specs.Format.Ranges.{LimitValues}
+use Rattle.cwr_shape.specs.Format.AnyTransmission.{Any}
+use Rattle.cwr_shape.specs.Format.Outlines.{Continues}
+use Rattle.cwr_shape.specs.Format.NextSymbols.{IsBarredFirst}
+use Rattle.cwr_shape.specs.Steps.Tallies.{IsTallyOf, TallyValue}
 use Rattle.cwr_values.specs.declared.items.Item.{Item}
 use Rattle.cwr_values.specs.declared.items.Item.TheVariants.{Opened, GroupOpened, Transaction, GroupClosed, Ended}
-use Rattle.cwr_values.specs.Values.{symbol_of}
-use Rattle.cwr_values.specs.Rows.{records_of}
-use Rattle.cwr_judge.specs.Items.{is_transaction, item_records, opens_group, records_in}
+use Rattle.cwr_values.specs.Format.Values.{symbol_of}
+use Rattle.cwr_values.specs.Format.Rows.{records_of}
+use Rattle.cwr_judge.specs.Format.Items.{is_transaction, item_records, opens_group, records_in}
 use Rattle.cwr_encode.specs.declared.encoders.Encoder.{Encoder}
 use Rattle.cwr_encode.specs.declared.encoders.EncodeFault.{EncodeFault}
 use Rattle.cwr_encode.specs.declared.encoders.EncodeFault.TheVariants as encode_faults
-use Rattle.cwr_encode.specs.Encoders.{AddsRecords, Encodes, IsNoMistake, is_stopped, encoder_limits}
+use Rattle.cwr_encode.specs.Format.Encoders.{IsNoMistake}
+use Rattle.cwr_encode.specs.Steps.Encoders.{AddsRecords, Encodes, is_stopped, encoder_limits}
 use Rattle.cwr_tools.specs.declared.joined.Joined.{Joined}
 use Rattle.cwr_tools.specs.declared.totals.Totals.{Totals}
 use Rattle.cwr_tools.specs.declared.verdicts.ToolFault.{ToolFault}
-use Rattle.cwr_tools.specs.Verdicts.{totals_with}
-use Rattle.cwr_tools.specs.Joined.{AddsItems, AreCounted, FailsOn, HasJoined, IsBarredAfter, JoinsOn, JudgesItem, MayAdd, is_fault_of}
+use Rattle.cwr_tools.specs.Steps.Verdicts.{totals_with}
+use Rattle.cwr_tools.specs.Steps.Joined.{AddsItems, AreCounted, FailsOn, HasJoined, IsBarredAfter, JoinsOn, JudgesItem, MayAdd, is_fault_of}
 use Rattle.cwr_tools.proofs.BegunTransmissions.{begins_more}
 use Rattle.cwr_tools.proofs.CountedTotals.{IsCount, count_more}
 use Rattle.cwr_tools.proofs.ItemsAdded.{IsRight, all_first, all_second, few_after, few_items, no_mistake, own_item, records_in-append, records_in_value, right_items}

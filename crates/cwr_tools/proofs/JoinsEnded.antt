@@ -5,21 +5,23 @@ use Rattle.std.specs.List.{AllByRecursion, flat_map}
 use Rattle.std.specs.Io.KnownBytes.{Appends}
 use Rattle.std.proofs.lemmas.List.{map-append}
 use Rattle.cwr_layouts.specs.declared.kinds.Kind.TheVariants as kinds
-use Rattle.cwr_layouts.specs.Records.{RecordValue}
+use Rattle.cwr_layouts.specs.Format.Records.{RecordValue}
 use Rattle.cwr_shape.specs.declared.symbols.Symbol.{Symbol}
 use Rattle.cwr_shape.specs.declared.symbols.Symbol.TheVariants.{Plain}
-use Rattle.cwr_shape.specs.Ranges.{LimitValues}
+use Rattle.cwr_shape.specs.Format.Ranges.{LimitValues}
 use Rattle.cwr_values.specs.declared.items.Item.{Item}
 use Rattle.cwr_values.specs.declared.items.Item.TheVariants.{Opened, GroupOpened, Transaction, GroupClosed, Ended}
-use Rattle.cwr_values.specs.Values.{GroupValue, TransmissionValue, FitsIn, IsGroup, IsTransmission, symbol_of}
-use Rattle.cwr_values.specs.Rows.{canonical_text, rows}
+use Rattle.cwr_values.specs.Format.Values.{GroupValue, TransmissionValue, FitsIn, IsGroup, IsTransmission, symbol_of}
+use Rattle.cwr_values.specs.Format.Rows.{canonical_text, rows}
 use Rattle.cwr_values.proofs.OneSpelling.{one_value}
-use Rattle.cwr_judge.specs.Items.{group_items, is_transaction, opens_group, records_in}
+use Rattle.cwr_judge.specs.Format.Items.{group_items, is_transaction, opens_group, records_in}
 use Rattle.cwr_decode.proofs.CountedItems.{all_given, groups_given, transactions_given}
 use Rattle.cwr_encode.specs.declared.encoders.EncodeFault.{EncodeFault}
 use Rattle.cwr_encode.specs.declared.encoders.EncodeFault.TheVariants as encode_faults
-use Rattle.cwr_encode.specs.Encoders.{IsNoMistake, IsUnlimited, encoder_limits, reached, reached_by}
-use Rattle.cwr_encode.specs.Finishing.{Completes, FinishesWriting, HasFront, JudgesEnd, IsBeforeTrailer}
+use Rattle.cwr_encode.specs.Format.Encoders.{IsNoMistake, IsUnlimited, reached, reached_by}
+use Rattle.cwr_encode.specs.Steps.Encoders.{encoder_limits}
+use Rattle.cwr_encode.specs.Format.Finishing.{Completes, HasFront, JudgesEnd, IsBeforeTrailer}
+use Rattle.cwr_encode.specs.Steps.Finishing.{FinishesWriting}
 use Rattle.cwr_encode.proofs.Adding.{plain_symbol, reached-snoc}
 use Rattle.cwr_tools.specs.declared.joined.Joined.{Joined}
 use Rattle.cwr_tools.specs.declared.totals.Totals.{Totals}
@@ -27,9 +29,9 @@ use Rattle.cwr_tools.specs.declared.verdicts.JoinFault.{JoinFault}
 use Rattle.cwr_tools.specs.declared.verdicts.JoinReport.{JoinReport}
 use Rattle.cwr_tools.specs.declared.verdicts.ToolFault.{ToolFault}
 use Rattle.cwr_tools.specs.declared.verdicts.ToolFault.TheVariants.{Writer}
-use Rattle.cwr_tools.specs.Joins.{AreJoined, CountsOutputFault, join_report, joined_inputs}
-use Rattle.cwr_tools.specs.Joined.{AreCounted, EndsJoin, EndsWithAll, HasJoined, HasJoinedAll, IsAnswerOf, joined_writer}
-use Rattle.cwr_tools.specs.Splits.{join_of}
+use Rattle.cwr_tools.specs.Format.Joins.{AreJoined, CountsOutputFault, join_report, joined_inputs}
+use Rattle.cwr_tools.specs.Steps.Joined.{AreCounted, EndsJoin, EndsWithAll, HasJoined, HasJoinedAll, IsAnswerOf, joined_writer}
+use Rattle.cwr_tools.specs.Format.Splits.{join_of}
 use Rattle.cwr_tools.proofs.CountedTotals.{count_more}
 use Rattle.cwr_tools.proofs.ItemsAdded.{records_in-append, records_in_value}
 use Rattle.cwr_tools.proofs.JoinedItems.{joined_all, joined_whole}

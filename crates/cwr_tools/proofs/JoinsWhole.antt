@@ -4,16 +4,17 @@ use Rattle.std.specs.Prelude.{Result, Ok, Err}
 use Rattle.std.specs.Io.KnownBytes.{Appends}
 use Rattle.std.proofs.lemmas.List.{length-append}
 use Rattle.cwr_shape.specs.declared.limits.Limits.{Limits}
-use Rattle.cwr_shape.specs.Ranges.{AreInRange, LimitValues}
-use Rattle.cwr_values.specs.Values.{TransmissionValue, FitsIn}
-use Rattle.cwr_values.specs.Rows.{canonical_text}
-use Rattle.cwr_encode.specs.Finishing.{HasFront}
+use Rattle.cwr_shape.specs.Format.Ranges.{AreInRange, LimitValues}
+use Rattle.cwr_values.specs.Format.Values.{TransmissionValue, FitsIn}
+use Rattle.cwr_values.specs.Format.Rows.{canonical_text}
+use Rattle.cwr_encode.specs.Format.Finishing.{HasFront}
 use Rattle.cwr_tools.specs.declared.joined.Joined.{Joined}
 use Rattle.cwr_tools.specs.declared.verdicts.JoinFault.{JoinFault}
 use Rattle.cwr_tools.specs.declared.verdicts.JoinReport.{JoinReport}
 use Rattle.cwr_tools.specs.declared.verdicts.ToolFault.{ToolFault}
-use Rattle.cwr_tools.specs.Joins.{AreJoined, CountsInputFault, FailsToWrite, Joins, StopsBy, TakesInput, TakeInputs, join_report}
-use Rattle.cwr_tools.specs.Joined.{AddsAll, EndsJoin, EndsWithAll, HasJoinedAll, joined_writer}
+use Rattle.cwr_tools.specs.Format.Joins.{AreJoined, CountsInputFault, TakesInput, TakeInputs, join_report}
+use Rattle.cwr_tools.specs.Steps.Joins.{FailsToWrite, Joins, StopsBy}
+use Rattle.cwr_tools.specs.Steps.Joined.{AddsAll, EndsJoin, EndsWithAll, HasJoinedAll, joined_writer}
 use Rattle.cwr_tools.proofs.InputsJoined.{taken_many, taken_whole}
 
 -- as many readers as before

@@ -10,12 +10,13 @@ use Rattle.cwr_decode.specs.declared.last_bytes.LastBytes.{LastBytes}
 use Rattle.cwr_decode.specs.declared.readings.LastRead.{LastRead}
 use Rattle.cwr_decode.specs.declared.readings.ReadFault.{ReadFault}
 use Rattle.cwr_decode.specs.declared.readings.ReadFault.TheVariants as faults
-use Rattle.cwr_decode.specs.LastReads.{AreHeld, HoldsLast, ReadsLast, stage_of_records}
+use Rattle.cwr_decode.specs.Steps.LastReads.{AreHeld, HoldsLast, ReadsLast, stage_of_records}
 use Rattle.cwr_decode.proofs.LastHeld.{reads_on}
 use Rattle.cwr_tools.specs.declared.verdicts.Verdict.{Verdict}
 use Rattle.cwr_tools.specs.declared.verdicts.Verdict.TheVariants.{Good}
 use Rattle.cwr_tools.specs.declared.verdicts.ToolFault.{ToolFault}
-use Rattle.cwr_tools.specs.Verdicts.{IsReadLast, IsVerdictOf, StopsAfter, StopsAt}
+use Rattle.cwr_tools.specs.Format.Verdicts.{IsVerdictOf}
+use Rattle.cwr_tools.specs.Steps.Verdicts.{IsReadLast, StopsAfter, StopsAt}
 
 -- just the bytes that the reader lost were read, and the last of them are held
 pub record HoldsRead (before now : Option (List ℕ)) (last : Option LastBytes) : Type 0 where

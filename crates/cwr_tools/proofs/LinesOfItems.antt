@@ -4,15 +4,15 @@ use Rattle.std.specs.List.{enumerate_from, flat_map}
 use Rattle.std.proofs.Math.Seq.{take-append_seam}
 use Rattle.std.proofs.lemmas.Grind.{flat_map-append}
 use Rattle.std.proofs.lemmas.List.{take-append-le}
-use Rattle.cwr_layouts.specs.Records.{RecordValue}
+use Rattle.cwr_layouts.specs.Format.Records.{RecordValue}
 use Rattle.cwr_values.specs.declared.items.Item.{Item}
-use Rattle.cwr_judge.specs.Items.{item_records, records_in}
+use Rattle.cwr_judge.specs.Format.Items.{item_records, records_in}
 use Rattle.cwr_tools.specs.declared.item_lines.Report.{Report}
 use Rattle.cwr_tools.specs.declared.item_lines.Report.TheVariants as reports
 use Rattle.cwr_tools.specs.declared.totals.Totals.{Totals}
-use Rattle.cwr_tools.specs.Texts.{check_lines, finding_lines, finding_lines_in, record_lines, numbered_records, show_lines}
-use Rattle.cwr_tools.specs.FindingNotes.{explained_findings, explained_in, explained_lines}
-use Rattle.cwr_tools.specs.Reports.{lines_at, lines_in}
+use Rattle.cwr_tools.specs.Format.Texts.{check_lines, finding_lines, finding_lines_in, record_lines, numbered_records, show_lines}
+use Rattle.cwr_tools.specs.Format.FindingNotes.{explained_findings, explained_in, explained_lines}
+use Rattle.cwr_tools.specs.Steps.Reports.{lines_at, lines_in}
 use Rattle.cwr_tools.proofs.CountedTotals.{IsCount}
 
 -- ---- records

@@ -3,13 +3,13 @@ use Rattle.std.proofs.Common.{◌≡◌, ℕ, ◌+◌, false, List, [], ◌++◌
 use Rattle.std.specs.Prelude.{Result, Ok, Err, IsErr, slice_get}
 use Rattle.std.specs.List.{flat_map}
 use Rattle.std.specs.Option.{option_to_list}
-use Rattle.cwr_layouts.specs.Records.{RecordValue}
+use Rattle.cwr_layouts.specs.Format.Records.{RecordValue}
 use Rattle.cwr_levels.specs.declared.rules.Rule.{Rule}
 use Rattle.cwr_levels.specs.declared.rules.Finding.{Finding}
 use Rattle.cwr_encode.specs.declared.sinks.Sink.{Sink}
-use Rattle.cwr_encode.specs.Sinks.{has_failed, HasWritten, Puts}
+use Rattle.cwr_encode.specs.Steps.Sinks.{has_failed, HasWritten, Puts}
 use Rattle.cwr_encode.proofs.Numbered.{puts_as, puts_both, puts_cut}
-use Rattle.cwr_tools.specs.FindingNotes.{finding_notes, noted_at, noted_cells, notes_on}
+use Rattle.cwr_tools.specs.Format.FindingNotes.{finding_notes, noted_at, noted_cells, notes_on}
 
 -- nothing is put
 pub puts_nothing : {W E : Type 0} (contents : W → Option (List ℕ)) (failures : W → ℕ) (u : Unit {0}) (text : List ℕ) (sink : Sink W) → has_failed sink ≡ false → text ≡ [] → Puts {E = E} contents failures text (Ok u) sink sink

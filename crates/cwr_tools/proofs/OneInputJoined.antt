@@ -3,30 +3,30 @@ use Rattle.std.proofs.Common.{◌≡◌, ◌+◌, ◌≤◌, ℕ, Bool, List, []
 use Rattle.std.specs.Prelude.{Ok, Err, IfSome, Some, filter}
 use Rattle.std.proofs.lemmas.List.{length-append}
 use Rattle.std.proofs.lemmas.List.Elements.{filter-append}
-use Rattle.cwr_fields.specs.Failures.{one_more_failure}
+use Rattle.cwr_fields.specs.Format.Failures.{one_more_failure}
 use Rattle.cwr_shape.specs.declared.limits.Limits.{Limits}
 use Rattle.cwr_shape.specs.declared.tallies.Bar.TheVariants as bars
-use Rattle.cwr_shape.specs.Outlines.{Continues}
-use Rattle.cwr_shape.specs.Ranges.{AreInRange, LimitValues}
-use Rattle.cwr_shape.specs.Tallies.{IsBarredFirst}
+use Rattle.cwr_shape.specs.Format.Outlines.{Continues}
+use Rattle.cwr_shape.specs.Format.Ranges.{AreInRange, LimitValues}
+use Rattle.cwr_shape.specs.Format.NextSymbols.{IsBarredFirst}
 use Rattle.cwr_values.specs.declared.items.Item.{Item}
-use Rattle.cwr_values.specs.Values.{symbol_of}
-use Rattle.cwr_judge.specs.Items.{records_in}
+use Rattle.cwr_values.specs.Format.Values.{symbol_of}
+use Rattle.cwr_judge.specs.Format.Items.{records_in}
 use Rattle.cwr_decode.specs.declared.readings.ReadFault.{ReadFault}
 use Rattle.cwr_decode.specs.declared.readings.ReadFault.TheVariants as faults
-use Rattle.cwr_decode.specs.Machines.{Standing, again}
-use Rattle.cwr_decode.specs.Readings.{answer_of, Reads}
-use Rattle.cwr_decode.specs.Runs.{HasReadAll, IsReadingOn}
+use Rattle.cwr_decode.specs.Steps.Machines.{Standing, again}
+use Rattle.cwr_decode.specs.Steps.Readings.{answer_of, Reads}
+use Rattle.cwr_decode.specs.Steps.Runs.{HasReadAll, IsReadingOn}
 use Rattle.cwr_decode.proofs.FirstItems.{first_items}
 use Rattle.cwr_decode.proofs.ItemsMakeOneTransmission.{items_once}
 use Rattle.cwr_decode.proofs.ItemsReadSoFar.{all_items, all_taken, fewer_left, some_read}
-use Rattle.cwr_encode.specs.Encoders.{Encodes, is_stopped, encoder_limits}
+use Rattle.cwr_encode.specs.Steps.Encoders.{Encodes, is_stopped, encoder_limits}
 use Rattle.cwr_tools.specs.declared.joined.Joined.{Joined}
 use Rattle.cwr_tools.specs.declared.verdicts.ToolFault.{ToolFault}
 use Rattle.cwr_tools.specs.declared.verdicts.ToolFault.TheVariants as tool_faults
-use Rattle.cwr_tools.specs.Verdicts.{StopsAfter}
-use Rattle.cwr_tools.specs.Joins.{is_joined, joined_inputs, joined_items}
-use Rattle.cwr_tools.specs.Joined.{AddsInput, AddsItems, FailsOn, HasJoined, IsBarredAfter, IsBetweenInputs, JoinsOn, MayAdd, reading_fault}
+use Rattle.cwr_tools.specs.Steps.Verdicts.{StopsAfter}
+use Rattle.cwr_tools.specs.Format.Joins.{is_joined, joined_inputs, joined_items}
+use Rattle.cwr_tools.specs.Steps.Joined.{AddsInput, AddsItems, FailsOn, HasJoined, IsBarredAfter, IsBetweenInputs, JoinsOn, MayAdd, reading_fault}
 use Rattle.cwr_tools.proofs.JoinedItems.{AreBegun, item_joined, joined_begin}
 use Rattle.cwr_tools.proofs.JoiningOn.{joins_none}
 

@@ -5,14 +5,14 @@ use Rattle.std.specs.List.{last_or}
 use Rattle.std.proofs.lemmas.Bool.{or_left, or_right, or_from}
 use Rattle.std.proofs.lemmas.List.{drop_all, length-take-le}
 use Rattle.cwr_layouts.specs.declared.kinds.Kind.TheVariants as kinds
-use Rattle.cwr_layouts.specs.Records.{RecordValue}
+use Rattle.cwr_layouts.specs.Format.Records.{RecordValue}
 use Rattle.cwr_levels.specs.declared.rules.Rule.{Rule}
-use Rattle.cwr_levels.specs.Findings.{is_a, is_party}
+use Rattle.cwr_levels.specs.Format.Findings.{is_a, is_party}
 use Rattle.cwr_levels.proofs.KindTests.{is_of_no_kind}
 use Rattle.cwr_levels.proofs.OneMore.{drop_more, length_taken, take_more}
 use Rattle.cwr_tools.specs.declared.places.Places.{Places}
-use Rattle.cwr_tools.specs.FindingNotes.{is_header, last_place, others, parties_from, places, places_from}
-use Rattle.cwr_tools.specs.OtherRecords.{AreListed, is_other}
+use Rattle.cwr_tools.specs.Format.FindingNotes.{is_header, last_place, others, parties_from, places, places_from}
+use Rattle.cwr_tools.specs.Steps.OtherRecords.{AreListed, is_other}
 
 -- ---- one record more
 

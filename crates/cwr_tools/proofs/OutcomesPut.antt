@@ -3,12 +3,12 @@ use Rattle.std.proofs.Common.{◌≡◌, ℕ, true, false, List, [], ◌++◌, O
 use Rattle.std.specs.Prelude.{Result, Err, IsErr, if◌then◌else◌}
 use Rattle.cwr_encode.specs.declared.sinks.Sink.{Sink}
 use Rattle.cwr_encode.specs.declared.sinks.SinkFault.{SinkFault}
-use Rattle.cwr_encode.specs.Sinks.{Puts, has_failed}
+use Rattle.cwr_encode.specs.Steps.Sinks.{Puts, has_failed}
 use Rattle.cwr_encode.proofs.Numbered.{puts_as, puts_cut}
-use Rattle.cwr_levels.specs.Lines.{input_mark}
-use Rattle.cwr_levels.specs.Putting.{PutsText}
+use Rattle.cwr_levels.specs.Format.Lines.{input_mark}
+use Rattle.cwr_levels.specs.Steps.Putting.{PutsText}
 use Rattle.cwr_tools.specs.declared.verdicts.JoinFault.{JoinFault}
-use Rattle.cwr_tools.specs.Outcomes.{input_line, is_of_input, join_outcome}
+use Rattle.cwr_tools.specs.Format.Outcomes.{input_line, is_of_input, join_outcome}
 use Rattle.cwr_tools.proofs.FindingsPut.{puts_line}
 
 marked : (stopped : JoinFault) → is_of_input stopped.fault ≡ true → input_mark stopped.input ++ input_line stopped.fault ≡ join_outcome (Err stopped)

@@ -5,7 +5,7 @@ use Rattle.std.proofs.Math.Dec.{eqb-suc-zero}
 use Rattle.cwr_values.specs.declared.items.Item.{Item}
 use Rattle.cwr_encode.specs.declared.encoders.Encoder.{Encoder}
 use Rattle.cwr_tools.specs.declared.split_output.SplitOutput.{SplitOutput}
-use Rattle.cwr_tools.specs.SplitOutputs.{MayPut, PutsOn, head_of, opening_of}
+use Rattle.cwr_tools.specs.Steps.SplitOutputs.{MayPut, PutsOn, head_of, opening_of}
 use Rattle.cwr_tools.proofs.PutItems.{may_first, may_then, puts_more}
 
 -- HDR is written first

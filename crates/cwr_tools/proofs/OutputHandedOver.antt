@@ -6,16 +6,18 @@ use Rattle.std.proofs.lemmas.List.{append_cancel_right}
 use Rattle.cwr_values.proofs.OneSpelling.{one_value}
 use Rattle.cwr_values.specs.declared.items.Item.{Item}
 use Rattle.cwr_values.specs.declared.items.Item.TheVariants.{Opened, Ended}
-use Rattle.cwr_values.specs.Values.{TransmissionValue, symbol_of}
-use Rattle.cwr_values.specs.Rows.{canonical_text, records_of, trailer}
-use Rattle.cwr_judge.specs.Items.{group_items, records_in, value_items}
+use Rattle.cwr_values.specs.Format.Values.{TransmissionValue, symbol_of}
+use Rattle.cwr_values.specs.Format.Rows.{canonical_text, records_of, trailer}
+use Rattle.cwr_judge.specs.Format.Items.{group_items, records_in, value_items}
 use Rattle.std.specs.List.{flat_map}
 use Rattle.cwr_encode.specs.declared.encoders.EncodeFault.{EncodeFault}
-use Rattle.cwr_encode.specs.Encoders.{IsNoMistake, encoder_limits, reached}
-use Rattle.cwr_encode.specs.Finishing.{FinishesWriting, JudgesEnd}
+use Rattle.cwr_encode.specs.Format.Encoders.{IsNoMistake, reached}
+use Rattle.cwr_encode.specs.Steps.Encoders.{encoder_limits}
+use Rattle.cwr_encode.specs.Format.Finishing.{JudgesEnd}
+use Rattle.cwr_encode.specs.Steps.Finishing.{FinishesWriting}
 use Rattle.cwr_tools.specs.declared.split_output.SplitOutput.{SplitOutput}
-use Rattle.cwr_tools.specs.Outputs.{AddsText}
-use Rattle.cwr_tools.specs.SplitOutputs.{MayHandOver, TakesOutput, Told}
+use Rattle.cwr_tools.specs.Format.Outputs.{AddsText}
+use Rattle.cwr_tools.specs.Steps.SplitOutputs.{MayHandOver, TakesOutput, Told}
 use Rattle.cwr_tools.proofs.ItemsAdded.{records_in-append, records_in_value}
 use Rattle.cwr_tools.proofs.JoinsEnded.{closed_end, reached_foot, right_end}
 

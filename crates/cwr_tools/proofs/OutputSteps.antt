@@ -2,15 +2,15 @@
 use Rattle.std.proofs.Common.{◌≡◌, ◌+◌, ℕ, true, false, List, [], ◌∷◌, ◌++◌, Option, Some, None, refl, sym, ap, subst, ◌∙◌}
 use Rattle.std.specs.Prelude.{IfSome, Ok}
 use Rattle.std.specs.Option.{is_some}
-use Rattle.cwr_shape.specs.Ranges.{LimitValues}
+use Rattle.cwr_shape.specs.Format.Ranges.{LimitValues}
 use Rattle.cwr_values.specs.declared.items.Item.{Item}
-use Rattle.cwr_judge.specs.Items.{AreFirstItems, records_in}
+use Rattle.cwr_judge.specs.Format.Items.{AreFirstItems, records_in}
 use Rattle.cwr_values.specs.declared.items.Item.TheVariants.{Ended}
-use Rattle.cwr_encode.specs.Encoders.{Encodes, is_stopped, encoder_limits, target_of}
+use Rattle.cwr_encode.specs.Steps.Encoders.{Encodes, is_stopped, encoder_limits, target_of}
 use Rattle.cwr_tools.specs.declared.split_output.SplitOutput.{SplitOutput}
 use Rattle.cwr_tools.specs.declared.splitting.Splitting.{Splitting}
-use Rattle.cwr_tools.specs.SplitOutputs.{HoldsOutput, IsOutput, IsQuiet, MayEnd, MayHandOver, TakesOutput, Told, end_of, open_count}
-use Rattle.cwr_tools.specs.SplitSteps.{IsHandedOver, IsOpen, IsOutside, IsOutsideOpen, FinishesOutput, MayEndGroup, MayEndHeld, MayFinish, holding, has_open_group, report_after}
+use Rattle.cwr_tools.specs.Steps.SplitOutputs.{HoldsOutput, IsOutput, IsQuiet, MayEnd, MayHandOver, TakesOutput, Told, end_of, open_count}
+use Rattle.cwr_tools.specs.Steps.SplitSteps.{IsHandedOver, IsOpen, IsOutside, IsOutsideOpen, FinishesOutput, MayEndGroup, MayEndHeld, MayFinish, holding, has_open_group, report_after}
 
 -- ---- an output is open
 

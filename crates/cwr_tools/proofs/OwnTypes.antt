@@ -5,15 +5,15 @@ use Rattle.std.specs.List.{AllByRecursion, flat_map}
 use Rattle.cwr_fields.specs.declared.codes.TransactionType.{TransactionType}
 use Rattle.cwr_fields.specs.declared.codes.TransactionType.TheVariants.{Acknowledgement}
 use Rattle.cwr_layouts.specs.declared.kinds.Kind.TheVariants as kinds
-use Rattle.cwr_layouts.specs.Records.{RecordValue}
+use Rattle.cwr_layouts.specs.Format.Records.{RecordValue}
 use Rattle.cwr_shape.specs.declared.symbols.Symbol.{Symbol}
-use Rattle.cwr_shape.specs.Tallies.{type_after, open_type, counts_of}
+use Rattle.cwr_shape.specs.Format.NextSymbols.{type_after, open_type, counts_of}
 use Rattle.cwr_shape.proofs.OneMore.{types_after, open_type_after}
 use Rattle.cwr_shape.proofs.TransactionNumbers.{types_after-append, walks_transaction}
 use Rattle.cwr_values.specs.declared.items.Item.{Item}
 use Rattle.cwr_values.specs.declared.items.Item.TheVariants.{Opened, GroupOpened, Transaction, GroupClosed, Ended}
-use Rattle.cwr_values.specs.Values.{GroupValue, TransmissionValue, IsGroup, IsTransaction, IsTransmission, symbol_of, type_of}
-use Rattle.cwr_judge.specs.Items.{group_items, records_in, value_items}
+use Rattle.cwr_values.specs.Format.Values.{GroupValue, TransmissionValue, IsGroup, IsTransaction, IsTransmission, symbol_of, type_of}
+use Rattle.cwr_judge.specs.Format.Items.{group_items, records_in, value_items}
 use Rattle.cwr_encode.proofs.Adding.{plain_symbol}
 use Rattle.cwr_encode.proofs.Groups.{head_symbol}
 

@@ -7,17 +7,17 @@ use Rattle.std.proofs.lemmas.Bool.{or_left, or_right, or_from}
 use Rattle.std.proofs.lemmas.List.Sums.{sum_by-append}
 use Rattle.std.proofs.lemmas.List.Elements.{filter-append}
 use Rattle.cwr_layouts.specs.declared.kinds.Kind.TheVariants as kinds
-use Rattle.cwr_fields.specs.Bytes.{number_of}
-use Rattle.cwr_layouts.specs.Records.{RecordValue, IsRecord, cell_named}
+use Rattle.cwr_fields.specs.Format.Bytes.{number_of}
+use Rattle.cwr_layouts.specs.Format.Records.{RecordValue, IsRecord, cell_named}
 use Rattle.cwr_levels.specs.declared.rules.Rule.{Rule}
 use Rattle.cwr_levels.specs.declared.rules.Rule.TheVariants.{V3, V4}
-use Rattle.cwr_levels.specs.Fields.{IsField}
-use Rattle.cwr_levels.specs.Findings.{is_a, is_owner, ownership, share_of}
+use Rattle.cwr_levels.specs.Format.Fields.{IsField}
+use Rattle.cwr_levels.specs.Format.Findings.{is_a, is_owner, ownership, share_of}
 use Rattle.cwr_levels.proofs.NamedCells.{named_cell}
 use Rattle.cwr_levels.proofs.NumberCells.{share_is_number}
 use Rattle.cwr_levels.proofs.OneMore.{take_more}
 use Rattle.cwr_levels.proofs.RuleTests.{cell_of_field}
-use Rattle.cwr_tools.specs.FindingNotes.{right_of}
+use Rattle.cwr_tools.specs.Format.FindingNotes.{right_of}
 
 share_by : (right : String) (r : RecordValue) (b : Bool) → sum_by (share_of right) (cond b (r ∷ []) []) ≡ cond b (share_of right r) 0
 share_by right r true = omega arith

@@ -4,16 +4,16 @@ use Rattle.std.specs.Prelude.{flat_map, if◌then◌else◌}
 use Rattle.std.proofs.lemmas.Grind.{flat_map-append}
 use Rattle.std.proofs.lemmas.List.{length-append, map-append}
 use Rattle.std.proofs.lemmas.List.Sums.{sum_by-append}
-use Rattle.cwr_layouts.specs.Records.{RecordValue}
+use Rattle.cwr_layouts.specs.Format.Records.{RecordValue}
 use Rattle.cwr_values.specs.declared.items.Item.{Item}
 use Rattle.cwr_values.specs.declared.items.Item.TheVariants.{Opened, GroupOpened, Transaction, Ended}
-use Rattle.cwr_values.specs.Values.{GroupValue}
-use Rattle.cwr_judge.specs.Items.{group_items, value_items}
+use Rattle.cwr_values.specs.Format.Values.{GroupValue}
+use Rattle.cwr_judge.specs.Format.Items.{group_items, value_items}
 use Rattle.cwr_tools.specs.declared.split_output.SplitOutput.{SplitOutput}
-use Rattle.cwr_tools.specs.SplitOutputs.{blank_end, open_count, open_end, open_front}
-use Rattle.cwr_tools.specs.SplitPlaces.{ArePartGroups, Between, Inside, open_items, part_group, total_in, value_of, with_group}
-use Rattle.cwr_tools.specs.SplitItems.{is_in_group}
-use Rattle.cwr_tools.specs.SplitSteps.{items_with, has_open_group}
+use Rattle.cwr_tools.specs.Steps.SplitOutputs.{blank_end, open_count, open_end, open_front}
+use Rattle.cwr_tools.specs.Steps.SplitPlaces.{ArePartGroups, Between, Inside, open_items, part_group, total_in, value_of, with_group}
+use Rattle.cwr_tools.specs.Steps.SplitItems.{is_in_group}
+use Rattle.cwr_tools.specs.Steps.SplitSteps.{items_with, has_open_group}
 use Rattle.cwr_tools.proofs.OutputAdded.{head_first, head_once, opening_once}
 
 -- HDR, the closed groups, and of the open one GRH and these transactions

@@ -6,17 +6,17 @@ use Rattle.std.proofs.lemmas.Bool.Decides.{eqb_tells}
 use Rattle.std.proofs.lemmas.List.{length-append, map-append}
 use Rattle.std.proofs.lemmas.List.Sums.{sum_by-append}
 use Rattle.cwr_layouts.specs.declared.kinds.Kind.TheVariants as kinds
-use Rattle.cwr_layouts.specs.Records.{RecordValue, blank_record}
+use Rattle.cwr_layouts.specs.Format.Records.{RecordValue, blank_record}
 use Rattle.cwr_layouts.proofs.RecordTest.{record_sound}
 use Rattle.cwr_fields.proofs.CellTests as tests
-use Rattle.cwr_shape.specs.Outlines.{GroupOutline, IsWithin}
+use Rattle.cwr_shape.specs.Format.Outlines.{GroupOutline, IsWithin}
 use Rattle.cwr_shape.specs.declared.limits.Limits.{Limits}
 use Rattle.cwr_values.specs.declared.items.Item.{Item}
 use Rattle.cwr_values.specs.declared.items.Item.TheVariants.{Opened, GroupOpened, Transaction, GroupClosed, Ended}
-use Rattle.cwr_values.specs.Values.{GroupValue, TransmissionValue, FitsIn, IsGroup, IsRecordOf, IsTransmission, IsTransaction, type_of, outline_of_group}
-use Rattle.cwr_judge.specs.Items.{group_items, value_items}
-use Rattle.cwr_tools.specs.Splits.{split_of}
-use Rattle.cwr_tools.specs.SplitPlaces.{ArePartGroups, SplitPlace, Remains, RemainsBetween, RemainsInside, Between, Inside, Over, Start, group_value, last_of, part_group, parts_at, parts_in, split_place_after, place_in, total_in, value_of, with_group}
+use Rattle.cwr_values.specs.Format.Values.{GroupValue, TransmissionValue, FitsIn, IsGroup, IsRecordOf, IsTransmission, IsTransaction, type_of, outline_of_group}
+use Rattle.cwr_judge.specs.Format.Items.{group_items, value_items}
+use Rattle.cwr_tools.specs.Format.Splits.{split_of}
+use Rattle.cwr_tools.specs.Steps.SplitPlaces.{ArePartGroups, SplitPlace, Remains, RemainsBetween, RemainsInside, Between, Inside, Over, Start, group_value, last_of, part_group, parts_at, parts_in, split_place_after, place_in, total_in, value_of, with_group}
 use Rattle.cwr_tools.proofs.FrontsFit.{fits_back, fits_front, fits_rest}
 use Rattle.cwr_tools.proofs.SplitParts.{any_foot, empty_group, first_part, last_part, no_part}
 

@@ -1,14 +1,14 @@
 -- The place that an item comes at in a split.
 use Rattle.std.proofs.Common.{◌≡◌, ℕ, inl, inr, List, [], ◌∷◌, ◌++◌, map, Option, Some, None, refl, sym, subst, append-nil}
 use Rattle.std.specs.Prelude.{◌⊎◌, flat_map}
-use Rattle.cwr_layouts.specs.Records.{RecordValue}
+use Rattle.cwr_layouts.specs.Format.Records.{RecordValue}
 use Rattle.cwr_shape.specs.declared.limits.Limits.{Limits}
 use Rattle.cwr_values.specs.declared.items.Item.{Item}
 use Rattle.cwr_values.specs.declared.items.Item.TheVariants.{Opened, GroupOpened, Transaction, GroupClosed, Ended}
-use Rattle.cwr_values.specs.Values.{GroupValue, TransmissionValue}
-use Rattle.cwr_judge.specs.Items.{group_items}
-use Rattle.cwr_tools.specs.Outputs.{AddsTexts}
-use Rattle.cwr_tools.specs.SplitPlaces.{SplitPlace, Remains, RemainsBetween, RemainsInside, Between, Inside, Over, Start, with_group}
+use Rattle.cwr_values.specs.Format.Values.{GroupValue, TransmissionValue}
+use Rattle.cwr_judge.specs.Format.Items.{group_items}
+use Rattle.cwr_tools.specs.Format.Outputs.{AddsTexts}
+use Rattle.cwr_tools.specs.Steps.SplitPlaces.{SplitPlace, Remains, RemainsBetween, RemainsInside, Between, Inside, Over, Start, with_group}
 use Rattle.cwr_tools.proofs.PlacesLeft.{after_foot, next_between, next_inside}
 
 -- ---- the place of an item

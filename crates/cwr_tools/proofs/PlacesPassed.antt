@@ -1,17 +1,17 @@
 -- The places that a split passes, and the parts that are whole then.
 use Rattle.std.proofs.Common.{◌≡◌, ◌≢◌, ℕ, ◌+◌, ◌*◌, ◌<◌, Bool, true, false, inl, inr, List, [], ◌∷◌, ◌++◌, length, map, Option, Some, None, refl, sym, ap, subst, ◌∙◌, append_assoc, append-nil}
 use Rattle.std.specs.Prelude.{◌==◌, ◌⊎◌, flat_map, if◌then◌else◌}
-use Rattle.cwr_layouts.specs.Records.{RecordValue}
+use Rattle.cwr_layouts.specs.Format.Records.{RecordValue}
 use Rattle.cwr_shape.specs.declared.limits.Limits.{Limits}
 use Rattle.cwr_values.specs.declared.items.Item.{Item}
 use Rattle.cwr_values.specs.declared.items.Item.TheVariants.{Opened, GroupOpened, Transaction, GroupClosed, Ended}
-use Rattle.cwr_values.specs.Values.{GroupValue, TransmissionValue}
-use Rattle.cwr_judge.specs.Items.{group_items}
+use Rattle.cwr_values.specs.Format.Values.{GroupValue, TransmissionValue}
+use Rattle.cwr_judge.specs.Format.Items.{group_items}
 use Rattle.cwr_tools.specs.declared.verdicts.SplitReport.{SplitReport}
-use Rattle.cwr_tools.specs.Outputs.{AddsTexts}
-use Rattle.cwr_tools.specs.Splits.{split_of}
-use Rattle.cwr_tools.specs.SplitItems.{HasCounted}
-use Rattle.cwr_tools.specs.SplitPlaces.{SplitPlace, Remains, Between, Inside, Over, Start, open_total, parts_at, parts_in, split_place_after, place_in, total_in}
+use Rattle.cwr_tools.specs.Format.Outputs.{AddsTexts}
+use Rattle.cwr_tools.specs.Format.Splits.{split_of}
+use Rattle.cwr_tools.specs.Steps.SplitItems.{HasCounted}
+use Rattle.cwr_tools.specs.Steps.SplitPlaces.{SplitPlace, Remains, Between, Inside, Over, Start, open_total, parts_at, parts_in, split_place_after, place_in, total_in}
 use Rattle.cwr_tools.proofs.PlacesLeft.{next_between, next_inside}
 
 -- ---- places

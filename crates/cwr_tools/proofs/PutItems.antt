@@ -2,23 +2,24 @@
 use Rattle.std.proofs.Common.{◌≡◌, ℕ, false, List, [], ◌∷◌, ◌++◌, map, Option, refl, sym, ap, subst, ◌∙◌, append_assoc, append-nil}
 use Rattle.std.specs.Prelude.{Result, Ok, Err}
 use Rattle.std.specs.List.{AllByRecursion}
-use Rattle.cwr_layouts.specs.Records.{RecordValue}
+use Rattle.cwr_layouts.specs.Format.Records.{RecordValue}
 use Rattle.cwr_shape.specs.declared.limits.LimitKind.{LimitKind}
-use Rattle.cwr_shape.specs.Outlines.{Continues, IsWithin}
-use Rattle.cwr_shape.specs.Left.{Any}
+use Rattle.cwr_shape.specs.Format.Outlines.{Continues, IsWithin}
+use Rattle.cwr_shape.specs.Format.AnyTransmission.{Any}
 use Rattle.cwr_values.specs.declared.items.Item.{Item}
-use Rattle.cwr_values.specs.Values.{TransmissionValue, symbol_of}
-use Rattle.cwr_values.specs.Rows.{records_of}
-use Rattle.cwr_judge.specs.Items.{AreFirstItems, item_records, records_in, value_items}
+use Rattle.cwr_values.specs.Format.Values.{TransmissionValue, symbol_of}
+use Rattle.cwr_values.specs.Format.Rows.{records_of}
+use Rattle.cwr_judge.specs.Format.Items.{AreFirstItems, item_records, records_in, value_items}
 use Rattle.cwr_encode.specs.declared.encoders.Encoder.{Encoder}
 use Rattle.cwr_encode.specs.declared.encoders.EncodeFault.{EncodeFault}
 use Rattle.cwr_encode.specs.declared.encoders.EncodeFault.TheVariants as encode_faults
-use Rattle.cwr_encode.specs.Encoders.{AddsRecords, Encodes, IsNoMistake, is_stopped, encoder_limits}
-use Rattle.cwr_fields.specs.Failures.{one_more_failure}
+use Rattle.cwr_encode.specs.Format.Encoders.{IsNoMistake}
+use Rattle.cwr_encode.specs.Steps.Encoders.{AddsRecords, Encodes, is_stopped, encoder_limits}
+use Rattle.cwr_fields.specs.Format.Failures.{one_more_failure}
 use Rattle.cwr_tools.specs.declared.verdicts.ToolFault.{ToolFault}
 use Rattle.cwr_tools.specs.declared.verdicts.ToolFault.TheVariants as tool_faults
-use Rattle.cwr_tools.specs.Joined.{JudgesItem, is_fault_of}
-use Rattle.cwr_tools.specs.SplitOutputs.{MayPut, PutsItems, PutsOn}
+use Rattle.cwr_tools.specs.Steps.Joined.{JudgesItem, is_fault_of}
+use Rattle.cwr_tools.specs.Steps.SplitOutputs.{MayPut, PutsItems, PutsOn}
 use Rattle.cwr_tools.proofs.BegunTransmissions.{begins_more, begins_more_within, never_barred}
 use Rattle.cwr_tools.proofs.ItemsAdded.{IsRight, all_first, all_second, no_mistake, own_item, records_in-append, records_in_value, right_items}
 use Rattle.cwr_tools.proofs.JoiningOn.{item_barred, records_more}

@@ -2,12 +2,12 @@
 use Rattle.std.proofs.Common.{◌≡◌, ℕ, false, List, [], ◌∷◌, ◌++◌, Option, sym, append-nil}
 use Rattle.std.specs.Prelude.{Result, is_err}
 use Rattle.cwr_layouts.specs.declared.kinds.Kind.TheVariants as kinds
-use Rattle.cwr_layouts.specs.Records.{RecordValue}
-use Rattle.cwr_values.specs.Rows.{trailer}
+use Rattle.cwr_layouts.specs.Format.Records.{RecordValue}
+use Rattle.cwr_values.specs.Format.Rows.{trailer}
 use Rattle.cwr_encode.specs.declared.sinks.Sink.{Sink}
-use Rattle.cwr_encode.specs.Sinks.{writer_of, has_failed, HasWritten, Puts, CountsOn}
+use Rattle.cwr_encode.specs.Steps.Sinks.{writer_of, has_failed, HasWritten, Puts, CountsOn}
 use Rattle.cwr_encode.proofs.Numbered.{puts_as}
-use Rattle.cwr_tools.specs.Texts.{head_line, cell_lines, record_lines, numbered_records}
+use Rattle.cwr_tools.specs.Format.Texts.{head_line, cell_lines, record_lines, numbered_records}
 
 -- a text that was made is put
 pub puts_set : {W E : Type 0} (contents : W → Option (List ℕ)) (failures : W → ℕ) (text other : List ℕ) (result : Result (Unit {0}) E) (old new : Sink W) → has_failed old ≡ false → text ≡ other

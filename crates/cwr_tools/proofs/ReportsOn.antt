@@ -9,23 +9,25 @@ use Rattle.cwr_decode.specs.declared.machine.State.{State}
 use Rattle.cwr_decode.specs.declared.machine.State.TheVariants as states
 use Rattle.cwr_decode.specs.declared.readings.ReadFault.{ReadFault}
 use Rattle.cwr_decode.specs.declared.readings.ReadFault.TheVariants as faults
-use Rattle.cwr_decode.specs.Calls.{IsLive}
-use Rattle.cwr_decode.specs.Machines.{Standing, again}
-use Rattle.cwr_decode.specs.Readings.{answer_of, IsRightOf, Reads}
-use Rattle.cwr_decode.specs.Runs.{HasReadAll, EndsWhole, IsReadingOn}
+use Rattle.cwr_decode.specs.Steps.Calls.{IsLive}
+use Rattle.cwr_decode.specs.Steps.Machines.{Standing, again}
+use Rattle.cwr_decode.specs.Steps.Readings.{answer_of, IsRightOf, Reads}
+use Rattle.cwr_decode.specs.Steps.Runs.{HasReadAll, EndsWhole, IsReadingOn}
 use Rattle.cwr_decode.proofs.ItemsMakeOneTransmission.{items_once}
 use Rattle.cwr_decode.proofs.ItemsReadSoFar.{all_items, all_taken, run_reads, run_right, some_read}
 use Rattle.cwr_encode.specs.declared.sinks.Sink.{Sink}
-use Rattle.cwr_fields.specs.Failures.{one_more_failure}
-use Rattle.cwr_encode.specs.Sinks.{HasWritten, Puts, has_failed, writer_of}
+use Rattle.cwr_fields.specs.Format.Failures.{one_more_failure}
+use Rattle.cwr_encode.specs.Steps.Sinks.{HasWritten, Puts, has_failed, writer_of}
 use Rattle.cwr_tools.specs.declared.verdicts.Verdict.{Verdict}
 use Rattle.cwr_tools.specs.declared.verdicts.Verdict.TheVariants.{Good}
 use Rattle.cwr_tools.specs.declared.verdicts.ToolFault.{ToolFault}
 use Rattle.cwr_tools.specs.declared.verdicts.ToolFault.TheVariants as tool_faults
 use Rattle.cwr_tools.specs.declared.item_lines.Report.{Report}
 use Rattle.cwr_tools.specs.declared.totals.Totals.{Totals}
-use Rattle.cwr_tools.specs.Verdicts.{totals_with, StopsAfter, IsRightVerdict, IsVerdictOf}
-use Rattle.cwr_tools.specs.Reports.{ItemLines, HasPut, PutsLines, PutsReport, lines_at, lines_in}
+use Rattle.cwr_tools.specs.Format.Verdicts.{IsVerdictOf}
+use Rattle.cwr_tools.specs.Steps.Verdicts.{totals_with, StopsAfter, IsRightVerdict}
+use Rattle.cwr_tools.specs.Format.Reports.{ItemLines}
+use Rattle.cwr_tools.specs.Steps.Reports.{HasPut, PutsLines, PutsReport, lines_at, lines_in}
 use Rattle.cwr_tools.proofs.CountedTotals.{IsCount, HasRoomToCount, count_more, good_count, has_room}
 use Rattle.cwr_tools.proofs.LinesOfItems.{lines_more, lines_none}
 

@@ -2,19 +2,20 @@
 use Rattle.std.proofs.Common.{◌≡◌, ℕ, List, [], ◌++◌, Option, refl, sym, ap, subst, ◌∙◌, inr, append-nil}
 use Rattle.std.specs.Prelude.{Result, Ok, Err}
 use Rattle.std.specs.Io.KnownBytes.{Appends, Keeps}
-use Rattle.cwr_fields.specs.Failures.{one_more_failure}
+use Rattle.cwr_fields.specs.Format.Failures.{one_more_failure}
 use Rattle.cwr_shape.specs.declared.limits.Limits.{Limits}
 use Rattle.cwr_encode.specs.declared.sinks.Sink.{Sink}
 use Rattle.cwr_encode.specs.declared.sinks.SinkFault.{SinkFault}
-use Rattle.cwr_encode.specs.Sinks.{HasWritten, writer_of, written_of}
-use Rattle.cwr_encode.specs.Finishing.{HasFront}
+use Rattle.cwr_encode.specs.Steps.Sinks.{HasWritten, writer_of, written_of}
+use Rattle.cwr_encode.specs.Format.Finishing.{HasFront}
 use Rattle.cwr_encode.proofs.Ends.{all_written, appends_kept}
-use Rattle.cwr_levels.specs.Putting.{PutsText}
+use Rattle.cwr_levels.specs.Steps.Putting.{PutsText}
 use Rattle.cwr_tools.specs.declared.verdicts.Verdict.{Verdict}
 use Rattle.cwr_tools.specs.declared.verdicts.ToolFault.{ToolFault}
 use Rattle.cwr_tools.specs.declared.verdicts.ToolFault.TheVariants.{Writer}
-use Rattle.cwr_tools.specs.Texts.{verdict_line}
-use Rattle.cwr_tools.specs.Reports.{ItemLines, HasPut, PutsReport, Reports}
+use Rattle.cwr_tools.specs.Format.Texts.{verdict_line}
+use Rattle.cwr_tools.specs.Format.Reports.{ItemLines}
+use Rattle.cwr_tools.specs.Steps.Reports.{HasPut, PutsReport, Reports}
 use Rattle.cwr_tools.proofs.ReportsOn.{nothing}
 
 -- ---- the line of the verdict

@@ -5,18 +5,20 @@ use Rattle.std.proofs.Math.Seq.{drop-append_seam}
 use Rattle.std.specs.Io.KnownBytes.{Appends}
 use Rattle.cwr_shape.specs.declared.limits.Limits.{Limits}
 use Rattle.cwr_values.specs.declared.items.Item.{Item}
-use Rattle.cwr_values.specs.Values.{TransmissionValue}
-use Rattle.cwr_values.specs.Rows.{canonical_text}
-use Rattle.cwr_judge.specs.Ends.{IsAccepted}
-use Rattle.cwr_judge.specs.Items.{value_items}
+use Rattle.cwr_values.specs.Format.Values.{TransmissionValue}
+use Rattle.cwr_values.specs.Format.Rows.{canonical_text}
+use Rattle.cwr_judge.specs.Format.Ends.{IsAccepted}
+use Rattle.cwr_judge.specs.Format.Items.{value_items}
 use Rattle.cwr_judge.proofs.Accepted.{accepted_once, canonical_accepted}
 use Rattle.cwr_tools.specs.declared.verdicts.Verdict.{Verdict}
 use Rattle.cwr_tools.specs.declared.verdicts.Verdict.TheVariants.{Good, Refused, Truncated}
 use Rattle.cwr_tools.specs.declared.verdicts.ToolFault.{ToolFault}
 use Rattle.cwr_tools.specs.declared.verdicts.ToolFault.TheVariants as faults
-use Rattle.cwr_tools.specs.Texts.{good_verdict}
-use Rattle.cwr_tools.specs.Verdicts.{IsRightVerdict, IsVerdictOn, JudgesText}
-use Rattle.cwr_tools.specs.Reports.{ItemLines, JudgesAccepted, JudgesCanonical, Reports, text_on}
+use Rattle.cwr_tools.specs.Format.Texts.{good_verdict}
+use Rattle.cwr_tools.specs.Format.Verdicts.{IsVerdictOn, JudgesText}
+use Rattle.cwr_tools.specs.Steps.Verdicts.{IsRightVerdict}
+use Rattle.cwr_tools.specs.Format.Reports.{ItemLines, JudgesAccepted, JudgesCanonical, text_on}
+use Rattle.cwr_tools.specs.Steps.Reports.{Reports}
 
 judges_accepted : {W : Type 0} (of : ItemLines) (limits : Limits) (before after : Option (List ℕ)) (contents : W → Option (List ℕ)) (old new : W) (verdict : Verdict)
     → Reports of limits before after contents old new (Ok verdict) → JudgesAccepted of limits before after contents old new verdict

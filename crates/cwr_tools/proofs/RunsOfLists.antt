@@ -5,7 +5,7 @@ use Rattle.std.proofs.Math.Seq.{take-append_seam, drop-append-add}
 use Rattle.std.proofs.lemmas.List.{length-append}
 use Rattle.std.proofs.Math.Nat.{mod-lt}
 use Rattle.std.proofs.lemmas.Nat.{div-add-mod', div-mul-add}
-use Rattle.cwr_tools.specs.Splits.{runs}
+use Rattle.cwr_tools.specs.Format.Splits.{runs}
 
 -- one run more
 one_more : (n m : ℕ) → 0 < n → (n + m + n - 1) / n ≡ suc ((m + n - 1) / n)

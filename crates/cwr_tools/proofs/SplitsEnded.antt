@@ -3,18 +3,18 @@ use Rattle.std.proofs.Common.{◌≡◌, ◌≢◌, ℕ, ◌+◌, ◌*◌, ◌<�
 use Rattle.std.specs.Prelude.{◌/◌, Ok, Err, IfSome, count_by, sum_by, take}
 use Rattle.std.proofs.lemmas.Nat.{div-mul-add}
 use Rattle.cwr_shape.specs.declared.limits.Limits.{Limits}
-use Rattle.cwr_shape.specs.Ranges.{LimitValues}
+use Rattle.cwr_shape.specs.Format.Ranges.{LimitValues}
 use Rattle.cwr_values.specs.declared.items.Item.{Item}
-use Rattle.cwr_values.specs.Values.{TransmissionValue}
-use Rattle.cwr_values.specs.Rows.{canonical_text}
-use Rattle.cwr_judge.specs.Items.{AreFirstItems, is_transaction}
+use Rattle.cwr_values.specs.Format.Values.{TransmissionValue}
+use Rattle.cwr_values.specs.Format.Rows.{canonical_text}
+use Rattle.cwr_judge.specs.Format.Items.{AreFirstItems, is_transaction}
 use Rattle.cwr_decode.specs.declared.machine.State.{State}
 use Rattle.cwr_decode.specs.declared.machine.State.TheVariants as states
 use Rattle.cwr_decode.specs.declared.readings.ReadFault.{ReadFault}
 use Rattle.cwr_decode.specs.declared.readings.ReadFault.TheVariants as read_faults
-use Rattle.cwr_decode.specs.Machines.{Standing, again}
-use Rattle.cwr_decode.specs.Readings.{answer_of}
-use Rattle.cwr_decode.specs.Runs.{HasReadAll, IsReadingOn}
+use Rattle.cwr_decode.specs.Steps.Machines.{Standing, again}
+use Rattle.cwr_decode.specs.Steps.Readings.{answer_of}
+use Rattle.cwr_decode.specs.Steps.Runs.{HasReadAll, IsReadingOn}
 use Rattle.cwr_decode.proofs.CountedItems.{transactions_given}
 use Rattle.cwr_decode.proofs.FirstItems.{first_items}
 use Rattle.cwr_decode.proofs.ItemsMakeOneTransmission.{items_once}
@@ -22,14 +22,15 @@ use Rattle.cwr_decode.proofs.ItemsReadSoFar.{all_items, all_taken}
 use Rattle.cwr_tools.specs.declared.splitting.Splitting.{Splitting}
 use Rattle.cwr_tools.specs.declared.verdicts.ToolFault.{ToolFault}
 use Rattle.cwr_tools.specs.declared.verdicts.ToolFault.TheVariants as tool_faults
-use Rattle.cwr_tools.specs.Joined.{reading_fault}
-use Rattle.cwr_tools.specs.Outputs.{AddsTexts}
-use Rattle.cwr_tools.specs.Splits.{split_of}
-use Rattle.cwr_tools.specs.SplitItems.{HasCounted}
-use Rattle.cwr_tools.specs.SplitOutputs.{FailsWith, IsOutputFault, Told}
-use Rattle.cwr_tools.specs.SplitPlaces.{SplitPlace, Over, Start, open_total, parts_in, place_in}
-use Rattle.cwr_tools.specs.Splitting.{HasFullRuns, Splits, SplitsAll}
-use Rattle.cwr_tools.specs.Verdicts.{StopsAfter}
+use Rattle.cwr_tools.specs.Steps.Joined.{reading_fault}
+use Rattle.cwr_tools.specs.Format.Outputs.{AddsTexts}
+use Rattle.cwr_tools.specs.Format.Splits.{split_of}
+use Rattle.cwr_tools.specs.Steps.SplitItems.{HasCounted}
+use Rattle.cwr_tools.specs.Steps.SplitOutputs.{FailsWith, IsOutputFault, Told}
+use Rattle.cwr_tools.specs.Steps.SplitPlaces.{SplitPlace, Over, Start, open_total, parts_in, place_in}
+use Rattle.cwr_tools.specs.Format.Splitting.{HasFullRuns, SplitsAll}
+use Rattle.cwr_tools.specs.Steps.Splitting.{Splits}
+use Rattle.cwr_tools.specs.Steps.Verdicts.{StopsAfter}
 use Rattle.cwr_tools.proofs.PlacesLeft.{remains_after}
 use lib.Seq.{take-append_seam}
 use Rattle.cwr_tools.proofs.PlacesPassed.{at_end, counted_at, few_open, first_parts, is_over, more_left}

@@ -4,25 +4,25 @@ use Rattle.std.specs.Prelude.{Ok, IfSome, count_by, if◌then◌else◌}
 use Rattle.std.proofs.lemmas.List.{length-append, map-append}
 use Rattle.std.proofs.lemmas.List.Sums.{count_by-le-length, sum_by-append}
 use Rattle.cwr_shape.specs.declared.limits.Limits.{Limits}
-use Rattle.cwr_shape.specs.Ranges.{LimitValues}
+use Rattle.cwr_shape.specs.Format.Ranges.{LimitValues}
 use Rattle.cwr_values.specs.declared.items.Item.{Item}
 use Rattle.cwr_values.specs.declared.items.Item.TheVariants.{Ended}
-use Rattle.cwr_values.specs.Values.{TransmissionValue, FitsIn, IsTransmission}
-use Rattle.cwr_values.specs.Rows.{canonical_text}
-use Rattle.cwr_judge.specs.Items.{AreFirstItems, is_transaction, value_items}
+use Rattle.cwr_values.specs.Format.Values.{TransmissionValue, FitsIn, IsTransmission}
+use Rattle.cwr_values.specs.Format.Rows.{canonical_text}
+use Rattle.cwr_judge.specs.Format.Items.{AreFirstItems, is_transaction, value_items}
 use Rattle.cwr_decode.specs.declared.machine.State.{State}
 use Rattle.cwr_decode.specs.declared.machine.State.TheVariants as states
-use Rattle.cwr_decode.specs.Machines.{Standing, again}
-use Rattle.cwr_decode.specs.Readings.{LeavesRead, Reads, answer_of}
-use Rattle.cwr_decode.specs.Runs.{IsReadingOn}
+use Rattle.cwr_decode.specs.Steps.Machines.{Standing, again}
+use Rattle.cwr_decode.specs.Steps.Readings.{LeavesRead, Reads, answer_of}
+use Rattle.cwr_decode.specs.Steps.Runs.{IsReadingOn}
 use Rattle.cwr_decode.proofs.FirstItems.{first_items}
 use Rattle.cwr_decode.proofs.ItemsReadSoFar.{fewer_left, some_read}
 use Rattle.cwr_tools.specs.declared.splitting.Splitting.{Splitting}
-use Rattle.cwr_tools.specs.Outputs.{AddsTexts}
-use Rattle.cwr_tools.specs.SplitItems.{HoldsPlace, IsTaken, MayTake}
-use Rattle.cwr_tools.specs.SplitOutputs.{CountsNone, Told}
-use Rattle.cwr_tools.specs.SplitPlaces.{SplitPlace, Remains, Over, Start, parts_at, parts_in, split_place_after, place_in}
-use Rattle.cwr_tools.specs.SplitSteps.{is_new}
+use Rattle.cwr_tools.specs.Format.Outputs.{AddsTexts}
+use Rattle.cwr_tools.specs.Steps.SplitItems.{HoldsPlace, IsTaken, MayTake}
+use Rattle.cwr_tools.specs.Steps.SplitOutputs.{CountsNone, Told}
+use Rattle.cwr_tools.specs.Steps.SplitPlaces.{SplitPlace, Remains, Over, Start, parts_at, parts_in, split_place_after, place_in}
+use Rattle.cwr_tools.specs.Steps.SplitSteps.{is_new}
 use Rattle.cwr_tools.proofs.PlacesLeft.{remains_after}
 use Rattle.cwr_tools.proofs.PlacesPassed.{adds_more, adds_nothing, over_after, parts_more, place_more}
 

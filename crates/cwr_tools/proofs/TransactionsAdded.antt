@@ -3,20 +3,20 @@ use Rattle.std.proofs.Common.{◌≡◌, ◌≢◌, ◌+◌, ◌<◌, ℕ, Bool,
 use Rattle.std.specs.Prelude.{Result, Ok, Err, ◌==◌, if◌then◌else◌}
 use Rattle.std.proofs.lemmas.Bool.{eq-eqb}
 use Rattle.std.proofs.lemmas.Bool.Decides.{eqb_tells}
-use Rattle.cwr_fields.specs.Failures.{one_more_failure}
-use Rattle.cwr_shape.specs.Ranges.{LimitValues}
+use Rattle.cwr_fields.specs.Format.Failures.{one_more_failure}
+use Rattle.cwr_shape.specs.Format.Ranges.{LimitValues}
 use Rattle.cwr_values.specs.declared.items.Item.{Item}
 use Rattle.cwr_values.specs.declared.items.Item.TheVariants.{Ended}
-use Rattle.cwr_judge.specs.Items.{AreFirstItems}
+use Rattle.cwr_judge.specs.Format.Items.{AreFirstItems}
 use Rattle.cwr_tools.specs.declared.split_output.SplitOutput.{SplitOutput}
 use Rattle.cwr_tools.specs.declared.splitting.Splitting.{Splitting}
 use Rattle.cwr_tools.specs.declared.verdicts.ToolFault.{ToolFault}
 use Rattle.cwr_tools.specs.declared.verdicts.ToolFault.TheVariants as tool_faults
-use Rattle.cwr_values.specs.Rows.{canonical_text}
-use Rattle.cwr_tools.specs.Outputs.{AddsText, given_up_with}
-use Rattle.cwr_tools.specs.Splitting.{CountsSplitOutput, CountsSplitWriter}
-use Rattle.cwr_tools.specs.SplitOutputs.{FailsWith, HoldsOutput, IsOutput, IsQuiet, MayEnd, PutsOn, Told, blank_end, end_of, front_of, open_count, open_failures, open_front}
-use Rattle.cwr_tools.specs.SplitSteps.{AddsTransaction, FailsOpen, FinishesOutput, GoesOn, FillsOutput, IsOpen, IsWritten, MayAddTransaction, MayFinish, MayWrite, has_all, items_with, has_open_group}
+use Rattle.cwr_values.specs.Format.Rows.{canonical_text}
+use Rattle.cwr_tools.specs.Format.Outputs.{AddsText, given_up_with}
+use Rattle.cwr_tools.specs.Format.Splitting.{CountsSplitOutput, CountsSplitWriter}
+use Rattle.cwr_tools.specs.Steps.SplitOutputs.{FailsWith, HoldsOutput, IsOutput, IsQuiet, MayEnd, PutsOn, Told, blank_end, end_of, front_of, open_count, open_failures, open_front}
+use Rattle.cwr_tools.specs.Steps.SplitSteps.{AddsTransaction, FailsOpen, FinishesOutput, GoesOn, FillsOutput, IsOpen, IsWritten, MayAddTransaction, MayFinish, MayWrite, has_all, items_with, has_open_group}
 use Rattle.cwr_tools.proofs.OutputAdded.{head_first, opening_first}
 
 -- what is written before it, as it would be to the one that was open

@@ -5,16 +5,16 @@ use Rattle.std.proofs.lemmas.Bool.{eq-eqb}
 use Rattle.std.proofs.lemmas.Bool.Decides.{eqb_tells}
 use Rattle.std.proofs.lemmas.List.{length-append}
 use native.Mathlib.Nat.{add-mul}
-use Rattle.cwr_layouts.specs.Records.{RecordValue}
+use Rattle.cwr_layouts.specs.Format.Records.{RecordValue}
 use Rattle.cwr_values.specs.declared.items.Item.{Item}
 use Rattle.cwr_values.specs.declared.items.Item.TheVariants.{Opened, GroupOpened, Transaction, Ended}
-use Rattle.cwr_values.specs.Values.{GroupValue, TransmissionValue, IsTransmission}
-use Rattle.cwr_judge.specs.Items.{value_items}
+use Rattle.cwr_values.specs.Format.Values.{GroupValue, TransmissionValue, IsTransmission}
+use Rattle.cwr_judge.specs.Format.Items.{value_items}
 use Rattle.cwr_tools.specs.declared.splitting.Splitting.{Splitting}
-use Rattle.cwr_tools.specs.SplitOutputs.{IsOutput, Told, blank_end}
-use Rattle.cwr_tools.specs.SplitPlaces.{ArePartGroups, SplitPlace, Inside, open_items, part_group, parts_at, split_place_after, total_in, value_of}
-use Rattle.cwr_tools.specs.SplitItems.{HoldsPlace, IsTaken, MayTake, is_in_group}
-use Rattle.cwr_tools.specs.SplitSteps.{AddsTransaction, GoesOn, FillsOutput, MayAddTransaction, items_with}
+use Rattle.cwr_tools.specs.Steps.SplitOutputs.{IsOutput, Told, blank_end}
+use Rattle.cwr_tools.specs.Steps.SplitPlaces.{ArePartGroups, SplitPlace, Inside, open_items, part_group, parts_at, split_place_after, total_in, value_of}
+use Rattle.cwr_tools.specs.Steps.SplitItems.{HoldsPlace, IsTaken, MayTake, is_in_group}
+use Rattle.cwr_tools.specs.Steps.SplitSteps.{AddsTransaction, GoesOn, FillsOutput, MayAddTransaction, items_with}
 use Rattle.cwr_tools.proofs.PlacesHeld.{begun, items_begun, items_of_part, with_transaction}
 use Rattle.cwr_tools.proofs.PlacesLeft.{part_right}
 use Rattle.cwr_tools.proofs.PlacesOfItems.{adds_none, at_item}

@@ -1,8 +1,10 @@
 //! Checking a transmission.
 
 ghost use Rattle.std.specs.Prelude.{IfOk, IsSomeAnd};
-ghost use Rattle.cwr_tools.specs.Verdicts.{IsReadLast, JudgesText};
-ghost use Rattle.cwr_tools.specs.Reports.{CountsReaderFault, CountsWriterFault, JudgesAccepted, JudgesCanonical, Reports, lines_of_explained, lines_of_findings};
+ghost use Rattle.cwr_tools.specs.Format.Verdicts.{JudgesText};
+ghost use Rattle.cwr_tools.specs.Steps.Verdicts.{IsReadLast};
+ghost use Rattle.cwr_tools.specs.Format.Reports.{CountsReaderFault, CountsWriterFault, JudgesAccepted, JudgesCanonical, lines_of_explained, lines_of_findings};
+ghost use Rattle.cwr_tools.specs.Steps.Reports.{Reports};
 
 use crate::item_lines::Report;
 use crate::reporting::write_report;

@@ -2,9 +2,9 @@
 
 ghost use Rattle.std.specs.Prelude.{◌≡◌, ◌+◌, ◌<◌, ◌≤◌, false, length, Some, slice_get, IfErr};
 ghost use Rattle.std.specs.List.{flat_map};
-ghost use Rattle.cwr_encode.specs.Sinks.{Puts, has_failed, written_of};
-ghost use Rattle.cwr_tools.specs.FindingNotes.{explained_finding, finding_notes, head_lines, noted_at, notes_on, others, tail_lines};
-ghost use Rattle.cwr_tools.specs.OtherRecords.{AreListed, HasPassed};
+ghost use Rattle.cwr_encode.specs.Steps.Sinks.{Puts, has_failed, written_of};
+ghost use Rattle.cwr_tools.specs.Format.FindingNotes.{explained_finding, finding_notes, head_lines, noted_at, notes_on, others, tail_lines};
+ghost use Rattle.cwr_tools.specs.Steps.OtherRecords.{AreListed, HasPassed};
 
 use crate::note_lines::NoteLines;
 use crate::passed::Passed;

@@ -1,14 +1,15 @@
 //! The lines of items, put to a sink.
 
 ghost use Rattle.std.specs.Prelude.{◌≡◌, ◌+◌, ◌≤◌, length, false, IfErr};
-ghost use Rattle.cwr_encode.specs.Sinks.{Puts, has_failed, written_of};
-ghost use Rattle.cwr_judge.specs.Items.{item_records};
-ghost use Rattle.cwr_values.specs.Rows.{trailer};
+ghost use Rattle.cwr_encode.specs.Steps.Sinks.{Puts, has_failed, written_of};
+ghost use Rattle.cwr_judge.specs.Format.Items.{item_records};
+ghost use Rattle.cwr_values.specs.Format.Rows.{trailer};
 ghost use Rattle.std.specs.List.{flat_map};
-ghost use Rattle.cwr_levels.specs.Lines.{finding_line};
-ghost use Rattle.cwr_tools.specs.Texts.{finding_lines_in, numbered_records, record_lines};
-ghost use Rattle.cwr_tools.specs.FindingNotes.{explained_in};
-ghost use Rattle.cwr_tools.specs.Reports.{ItemLines, PutsLines, has_findings, lines_at, lines_in};
+ghost use Rattle.cwr_levels.specs.Format.Lines.{finding_line};
+ghost use Rattle.cwr_tools.specs.Format.Texts.{finding_lines_in, numbered_records, record_lines};
+ghost use Rattle.cwr_tools.specs.Format.FindingNotes.{explained_in};
+ghost use Rattle.cwr_tools.specs.Format.Reports.{ItemLines, has_findings};
+ghost use Rattle.cwr_tools.specs.Steps.Reports.{PutsLines, lines_at, lines_in};
 
 use crate::finding_notes::put_all_explained;
 use crate::record_lines::RecordLines;

@@ -2,14 +2,15 @@
 
 ghost use Rattle.std.specs.Prelude.{◌≡◌, ◌≢◌, ◌+◌, ◌≤◌, ◌∷◌, ℕ, Bool, List, Option, [], map, length, true, false, filter, Result, Ok, Err};
 ghost use Rattle.std.specs.List.{AllByRecursion};
-ghost use Rattle.cwr_layouts.specs.Records.{RecordValue};
-ghost use Rattle.cwr_shape.specs.Ranges.{AreInRange};
-ghost use Rattle.cwr_values.specs.Values.{IsTransmission, symbol_of, TransmissionValue};
+ghost use Rattle.cwr_layouts.specs.Format.Records.{RecordValue};
+ghost use Rattle.cwr_shape.specs.Format.Ranges.{AreInRange};
+ghost use Rattle.cwr_values.specs.Format.Values.{IsTransmission, symbol_of, TransmissionValue};
 ghost use Rattle.cwr_values.specs.declared.items.Item.{Item};
-ghost use Rattle.cwr_judge.specs.Items.{item_records};
-ghost use Rattle.cwr_encode.specs.Encoders.{AddsRecords, Encodes, IsNoMistake, is_stopped, encoder_limits, target_of};
-ghost use Rattle.cwr_tools.specs.Joins.{is_joined, joined_inputs};
-ghost use Rattle.cwr_tools.specs.Joined.{AddsItems, EndsJoin, HasJoined, HasJoinedAll, IsAnswerOf, JudgesItem, MayAdd, is_fault_of, joined_writer};
+ghost use Rattle.cwr_judge.specs.Format.Items.{item_records};
+ghost use Rattle.cwr_encode.specs.Format.Encoders.{IsNoMistake};
+ghost use Rattle.cwr_encode.specs.Steps.Encoders.{AddsRecords, Encodes, is_stopped, encoder_limits, target_of};
+ghost use Rattle.cwr_tools.specs.Format.Joins.{is_joined, joined_inputs};
+ghost use Rattle.cwr_tools.specs.Steps.Joined.{AddsItems, EndsJoin, HasJoined, HasJoinedAll, IsAnswerOf, JudgesItem, MayAdd, is_fault_of, joined_writer};
 
 use crate::totals::Totals;
 use crate::verdicts::{JoinFault, JoinReport, ToolFault};

@@ -1,9 +1,10 @@
 //! Joining transmissions.
 
 ghost use Rattle.std.specs.Prelude.{◌≡◌, ◌<◌, [], false, length};
-ghost use Rattle.cwr_encode.specs.Encoders.{is_stopped, encoder_limits};
-ghost use Rattle.cwr_tools.specs.Joins.{CountsJoinWriter, Joins, JoinsAccepted};
-ghost use Rattle.cwr_tools.specs.Joined.{AddsInput, AddsInputs, CountsAddFault, HasJoined, IsBetweenInputs, reading_fault, joined_writer};
+ghost use Rattle.cwr_encode.specs.Steps.Encoders.{is_stopped, encoder_limits};
+ghost use Rattle.cwr_tools.specs.Format.Joins.{CountsJoinWriter, JoinsAccepted};
+ghost use Rattle.cwr_tools.specs.Steps.Joins.{Joins};
+ghost use Rattle.cwr_tools.specs.Steps.Joined.{AddsInput, AddsInputs, CountsAddFault, HasJoined, IsBetweenInputs, reading_fault, joined_writer};
 
 use crate::joined::Joined;
 use crate::verdicts::{JoinFault, JoinReport, ToolFault};

@@ -2,8 +2,8 @@
 
 ghost use Rattle.std.specs.Prelude.{◌≡◌, ◌+◌, ◌*◌, ◌≤◌, [], ◌++◌, ◌∷◌, Some, length, codes, decimal};
 ghost use Rattle.std.specs.Str.{bytes_eq};
-ghost use Rattle.cwr_layouts.specs.Views.{field_view};
-ghost use Rattle.cwr_tools.specs.FindingNotes.{head_lines, level_words, more_line, named_line, noted_cells, noted_line, number_of_field, rule_words, value_words, where_line};
+ghost use Rattle.cwr_layouts.specs.Steps.Views.{field_view};
+ghost use Rattle.cwr_tools.specs.Format.FindingNotes.{head_lines, level_words, more_line, named_line, noted_cells, noted_line, number_of_field, rule_words, value_words, where_line};
 
 use crate::record_lines::{LONGEST, Text, push, push_number};
 use arrayvec::ArrayVec;

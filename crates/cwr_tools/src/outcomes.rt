@@ -1,8 +1,8 @@
 //! The lines that say how a split or a join ended.
 
 ghost use Rattle.std.specs.Prelude.{◌≡◌, false, IfErr};
-ghost use Rattle.cwr_encode.specs.Sinks.{Puts, has_failed, written_of};
-ghost use Rattle.cwr_tools.specs.Outcomes.{input_line, is_of_input, join_outcome, split_outcome};
+ghost use Rattle.cwr_encode.specs.Steps.Sinks.{Puts, has_failed, written_of};
+ghost use Rattle.cwr_tools.specs.Format.Outcomes.{input_line, is_of_input, join_outcome, split_outcome};
 
 use crate::verdicts::{JoinFault, JoinReport, SplitReport, ToolFault};
 use cwr_encode::{Sink, SinkFault};

@@ -1,8 +1,8 @@
 //! Where the outputs of a split go.
 
 ghost use Rattle.std.specs.Prelude.{◌≡◌, ℕ, ◌-◌, [], List, Option, Some, IfOk, IfSome, OnErr, OnOk};
-ghost use Rattle.cwr_fields.specs.Failures.{CountsFailure};
-ghost use Rattle.cwr_tools.specs.Outputs.{AddsText, given_up_with, lent_after};
+ghost use Rattle.cwr_fields.specs.Format.Failures.{CountsFailure};
+ghost use Rattle.cwr_tools.specs.Format.Outputs.{AddsText, given_up_with, lent_after};
 
 use cwr_fields::Target;
 

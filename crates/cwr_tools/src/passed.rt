@@ -1,8 +1,8 @@
 //! What the records before one leave behind, of which a finding at it may speak.
 
 ghost use Rattle.std.specs.Prelude.{◌≡◌, ◌+◌, ◌<◌, ◌≤◌, List, Some, length, slice_get};
-ghost use Rattle.cwr_layouts.specs.Records.{RecordValue};
-ghost use Rattle.cwr_tools.specs.OtherRecords.{HasPassed};
+ghost use Rattle.cwr_layouts.specs.Format.Records.{RecordValue};
+ghost use Rattle.cwr_tools.specs.Steps.OtherRecords.{HasPassed};
 
 use crate::places::Places;
 use cwr_layouts::{Kind, RecordRef};

@@ -2,13 +2,13 @@
 
 ghost use Rattle.std.specs.Prelude.{◌≡◌, ◌+◌, ◌<◌, ◌≤◌, ◌^◌, ◌++◌, ◌∷◌, ℕ, List, [], false, drop, length, if◌then◌else◌, unwrap_or};
 ghost use Rattle.std.specs.Option.{option_to_list};
-ghost use Rattle.cwr_layouts.specs.Records.{IsRecord};
-ghost use Rattle.cwr_layouts.specs.Carried.{record_cell};
-ghost use Rattle.cwr_levels.specs.Fields.{HasSharesFrom};
-ghost use Rattle.cwr_levels.specs.Findings.{is_a, is_owner, ownership, share_of};
-ghost use Rattle.cwr_fields.specs.Bytes.{number_of};
-ghost use Rattle.cwr_tools.specs.FindingNotes.{parties_from, places, right_of};
-ghost use Rattle.cwr_tools.specs.OtherRecords.{AreListed, is_other};
+ghost use Rattle.cwr_layouts.specs.Format.Records.{IsRecord};
+ghost use Rattle.cwr_layouts.specs.Format.Carried.{record_cell};
+ghost use Rattle.cwr_levels.specs.Format.Fields.{HasSharesFrom};
+ghost use Rattle.cwr_levels.specs.Format.Findings.{is_a, is_owner, ownership, share_of};
+ghost use Rattle.cwr_fields.specs.Format.Bytes.{number_of};
+ghost use Rattle.cwr_tools.specs.Format.FindingNotes.{parties_from, places, right_of};
+ghost use Rattle.cwr_tools.specs.Steps.OtherRecords.{AreListed, is_other};
 
 use arrayvec::ArrayVec;
 use cwr_layouts::{Kind, RecordRef};

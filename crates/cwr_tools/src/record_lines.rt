@@ -1,9 +1,9 @@
 //! The lines of a record: its number and kind, and the cells that aren't blank.
 
 ghost use Rattle.std.specs.Prelude.{◌≡◌, ◌+◌, ◌≤◌, [], ◌++◌, length, decimal};
-ghost use Rattle.cwr_layouts.specs.Views.{field_view};
-ghost use Rattle.cwr_tools.specs.Texts.{cell_line, cell_lines, head_line, record_lines};
-ghost use Rattle.cwr_tools.specs.FieldLines.{field_line};
+ghost use Rattle.cwr_layouts.specs.Steps.Views.{field_view};
+ghost use Rattle.cwr_tools.specs.Format.Texts.{cell_line, cell_lines, head_line, record_lines};
+ghost use Rattle.cwr_tools.specs.Steps.FieldLines.{field_line};
 
 use arrayvec::ArrayVec;
 use cwr_fields::{is_spaces, trimmed};

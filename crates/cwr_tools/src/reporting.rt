@@ -1,15 +1,17 @@
 //! Whole runs over a text: the lines of its items, and the line of the verdict.
 
 ghost use Rattle.std.specs.Prelude.{◌≡◌, ◌≤◌, [], false, length, None, IfOk, IsSomeAnd};
-ghost use Rattle.cwr_decode.specs.Decoding.{final_answer, has_ended, limits_of};
-ghost use Rattle.cwr_decode.specs.LastReads.{AreHeld};
-ghost use Rattle.cwr_decode.specs.Represents.{Represents};
-ghost use Rattle.cwr_encode.specs.Sinks.{HasWritten, has_failed, writer_of};
+ghost use Rattle.cwr_decode.specs.Steps.Decoding.{final_answer, has_ended, limits_of};
+ghost use Rattle.cwr_decode.specs.Steps.LastReads.{AreHeld};
+ghost use Rattle.cwr_decode.specs.Steps.Represents.{Represents};
+ghost use Rattle.cwr_encode.specs.Steps.Sinks.{HasWritten, has_failed, writer_of};
 ghost use Rattle.cwr_levels.specs.declared.lines.TheConstants.{LONGEST_REPORT_LINE};
-ghost use Rattle.cwr_levels.specs.Putting.{PutsText};
-ghost use Rattle.cwr_tools.specs.Texts.{verdict_line};
-ghost use Rattle.cwr_tools.specs.Verdicts.{IsReadLast, IsVerdictOf};
-ghost use Rattle.cwr_tools.specs.Reports.{CountsReaderFault, CountsWriterFault, PutsReport, Reports, lines_in};
+ghost use Rattle.cwr_levels.specs.Steps.Putting.{PutsText};
+ghost use Rattle.cwr_tools.specs.Format.Texts.{verdict_line};
+ghost use Rattle.cwr_tools.specs.Format.Verdicts.{IsVerdictOf};
+ghost use Rattle.cwr_tools.specs.Steps.Verdicts.{IsReadLast};
+ghost use Rattle.cwr_tools.specs.Format.Reports.{CountsReaderFault, CountsWriterFault};
+ghost use Rattle.cwr_tools.specs.Steps.Reports.{PutsReport, Reports, lines_in};
 
 use crate::item_lines::{Report, put_item, writer_fault};
 use crate::record_lines::RecordLines;

@@ -1,8 +1,9 @@
 //! Showing a transmission.
 
 ghost use Rattle.std.specs.Prelude.{IfOk};
-ghost use Rattle.cwr_tools.specs.Verdicts.{JudgesText};
-ghost use Rattle.cwr_tools.specs.Reports.{CountsReaderFault, CountsWriterFault, JudgesAccepted, JudgesCanonical, Reports, lines_of_records};
+ghost use Rattle.cwr_tools.specs.Format.Verdicts.{JudgesText};
+ghost use Rattle.cwr_tools.specs.Format.Reports.{CountsReaderFault, CountsWriterFault, JudgesAccepted, JudgesCanonical, lines_of_records};
+ghost use Rattle.cwr_tools.specs.Steps.Reports.{Reports};
 
 use crate::item_lines::Report;
 use crate::reporting::write_report;

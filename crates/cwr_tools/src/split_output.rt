@@ -2,9 +2,9 @@
 
 ghost use Rattle.std.specs.Prelude.{◌≡◌, ◌≢◌, ℕ, ◌+◌, ◌-◌, ◌<◌, ◌++◌, ◌∷◌, [], List, Option, Some, Ok, Err, OnOk, IfSome, false, true};
 ghost use Rattle.cwr_values.specs.declared.items.Item.{Item};
-ghost use Rattle.cwr_judge.specs.Items.{records_in};
-ghost use Rattle.cwr_encode.specs.Encoders.{Encodes, is_stopped, encoder_limits, target_of};
-ghost use Rattle.cwr_tools.specs.SplitOutputs.{HandsOver, MayHandOver, MayPut, PutsItems, blank_end, end_of, front_of, opening_of, head_of, told_by};
+ghost use Rattle.cwr_judge.specs.Format.Items.{records_in};
+ghost use Rattle.cwr_encode.specs.Steps.Encoders.{Encodes, is_stopped, encoder_limits, target_of};
+ghost use Rattle.cwr_tools.specs.Steps.SplitOutputs.{HandsOver, MayHandOver, MayPut, PutsItems, blank_end, end_of, front_of, opening_of, head_of, told_by};
 
 use crate::joined::{fault_of, put_item};
 use crate::outputs::Outputs;

@@ -2,11 +2,12 @@
 
 ghost use Rattle.std.specs.Prelude.{◌≡◌, ◌≢◌, ℕ, ◌+◌, ◌<◌, None, OnOk};
 ghost use Rattle.cwr_values.specs.declared.items.Item.{Item};
-ghost use Rattle.cwr_tools.specs.Outputs.{given_up_with};
-ghost use Rattle.cwr_tools.specs.SplitOutputs.{open_failures, told_by};
-ghost use Rattle.cwr_tools.specs.SplitItems.{MayTake, SplitsItems, TakesItem};
-ghost use Rattle.cwr_tools.specs.Splitting.{CountsSplitOutput, CountsSplitReader, CountsSplitWriter, Splits, SplitsAccepted};
-ghost use Rattle.cwr_tools.specs.SplitSteps.{AddsTransaction, EndsGroup, FinishesOutput, GivesUp, MayAddTransaction, MayEndGroup, MayFinish, KeepsLent, MayWrite, OpensOutput, Writes, has_all, is_new, open_outputs};
+ghost use Rattle.cwr_tools.specs.Format.Outputs.{given_up_with};
+ghost use Rattle.cwr_tools.specs.Steps.SplitOutputs.{open_failures, told_by};
+ghost use Rattle.cwr_tools.specs.Steps.SplitItems.{MayTake, SplitsItems, TakesItem};
+ghost use Rattle.cwr_tools.specs.Format.Splitting.{CountsSplitOutput, CountsSplitReader, CountsSplitWriter, SplitsAccepted};
+ghost use Rattle.cwr_tools.specs.Steps.Splitting.{Splits};
+ghost use Rattle.cwr_tools.specs.Steps.SplitSteps.{AddsTransaction, EndsGroup, FinishesOutput, GivesUp, MayAddTransaction, MayEndGroup, MayFinish, KeepsLent, MayWrite, OpensOutput, Writes, has_all, is_new, open_outputs};
 
 use crate::joining::reading_fault;
 use crate::outputs::Outputs;

@@ -1,8 +1,8 @@
 //! How many groups, transactions and records were handed out.
 
 ghost use Rattle.std.specs.Prelude.{◌≡◌, ◌+◌, ◌≤◌, length};
-ghost use Rattle.cwr_judge.specs.Items.{item_records};
-ghost use Rattle.cwr_tools.specs.Verdicts.{totals_with};
+ghost use Rattle.cwr_judge.specs.Format.Items.{item_records};
+ghost use Rattle.cwr_tools.specs.Steps.Verdicts.{totals_with};
 
 use crate::verdicts::Verdict;
 use cwr_values::Item;

@@ -5,16 +5,16 @@ use Rattle.std.specs.List.{AllZip}
 use Rattle.std.proofs.lemmas.Int.{ints}
 use Rattle.cwr_fields.specs.declared.cell_types.CellType.TheVariants.{Date}
 use Rattle.cwr_fields.specs.declared.cell_types.CellFault.TheVariants.{NotADate}
-use Rattle.cwr_fields.specs.Bytes.{digits}
-use Rattle.cwr_fields.specs.Cells.{Holds}
+use Rattle.cwr_fields.specs.Format.Bytes.{digits}
+use Rattle.cwr_fields.specs.Format.Cells.{Holds}
 use Rattle.cwr_fields.proofs.NumbersInParts.{day_of_parts}
 use Rattle.cwr_fields.proofs.LineFeeds.{NoLf}
 use Rattle.cwr_layouts.specs.declared.kinds.Kind.{Kind}
 use Rattle.cwr_layouts.specs.declared.kinds.Kind.TheVariants as kinds
-use Rattle.cwr_layouts.specs.Kinds.{letters}
-use Rattle.cwr_layouts.specs.Layouts.{cell, fields_after_type}
-use Rattle.cwr_layouts.specs.Records.{RecordValue, IsRecord, IsCellOf, Row, row_of, row_cells, carried_fields}
-use Rattle.cwr_layouts.specs.Lines.{IsLineOf, line_cells}
+use Rattle.cwr_layouts.specs.Format.Kinds.{letters}
+use Rattle.cwr_layouts.specs.Format.Layouts.{cell, fields_after_type}
+use Rattle.cwr_layouts.specs.Format.Records.{RecordValue, IsRecord, IsCellOf, Row, row_of, row_cells, carried_fields}
+use Rattle.cwr_layouts.specs.Format.Lines.{IsLineOf, line_cells}
 use Rattle.cwr_layouts.proofs.RowLaws.{IsRow-row_of}
 use Rattle.cwr_layouts.proofs.LineLaws.{first_line, lines_text}
 use Rattle.cwr_layouts.proofs.CutLaws.{line_is_cut}
@@ -23,12 +23,12 @@ use Rattle.cwr_shape.specs.declared.reasons.Reason.{Reason}
 use Rattle.cwr_shape.specs.declared.reasons.Reason.TheVariants.{UnknownKind, Misplaced, Cell, Number, Limit, Excess}
 use Rattle.cwr_shape.specs.declared.limits.LimitKind.TheVariants as limit_kinds
 use Rattle.cwr_shape.specs.declared.reasons.Level.TheVariants.{E}
-use Rattle.cwr_values.specs.Values.{TransmissionValue, IsTransmission, outline_of}
-use Rattle.cwr_values.specs.Rows.{rows, Spells}
+use Rattle.cwr_values.specs.Format.Values.{TransmissionValue, IsTransmission, outline_of}
+use Rattle.cwr_values.specs.Format.Rows.{rows, Spells}
 use Rattle.cwr_values.proofs.OneSpelling.{outline_whole}
-use Rattle.cwr_judge.specs.Places.{Viable, IsBadAt, IsFirstBad}
-use Rattle.cwr_judge.specs.Reasons.{Applies, rank}
-use Rattle.cwr_judge.specs.Ends.{IsAccepted, IsRefused}
+use Rattle.cwr_judge.specs.Format.Places.{Viable, IsBadAt, IsFirstBad}
+use Rattle.cwr_judge.specs.Format.Reasons.{Applies, rank}
+use Rattle.cwr_judge.specs.Format.Ends.{IsAccepted, IsRefused}
 use Rattle.cwr_tools_tests.proofs.Samples
 use Rattle.cwr_tools_tests.proofs.WorkedTransmissions.{largest, one_acknowledgement_whole, one_acknowledgement_within}
 

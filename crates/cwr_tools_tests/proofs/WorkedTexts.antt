@@ -3,23 +3,23 @@ use Rattle.std.proofs.Common.{◌≡◌, ℕ, true, false, List, [], ◌∷◌, 
 use Rattle.std.specs.Prelude.{codes, slice_index_or}
 use Rattle.std.specs.List.{flat_map}
 use Rattle.std.specs.Fmt.{digits as plain_digits}
-use Rattle.cwr_fields.specs.Bytes.{digits, filled, trimmed}
+use Rattle.cwr_fields.specs.Format.Bytes.{digits, filled, trimmed}
 use Rattle.cwr_layouts.specs.declared.kinds.Kind.TheVariants as kinds
-use Rattle.cwr_layouts.specs.Kinds.{all_kinds}
-use Rattle.cwr_layouts.specs.Layouts.{line_width, layout}
-use Rattle.cwr_layouts.specs.Records.{full_line, record_of, field_number}
-use Rattle.cwr_layouts.specs.Lines.{raw_lines, closed, line_kind, line_cells, has_bad_excess}
+use Rattle.cwr_layouts.specs.Format.Kinds.{all_kinds}
+use Rattle.cwr_layouts.specs.Format.Layouts.{line_width, layout}
+use Rattle.cwr_layouts.specs.Format.Records.{full_line, record_of, field_number}
+use Rattle.cwr_layouts.specs.Format.Lines.{raw_lines, closed, line_kind, line_cells, has_bad_excess}
 use Rattle.cwr_shape.specs.declared.limits.Limits.{Limits}
-use Rattle.cwr_shape.specs.Numbers.{numbers_of, lengths_of}
+use Rattle.cwr_shape.specs.Format.Numbers.{numbers_of, lengths_of}
 use Rattle.cwr_values.specs.declared.transmissions.ValueFault.TheVariants as value_faults
-use Rattle.cwr_values.specs.Values.{outline_of}
-use Rattle.cwr_values.specs.Rows.{rows, records_of, canonical_text, lengths_of_value}
-use Rattle.cwr_values.specs.Fits.{value_fault}
+use Rattle.cwr_values.specs.Format.Values.{outline_of}
+use Rattle.cwr_values.specs.Format.Rows.{rows, records_of, canonical_text, lengths_of_value}
+use Rattle.cwr_values.specs.Format.Fits.{value_fault}
 use Rattle.cwr_values.specs.declared.items.Item.TheVariants.{Opened, GroupOpened, Transaction, GroupClosed, Ended}
-use Rattle.cwr_judge.specs.Items.{items, items_after}
-use Rattle.cwr_levels.specs.Findings.{findings, findings_after}
-use Rattle.cwr_tools.specs.Texts.{check_text, check_lines, show_text, cell_lines, show_lines, good_verdict}
-use Rattle.cwr_tools.specs.Splits.{split_of, join_of}
+use Rattle.cwr_judge.specs.Format.Items.{items, items_after}
+use Rattle.cwr_levels.specs.Format.Findings.{findings, findings_after}
+use Rattle.cwr_tools.specs.Format.Texts.{check_text, check_lines, show_text, cell_lines, show_lines, good_verdict}
+use Rattle.cwr_tools.specs.Format.Splits.{split_of, join_of}
 use Rattle.cwr_tools_tests.proofs.Samples
 
 -- the widths of the kinds, from HDR to XRF

@@ -1,7 +1,7 @@
 //! Outputs of a split over memory, which fail where a test wants them to.
 
 ghost use Rattle.std.specs.Prelude.{◌≡◌, Some, map};
-ghost use Rattle.cwr_fields.specs.Failures.{one_more_failure};
+ghost use Rattle.cwr_fields.specs.Format.Failures.{one_more_failure};
 
 use crate::works::text_of;
 use cwr_fields::Counted;

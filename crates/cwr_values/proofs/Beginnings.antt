@@ -5,19 +5,20 @@ use Rattle.std.specs.List.{AllByRecursion}
 use Rattle.cwr_fields.specs.declared.codes.TransactionType.{TransactionType}
 use Rattle.cwr_fields.specs.declared.codes.TransactionType.TheVariants.{Agreement, NewWork, RevisedWork, Acknowledgement}
 use Rattle.cwr_layouts.specs.declared.kinds.Kind.TheVariants as kinds
-use Rattle.cwr_layouts.specs.Records.{RecordValue, IsRecord}
+use Rattle.cwr_layouts.specs.Format.Records.{RecordValue, IsRecord}
 use Rattle.cwr_shape.specs.declared.symbols.Symbol.{Symbol}
 use Rattle.cwr_shape.specs.declared.symbols.Symbol.TheVariants.{Plain}
 use Rattle.cwr_shape.specs.declared.stages.TransactionStep.{TransactionStep}
 use Rattle.std.specs.Prelude.{Result, Ok, Err, slice_get}
 use Rattle.cwr_values.specs.declared.transactions.PushFault.{PushFault}
 use Rattle.cwr_values.specs.declared.transactions.PushFault.TheVariants.{Misplaced, Memory}
-use Rattle.cwr_shape.specs.Shapes.{IsShape, BeginsShape}
-use Rattle.cwr_shape.specs.Left.{ContinuesIn, StandsAtStep}
+use Rattle.cwr_shape.specs.Format.Shapes.{IsShape, BeginsShape}
+use Rattle.cwr_shape.specs.Steps.Left.{ContinuesIn, StandsAtStep}
 use Rattle.cwr_shape.proofs.HeadFirst.{part_class, head_first}
 use Rattle.cwr_shape.proofs.StepPatterns.{stands_goes}
-use Rattle.cwr_values.specs.Values.{symbol_of}
-use Rattle.cwr_values.specs.Begun.{IsBegun, KeepsTransaction, IsWholeTransaction, BeginsWithOneMore}
+use Rattle.cwr_values.specs.Format.Values.{symbol_of}
+use Rattle.cwr_values.specs.Format.Begun.{IsBegun, IsWholeTransaction, BeginsWithOneMore}
+use Rattle.cwr_values.specs.Steps.Begun.{KeepsTransaction}
 
 -- the type whose header the symbol is
 abbrev pub header_of : Symbol → TransactionType

@@ -10,17 +10,17 @@ use Rattle.std.proofs.lemmas.List.Sums.{sum_by-cons}
 use Rattle.std.proofs.lemmas.Option.{none-some}
 use Rattle.std.proofs.lemmas.Iterator.Adapters.{position_from-zero}
 use Rattle.cwr_layouts.specs.declared.kinds.Kind.TheVariants as kinds
-use Rattle.cwr_layouts.specs.Records.{RecordValue}
+use Rattle.cwr_layouts.specs.Format.Records.{RecordValue}
 use Rattle.cwr_shape.specs.declared.symbols.Symbol.TheVariants.{Plain}
 use Rattle.cwr_shape.specs.declared.limits.Limits.{Limits}
-use Rattle.cwr_shape.specs.Outlines.{group_symbols, symbols_of}
-use Rattle.cwr_shape.specs.Numbers.{group_records}
+use Rattle.cwr_shape.specs.Format.Outlines.{group_symbols, symbols_of}
+use Rattle.cwr_shape.specs.Format.Numbers.{group_records}
 use Rattle.cwr_values.specs.declared.transmissions.ValueFault.{ValueFault}
 use Rattle.cwr_values.specs.declared.transmissions.ValueFault.TheVariants.{NoGroup, Records, Groups, Transaction}
-use Rattle.cwr_values.specs.Values.{GroupValue, TransmissionValue, IsTransmission, FitsIn, symbol_of, outline_of, outline_of_group}
-use Rattle.cwr_values.specs.Begun.{IsBegunTransmission}
-use Rattle.cwr_values.specs.Rows.{rows}
-use Rattle.cwr_values.specs.Fits.{value_fault}
+use Rattle.cwr_values.specs.Format.Values.{GroupValue, TransmissionValue, IsTransmission, FitsIn, symbol_of, outline_of, outline_of_group}
+use Rattle.cwr_values.specs.Format.Begun.{IsBegunTransmission}
+use Rattle.cwr_values.specs.Format.Rows.{rows}
+use Rattle.cwr_values.specs.Format.Fits.{value_fault}
 use Rattle.cwr_values.proofs.Spelling.{length-rows, length-records_of}
 
 -- ---- as many symbols as rows

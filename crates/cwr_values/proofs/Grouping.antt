@@ -7,12 +7,12 @@ use Rattle.std.proofs.lemmas.List.Sums.{sum_by-cons}
 use Rattle.cwr_fields.specs.declared.codes.TransactionType.{TransactionType}
 use Rattle.cwr_fields.specs.declared.codes.TransactionType.TheVariants.{Agreement, NewWork, RevisedWork, Acknowledgement}
 use Rattle.cwr_layouts.specs.declared.kinds.Kind.{Kind}
-use Rattle.cwr_layouts.specs.Records.{RecordValue}
-use Rattle.cwr_shape.specs.Numbers.{group_records}
-use Rattle.cwr_shape.specs.Tallies.{header_kind}
-use Rattle.cwr_values.specs.Values.{GroupValue, TransmissionValue, IsTransaction, symbol_of, symbol_by, type_of}
-use Rattle.cwr_values.specs.Begun.{IsBegun, IsBegunGroup, IsWholeTransaction, HasHeaderOf}
-use Rattle.cwr_values.specs.Rows.{rows}
+use Rattle.cwr_layouts.specs.Format.Records.{RecordValue}
+use Rattle.cwr_shape.specs.Format.Numbers.{group_records}
+use Rattle.cwr_shape.specs.Format.NextSymbols.{header_kind}
+use Rattle.cwr_values.specs.Format.Values.{GroupValue, TransmissionValue, IsTransaction, symbol_of, symbol_by, type_of}
+use Rattle.cwr_values.specs.Format.Begun.{IsBegun, IsBegunGroup, IsWholeTransaction, HasHeaderOf}
+use Rattle.cwr_values.specs.Format.Rows.{rows}
 use Rattle.cwr_values.proofs.Beginnings.{header_of, shape_type}
 use Rattle.cwr_values.proofs.Spelling.{length-rows, length-records_of}
 

@@ -7,14 +7,14 @@ use Rattle.std.proofs.lemmas.List.Sums.{sum_by-cons}
 use Rattle.cwr_fields.specs.declared.codes.TransactionType.{TransactionType}
 use Rattle.cwr_layouts.specs.declared.kinds.Kind.{Kind}
 use Rattle.cwr_layouts.specs.declared.kinds.Kind.TheVariants as kinds
-use Rattle.cwr_layouts.specs.Layouts.{fields_after_type}
-use Rattle.cwr_layouts.specs.Records.{RecordValue}
+use Rattle.cwr_layouts.specs.Format.Layouts.{fields_after_type}
+use Rattle.cwr_layouts.specs.Format.Records.{RecordValue}
 use Rattle.cwr_shape.specs.declared.limits.Limits.{Limits}
-use Rattle.cwr_shape.specs.Outlines.{symbols_of}
-use Rattle.cwr_shape.specs.Numbers.{numbers_of, group_numbers, transaction_numbers, group_records, all_records}
+use Rattle.cwr_shape.specs.Format.Outlines.{symbols_of}
+use Rattle.cwr_shape.specs.Format.Numbers.{numbers_of, group_numbers, transaction_numbers, group_records, all_records}
 use Rattle.cwr_shape.proofs.HeadFirst.{part_class}
-use Rattle.cwr_values.specs.Values.{GroupValue, TransmissionValue, IsTransmission, IsGroup, FitsIn, type_of, symbol_of, symbol_by, outline_of, outline_of_group}
-use Rattle.cwr_values.specs.Rows.{records_of, records_of_group, trailer, lengths_of_value}
+use Rattle.cwr_values.specs.Format.Values.{GroupValue, TransmissionValue, IsTransmission, IsGroup, FitsIn, type_of, symbol_of, symbol_by, outline_of, outline_of_group}
+use Rattle.cwr_values.specs.Format.Rows.{records_of, records_of_group, trailer, lengths_of_value}
 use Rattle.cwr_values.proofs.Spelling.{length-records_of}
 use Rattle.cwr_values.proofs.OneCutIntoParts.{IsOnePart}
 use Rattle.cwr_values.proofs.OneSpelling.{parts_of, symbols-outline}

@@ -9,19 +9,19 @@ use Rattle.cwr_fields.specs.declared.codes.TransactionType.TheVariants.{Agreemen
 use Rattle.cwr_fields.proofs.LineFeeds.{NoLf}
 use Rattle.cwr_layouts.specs.declared.kinds.Kind.{Kind}
 use Rattle.cwr_layouts.specs.declared.kinds.Kind.TheVariants as kinds
-use Rattle.cwr_layouts.specs.Records.{RecordValue, IsRecord, Row, IsRow, row_of, record_of}
-use Rattle.cwr_layouts.specs.Lines.{IsLineOf}
+use Rattle.cwr_layouts.specs.Format.Records.{RecordValue, IsRecord, Row, IsRow, row_of, record_of}
+use Rattle.cwr_layouts.specs.Format.Lines.{IsLineOf}
 use Rattle.cwr_layouts.proofs.RowLaws.{IsRow-row_of, record_of-row_of, one_row}
 use Rattle.cwr_layouts.proofs.LineLaws.{lines_agree, lines_text}
 use Rattle.cwr_shape.specs.declared.symbols.Symbol.{Symbol}
 use Rattle.cwr_shape.specs.declared.symbols.Symbol.TheVariants.{Plain, Grh}
-use Rattle.cwr_shape.specs.Shapes.{IsShape}
-use Rattle.cwr_shape.specs.Outlines.{group_symbols, symbols_of, IsGroupOutline, IsOutline}
-use Rattle.cwr_shape.specs.Numbers.{numbers_of}
+use Rattle.cwr_shape.specs.Format.Shapes.{IsShape}
+use Rattle.cwr_shape.specs.Format.Outlines.{group_symbols, symbols_of, IsGroupOutline, IsOutline}
+use Rattle.cwr_shape.specs.Format.Numbers.{numbers_of}
 use Rattle.cwr_shape.proofs.HeadFirst.{part_class, HeadFirst, head_first}
 use Rattle.cwr_shape.proofs.PrefixFree.{prefix_free}
-use Rattle.cwr_values.specs.Values.{GroupValue, TransmissionValue, IsTransmission, IsGroup, IsTransaction, type_of, symbol_of, symbol_by, outline_of, outline_of_group}
-use Rattle.cwr_values.specs.Rows.{records_of, records_of_group, trailer, lengths_of_value, rows, Spells}
+use Rattle.cwr_values.specs.Format.Values.{GroupValue, TransmissionValue, IsTransmission, IsGroup, IsTransaction, type_of, symbol_of, symbol_by, outline_of, outline_of_group}
+use Rattle.cwr_values.specs.Format.Rows.{records_of, records_of_group, trailer, lengths_of_value, rows, Spells}
 use Rattle.cwr_values.proofs.Spelling.{records_in_order, length-numbers_of, length-records_of}
 use Rattle.cwr_values.proofs.OneCutIntoParts.{IsOnePart, Begins, parts_agree}
 

@@ -5,13 +5,13 @@ use Rattle.std.proofs.lemmas.List.{length-map}
 use Rattle.cwr_fields.specs.declared.codes.TransactionType.{TransactionType}
 use Rattle.cwr_layouts.specs.declared.kinds.Kind.{Kind}
 use Rattle.cwr_layouts.specs.declared.kinds.Kind.TheVariants as kinds
-use Rattle.cwr_layouts.specs.Records.{RecordValue, IsRecord, IsCellOf, carried_fields}
+use Rattle.cwr_layouts.specs.Format.Records.{RecordValue, IsRecord, IsCellOf, carried_fields}
 use Rattle.cwr_shape.specs.declared.symbols.Symbol.{Symbol}
 use Rattle.cwr_shape.specs.declared.symbols.Symbol.TheVariants.{Plain, Grh}
-use Rattle.cwr_shape.specs.Shapes.{IsShape}
-use Rattle.cwr_shape.specs.Outlines.{GroupOutline, group_symbols, symbols_of, IsGroupOutline, IsOutline}
-use Rattle.cwr_values.specs.Values.{GroupValue, TransmissionValue, IsTransmission, IsGroup, IsTransaction, type_of, symbol_of, symbol_by, outline_of, outline_of_group}
-use Rattle.cwr_values.specs.Rows.{records_of, records_of_group, trailer}
+use Rattle.cwr_shape.specs.Format.Shapes.{IsShape}
+use Rattle.cwr_shape.specs.Format.Outlines.{GroupOutline, group_symbols, symbols_of, IsGroupOutline, IsOutline}
+use Rattle.cwr_values.specs.Format.Values.{GroupValue, TransmissionValue, IsTransmission, IsGroup, IsTransaction, type_of, symbol_of, symbol_by, outline_of, outline_of_group}
+use Rattle.cwr_values.specs.Format.Rows.{records_of, records_of_group, trailer}
 
 -- the transmission that has these groups in symbols and these records
 pub record Built (groups : List GroupOutline) (records : List RecordValue) : Type 0 where

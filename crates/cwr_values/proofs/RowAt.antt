@@ -7,18 +7,19 @@ use Rattle.cwr_fields.specs.declared.codes.TransactionType.{TransactionType}
 use Rattle.cwr_fields.specs.declared.codes.TransactionType.TheVariants.{Acknowledgement}
 use Rattle.cwr_layouts.specs.declared.kinds.Kind.{Kind}
 use Rattle.cwr_layouts.specs.declared.kinds.Kind.TheVariants as kinds
-use Rattle.cwr_layouts.specs.Records.{RecordValue, Row, row_of}
+use Rattle.cwr_layouts.specs.Format.Records.{RecordValue, Row, row_of}
 use Rattle.cwr_shape.specs.declared.symbols.Symbol.{Symbol}
 use Rattle.cwr_shape.specs.declared.tallies.Counts.{Counts}
-use Rattle.cwr_shape.specs.Numbers.{numbers_of, lengths_of, symbol_kind}
-use Rattle.cwr_shape.specs.Tallies.{type_after, open_type, counts_of}
-use Rattle.cwr_shape.specs.Counting.{counts_with, expected_numbers}
+use Rattle.cwr_shape.specs.Format.Numbers.{numbers_of, lengths_of, symbol_kind}
+use Rattle.cwr_shape.specs.Format.NextSymbols.{type_after, open_type, counts_of}
+use Rattle.cwr_shape.specs.Format.ExpectedNumbers.{expected_numbers}
+use Rattle.cwr_shape.specs.Steps.Counting.{counts_with}
 use Rattle.cwr_shape.proofs.OneMore.{open_type-snoc, counts-snoc}
 use Rattle.cwr_shape.proofs.TransactionNumbers.{walk}
 use Rattle.cwr_shape.proofs.NumbersAreCounted.{walks_whole}
-use Rattle.cwr_values.specs.Values.{GroupValue, TransmissionValue, IsTransmission, symbol_of, symbol_by, outline_of, outline_of_group}
-use Rattle.cwr_values.specs.Rows.{records_of, lengths_of_value, rows}
-use Rattle.cwr_values.specs.Begins.{row_after, rows_after, rows_so_far}
+use Rattle.cwr_values.specs.Format.Values.{GroupValue, TransmissionValue, IsTransmission, symbol_of, symbol_by, outline_of, outline_of_group}
+use Rattle.cwr_values.specs.Format.Rows.{records_of, lengths_of_value, rows}
+use Rattle.cwr_values.specs.Format.Begins.{row_after, rows_after, rows_so_far}
 use Rattle.cwr_values.proofs.OneSpelling.{symbols-outline, outline_whole}
 
 -- ---- lengths are those of the outline

@@ -10,20 +10,20 @@ use Rattle.cwr_fields.specs.declared.cell_types.CellType.TheVariants.{Required, 
 use Rattle.cwr_fields.specs.declared.codes.Role.TheVariants.{Assignor, Acquirer}
 use Rattle.cwr_fields.specs.declared.codes.TransactionType.{TransactionType}
 use Rattle.cwr_fields.specs.declared.codes.TransactionType.TheVariants.{Agreement, NewWork, RevisedWork, Acknowledgement}
-use Rattle.cwr_fields.specs.Bytes.{filled, digits}
+use Rattle.cwr_fields.specs.Format.Bytes.{filled, digits}
 use Rattle.cwr_fields.proofs.CellTests.{holds_test, number_test, day_test, time_test}
-use Rattle.cwr_fields.specs.Codes.{codes_of, code_width, word_text, role_code, type_code}
+use Rattle.cwr_fields.specs.Format.Codes.{codes_of, code_width, word_text, role_code, type_code}
 use Rattle.cwr_layouts.specs.declared.kinds.Kind.{Kind}
 use Rattle.cwr_layouts.specs.declared.kinds.Kind.TheVariants as kinds
-use Rattle.cwr_layouts.specs.Records.{RecordValue, IsRecord, carried_fields}
+use Rattle.cwr_layouts.specs.Format.Records.{RecordValue, IsRecord, carried_fields}
 use Rattle.cwr_layouts.proofs.RecordTest.{record_test, record_sound}
 use Rattle.cwr_shape.specs.declared.symbols.Symbol.{Symbol}
 use Rattle.cwr_shape.specs.declared.symbols.Symbol.TheVariants.{Plain, Ipa, Grh}
-use Rattle.cwr_shape.specs.Shapes.{IsShape, pattern_of}
-use Rattle.cwr_shape.specs.Outlines.{GroupOutline, group_symbols, symbols_of, IsGroupOutline, IsOutline}
+use Rattle.cwr_shape.specs.Format.Shapes.{IsShape, pattern_of}
+use Rattle.cwr_shape.specs.Format.Outlines.{GroupOutline, group_symbols, symbols_of, IsGroupOutline, IsOutline}
 use Rattle.cwr_shape.proofs.PrefixFree.{only, matched_pass}
-use Rattle.cwr_values.specs.Values.{TransmissionValue, IsTransmission, symbol_of, outline_of}
-use Rattle.cwr_values.specs.Rows.{records_of}
+use Rattle.cwr_values.specs.Format.Values.{TransmissionValue, IsTransmission, symbol_of, outline_of}
+use Rattle.cwr_values.specs.Format.Rows.{records_of}
 use Rattle.cwr_values.proofs.OneTransmissionOfRecords.{built}
 
 -- a cell of each type

@@ -2,10 +2,10 @@
 
 ghost use Rattle.std.specs.Prelude.{◌≡◌, ◌↔◌, ◌++◌, ◌∷◌, [], length, option_copied, slice_get, map, min, nat_lt, position, IsOk, IfOk, IfErr, IfSome, IsTrue, OnOk};
 ghost use Rattle.std.specs.Result.{IsErrAnd};
-ghost use Rattle.cwr_layouts.specs.Records.{blank_record};
-ghost use Rattle.cwr_shape.specs.Numbers.{group_records};
-ghost use Rattle.cwr_values.specs.Values.{type_of, IsTransaction};
-ghost use Rattle.cwr_values.specs.Begun.{HasHeaderOf, IsBegunGroup, IsWholeTransaction};
+ghost use Rattle.cwr_layouts.specs.Format.Records.{blank_record};
+ghost use Rattle.cwr_shape.specs.Format.Numbers.{group_records};
+ghost use Rattle.cwr_values.specs.Format.Values.{type_of, IsTransaction};
+ghost use Rattle.cwr_values.specs.Format.Begun.{HasHeaderOf, IsBegunGroup, IsWholeTransaction};
 
 use crate::symbols::symbol_of;
 use crate::transactions::Transaction;
@@ -60,11 +60,11 @@ pub struct Group {
 }
 
 impl Model for Group {
-    ghost use Rattle.cwr_values.specs.Values.{GroupValue};
+    ghost use Rattle.cwr_values.specs.Format.Values.{GroupValue};
 
     ghost Value = { GroupValue };
 
-    ghost use Rattle.cwr_values.specs.Begun.{IsBegunGroup};
+    ghost use Rattle.cwr_values.specs.Format.Begun.{IsBegunGroup};
 
     ghost view = { λ g. record { head = g.head; transactions = g.transactions.items; foot = g.foot } };
 

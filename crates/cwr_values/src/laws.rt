@@ -2,17 +2,17 @@
 
 ghost use Rattle.std.specs.Prelude.{Contains, List, None, filter, length, map, take, ℕ, ◌++◌, ◌≡◌, ◌↔◌, ◌<◌, ◌≤◌, ◌^◌};
 ghost use Rattle.std.specs.List.{AllByRecursion, AllZip};
-ghost use Rattle.cwr_layouts.specs.Layouts.{fields_after_type};
-ghost use Rattle.cwr_layouts.specs.Lines.{IsLineOf};
-ghost use Rattle.cwr_layouts.specs.Records.{IsRecord, RecordValue, Row};
-ghost use Rattle.cwr_shape.specs.Numbers.{numbers_of};
-ghost use Rattle.cwr_shape.specs.Outlines.{GroupOutline, IsOutline, IsWhole, symbols_of};
+ghost use Rattle.cwr_layouts.specs.Format.Layouts.{fields_after_type};
+ghost use Rattle.cwr_layouts.specs.Format.Lines.{IsLineOf};
+ghost use Rattle.cwr_layouts.specs.Format.Records.{IsRecord, RecordValue, Row};
+ghost use Rattle.cwr_shape.specs.Format.Numbers.{numbers_of};
+ghost use Rattle.cwr_shape.specs.Format.Outlines.{GroupOutline, IsOutline, IsWhole, symbols_of};
 ghost use Rattle.cwr_shape.specs.declared.limits.Limits.{Limits};
 ghost use Rattle.cwr_shape.specs.declared.symbols.Symbol.{Symbol};
-ghost use Rattle.cwr_values.specs.Begins.{rows_so_far};
-ghost use Rattle.cwr_values.specs.Fits.{value_fault};
-ghost use Rattle.cwr_values.specs.Rows.{canonical_text, lengths_of_value, records_of, rows, Spells};
-ghost use Rattle.cwr_values.specs.Values.{FitsIn, IsTransmission, outline_of, symbol_of, TransmissionValue};
+ghost use Rattle.cwr_values.specs.Format.Begins.{rows_so_far};
+ghost use Rattle.cwr_values.specs.Format.Fits.{value_fault};
+ghost use Rattle.cwr_values.specs.Format.Rows.{canonical_text, lengths_of_value, records_of, rows, Spells};
+ghost use Rattle.cwr_values.specs.Format.Values.{FitsIn, IsTransmission, outline_of, symbol_of, TransmissionValue};
 
 /// The canonical text of a transmission spells it.
 pub fn canonical_text_spells()

@@ -1,7 +1,7 @@
 //! Records as their order sees them.
 
 ghost use Rattle.std.specs.Prelude.{◌≡◌};
-ghost use Rattle.cwr_values.specs.Values.{symbol_of};
+ghost use Rattle.cwr_values.specs.Format.Values.{symbol_of};
 
 use cwr_fields::{Role, TransactionType};
 use cwr_layouts::{Kind, RecordRef};

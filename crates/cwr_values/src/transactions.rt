@@ -1,10 +1,10 @@
 //! Transactions as values.
 
 ghost use Rattle.std.specs.Prelude.{◌≡◌, ◌↔◌, List, [], ◌∷◌, ◌++◌, length, option_map, slice_get, IsTrue, IsSome, IfSome, IfOk, OnOk, OnErr, Some, Err};
-ghost use Rattle.cwr_shape.specs.Shapes.{BeginsShape};
-ghost use Rattle.cwr_shape.specs.Left.{StandsAtStep};
-ghost use Rattle.cwr_values.specs.Values.{symbol_of};
-ghost use Rattle.cwr_values.specs.Begun.{HasHeaderOf, IsBegun, IsWholeTransaction, BeginsWithOneMore};
+ghost use Rattle.cwr_shape.specs.Format.Shapes.{BeginsShape};
+ghost use Rattle.cwr_shape.specs.Steps.Left.{StandsAtStep};
+ghost use Rattle.cwr_values.specs.Format.Values.{symbol_of};
+ghost use Rattle.cwr_values.specs.Format.Begun.{HasHeaderOf, IsBegun, IsWholeTransaction, BeginsWithOneMore};
 
 use crate::symbols::symbol_of;
 use cwr_fields::TransactionType;
@@ -67,8 +67,8 @@ pub struct Transaction {
 
 impl Model for Transaction {
     ghost use Rattle.std.specs.Prelude.{List};
-    ghost use Rattle.cwr_layouts.specs.Records.{RecordValue};
-    ghost use Rattle.cwr_values.specs.Begun.{KeepsTransaction};
+    ghost use Rattle.cwr_layouts.specs.Format.Records.{RecordValue};
+    ghost use Rattle.cwr_values.specs.Steps.Begun.{KeepsTransaction};
 
     ghost Value = { List RecordValue };
 

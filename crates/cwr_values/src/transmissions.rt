@@ -2,10 +2,10 @@
 
 ghost use Rattle.std.specs.Prelude.{◌≡◌, ◌↔◌, ◌<◌, ◌++◌, ◌∷◌, [], length, option_copied, slice_get, Some, min, IsOk, IfOk, IfErr, IfSome, OnOk};
 ghost use Rattle.std.specs.Result.{IsErrAnd};
-ghost use Rattle.cwr_values.specs.Values.{FitsIn, IsGroup, IsTransmission};
-ghost use Rattle.cwr_values.specs.Begun.{IsBegunTransmission};
-ghost use Rattle.cwr_values.specs.Rows.{rows};
-ghost use Rattle.cwr_values.specs.Fits.{first_too_long, value_fault};
+ghost use Rattle.cwr_values.specs.Format.Values.{FitsIn, IsGroup, IsTransmission};
+ghost use Rattle.cwr_values.specs.Format.Begun.{IsBegunTransmission};
+ghost use Rattle.cwr_values.specs.Format.Rows.{rows};
+ghost use Rattle.cwr_values.specs.Format.Fits.{first_too_long, value_fault};
 
 use crate::groups::Group;
 use cwr_layouts::{Kind, Record};
@@ -79,11 +79,11 @@ pub struct Transmission {
 }
 
 impl Model for Transmission {
-    ghost use Rattle.cwr_values.specs.Values.{TransmissionValue};
+    ghost use Rattle.cwr_values.specs.Format.Values.{TransmissionValue};
 
     ghost Value = { TransmissionValue };
 
-    ghost use Rattle.cwr_values.specs.Begun.{IsBegunTransmission};
+    ghost use Rattle.cwr_values.specs.Format.Begun.{IsBegunTransmission};
 
     ghost view = { λ t. record { opening = t.opening; groups = t.groups.items } };
 

@@ -2,12 +2,12 @@
 use Rattle.std.proofs.Common.{◌≡◌, ℕ, List, [], ◌∷◌, refl}
 use Rattle.std.specs.Prelude.{Some, None}
 use Rattle.cwr_layouts.specs.declared.kinds.Kind.TheVariants as kinds
-use Rattle.cwr_layouts.specs.Records.{RecordValue, blank_record}
+use Rattle.cwr_layouts.specs.Format.Records.{RecordValue, blank_record}
 use Rattle.cwr_shape.specs.declared.limits.Limits.{Limits}
 use Rattle.cwr_values.specs.declared.transmissions.ValueFault.TheVariants.{NoGroup, Records, Groups, Transaction}
-use Rattle.cwr_values.specs.Values.{GroupValue, TransmissionValue}
-use Rattle.cwr_values.specs.Rows.{rows}
-use Rattle.cwr_values.specs.Fits.{value_fault}
+use Rattle.cwr_values.specs.Format.Values.{GroupValue, TransmissionValue}
+use Rattle.cwr_values.specs.Format.Rows.{rows}
+use Rattle.cwr_values.specs.Format.Fits.{value_fault}
 
 -- shorter names
 

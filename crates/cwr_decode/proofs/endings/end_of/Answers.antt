@@ -1,7 +1,7 @@
 use Rattle.std.proofs.Common.{ℕ, Bool, List, map, refl, sym, subst, ◌∙◌}
 use Rattle.cwr_shape.specs.declared.symbols.Symbol.{Symbol}
-use Rattle.cwr_values.specs.Values.{symbol_of}
-use Rattle.cwr_decode.specs.TextLines.{AcceptsLine, FirstLine}
+use Rattle.cwr_values.specs.Format.Values.{symbol_of}
+use Rattle.cwr_decode.specs.Steps.TextLines.{AcceptsLine, FirstLine}
 use Rattle.cwr_decode.proofs.WalkedText.{all_left, walked_none, walked_more, walked_accepted, walked_refused, walked_truncated}
 use Rattle.cwr_decode.proofs.endings.end_of.Goals as goal
 

@@ -1,5 +1,5 @@
 use Rattle.std.proofs.Common.{◌≡◌, ◌-◌, length}
-use Rattle.cwr_layouts.specs.Held.{empty_line}
+use Rattle.cwr_layouts.specs.Steps.Held.{empty_line}
 use Rattle.cwr_decode.proofs.WalkedText.{WalkedTo}
 use Rattle.cwr_decode.proofs.endings.end_of.Given as goal
 

@@ -1,9 +1,9 @@
 use Rattle.std.proofs.Common.{ℕ, ◌+◌, Option, ap, ap₂, subst, ◌∙◌}
 use Rattle.cwr_layouts.specs.declared.kinds.Kind.{Kind}
-use Rattle.cwr_layouts.specs.Held.{HeldLine, held_kind}
+use Rattle.cwr_layouts.specs.Steps.Held.{HeldLine, held_kind}
 use Rattle.cwr_shape.specs.declared.tallies.Place.{Place}
-use Rattle.cwr_shape.specs.Levels.{level_of}
-use Rattle.cwr_judge.specs.Judged.{IsNext, IsOfNone, IsFirstFault}
+use Rattle.cwr_shape.specs.Format.Levels.{level_of}
+use Rattle.cwr_judge.specs.Steps.Judged.{IsNext, IsOfNone, IsFirstFault}
 use Rattle.cwr_decode.proofs.endings.judge_line.Goals as goal
 
 pub returns-in-Ok-clause-ok : goal.returns-in-Ok-clause-ok

@@ -1,11 +1,11 @@
 use Rattle.std.proofs.Common.{Bool, List, Option, Some, None, refl, sym, ap, subst, ◌∙◌, ◌++◌, ◌∷◌, []}
 use Rattle.std.specs.Prelude.{◌≡◌, true, IsSomeAnd}
 use Rattle.cwr_layouts.specs.declared.kinds.Kind.{Kind}
-use Rattle.cwr_layouts.specs.Records.{RecordValue, IsRecord}
-use Rattle.cwr_layouts.specs.Held.{HeldLine, held_record}
-use Rattle.cwr_judge.specs.Items.{stands_in_transaction}
-use Rattle.cwr_judge.specs.Judged.{IsCounted}
-use Rattle.cwr_decode.specs.Machines.{HandsOut, Standing, reading, with_tally}
+use Rattle.cwr_layouts.specs.Format.Records.{RecordValue, IsRecord}
+use Rattle.cwr_layouts.specs.Steps.Held.{HeldLine, held_record}
+use Rattle.cwr_judge.specs.Format.Items.{stands_in_transaction}
+use Rattle.cwr_judge.specs.Steps.Judged.{IsCounted}
+use Rattle.cwr_decode.specs.Steps.Machines.{HandsOut, Standing, reading, with_tally}
 use Rattle.cwr_decode.proofs.LineSteps.{added_now, waits_now}
 use Rattle.cwr_decode.proofs.machine.find_cut.Goals as goal
 
@@ -15,6 +15,7 @@ same_record h r s er es = inside (Some r) (Some s) (sym er ∙ es)
     or_r : Option RecordValue → RecordValue
     or_r None = r
     or_r (Some q) = q
+
     inside : (a b : Option RecordValue) → a ≡ b → or_r a ≡ or_r b
     inside a b e = ap or_r e
 

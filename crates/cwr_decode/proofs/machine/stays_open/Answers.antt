@@ -1,6 +1,6 @@
 use Rattle.std.proofs.Common.{◌∷◌, ◌++◌, [], sym, ◌∙◌}
 use Rattle.cwr_fields.specs.declared.codes.TransactionType.TheVariants.{Acknowledgement}
-use Rattle.cwr_shape.specs.Tallies.{place_after, transactions_begun, has_open_transaction}
+use Rattle.cwr_shape.specs.Format.NextSymbols.{place_after, transactions_begun, has_open_transaction}
 use Rattle.cwr_decode.proofs.LineSteps.{continuing_yes, continuing_outside, continuing_begins, inside_place, outside_place}
 use Rattle.cwr_decode.proofs.machine.stays_open.Goals as goal
 

@@ -1,8 +1,8 @@
 use Rattle.std.proofs.Common.{ℕ, List, Some, subst}
 use Rattle.std.specs.Prelude.{IfErr}
-use Rattle.cwr_decode.specs.Headline.{Means, text_in}
-use Rattle.cwr_decode.specs.PiecesLeft.{text_left}
-use Rattle.cwr_decode.specs.Runs.{StopsText}
+use Rattle.cwr_decode.specs.Format.Headline.{Means, text_in}
+use Rattle.cwr_decode.specs.Steps.PiecesLeft.{text_left}
+use Rattle.cwr_decode.specs.Steps.Runs.{StopsText}
 use Rattle.cwr_decode.proofs.Headlines.{no_failures, run_means, means_accepted, means_refused, means_truncated, stops_text}
 use Rattle.cwr_decode.proofs.piecewise.read_pieces.Goals as goal
 

@@ -1,12 +1,12 @@
 use Rattle.std.proofs.Common.{◌≡◌, List, Option, refl, subst, sym, take, arith}
 use Rattle.std.specs.Prelude.{IfSome, IsNone}
-use Rattle.cwr_layouts.specs.Records.{RecordValue}
+use Rattle.cwr_layouts.specs.Format.Records.{RecordValue}
 use Rattle.cwr_values.specs.declared.items.Item.TheVariants as items
 use Rattle.cwr_decode.specs.declared.machine.State.{State}
 use Rattle.cwr_decode.specs.declared.outcomes.Outcome.{Outcome}
 use Rattle.cwr_decode.specs.declared.outcomes.Outcome.TheVariants as outcomes
-use Rattle.cwr_decode.specs.Calls.{Feeds}
-use Rattle.cwr_decode.specs.Machines.{again}
+use Rattle.cwr_decode.specs.Steps.Calls.{Feeds}
+use Rattle.cwr_decode.specs.Steps.Machines.{again}
 use Rattle.cwr_decode.proofs.FromReader.{consumes_taken}
 use Rattle.cwr_decode.proofs.FedFromReader.{reads_failed, reads_fed}
 use Rattle.cwr_decode.proofs.readings.pull_quickly.Goals as goal

@@ -1,8 +1,8 @@
 use Rattle.std.proofs.Common.{◌≡◌, ◌-◌}
 use Rattle.std.specs.Prelude.{◌⊎◌}
-use Rattle.cwr_decode.specs.Readings.{FeedsOn}
-use Rattle.cwr_decode.specs.LastReads.{ReadsLast}
-use Rattle.cwr_decode.specs.Represents.{RepresentsSome}
+use Rattle.cwr_decode.specs.Steps.Readings.{FeedsOn}
+use Rattle.cwr_decode.specs.Steps.LastReads.{ReadsLast}
+use Rattle.cwr_decode.specs.Steps.Represents.{RepresentsSome}
 use Rattle.cwr_decode.proofs.readings.read_on.Given as goal
 
 abbrev pub invariant-loop-reported : goal.invariant-loop-reported

@@ -1,8 +1,8 @@
 use Rattle.std.proofs.Common.{◌≡◌, ℕ, List, Option, None, subst, sym}
 use Rattle.std.specs.Prelude.{IfNone, IfSome}
 use Rattle.cwr_decode.specs.declared.outcomes.Outcome.{Outcome}
-use Rattle.cwr_decode.specs.Machines.{Standing}
-use Rattle.cwr_decode.specs.Readings.{FeedsOn, answer_of}
+use Rattle.cwr_decode.specs.Steps.Machines.{Standing}
+use Rattle.cwr_decode.specs.Steps.Readings.{FeedsOn, answer_of}
 use Rattle.cwr_decode.proofs.readings.settle.Goals as goal
 
 pub returns-then-is_settled-clause-again : goal.returns-then-is_settled-clause-again

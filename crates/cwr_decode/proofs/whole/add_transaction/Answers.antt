@@ -1,4 +1,4 @@
-use Rattle.cwr_values.specs.Values.{type_of}
+use Rattle.cwr_values.specs.Format.Values.{type_of}
 use Rattle.cwr_decode.proofs.ItemsMakeOneTransmission.{never_refused}
 use Rattle.cwr_decode.proofs.whole.add_transaction.Goals as goal
 

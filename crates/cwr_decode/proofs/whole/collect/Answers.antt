@@ -1,11 +1,11 @@
 use Rattle.std.proofs.Common.{◌≡◌, ◌∷◌, ◌++◌, List, sym, ap, subst, ◌∙◌}
 use Rattle.std.specs.List.{flat_map}
 use Rattle.std.specs.Vec.Iter.{into_iter_items}
-use Rattle.cwr_layouts.specs.Records.{RecordValue}
+use Rattle.cwr_layouts.specs.Format.Records.{RecordValue}
 use Rattle.cwr_values.specs.declared.items.Item.{Item}
 use Rattle.cwr_values.specs.declared.items.Item.TheVariants.{Opened, GroupOpened, Ended}
-use Rattle.cwr_values.specs.Values.{TransmissionValue}
-use Rattle.cwr_judge.specs.Items.{group_items, group_rest}
+use Rattle.cwr_values.specs.Format.Values.{TransmissionValue}
+use Rattle.cwr_judge.specs.Format.Items.{group_items, group_rest}
 use Rattle.cwr_decode.proofs.ItemsMakeOneTransmission.{AreGroups, group_begins, group_ends, groups_end, more_groups, next_group}
 use Rattle.cwr_decode.proofs.whole.collect.Goals as goal
 

@@ -1,10 +1,10 @@
 use Rattle.std.proofs.Common.{rules, ◌≡◌, ◌∷◌, ◌++◌, List, map, sym, ap, subst, ◌∙◌}
 use Rattle.std.specs.Vec.Iter.{into_iter_items}
-use Rattle.cwr_layouts.specs.Records.{RecordValue}
+use Rattle.cwr_layouts.specs.Format.Records.{RecordValue}
 use Rattle.cwr_values.specs.declared.items.Item.{Item}
 use Rattle.cwr_values.specs.declared.items.Item.TheVariants.{Transaction, GroupClosed}
-use Rattle.cwr_values.specs.Values.{GroupValue, IsTransaction, type_of}
-use Rattle.cwr_decode.specs.Runs.{AreGroupItems}
+use Rattle.cwr_values.specs.Format.Values.{GroupValue, IsTransaction, type_of}
+use Rattle.cwr_decode.specs.Format.Runs.{AreGroupItems}
 use Rattle.cwr_decode.proofs.ItemsMakeOneTransmission.{more_transactions, next_foot, next_in_group, next_transaction}
 use Rattle.cwr_decode.proofs.whole.collect_group.Goals as goal
 

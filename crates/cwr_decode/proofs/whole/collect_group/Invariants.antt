@@ -1,7 +1,7 @@
 use Rattle.std.proofs.Common.{◌≡◌, ◌++◌, length, map}
 use Rattle.std.specs.Vec.Iter.{into_iter_items}
 use Rattle.cwr_values.specs.declared.items.Item.TheVariants.{Transaction}
-use Rattle.cwr_decode.specs.Runs.{AreGroupItems}
+use Rattle.cwr_decode.specs.Format.Runs.{AreGroupItems}
 use Rattle.cwr_decode.proofs.whole.collect_group.Given as goal
 
 abbrev pub invariant-transactions : goal.invariant-transactions

@@ -2,7 +2,7 @@ use Rattle.std.proofs.Common.{rules, ◌≡◌, List, length, sym, ap, subst, �
 use Rattle.std.proofs.lemmas.List.{length-append}
 use Rattle.cwr_values.specs.declared.items.Item.{Item}
 use Rattle.cwr_decode.specs.declared.readings.ReadFault.TheVariants as faults
-use Rattle.cwr_decode.specs.Runs.{IsReadingOn, HasReadAll, StopsReading}
+use Rattle.cwr_decode.specs.Steps.Runs.{IsReadingOn, HasReadAll, StopsReading}
 use Rattle.cwr_decode.proofs.ItemsReadSoFar.{fault_read, fewer_left, memory_stops, none_read, of_fault, some_read}
 use Rattle.cwr_decode.proofs.whole.read_items.Goals as goal
 

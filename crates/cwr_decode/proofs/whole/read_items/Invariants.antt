@@ -1,5 +1,5 @@
 use Rattle.std.proofs.Common.{◌≡◌, ◌-◌, length}
-use Rattle.cwr_decode.specs.Runs.{IsReadingOn}
+use Rattle.cwr_decode.specs.Steps.Runs.{IsReadingOn}
 use Rattle.cwr_decode.proofs.whole.read_items.Given as goal
 
 abbrev pub invariant-items : goal.invariant-items

@@ -1,7 +1,7 @@
 use Rattle.std.proofs.Common.{◌≡◌, ◌≤◌, ◌-◌, ◌++◌, List, length, map, take}
 use Rattle.cwr_shape.specs.declared.symbols.Symbol.{Symbol}
-use Rattle.cwr_shape.specs.Tallies.{IsTallyOf}
-use Rattle.cwr_values.specs.Values.{symbol_of}
+use Rattle.cwr_shape.specs.Steps.Tallies.{IsTallyOf}
+use Rattle.cwr_values.specs.Format.Values.{symbol_of}
 use Rattle.cwr_encode.proofs.checks.count_all.Given as goal
 
 abbrev pub invariant-loop-shown : goal.invariant-loop-shown

@@ -1,8 +1,8 @@
 use Rattle.std.proofs.Common.{[], ◌∷◌, ◌++◌, length, map, ap, ◌∙◌}
-use Rattle.cwr_layouts.specs.Records.{row_of}
-use Rattle.cwr_shape.specs.Numbers.{group_records}
-use Rattle.cwr_values.specs.Rows.{canonical_line}
-use Rattle.cwr_encode.specs.GroupTexts.{text_of_transactions}
+use Rattle.cwr_layouts.specs.Format.Records.{row_of}
+use Rattle.cwr_shape.specs.Format.Numbers.{group_records}
+use Rattle.cwr_values.specs.Format.Rows.{canonical_line}
+use Rattle.cwr_encode.specs.Steps.GroupTexts.{text_of_transactions}
 use Rattle.cwr_encode.proofs.Numbered.{puts_both, puts_cut, puts_as}
 use Rattle.cwr_encode.proofs.group_rows.put_group.Goals as goal
 

@@ -1,5 +1,5 @@
 use Rattle.std.proofs.Common.{◌∙◌, arith}
-use Rattle.cwr_encode.specs.Texts.{text_from}
+use Rattle.cwr_encode.specs.Steps.Texts.{text_from}
 use Rattle.cwr_encode.proofs.PutRows.{found_within}
 use Rattle.cwr_encode.proofs.Numbered.{step_more, steps_whole, steps_refused}
 use Rattle.cwr_encode.proofs.group_rows.put_transactions.Goals as goal

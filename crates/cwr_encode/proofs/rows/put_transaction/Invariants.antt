@@ -1,6 +1,6 @@
 use Rattle.std.proofs.Common.{◌≡◌, ◌≤◌, ◌-◌, ◌++◌, ℕ, List, Option, length, take, false}
-use Rattle.cwr_encode.specs.Sinks.{HasWritten, has_failed, writer_of}
-use Rattle.cwr_encode.specs.Texts.{text_from}
+use Rattle.cwr_encode.specs.Steps.Sinks.{HasWritten, has_failed, writer_of}
+use Rattle.cwr_encode.specs.Steps.Texts.{text_from}
 use Rattle.cwr_encode.proofs.rows.put_transaction.Given as goal
 
 abbrev pub invariant-loop-shown : goal.invariant-loop-shown

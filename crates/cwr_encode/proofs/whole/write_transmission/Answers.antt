@@ -1,4 +1,4 @@
-use Rattle.cwr_values.specs.Rows.{canonical_text}
+use Rattle.cwr_values.specs.Format.Rows.{canonical_text}
 use Rattle.cwr_encode.proofs.WholeWrites.{all_flushed, cut_off}
 use Rattle.cwr_encode.proofs.whole.write_transmission.Goals as goal
 

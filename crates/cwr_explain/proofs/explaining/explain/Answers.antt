@@ -2,7 +2,7 @@ use Rattle.std.proofs.Common.{refl, subst, sym}
 use Rattle.std.specs.Prelude.{Result, Err}
 use Rattle.cwr_tools.specs.declared.verdicts.Verdict.{Verdict}
 use Rattle.cwr_tools.specs.declared.verdicts.ToolFault.{ToolFault}
-use Rattle.cwr_explain.specs.Explained.{IsAnswerAfter}
+use Rattle.cwr_explain.specs.Format.Explained.{IsAnswerAfter}
 use Rattle.cwr_explain.proofs.WordsAfter.{explains_after, no_more, no_words}
 use Rattle.cwr_explain.proofs.explaining.explain.Goals as goal
 

@@ -1,5 +1,5 @@
 use Rattle.std.proofs.Common.{List, ℕ, sym, subst, ◌∙◌, arith}
-use Rattle.cwr_explain.specs.LinesAtEnd.{IsAfterFeed}
+use Rattle.cwr_explain.specs.Steps.LinesAtEnd.{IsAfterFeed}
 use Rattle.cwr_explain.proofs.LastLines.{found_ended, found_open}
 use Rattle.cwr_explain.proofs.lines_at_end.line_at_end.Goals as goal
 use Rattle.cwr_explain.proofs.lines_at_end.line_at_end.Goals.{then-ended, else-ended}

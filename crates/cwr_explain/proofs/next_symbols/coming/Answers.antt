@@ -1,7 +1,7 @@
 use Rattle.std.proofs.Common.{ℕ, List, sym, ap, subst, ◌∙◌, arith, take, take-suc, add-one}
 use Rattle.std.proofs.lemmas.List.{take_all}
 use Rattle.cwr_shape.specs.declared.symbols.Symbol.{Symbol}
-use Rattle.cwr_explain.specs.Coming.{HaveCome}
+use Rattle.cwr_explain.specs.Steps.Coming.{HaveCome}
 use Rattle.cwr_explain.proofs.ComingSymbols.{all_come, all_symbols}
 use Rattle.cwr_explain.proofs.next_symbols.coming.Goals as goal
 

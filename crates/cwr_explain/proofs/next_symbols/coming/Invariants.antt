@@ -1,5 +1,5 @@
 use Rattle.std.proofs.Common.{take}
-use Rattle.cwr_explain.specs.Coming.{HaveCome}
+use Rattle.cwr_explain.specs.Steps.Coming.{HaveCome}
 use Rattle.cwr_explain.proofs.next_symbols.coming.Given as goal
 
 abbrev pub invariant-loop-symbol : goal.invariant-loop-symbol

@@ -1,5 +1,5 @@
 use Rattle.std.proofs.Common.{◌≡◌}
-use Rattle.cwr_explain.specs.Explained.{IsTrailing}
+use Rattle.cwr_explain.specs.Format.Explained.{IsTrailing}
 use Rattle.cwr_explain.proofs.trailing.read_trailing.Given as goal
 
 abbrev pub invariant-loop : goal.invariant-loop

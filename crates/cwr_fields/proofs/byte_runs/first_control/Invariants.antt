@@ -1,6 +1,6 @@
 use Rattle.std.proofs.Common.{◌≡◌, ◌≤◌, ◌-◌, length, drop}
 use Rattle.std.specs.List.{position_from}
-use Rattle.cwr_fields.specs.Bytes.{is_control}
+use Rattle.cwr_fields.specs.Format.Bytes.{is_control}
 use Rattle.cwr_fields.proofs.byte_runs.first_control.Given as goal
 
 abbrev pub invariant-loop-at : goal.invariant-loop-at

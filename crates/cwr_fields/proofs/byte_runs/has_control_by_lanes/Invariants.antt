@@ -1,5 +1,5 @@
 use Rattle.std.proofs.Common.{◌-◌, ◌≤◌, ◌+◌, length, ◌≡◌, take, ◌<◌}
-use Rattle.cwr_fields.specs.Bytes.{has_control}
+use Rattle.cwr_fields.specs.Format.Bytes.{has_control}
 use Rattle.cwr_fields.proofs.byte_runs.has_control_by_lanes.Given as goal
 
 abbrev pub invariant-loop-at : goal.invariant-loop-at

@@ -1,5 +1,5 @@
 use Rattle.std.proofs.Common.{◌≡◌, ◌<◌, ◌^◌, true, take}
-use Rattle.cwr_fields.specs.Bytes.{number_of, are_digits}
+use Rattle.cwr_fields.specs.Format.Bytes.{number_of, are_digits}
 use Rattle.cwr_fields.proofs.byte_runs.number_in.Given as goal
 
 abbrev pub invariant-loop-byte : goal.invariant-loop-byte

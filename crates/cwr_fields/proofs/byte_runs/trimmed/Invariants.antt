@@ -1,5 +1,5 @@
 use Rattle.std.proofs.Common.{◌≡◌, length}
-use Rattle.cwr_fields.specs.Bytes.{trimmed}
+use Rattle.cwr_fields.specs.Format.Bytes.{trimmed}
 use Rattle.cwr_fields.proofs.byte_runs.trimmed.Given as goal
 
 abbrev pub invariant-loop-rest : goal.invariant-loop-rest

@@ -1,5 +1,5 @@
 use Rattle.std.proofs.Common.{ap}
-use Rattle.cwr_fields.specs.Cells.{type_width}
+use Rattle.cwr_fields.specs.Format.Cells.{type_width}
 use Rattle.cwr_fields.proofs.cells.fits.Goals as goal
 
 pub is_cell-requires-clause-width : goal.is_cell-requires-clause-width

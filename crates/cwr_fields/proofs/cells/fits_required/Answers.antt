@@ -1,6 +1,6 @@
 use Rattle.std.proofs.Common.{◌≡◌, not, arith}
 use Rattle.std.proofs.lemmas.Grind.{common_steps}
-use Rattle.cwr_fields.specs.Bytes.{is_plain, has_control}
+use Rattle.cwr_fields.specs.Format.Bytes.{is_plain, has_control}
 use Rattle.cwr_fields.proofs.Blanks.{plain_unless_control}
 use Rattle.cwr_fields.proofs.cells.fits_required.Goals as goal
 

@@ -1,6 +1,6 @@
 use Rattle.std.proofs.Common.{◌≡◌, false, sym, ◌∙◌, inl, arith}
 use Rattle.std.proofs.lemmas.Grind.{common_steps}
-use Rattle.cwr_fields.specs.Bytes.{is_spaces}
+use Rattle.cwr_fields.specs.Format.Bytes.{is_spaces}
 use Rattle.cwr_fields.proofs.Blanks.{blank}
 use Rattle.cwr_fields.proofs.DigitsWritten.{share_or}
 use Rattle.cwr_fields.proofs.cells.fits_share.Goals as goal

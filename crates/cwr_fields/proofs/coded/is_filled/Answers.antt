@@ -1,5 +1,5 @@
 use Rattle.std.proofs.Common.{◌≡◌, ◌↔◌, ℕ, List, length, IsTrue, subst, false}
-use Rattle.cwr_fields.specs.Bytes.{filled}
+use Rattle.cwr_fields.specs.Format.Bytes.{filled}
 use Rattle.cwr_fields.proofs.Members.{fills, begins_otherwise}
 use Rattle.cwr_fields.proofs.coded.is_filled.Goals as goal
 

@@ -1,5 +1,5 @@
 use Rattle.std.proofs.Common.{◌≡◌, length, map, drop}
-use Rattle.cwr_fields.specs.Members.{listed, listed_with}
+use Rattle.cwr_fields.specs.Steps.Members.{listed, listed_with}
 use Rattle.cwr_fields.proofs.coded.member_of.Given as goal
 
 abbrev pub invariant-loop-member : goal.invariant-loop-member

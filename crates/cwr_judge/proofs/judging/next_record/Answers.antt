@@ -2,8 +2,8 @@ use Rattle.std.proofs.Common.{sym, ap, ◌∙◌, subst}
 use Rattle.cwr_layouts.specs.declared.kinds.Kind.{Kind}
 use Rattle.cwr_shape.specs.declared.symbols.Symbol.{Symbol}
 use Rattle.std.specs.Prelude.{Some}
-use Rattle.cwr_shape.specs.Tallies.{IsBarred}
-use Rattle.cwr_judge.specs.Judged.{HasNumbers, Lacks}
+use Rattle.cwr_shape.specs.Format.NextSymbols.{IsBarred}
+use Rattle.cwr_judge.specs.Steps.Judged.{HasNumbers, Lacks}
 use Rattle.cwr_judge.proofs.NumberCells.{known_of, lacking, barred}
 use Rattle.cwr_judge.proofs.judging.next_record.Goals as goal
 

@@ -1,10 +1,10 @@
 use Rattle.std.proofs.Common.{◌≡◌, ◌∙◌, ◌++◌, ap, sym, take, drop, refl, inl, inr, arith, List, ℕ}
 use Rattle.std.specs.Prelude.{◌⊎◌, slice_index}
-use Rattle.cwr_fields.specs.Bytes.{digits}
+use Rattle.cwr_fields.specs.Format.Bytes.{digits}
 use Rattle.cwr_layouts.specs.declared.kinds.Kind.{Kind}
 use Rattle.cwr_layouts.specs.declared.kinds.Kind.TheVariants.{Grt, Trl}
-use Rattle.cwr_layouts.specs.Layouts.{line_width}
-use Rattle.cwr_layouts.specs.Numbered.{numbered_part}
+use Rattle.cwr_layouts.specs.Format.Layouts.{line_width}
+use Rattle.cwr_layouts.specs.Steps.Numbered.{numbered_part}
 use Rattle.cwr_layouts.proofs.NumberedLines.{set_at_ends, set_in_group_head, set_inside}
 use Rattle.cwr_layouts.proofs.NumbersOfKinds.{line_width_least}
 use Rattle.cwr_layouts.proofs.canonical_lines.set_numbers.Goals as goal

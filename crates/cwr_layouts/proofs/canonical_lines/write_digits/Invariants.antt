@@ -1,5 +1,5 @@
 use Rattle.std.proofs.Common.{◌≡◌, ◌≤◌, ◌++◌, length, drop, take, replicate}
-use Rattle.cwr_fields.specs.Bytes.{digits}
+use Rattle.cwr_fields.specs.Format.Bytes.{digits}
 use Rattle.cwr_layouts.proofs.canonical_lines.write_digits.Given as goal
 
 abbrev pub invariant-loop-at : goal.invariant-loop-at

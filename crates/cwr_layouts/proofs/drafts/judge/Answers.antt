@@ -1,6 +1,7 @@
 use Rattle.std.proofs.Common.{◌+◌, arith, below_more, refl}
 use Rattle.std.proofs.lemmas.Bool.{false≢true}
-use Rattle.cwr_layouts.specs.Carried.{FitsAt, record_in}
+use Rattle.cwr_layouts.specs.Format.Carried.{FitsAt}
+use Rattle.cwr_layouts.specs.Steps.Carried.{record_in}
 use Rattle.cwr_layouts.proofs.FitCells.{all_fit, fits_before, record_has_no_fault}
 use Rattle.cwr_layouts.proofs.drafts.judge.Goals as goal
 

@@ -1,5 +1,6 @@
 use Rattle.std.proofs.Common.{ℕ, ◌+◌, ◌<◌}
-use Rattle.cwr_layouts.specs.Carried.{FitsAt, record_in}
+use Rattle.cwr_layouts.specs.Format.Carried.{FitsAt}
+use Rattle.cwr_layouts.specs.Steps.Carried.{record_in}
 use Rattle.cwr_layouts.proofs.drafts.judge.Given as goal
 
 abbrev pub invariant-loop-before : goal.invariant-loop-before

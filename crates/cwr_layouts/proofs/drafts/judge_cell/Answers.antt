@@ -1,6 +1,6 @@
 use Rattle.std.proofs.Common.{sym}
-use Rattle.cwr_layouts.specs.Carried.{record_in}
-use Rattle.cwr_layouts.specs.Views.{field_view}
+use Rattle.cwr_layouts.specs.Steps.Carried.{record_in}
+use Rattle.cwr_layouts.specs.Steps.Views.{field_view}
 use Rattle.cwr_layouts.proofs.CarriedCells.{carried_within}
 use Rattle.cwr_layouts.proofs.CellParts.{plain_part}
 use Rattle.cwr_layouts.proofs.FitCells.{wide_cell, fits_found, fault_found, fits_none}

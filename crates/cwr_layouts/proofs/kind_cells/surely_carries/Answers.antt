@@ -1,8 +1,8 @@
 use Rattle.std.proofs.Common.{sym, ap, subst, ◌∙◌}
 use Rattle.cwr_layouts.specs.declared.kinds.Kind.{Kind}
-use Rattle.cwr_layouts.specs.Layouts.{line_width}
-use Rattle.cwr_layouts.specs.Records.{IsRecord}
-use Rattle.cwr_layouts.specs.Carried.{record_in}
+use Rattle.cwr_layouts.specs.Format.Layouts.{line_width}
+use Rattle.cwr_layouts.specs.Format.Records.{IsRecord}
+use Rattle.cwr_layouts.specs.Steps.Carried.{record_in}
 use Rattle.cwr_layouts.proofs.kind_cells.surely_carries.Goals as goal
 
 pub hdr_fits-requires-clause-whole : goal.hdr_fits-requires-clause-whole

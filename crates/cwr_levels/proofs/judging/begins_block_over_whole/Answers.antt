@@ -1,5 +1,5 @@
 use Rattle.std.proofs.Common.{sym, drop, ◌∙◌}
-use Rattle.cwr_levels.specs.Findings.{parties_after}
+use Rattle.cwr_levels.specs.Format.Findings.{parties_after}
 use Rattle.cwr_levels.proofs.BlockParties.{block_over_whole}
 use Rattle.cwr_levels.proofs.judging.begins_block_over_whole.Goals as goal
 

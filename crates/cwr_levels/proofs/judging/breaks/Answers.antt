@@ -1,6 +1,6 @@
 use Rattle.std.proofs.Common.{sym, ap, ◌∙◌}
 use Rattle.cwr_levels.specs.declared.rules.Rule.{Rule}
-use Rattle.cwr_levels.specs.Findings.{breaks}
+use Rattle.cwr_levels.specs.Format.Findings.{breaks}
 use Rattle.cwr_levels.proofs.judging.breaks.Goals as goal
 
 pub returns-in-V1 : goal.returns-in-V1

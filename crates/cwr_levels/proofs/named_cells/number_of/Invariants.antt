@@ -1,5 +1,5 @@
 use Rattle.std.proofs.Common.{◌≡◌, ◌≤◌, ◌+◌, ◌*◌, ◌^◌, take}
-use Rattle.cwr_fields.specs.Bytes.{number_of}
+use Rattle.cwr_fields.specs.Format.Bytes.{number_of}
 use Rattle.cwr_levels.proofs.named_cells.number_of.Given as goal
 
 abbrev pub invariant-loop-byte : goal.invariant-loop-byte

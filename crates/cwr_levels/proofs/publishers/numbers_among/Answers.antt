@@ -1,5 +1,5 @@
 use Rattle.std.proofs.Common.{◌+◌, take, sym, subst, ◌∙◌, arith}
-use Rattle.cwr_levels.specs.Walks.{HasNumbersOf}
+use Rattle.cwr_levels.specs.Steps.Walks.{HasNumbersOf}
 use Rattle.cwr_levels.proofs.OneMore.{none_there_is_end}
 use Rattle.cwr_levels.proofs.PublisherNumbers.{one_more_publisher, one_more_other, all_numbers}
 use Rattle.cwr_levels.proofs.publishers.numbers_among.Goals as goal

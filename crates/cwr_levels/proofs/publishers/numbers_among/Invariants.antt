@@ -1,5 +1,5 @@
 use Rattle.std.proofs.Common.{take}
-use Rattle.cwr_levels.specs.Walks.{HasNumbersOf}
+use Rattle.cwr_levels.specs.Steps.Walks.{HasNumbersOf}
 use Rattle.cwr_levels.proofs.publishers.numbers_among.Given as goal
 
 abbrev pub invariant-loop-i : goal.invariant-loop-i

@@ -1,5 +1,5 @@
 use Rattle.std.proofs.Common.{◌≤◌}
-use Rattle.cwr_levels.specs.Findings.{before_copy}
+use Rattle.cwr_levels.specs.Format.Findings.{before_copy}
 use Rattle.cwr_levels.proofs.registered.before_copy.Given as goal
 
 abbrev pub invariant-loop-at : goal.invariant-loop-at

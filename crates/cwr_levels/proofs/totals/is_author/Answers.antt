@@ -1,6 +1,6 @@
 use Rattle.std.proofs.Common.{sym, ap, refl, ◌∙◌, inl, inr}
 use Rattle.cwr_layouts.specs.declared.kinds.Kind.TheVariants as kinds
-use Rattle.cwr_levels.specs.Findings.{names_author}
+use Rattle.cwr_levels.specs.Format.Findings.{names_author}
 use Rattle.cwr_levels.proofs.RuleFields.{designation_of_swr, designation_of_owr}
 use Rattle.cwr_levels.proofs.RuleTests.{author_of_kind}
 use Rattle.cwr_levels.proofs.totals.is_author.Goals as goal

@@ -1,9 +1,9 @@
 use Rattle.std.proofs.Common.{List, [], ◌++◌, take, sym, ap, subst, ◌∙◌, arith}
 use Rattle.std.specs.Prelude.{◌≢◌}
-use Rattle.cwr_layouts.specs.Records.{RecordValue}
+use Rattle.cwr_layouts.specs.Format.Records.{RecordValue}
 use Rattle.cwr_levels.specs.declared.rules.Finding.{Finding}
-use Rattle.cwr_levels.specs.Findings.{findings, findings_at}
-use Rattle.cwr_levels.specs.Walks.{IsBefore}
+use Rattle.cwr_levels.specs.Format.Findings.{findings, findings_at}
+use Rattle.cwr_levels.specs.Steps.Walks.{IsBefore}
 use Rattle.cwr_levels.proofs.OneMore.{take_more}
 use Rattle.cwr_levels.proofs.FoundByRule.{on_err}
 use Rattle.cwr_levels.proofs.FoundByRecord.{found_more, found_whole, some_whole}

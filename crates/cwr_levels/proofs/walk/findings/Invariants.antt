@@ -1,5 +1,5 @@
 use Rattle.std.proofs.Common.{◌≡◌, take}
-use Rattle.cwr_levels.specs.Walks.{IsBefore}
+use Rattle.cwr_levels.specs.Steps.Walks.{IsBefore}
 use Rattle.cwr_levels.proofs.FoundByRecord.{found_before}
 use Rattle.cwr_levels.proofs.walk.findings.Given as goal
 

@@ -1,4 +1,4 @@
-use Rattle.cwr_tools.specs.Reports.{lines_of_findings}
+use Rattle.cwr_tools.specs.Format.Reports.{lines_of_findings}
 use Rattle.cwr_tools.proofs.RightReports.{accepted_reports, canonical_reports, judged_text}
 use Rattle.cwr_tools.proofs.checking.check.Goals as goal
 

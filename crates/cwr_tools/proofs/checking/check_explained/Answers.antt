@@ -1,4 +1,4 @@
-use Rattle.cwr_tools.specs.Reports.{lines_of_explained}
+use Rattle.cwr_tools.specs.Format.Reports.{lines_of_explained}
 use Rattle.cwr_tools.proofs.RightReports.{judged_text}
 use Rattle.cwr_tools.proofs.checking.check_explained.Goals as goal
 

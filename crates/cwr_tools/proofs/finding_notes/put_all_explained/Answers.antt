@@ -1,7 +1,7 @@
 use Rattle.std.proofs.Common.{◌≡◌, length, Some, refl, sym, ◌∙◌, arith}
 use Rattle.std.specs.Prelude.{slice_get}
 use Rattle.std.proofs.lemmas.Option.{slice_get_read}
-use Rattle.cwr_tools.specs.FindingNotes.{explained_finding}
+use Rattle.cwr_tools.specs.Format.FindingNotes.{explained_finding}
 use Rattle.cwr_tools.proofs.FindingsPut.{line_more, lines_refused}
 use Rattle.cwr_tools.proofs.finding_notes.put_all_explained.Goals as goal
 

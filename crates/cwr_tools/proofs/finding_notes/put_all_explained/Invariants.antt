@@ -1,8 +1,8 @@
 use Rattle.std.proofs.Common.{◌≡◌, ◌≤◌, ◌-◌, ◌++◌, ℕ, List, Option, length, take, false}
 use Rattle.std.specs.List.{flat_map}
-use Rattle.cwr_encode.specs.Sinks.{HasWritten, has_failed, writer_of}
-use Rattle.cwr_tools.specs.FindingNotes.{explained_finding}
-use Rattle.cwr_tools.specs.OtherRecords.{HasPassed}
+use Rattle.cwr_encode.specs.Steps.Sinks.{HasWritten, has_failed, writer_of}
+use Rattle.cwr_tools.specs.Format.FindingNotes.{explained_finding}
+use Rattle.cwr_tools.specs.Steps.OtherRecords.{HasPassed}
 use Rattle.cwr_tools.proofs.finding_notes.put_all_explained.Given as goal
 
 abbrev pub invariant-loop-finding : goal.invariant-loop-finding

@@ -1,6 +1,6 @@
 use Rattle.cwr_encode.proofs.Numbered.{puts_as}
 use Rattle.cwr_encode.proofs.PutRows.{found_within}
-use Rattle.cwr_tools.specs.FindingNotes.{finding_notes, notes_on}
+use Rattle.cwr_tools.specs.Format.FindingNotes.{finding_notes, notes_on}
 use Rattle.cwr_tools.proofs.NotesPut.{notes_none, notes_some, puts_nothing}
 use Rattle.cwr_tools.proofs.finding_notes.put_notes.Goals as goal
 

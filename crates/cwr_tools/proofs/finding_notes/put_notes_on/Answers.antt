@@ -1,6 +1,6 @@
 use Rattle.std.proofs.Common.{ℕ, ◌+◌, length, ap, take, ◌∙◌}
 use Rattle.std.specs.List.{flat_map}
-use Rattle.cwr_tools.specs.FindingNotes.{head_lines, most_others, noted_at, others, tail_lines}
+use Rattle.cwr_tools.specs.Format.FindingNotes.{head_lines, most_others, noted_at, others, tail_lines}
 use Rattle.cwr_tools.proofs.NotesPut.{three_broken, three_cut, three_put}
 use Rattle.cwr_tools.proofs.finding_notes.put_notes_on.Goals as goal
 

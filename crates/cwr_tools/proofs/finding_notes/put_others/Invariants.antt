@@ -1,7 +1,7 @@
 use Rattle.std.proofs.Common.{◌≡◌, ◌≤◌, ◌-◌, ◌++◌, ℕ, List, Option, length, take, false}
 use Rattle.std.specs.List.{flat_map}
-use Rattle.cwr_encode.specs.Sinks.{HasWritten, has_failed, writer_of}
-use Rattle.cwr_tools.specs.FindingNotes.{noted_at}
+use Rattle.cwr_encode.specs.Steps.Sinks.{HasWritten, has_failed, writer_of}
+use Rattle.cwr_tools.specs.Format.FindingNotes.{noted_at}
 use Rattle.cwr_tools.proofs.finding_notes.put_others.Given as goal
 
 abbrev pub invariant-loop-place : goal.invariant-loop-place

@@ -1,6 +1,6 @@
 use Rattle.std.proofs.Common.{◌≡◌, ◌≤◌, ◌-◌, ◌++◌, ℕ, List, Option, length, take, false}
-use Rattle.cwr_encode.specs.Sinks.{HasWritten, has_failed, writer_of}
-use Rattle.cwr_tools.specs.Texts.{numbered_records}
+use Rattle.cwr_encode.specs.Steps.Sinks.{HasWritten, has_failed, writer_of}
+use Rattle.cwr_tools.specs.Format.Texts.{numbered_records}
 use Rattle.cwr_tools.proofs.item_lines.put_transaction.Given as goal
 
 abbrev pub invariant-loop-shown : goal.invariant-loop-shown

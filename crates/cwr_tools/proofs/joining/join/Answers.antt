@@ -1,5 +1,5 @@
 use Rattle.std.specs.Prelude.{Err}
-use Rattle.cwr_tools.specs.Joined.{joined_writer}
+use Rattle.cwr_tools.specs.Steps.Joined.{joined_writer}
 use Rattle.cwr_tools.proofs.AcceptedJoins.{joins_accepted}
 use Rattle.cwr_tools.proofs.JoinsWhole.{joins_end, ready_to_end}
 use Rattle.cwr_tools.proofs.joining.join.Goals as goal

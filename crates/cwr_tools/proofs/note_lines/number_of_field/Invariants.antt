@@ -1,6 +1,6 @@
 use Rattle.std.proofs.Common.{◌≤◌}
-use Rattle.cwr_layouts.specs.Layouts.{layout}
-use Rattle.cwr_levels.specs.Fields.{place_of}
+use Rattle.cwr_layouts.specs.Format.Layouts.{layout}
+use Rattle.cwr_levels.specs.Format.Fields.{place_of}
 use Rattle.cwr_tools.proofs.note_lines.number_of_field.Given as goal
 
 abbrev pub invariant-loop-before : goal.invariant-loop-before

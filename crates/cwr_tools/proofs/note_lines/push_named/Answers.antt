@@ -1,10 +1,10 @@
 use Rattle.std.proofs.Common.{◌≡◌, ℕ, ◌+◌, ◌≤◌, ◌++◌, List, length, Some, None, sym, ap, ap₂, ◌∙◌, arith, append-nil}
 use Rattle.std.specs.Prelude.{option_map}
 use Rattle.cwr_layouts.specs.declared.kinds.Kind.{Kind}
-use Rattle.cwr_layouts.specs.Layouts.{field_placed}
-use Rattle.cwr_layouts.specs.Carried.{record_cell}
-use Rattle.cwr_layouts.specs.Views.{field_view}
-use Rattle.cwr_tools.specs.FindingNotes.{noted_line, number_of_field}
+use Rattle.cwr_layouts.specs.Format.Layouts.{field_placed}
+use Rattle.cwr_layouts.specs.Format.Carried.{record_cell}
+use Rattle.cwr_layouts.specs.Steps.Views.{field_view}
+use Rattle.cwr_tools.specs.Format.FindingNotes.{noted_line, number_of_field}
 use Rattle.cwr_tools.proofs.CellsOfFields.{short_line}
 use Rattle.cwr_tools.proofs.FieldNames.{named_line-none, named_line-some, named_line-uncarried}
 use Rattle.cwr_tools.proofs.note_lines.push_named.Goals as goal

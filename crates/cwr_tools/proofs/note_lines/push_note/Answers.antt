@@ -1,7 +1,7 @@
 use Rattle.std.proofs.Common.{refl}
 use Rattle.std.specs.Prelude.{codes, decimal, ◌∷◌, []}
-use Rattle.cwr_layouts.specs.Kinds.{letters}
-use Rattle.cwr_tools.specs.FindingNotes.{value_words}
+use Rattle.cwr_layouts.specs.Format.Kinds.{letters}
+use Rattle.cwr_tools.specs.Format.FindingNotes.{value_words}
 use Rattle.cwr_tools.proofs.TextsAdded.{first_added, then_added}
 use Rattle.cwr_tools.proofs.note_lines.push_note.Goals as goal
 

@@ -1,7 +1,7 @@
 use Rattle.std.proofs.Common.{◌++◌, refl, sym, ap, ◌∙◌}
 use Rattle.std.specs.Prelude.{codes}
 use Rattle.cwr_levels.specs.declared.rules.Rule.{Rule}
-use Rattle.cwr_tools.specs.FindingNotes.{named_line, noted_cells}
+use Rattle.cwr_tools.specs.Format.FindingNotes.{named_line, noted_cells}
 use Rattle.cwr_tools.proofs.TextsAdded.{first_added, then_added}
 use Rattle.cwr_tools.proofs.note_lines.push_noted.Goals as goal
 

@@ -1,6 +1,6 @@
 use Rattle.std.proofs.Common.{◌≡◌, ◌≤◌, ◌+◌, ℕ, List, ◌++◌, drop, false}
-use Rattle.cwr_tools.specs.FindingNotes.{parties_from}
-use Rattle.cwr_tools.specs.OtherRecords.{AreListed}
+use Rattle.cwr_tools.specs.Format.FindingNotes.{parties_from}
+use Rattle.cwr_tools.specs.Steps.OtherRecords.{AreListed}
 use Rattle.cwr_tools.proofs.places.parties_of.Given as goal
 
 abbrev pub invariant-loop-at : goal.invariant-loop-at

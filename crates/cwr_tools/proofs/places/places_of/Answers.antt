@@ -1,6 +1,6 @@
 use Rattle.std.proofs.Common.{ℕ, Bool, cond, List, [], ◌∷◌, ◌++◌, take, sym, subst, ap, ◌∙◌, arith}
-use Rattle.cwr_tools.specs.FindingNotes.{places}
-use Rattle.cwr_tools.specs.OtherRecords.{AreListed, is_other}
+use Rattle.cwr_tools.specs.Format.FindingNotes.{places}
+use Rattle.cwr_tools.specs.Steps.OtherRecords.{AreListed, is_other}
 use Rattle.cwr_tools.proofs.OtherPlaces.{places_taken}
 use Rattle.cwr_tools.proofs.places.places_of.Goals as goal
 

@@ -1,6 +1,6 @@
 use Rattle.std.proofs.Common.{◌≤◌, take}
-use Rattle.cwr_tools.specs.FindingNotes.{places}
-use Rattle.cwr_tools.specs.OtherRecords.{AreListed, is_other}
+use Rattle.cwr_tools.specs.Format.FindingNotes.{places}
+use Rattle.cwr_tools.specs.Steps.OtherRecords.{AreListed, is_other}
 use Rattle.cwr_tools.proofs.places.places_of.Given as goal
 
 abbrev pub invariant-loop-at : goal.invariant-loop-at

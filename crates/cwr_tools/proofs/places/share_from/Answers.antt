@@ -1,6 +1,6 @@
 use Rattle.std.proofs.Common.{ap}
 use Rattle.cwr_levels.proofs.AddedShares.{share_is_short}
-use Rattle.cwr_tools.specs.FindingNotes.{right_of}
+use Rattle.cwr_tools.specs.Format.FindingNotes.{right_of}
 use Rattle.cwr_tools.proofs.OwnedShares.{read_share, third_right}
 use Rattle.cwr_tools.proofs.places.share_from.Goals as goal
 

@@ -1,5 +1,5 @@
 use Rattle.std.proofs.Common.{ℕ, ◌+◌, sym, ap₂, ◌∙◌, arith}
-use Rattle.cwr_tools.specs.FindingNotes.{right_of}
+use Rattle.cwr_tools.specs.Format.FindingNotes.{right_of}
 use Rattle.cwr_tools.proofs.OwnedShares.{owned_more}
 use Rattle.cwr_tools.proofs.places.total_of.Goals as goal
 

@@ -1,6 +1,6 @@
 use Rattle.std.proofs.Common.{◌≡◌, ◌≤◌, ◌*◌, take}
-use Rattle.cwr_levels.specs.Findings.{ownership}
-use Rattle.cwr_tools.specs.FindingNotes.{right_of}
+use Rattle.cwr_levels.specs.Format.Findings.{ownership}
+use Rattle.cwr_tools.specs.Format.FindingNotes.{right_of}
 use Rattle.cwr_tools.proofs.places.total_of.Given as goal
 
 abbrev pub invariant-loop-at : goal.invariant-loop-at

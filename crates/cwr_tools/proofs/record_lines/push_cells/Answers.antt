@@ -1,7 +1,7 @@
 use Rattle.std.proofs.Common.{◌≡◌, ℕ, ◌+◌, ◌≤◌, ◌<◌, ◌++◌, List, length, ap, sym, ◌∙◌, append_assoc, arith}
 use Rattle.cwr_layouts.specs.declared.kinds.Kind.{Kind}
-use Rattle.cwr_layouts.specs.Layouts.{layout}
-use Rattle.cwr_tools.specs.FieldLines.{field_line}
+use Rattle.cwr_layouts.specs.Format.Layouts.{layout}
+use Rattle.cwr_tools.specs.Steps.FieldLines.{field_line}
 use Rattle.cwr_tools.proofs.CellsOfFields.{few_fields, lines_before, lines_more, lines_whole}
 use Rattle.cwr_tools.proofs.record_lines.push_cells.Goals as goal
 

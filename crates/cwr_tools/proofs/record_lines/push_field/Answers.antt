@@ -1,8 +1,8 @@
 use Rattle.std.proofs.Common.{◌≡◌, ℕ, ◌+◌, ◌≤◌, ◌++◌, List, length, Some, None, sym, ap, ◌∙◌, arith, append-nil}
 use Rattle.std.specs.Prelude.{option_map}
 use Rattle.cwr_layouts.specs.declared.kinds.Kind.{Kind}
-use Rattle.cwr_layouts.specs.Layouts.{field_placed}
-use Rattle.cwr_layouts.specs.Views.{field_view}
+use Rattle.cwr_layouts.specs.Format.Layouts.{field_placed}
+use Rattle.cwr_layouts.specs.Steps.Views.{field_view}
 use Rattle.cwr_tools.proofs.CellsOfFields.{field_line-none, field_line-some, short_line}
 use Rattle.cwr_tools.proofs.record_lines.push_field.Goals as goal
 

@@ -1,14 +1,14 @@
 use Rattle.std.proofs.Common.{◌≡◌, ℕ, List, Option, rules, refl, sym, ap, subst, ◌∙◌, arith}
 use Rattle.std.specs.Prelude.{Result, Ok, IfOk, IfSome, IsSomeAnd}
-use Rattle.cwr_decode.specs.LastReads.{stage_of_records}
-use Rattle.cwr_decode.specs.Machines.{Standing}
-use Rattle.cwr_decode.specs.Runs.{HasReadAll}
+use Rattle.cwr_decode.specs.Steps.LastReads.{stage_of_records}
+use Rattle.cwr_decode.specs.Steps.Machines.{Standing}
+use Rattle.cwr_decode.specs.Steps.Runs.{HasReadAll}
 use Rattle.cwr_decode.proofs.ItemsReadSoFar.{none_read, nothing_read_yet}
 use Rattle.cwr_tools.specs.declared.verdicts.Verdict.{Verdict}
 use Rattle.cwr_tools.specs.declared.verdicts.ToolFault.{ToolFault}
 use Rattle.cwr_tools.specs.declared.totals.Totals.{Totals}
-use Rattle.cwr_tools.specs.Verdicts.{IsReadLast, StopsAfter}
-use Rattle.cwr_tools.specs.Reports.{PutsReport, lines_in}
+use Rattle.cwr_tools.specs.Steps.Verdicts.{IsReadLast, StopsAfter}
+use Rattle.cwr_tools.specs.Steps.Reports.{PutsReport, lines_in}
 use Rattle.cwr_tools.proofs.CountedTotals.{counts_none, next_room, total_grows}
 use Rattle.cwr_tools.proofs.LastReported.{HoldsRead, err_last, fault_answered, good_answered, holds_more, holds_none}
 use Rattle.cwr_tools.proofs.ReportsOn.{IsReporting, fault_reported, good_reported, item_fault, nothing, reads_item, reports_item, reports_nothing, room_in, same_fault, stops_after, stops_decoder}

@@ -1,4 +1,4 @@
-use Rattle.cwr_tools.specs.Reports.{lines_in}
+use Rattle.cwr_tools.specs.Steps.Reports.{lines_in}
 use Rattle.cwr_tools.proofs.ReportsWhole.{verdict_cut, verdict_put}
 use Rattle.cwr_tools.proofs.reporting.put_report.Goals as goal
 

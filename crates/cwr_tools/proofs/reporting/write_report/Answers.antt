@@ -1,4 +1,4 @@
-use Rattle.cwr_tools.specs.Reports.{lines_in}
+use Rattle.cwr_tools.specs.Steps.Reports.{lines_in}
 use Rattle.cwr_tools.proofs.ReportsWhole.{reports_flushed, reports_stuck}
 use Rattle.cwr_tools.proofs.reporting.write_report.Goals as goal
 

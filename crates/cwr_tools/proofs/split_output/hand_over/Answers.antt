@@ -1,11 +1,12 @@
 use Rattle.std.proofs.Common.{ℕ, map, subst}
 use Rattle.std.specs.Prelude.{Result, Err}
-use Rattle.cwr_values.specs.Values.{symbol_of}
-use Rattle.cwr_judge.specs.Items.{records_in}
+use Rattle.cwr_values.specs.Format.Values.{symbol_of}
+use Rattle.cwr_judge.specs.Format.Items.{records_in}
 use Rattle.cwr_encode.specs.declared.encoders.EncodeFault.{EncodeFault}
-use Rattle.cwr_encode.specs.Encoders.{encoder_limits}
-use Rattle.cwr_encode.specs.Finishing.{FinishesWriting, JudgesEnd}
-use Rattle.cwr_tools.specs.SplitOutputs.{told_by}
+use Rattle.cwr_encode.specs.Steps.Encoders.{encoder_limits}
+use Rattle.cwr_encode.specs.Format.Finishing.{JudgesEnd}
+use Rattle.cwr_encode.specs.Steps.Finishing.{FinishesWriting}
+use Rattle.cwr_tools.specs.Steps.SplitOutputs.{told_by}
 use Rattle.cwr_tools.proofs.OutputHandedOver.{handed_over, right_last}
 use Rattle.cwr_tools.proofs.split_output.hand_over.Goals as goal
 

@@ -1,5 +1,5 @@
 use Rattle.std.proofs.Common.{ℕ, ◌+◌, sym, ap, ◌∙◌}
-use Rattle.cwr_tools.specs.SplitOutputs.{told_by}
+use Rattle.cwr_tools.specs.Steps.SplitOutputs.{told_by}
 use Rattle.cwr_tools.proofs.TransactionsAdded.{filled, may_finish, may_write, went_on}
 use Rattle.cwr_tools.proofs.splitting.add_transaction.Goals as goal
 

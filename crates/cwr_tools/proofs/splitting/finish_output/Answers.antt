@@ -1,5 +1,5 @@
 use Rattle.std.proofs.Common.{sym}
-use Rattle.cwr_tools.specs.SplitOutputs.{told_by}
+use Rattle.cwr_tools.specs.Steps.SplitOutputs.{told_by}
 use Rattle.cwr_tools.proofs.OutputSteps.{finished, may_hand_over}
 use Rattle.cwr_tools.proofs.splitting.finish_output.Goals as goal
 

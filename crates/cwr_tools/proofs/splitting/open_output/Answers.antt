@@ -1,4 +1,4 @@
-use Rattle.cwr_tools.specs.SplitOutputs.{told_by}
+use Rattle.cwr_tools.specs.Steps.SplitOutputs.{told_by}
 use Rattle.cwr_tools.proofs.OutputSteps.{already_open, newly_open, none_there, one_there}
 use Rattle.cwr_tools.proofs.splitting.open_output.Goals as goal
 

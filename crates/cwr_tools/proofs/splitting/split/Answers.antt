@@ -1,8 +1,8 @@
 use Rattle.std.proofs.Common.{rules, ap, arith}
 use Rattle.std.specs.Prelude.{Ok, Err}
 use Rattle.cwr_tools.specs.declared.splitting.Splitting.{Splitting}
-use Rattle.cwr_tools.specs.SplitSteps.{open_outputs}
-use Rattle.cwr_tools.specs.Splitting.{Splits}
+use Rattle.cwr_tools.specs.Steps.SplitSteps.{open_outputs}
+use Rattle.cwr_tools.specs.Steps.Splitting.{Splits}
 use Rattle.cwr_tools.proofs.AcceptedSplits.{splits_accepted}
 use Rattle.cwr_tools.proofs.splitting.split.Goals as goal
 

@@ -1,12 +1,12 @@
 use Rattle.std.proofs.Common.{rules, refl, sym, ap, subst, ◌∙◌, arith}
 use Rattle.std.specs.Prelude.{Result, Ok, Err}
-use Rattle.cwr_decode.specs.Runs.{HasReadAll}
+use Rattle.cwr_decode.specs.Steps.Runs.{HasReadAll}
 use Rattle.cwr_decode.proofs.ItemsReadSoFar.{none_read, nothing_read_yet}
 use Rattle.cwr_tools.specs.declared.verdicts.ToolFault.{ToolFault}
-use Rattle.cwr_tools.specs.SplitItems.{SplitsItems}
-use Rattle.cwr_tools.specs.SplitOutputs.{told_by}
-use Rattle.cwr_tools.specs.Splitting.{Splits}
-use Rattle.cwr_tools.specs.Verdicts.{StopsAfter}
+use Rattle.cwr_tools.specs.Steps.SplitItems.{SplitsItems}
+use Rattle.cwr_tools.specs.Steps.SplitOutputs.{told_by}
+use Rattle.cwr_tools.specs.Steps.Splitting.{Splits}
+use Rattle.cwr_tools.specs.Steps.Verdicts.{StopsAfter}
 use Rattle.cwr_tools.proofs.ReportsOn.{same_fault, stops_after}
 use Rattle.cwr_tools.proofs.SplittingOn.{few_handed_out, item_taken, leaves_item, may_take, next_item, none_split}
 use Rattle.cwr_tools.proofs.SplitsEnded.{all_split, no_output_left, output_stopped, reading_stopped}

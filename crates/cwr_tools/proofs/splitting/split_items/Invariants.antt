@@ -1,6 +1,6 @@
 use Rattle.std.proofs.Common.{◌≡◌, ◌-◌}
-use Rattle.cwr_tools.specs.SplitOutputs.{told_by}
-use Rattle.cwr_tools.specs.SplitSteps.{KeepsLent}
+use Rattle.cwr_tools.specs.Steps.SplitOutputs.{told_by}
+use Rattle.cwr_tools.specs.Steps.SplitSteps.{KeepsLent}
 use Rattle.cwr_tools.proofs.SplittingOn.{IsSplitting}
 use Rattle.cwr_tools.proofs.splitting.split_items.Given as goal
 

@@ -1,4 +1,4 @@
-use Rattle.cwr_tools.specs.SplitOutputs.{told_by}
+use Rattle.cwr_tools.specs.Steps.SplitOutputs.{told_by}
 use Rattle.cwr_tools.proofs.ItemsTaken.{may_add_item, may_end_item, may_finish_item, takes_end, takes_foot, takes_head, takes_opening, takes_transaction}
 use Rattle.cwr_tools.proofs.splitting.take_item.Goals as goal
 

@@ -1,8 +1,8 @@
 use Rattle.std.proofs.Common.{◌≡◌, ◌≤◌, subst, sym}
 use Rattle.std.specs.Prelude.{IfSome}
-use Rattle.cwr_decode.specs.Machines.{Standing, again}
-use Rattle.cwr_decode.specs.Calls.{IsLive, RunsOutOfMemory}
-use Rattle.cwr_decode.specs.Represents.{RepresentsSome}
+use Rattle.cwr_decode.specs.Steps.Machines.{Standing, again}
+use Rattle.cwr_decode.specs.Steps.Calls.{IsLive, RunsOutOfMemory}
+use Rattle.cwr_decode.specs.Steps.Represents.{RepresentsSome}
 use Rattle.cwr_decode.proofs.decoders.Decoder.feed.Goals as goal
 
 pub returns-clause-some : goal.returns-clause-some

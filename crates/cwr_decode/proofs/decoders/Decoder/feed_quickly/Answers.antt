@@ -2,8 +2,8 @@ use Rattle.std.proofs.Common.{ap, subst, ◌∙◌}
 use Rattle.std.specs.Prelude.{IfSome}
 use Rattle.cwr_values.specs.declared.items.Item.TheVariants as items
 use Rattle.cwr_decode.specs.declared.outcomes.Outcome.TheVariants as outcomes
-use Rattle.cwr_decode.specs.Calls.{Feeds}
-use Rattle.cwr_decode.specs.Machines.{Standing}
+use Rattle.cwr_decode.specs.Steps.Calls.{Feeds}
+use Rattle.cwr_decode.specs.Steps.Machines.{Standing}
 use Rattle.cwr_decode.proofs.AfterPiece.{found_feeds, found_sound}
 use Rattle.cwr_decode.proofs.decoders.Decoder.feed_quickly.Goals as goal
 

@@ -1,6 +1,6 @@
 use Rattle.std.proofs.Common.{subst, sym, ◌∙◌}
-use Rattle.cwr_decode.specs.Machines.{Standing}
-use Rattle.cwr_decode.specs.Readings.{FeedsOn}
+use Rattle.cwr_decode.specs.Steps.Machines.{Standing}
+use Rattle.cwr_decode.specs.Steps.Readings.{FeedsOn}
 use Rattle.cwr_decode.proofs.AfterPiece.{either_sound}
 use Rattle.cwr_decode.proofs.FromReader.{feeds_settled}
 use Rattle.cwr_decode.proofs.HeldOpen.{waiting_fits}

@@ -1,6 +1,6 @@
 use Rattle.std.proofs.Common.{ℕ, None, Some, ap, subst, sym, ◌∙◌}
-use Rattle.cwr_decode.specs.Machines.{FitsWaiting, Standing, Settles}
-use Rattle.cwr_decode.specs.Calls.{Feeds}
+use Rattle.cwr_decode.specs.Steps.Machines.{FitsWaiting, Standing, Settles}
+use Rattle.cwr_decode.specs.Steps.Calls.{Feeds}
 use Rattle.cwr_decode.proofs.AnsweredAtOnce.{settled_feeds}
 use Rattle.cwr_decode.proofs.AfterPiece.{finished_feeds, fed_whole, settled_reading, settled_sound}
 use Rattle.cwr_decode.proofs.HeldOpen.{waiting_fits}

@@ -1,9 +1,9 @@
 use Rattle.std.proofs.Common.{List, Option, ◌+◌, ◌-◌, ◌<◌, arith, drop, length, refl, Some, None, ap, subst, sym, ◌∙◌}
 use Rattle.std.specs.Prelude.{IfSome, IsNone}
 use Rattle.std.proofs.lemmas.List.{take_rest}
-use Rattle.cwr_layouts.specs.Records.{RecordValue}
-use Rattle.cwr_decode.specs.Calls.{Advances, Fed}
-use Rattle.cwr_decode.specs.Machines.{Standing, Judges, emptied}
+use Rattle.cwr_layouts.specs.Format.Records.{RecordValue}
+use Rattle.cwr_decode.specs.Steps.Calls.{Advances, Fed}
+use Rattle.cwr_decode.specs.Steps.Machines.{Standing, Judges, emptied}
 use Rattle.cwr_decode.specs.declared.outcomes.Outcome.TheVariants as outcomes
 use Rattle.cwr_values.specs.declared.items.Item.TheVariants as items
 use Rattle.cwr_decode.proofs.AfterBytes.{advanced_line, advanced_open}

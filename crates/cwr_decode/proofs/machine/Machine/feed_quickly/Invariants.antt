@@ -1,5 +1,5 @@
 use Rattle.std.proofs.Common.{◌-◌, length}
-use Rattle.cwr_decode.specs.Calls.{Fed}
+use Rattle.cwr_decode.specs.Steps.Calls.{Fed}
 use Rattle.cwr_decode.proofs.machine.Machine.feed_quickly.Given as goal
 
 abbrev pub invariant-loop-used : goal.invariant-loop-used

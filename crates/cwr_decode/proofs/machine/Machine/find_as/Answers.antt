@@ -3,7 +3,7 @@ use Rattle.std.specs.Prelude.{IsSomeAnd}
 use Rattle.cwr_values.specs.declared.items.Item.TheVariants as items
 use Rattle.cwr_decode.specs.declared.outcomes.Outcome.TheVariants as outcomes
 use Rattle.cwr_decode.specs.declared.machine.State.TheVariants as states
-use Rattle.cwr_decode.specs.Machines.{JudgesFront, Standing}
+use Rattle.cwr_decode.specs.Steps.Machines.{JudgesFront, Standing}
 use Rattle.cwr_decode.proofs.FrontSteps.{front_added, front_ends}
 use Rattle.cwr_decode.proofs.machine.Machine.find_as.Goals as goal
 

@@ -1,8 +1,8 @@
 use Rattle.std.proofs.Common.{refl, sym, ap, subst, ◌+◌, ◌∙◌, ℕ}
 use Rattle.cwr_shape.specs.declared.tallies.Place.{Place}
-use Rattle.cwr_shape.specs.Levels.{level_of}
-use Rattle.cwr_shape.specs.Tallies.{IsTallyOf}
-use Rattle.cwr_decode.specs.Machines.{Standing}
+use Rattle.cwr_shape.specs.Format.Levels.{level_of}
+use Rattle.cwr_shape.specs.Steps.Tallies.{IsTallyOf}
+use Rattle.cwr_decode.specs.Steps.Machines.{Standing}
 use Rattle.cwr_decode.proofs.machine.Machine.refuse.Goals as goal
 
 pub returns : goal.returns

@@ -1,5 +1,5 @@
 use Rattle.std.proofs.Common.{◌≡◌, length}
-use Rattle.cwr_decode.specs.PiecesLeft.{text_left}
+use Rattle.cwr_decode.specs.Steps.PiecesLeft.{text_left}
 use Rattle.cwr_decode.proofs.piecewise.Pieces.skip.Given as goal
 
 abbrev pub invariant-loop-first : goal.invariant-loop-first

@@ -1,5 +1,5 @@
 use Rattle.std.proofs.Common.{None, inr, ap, refl, arith}
-use Rattle.cwr_decode.specs.Machines.{again}
+use Rattle.cwr_decode.specs.Steps.Machines.{again}
 use Rattle.cwr_decode.proofs.LastHeld.{reads_both}
 use Rattle.cwr_decode.proofs.FromReader.{reads_after, wants_more, wants_waiting}
 use Rattle.cwr_decode.proofs.readings.Reading+R.next_item.Goals as goal

@@ -3,12 +3,12 @@ use Rattle.std.specs.Prelude.{Err}
 use Rattle.cwr_layouts.specs.declared.kinds.Kind.TheVariants.{Trl}
 use Rattle.cwr_shape.specs.declared.symbols.Symbol.{Symbol}
 use Rattle.cwr_shape.specs.declared.symbols.Symbol.TheVariants.{Plain}
-use Rattle.cwr_shape.specs.Tallies as tallies
+use Rattle.cwr_shape.specs.Steps.Tallies as tallies
 use Rattle.cwr_shape.proofs.WhatMayCome.{comes_any}
-use Rattle.cwr_values.specs.Values.{symbol_of}
-use Rattle.cwr_values.specs.Rows.{trailer}
+use Rattle.cwr_values.specs.Format.Values.{symbol_of}
+use Rattle.cwr_values.specs.Format.Rows.{trailer}
 use Rattle.cwr_encode.specs.declared.encoders.EncodeFault.{EncodeFault}
-use Rattle.cwr_encode.specs.Finishing.{JudgesEnd, IsBeforeTrailer}
+use Rattle.cwr_encode.specs.Format.Finishing.{JudgesEnd, IsBeforeTrailer}
 use Rattle.cwr_encode.proofs.Adding.{adds_one, judged_taken, admitted, refused}
 use Rattle.cwr_encode.proofs.Comes.{trailer_last}
 use Rattle.cwr_encode.proofs.Ends.{end_numbers, end_judged}

@@ -2,10 +2,10 @@ use Rattle.std.proofs.Common.{List, [], ◌∷◌, ◌++◌, map, refl, sym, sub
 use Rattle.cwr_layouts.specs.declared.kinds.Kind.TheVariants.{Grt}
 use Rattle.cwr_shape.specs.declared.symbols.Symbol.{Symbol}
 use Rattle.cwr_shape.specs.declared.symbols.Symbol.TheVariants.{Plain}
-use Rattle.cwr_shape.specs.Outlines.{IsWithin, Continues}
-use Rattle.cwr_shape.specs.Tallies as tallies
+use Rattle.cwr_shape.specs.Format.Outlines.{IsWithin, Continues}
+use Rattle.cwr_shape.specs.Steps.Tallies as tallies
 use Rattle.cwr_shape.proofs.WhatMayCome.{comes_any}
-use Rattle.cwr_values.specs.Values.{symbol_of}
+use Rattle.cwr_values.specs.Format.Values.{symbol_of}
 use Rattle.cwr_encode.proofs.Adding.{adds_one, judged_taken, admitted, refused, right_kind, plain_symbol}
 use Rattle.cwr_encode.proofs.Comes.{foot_inside}
 use Rattle.cwr_encode.proofs.Groups.{foot_numbers, foot_incomplete, in_group}

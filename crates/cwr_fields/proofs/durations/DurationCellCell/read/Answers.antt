@@ -1,6 +1,6 @@
 use Rattle.std.proofs.Common.{◌≡◌, false, sym, ◌∙◌, inl, refl, arith}
 use Rattle.std.proofs.lemmas.Grind.{common_steps}
-use Rattle.cwr_fields.specs.Bytes.{is_spaces}
+use Rattle.cwr_fields.specs.Format.Bytes.{is_spaces}
 use Rattle.cwr_fields.proofs.Blanks.{blank}
 use Rattle.cwr_fields.proofs.Spellings.{time_spelled}
 use Rattle.cwr_fields.proofs.DigitsWritten.{duration_or, three_back}

@@ -1,7 +1,7 @@
 use Rattle.std.proofs.Common.{◌≡◌, false, sym, ap, ◌∙◌, inl, refl, arith}
 use Rattle.std.proofs.lemmas.Grind.{common_steps}
-use Rattle.cwr_fields.specs.Bytes.{is_spaces}
-use Rattle.cwr_fields.specs.ShareLaws.{share_text}
+use Rattle.cwr_fields.specs.Format.Bytes.{is_spaces}
+use Rattle.cwr_fields.specs.Format.ShareLaws.{share_text}
 use Rattle.cwr_fields.proofs.Blanks.{blank}
 use Rattle.cwr_fields.proofs.DigitsWritten.{share_or, number_back}
 use Rattle.cwr_fields.proofs.numbers.ShareCell.read.Goals as goal

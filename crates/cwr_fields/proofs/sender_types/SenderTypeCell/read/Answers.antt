@@ -1,6 +1,6 @@
 use Rattle.std.proofs.Common.{◌≡◌, sym, ◌∙◌, arith}
-use Rattle.cwr_fields.specs.Members.{member_with}
-use Rattle.cwr_fields.specs.SenderCodes.{sender_text, senders}
+use Rattle.cwr_fields.specs.Format.Members.{member_with}
+use Rattle.cwr_fields.specs.Format.SenderCodes.{sender_text, senders}
 use Rattle.cwr_fields.proofs.Members.{member_listed}
 use Rattle.cwr_fields.proofs.Spellings.{number_spelled}
 use Rattle.cwr_fields.proofs.Senders.{digits_sender}

@@ -1,7 +1,7 @@
 use Rattle.std.proofs.Common.{◌∙◌, ◌++◌, List, ℕ, ap, ap₂, length, refl, take}
 use Rattle.cwr_layouts.specs.declared.kinds.Kind.{Kind}
-use Rattle.cwr_layouts.specs.Kinds.{letters}
-use Rattle.cwr_layouts.specs.Numbered.{numbered_part}
+use Rattle.cwr_layouts.specs.Format.Kinds.{letters}
+use Rattle.cwr_layouts.specs.Steps.Numbered.{numbered_part}
 use Rattle.cwr_layouts.proofs.NumberedLines.{copied, line_set}
 use Rattle.cwr_layouts.proofs.canonical_lines.CanonicalLine.set.Goals as goal
 

@@ -1,6 +1,6 @@
 use Rattle.std.proofs.Common.{◌≡◌, ◌∙◌, ap}
-use Rattle.cwr_layouts.specs.Layouts.{layout}
-use Rattle.cwr_layouts.specs.Carried.{record_in}
+use Rattle.cwr_layouts.specs.Format.Layouts.{layout}
+use Rattle.cwr_layouts.specs.Steps.Carried.{record_in}
 use Rattle.cwr_layouts.proofs.BlankCells.{blank_text, is_place, blank_begins, place_within, place_wide, blank_more, blank_whole, record_in-blank}
 use Rattle.cwr_layouts.proofs.drafts.Draft.blank.Goals as goal
 

@@ -1,7 +1,7 @@
 use Rattle.std.proofs.Common.{◌≡◌, ◌∙◌, Some, None, option_map, sym, ap}
-use Rattle.cwr_layouts.specs.Held.{IsFilled}
-use Rattle.cwr_layouts.specs.Layouts.{field_placed}
-use Rattle.cwr_layouts.specs.Views.{field_view}
+use Rattle.cwr_layouts.specs.Steps.Held.{IsFilled}
+use Rattle.cwr_layouts.specs.Format.Layouts.{field_placed}
+use Rattle.cwr_layouts.specs.Steps.Views.{field_view}
 use Rattle.cwr_layouts.proofs.CellParts.{filled_now, held_part_within, held_cell_found, no_held_cell_found}
 use Rattle.cwr_layouts.proofs.lines.CutLine.cell.Goals as goal
 

@@ -1,7 +1,7 @@
 use Rattle.std.proofs.Common.{◌≡◌, ℕ, drop, not, Some, ap, ◌∙◌}
 use Rattle.std.proofs.lemmas.List.{take_rest}
-use Rattle.cwr_fields.specs.Bytes.{is_spaces}
-use Rattle.cwr_layouts.specs.Held.{HeldLine, IsFilled}
+use Rattle.cwr_fields.specs.Format.Bytes.{is_spaces}
+use Rattle.cwr_layouts.specs.Steps.Held.{HeldLine, IsFilled}
 use Rattle.cwr_layouts.proofs.CellParts.{filled_now}
 use Rattle.cwr_layouts.proofs.HeldExcess.{excess_found}
 use Rattle.cwr_layouts.proofs.lines.CutLine.excess.Goals as goal

@@ -1,8 +1,8 @@
 use Rattle.std.proofs.Common.{ℕ, take, subst}
 use Rattle.std.specs.Prelude.{◌≡◌, ◌↔◌, Some, IsSome, IfSome}
-use Rattle.cwr_layouts.specs.Held.{IsFilled}
-use Rattle.cwr_layouts.specs.Records.{IsRecord}
-use Rattle.cwr_layouts.specs.Carried.{record_in}
+use Rattle.cwr_layouts.specs.Steps.Held.{IsFilled}
+use Rattle.cwr_layouts.specs.Format.Records.{IsRecord}
+use Rattle.cwr_layouts.specs.Steps.Carried.{record_in}
 use Rattle.cwr_layouts.proofs.CellParts.{filled_now, plain_take}
 use Rattle.cwr_layouts.proofs.HeldRecords.{record_found, record_value}
 use Rattle.cwr_layouts.proofs.lines.CutLine.record.Goals as goal

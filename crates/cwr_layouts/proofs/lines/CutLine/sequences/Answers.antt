@@ -1,5 +1,5 @@
 use Rattle.std.proofs.Common.{Some, sym, ◌∙◌}
-use Rattle.cwr_layouts.specs.Held.{IsFilled}
+use Rattle.cwr_layouts.specs.Steps.Held.{IsFilled}
 use Rattle.cwr_layouts.proofs.CellParts.{filled_now}
 use Rattle.cwr_layouts.proofs.SequenceCells.{transaction_cell, record_cell}
 use Rattle.cwr_layouts.proofs.lines.CutLine.sequences.Goals as goal

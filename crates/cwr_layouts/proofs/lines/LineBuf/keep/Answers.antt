@@ -1,5 +1,5 @@
 use Rattle.std.proofs.Common.{◌≡◌, ℕ, List, sym, ap, subst, ◌∙◌}
-use Rattle.cwr_layouts.specs.Held.{IsKept, line_kept}
+use Rattle.cwr_layouts.specs.Steps.Held.{IsKept, line_kept}
 use Rattle.cwr_layouts.proofs.KeptLengths.{kept_short, extended_whole}
 use Rattle.cwr_layouts.proofs.lines.LineBuf.keep.Goals as goal
 

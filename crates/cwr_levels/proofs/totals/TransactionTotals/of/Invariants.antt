@@ -1,5 +1,5 @@
 use Rattle.std.proofs.Common.{take}
-use Rattle.cwr_levels.specs.Walks.{AreTotals}
+use Rattle.cwr_levels.specs.Steps.Walks.{AreTotals}
 use Rattle.cwr_levels.proofs.totals.TransactionTotals.of.Given as goal
 
 abbrev pub invariant-loop-sequence : goal.invariant-loop-sequence

@@ -1,8 +1,9 @@
 use Rattle.std.proofs.Common.{List, ◌∷◌, ◌++◌, [], ap, subst, ◌∙◌}
 use Rattle.cwr_fields.specs.declared.codes.TransactionType.{TransactionType}
 use Rattle.cwr_shape.specs.declared.symbols.Symbol.{Symbol}
-use Rattle.cwr_shape.specs.Tallies.{TallyValue, IsTallyOf, IsAdmitted, MayCome}
-use Rattle.cwr_shape.specs.Counting.{counts_with}
+use Rattle.cwr_shape.specs.Format.NextSymbols.{MayCome}
+use Rattle.cwr_shape.specs.Steps.Tallies.{TallyValue, IsTallyOf, IsAdmitted}
+use Rattle.cwr_shape.specs.Steps.Counting.{counts_with}
 use Rattle.cwr_shape.proofs.FirstBars.{next_of, may_come}
 use Rattle.cwr_shape.proofs.TallyWithOneMore.{keeps_tally, stands_more}
 use Rattle.cwr_shape.proofs.tallies.Tally.admit.Goals as goal

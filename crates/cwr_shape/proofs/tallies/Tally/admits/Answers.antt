@@ -2,8 +2,9 @@ use Rattle.std.proofs.Common.{List, Err, Ok, ap, subst, ◌∙◌}
 use Rattle.cwr_fields.specs.declared.codes.TransactionType.{TransactionType}
 use Rattle.cwr_shape.specs.declared.symbols.Symbol.{Symbol}
 use Rattle.cwr_shape.specs.declared.tallies.Bar.TheVariants.{Limit}
-use Rattle.cwr_shape.specs.Tallies.{TallyValue, IsTallyOf, Answers, IsAdmitted}
-use Rattle.cwr_shape.specs.Counting.{counts_with}
+use Rattle.cwr_shape.specs.Format.NextSymbols.{Answers}
+use Rattle.cwr_shape.specs.Steps.Tallies.{TallyValue, IsTallyOf, IsAdmitted}
+use Rattle.cwr_shape.specs.Steps.Counting.{counts_with}
 use Rattle.cwr_shape.proofs.FirstBars.{next_of, may_come, is_barred}
 use Rattle.cwr_shape.proofs.tallies.Tally.admits.Goals as goal
 

@@ -4,9 +4,10 @@ use Rattle.cwr_fields.specs.declared.codes.TransactionType.TheVariants.{Acknowle
 use Rattle.cwr_layouts.specs.declared.kinds.Kind.{Kind}
 use Rattle.cwr_shape.specs.declared.symbols.Symbol.{Symbol}
 use Rattle.cwr_shape.specs.declared.symbols.Symbol.TheVariants.{Plain, Ipa, Grh}
-use Rattle.cwr_shape.specs.Candidates.{candidates}
-use Rattle.cwr_shape.specs.Counting.{wanted_role}
-use Rattle.cwr_shape.specs.Tallies.{TallyValue, Answers, AnswersAmong}
+use Rattle.cwr_shape.specs.Format.Candidates.{candidates}
+use Rattle.cwr_shape.specs.Steps.Counting.{wanted_role}
+use Rattle.cwr_shape.specs.Format.NextSymbols.{Answers, AnswersAmong}
+use Rattle.cwr_shape.specs.Steps.Tallies.{TallyValue}
 use Rattle.cwr_shape.proofs.FirstBarsOfKinds.{answers_best, best_one, best_party, best_group, one_symbol, parties}
 use Rattle.cwr_shape.proofs.tallies.Tally.admits_kind.Goals as goal
 

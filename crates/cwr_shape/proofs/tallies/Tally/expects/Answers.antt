@@ -1,9 +1,9 @@
 use Rattle.std.proofs.Common.{List, Some, sym, ap, subst, ◌∙◌}
 use Rattle.cwr_fields.specs.declared.codes.TransactionType.{TransactionType}
 use Rattle.cwr_shape.specs.declared.symbols.Symbol.{Symbol}
-use Rattle.cwr_shape.specs.Numbers.{number_in, IsNumberAt}
-use Rattle.cwr_shape.specs.Tallies.{TallyValue, IsTallyOf}
-use Rattle.cwr_shape.specs.Counting.{expected_numbers}
+use Rattle.cwr_shape.specs.Format.Numbers.{number_in, IsNumberAt}
+use Rattle.cwr_shape.specs.Steps.Tallies.{TallyValue, IsTallyOf}
+use Rattle.cwr_shape.specs.Format.ExpectedNumbers.{expected_numbers}
 use Rattle.cwr_shape.proofs.TallySteps.{expects_numbers}
 use Rattle.cwr_shape.proofs.tallies.Tally.expects.Goals as goal
 

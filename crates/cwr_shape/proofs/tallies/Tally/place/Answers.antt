@@ -1,6 +1,7 @@
 use Rattle.std.proofs.Common.{List, subst, ◌≡◌, ◌∙◌}
 use Rattle.cwr_shape.specs.declared.symbols.Symbol.{Symbol}
-use Rattle.cwr_shape.specs.Tallies.{TallyValue, IsTallyOf, place_after}
+use Rattle.cwr_shape.specs.Format.NextSymbols.{place_after}
+use Rattle.cwr_shape.specs.Steps.Tallies.{TallyValue, IsTallyOf}
 use Rattle.cwr_shape.proofs.PlacesNamed.{place_stands}
 use Rattle.cwr_shape.proofs.tallies.Tally.place.Goals as goal
 

@@ -2,8 +2,8 @@ use Rattle.std.proofs.Common.{List, [], ◌∷◌, ◌++◌, sym, ap, subst, ◌
 use Rattle.std.specs.Prelude.{is_some}
 use Rattle.cwr_fields.specs.declared.codes.TransactionType.{TransactionType}
 use Rattle.cwr_shape.specs.declared.symbols.Symbol.{Symbol}
-use Rattle.cwr_shape.specs.Tallies.{TallyValue, IsTallyOf, IsAdmitted}
-use Rattle.cwr_shape.specs.Counting.{counts_with}
+use Rattle.cwr_shape.specs.Steps.Tallies.{TallyValue, IsTallyOf, IsAdmitted}
+use Rattle.cwr_shape.specs.Steps.Counting.{counts_with}
 use Rattle.cwr_shape.proofs.TallyWithOneMore.{keeps_tally, stands_more, admitted_goes}
 use Rattle.cwr_shape.proofs.tallies.Tally.step.Goals as goal
 

@@ -1,5 +1,5 @@
-use Rattle.cwr_judge.specs.Items.{records_in}
-use Rattle.cwr_tools.specs.Joins.{joined_inputs}
+use Rattle.cwr_judge.specs.Format.Items.{records_in}
+use Rattle.cwr_tools.specs.Format.Joins.{joined_inputs}
 use Rattle.cwr_tools.proofs.JoinsEnded.{ends_join, few_before_end, no_mistake_at_end}
 use Rattle.cwr_tools.proofs.joined.Joined.finish.Goals as goal
 

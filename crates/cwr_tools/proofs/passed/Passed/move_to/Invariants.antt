@@ -1,5 +1,5 @@
 use Rattle.std.proofs.Common.{◌≡◌}
-use Rattle.cwr_tools.specs.OtherRecords.{HasPassed}
+use Rattle.cwr_tools.specs.Steps.OtherRecords.{HasPassed}
 use Rattle.cwr_tools.proofs.passed.Passed.move_to.Given as goal
 
 abbrev pub invariant-loop-at : goal.invariant-loop-at

@@ -1,8 +1,8 @@
 use Rattle.std.proofs.Common.{◌≡◌, true, false, refl, sym, ◌∙◌, inl, inr}
 use Rattle.cwr_layouts.specs.declared.kinds.Kind.TheVariants as kinds
-use Rattle.cwr_levels.specs.Findings.{is_a}
+use Rattle.cwr_levels.specs.Format.Findings.{is_a}
 use Rattle.cwr_levels.proofs.KindTests.{is_of_kind, is_of_no_kind}
-use Rattle.cwr_tools.specs.FindingNotes.{is_header}
+use Rattle.cwr_tools.specs.Format.FindingNotes.{is_header}
 use Rattle.cwr_tools.proofs.OtherPlaces.{is_no_header, is_other_header, is_some_header, last_more, last_same, listed_more, listed_same}
 use Rattle.cwr_tools.proofs.passed.Passed.pass.Goals as goal
 

@@ -1,6 +1,6 @@
 use Rattle.std.proofs.Common.{List, [], ◌∷◌, sym, subst}
 use Rattle.cwr_values.specs.declared.items.Item.{Item}
-use Rattle.cwr_tools.specs.SplitOutputs.{MayPut, PutsOn, head_of, opening_of}
+use Rattle.cwr_tools.specs.Steps.SplitOutputs.{MayPut, PutsOn, head_of, opening_of}
 use Rattle.cwr_tools.proofs.OutputAdded.{all_added, may_add, may_begin, may_enter, same_head}
 use Rattle.cwr_tools.proofs.split_output.SplitOutput.add.Goals as goal
 

@@ -1,6 +1,6 @@
 use Rattle.std.proofs.Common.{List, subst, arith}
 use Rattle.cwr_values.specs.declared.items.Item.{Item}
-use Rattle.cwr_tools.specs.SplitOutputs.{MayPut}
+use Rattle.cwr_tools.specs.Steps.SplitOutputs.{MayPut}
 use Rattle.cwr_tools.proofs.OutputAdded.{opening_first}
 use Rattle.cwr_tools.proofs.split_output.SplitOutput.begin.Goals as goal
 

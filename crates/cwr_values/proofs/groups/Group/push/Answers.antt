@@ -1,8 +1,8 @@
 use Rattle.std.proofs.Common.{List, sym, ap, subst, ◌∙◌}
 use Rattle.cwr_fields.specs.declared.codes.TransactionType.{TransactionType}
-use Rattle.cwr_layouts.specs.Records.{RecordValue}
-use Rattle.cwr_values.specs.Values.{GroupValue, type_of}
-use Rattle.cwr_values.specs.Begun.{HasHeaderOf, IsBegunGroup}
+use Rattle.cwr_layouts.specs.Format.Records.{RecordValue}
+use Rattle.cwr_values.specs.Format.Values.{GroupValue, type_of}
+use Rattle.cwr_values.specs.Format.Begun.{HasHeaderOf, IsBegunGroup}
 use Rattle.cwr_values.proofs.Grouping.{of_type, takes_more}
 use Rattle.cwr_values.proofs.groups.Group.push.Goals as goal
 use Rattle.cwr_values.proofs.groups.Group.push.Goals.{in-Ok, in-Err}

@@ -1,5 +1,5 @@
 use Rattle.std.proofs.Common.{None, Some, sym, ◌∙◌}
-use Rattle.cwr_values.specs.Fits.{first_too_long}
+use Rattle.cwr_values.specs.Format.Fits.{first_too_long}
 use Rattle.cwr_values.proofs.FitsIsWithin.{turn}
 use Rattle.cwr_values.proofs.transmissions.Transmission.first_too_long.Goals as goal
 

@@ -1,5 +1,5 @@
 use Rattle.std.proofs.Common.{◌≡◌, drop}
-use Rattle.cwr_values.specs.Fits.{first_too_long}
+use Rattle.cwr_values.specs.Format.Fits.{first_too_long}
 use Rattle.cwr_values.proofs.FitsIsWithin.{too_long_from}
 use Rattle.cwr_values.proofs.transmissions.Transmission.first_too_long.Given as goal
 

@@ -1,6 +1,6 @@
 use Rattle.std.proofs.Common.{◌∙◌, ap, arith}
 use Rattle.std.proofs.lemmas.List.Sums.{sum_by_more}
-use Rattle.cwr_values.specs.Values.{TransmissionValue}
+use Rattle.cwr_values.specs.Format.Values.{TransmissionValue}
 use Rattle.cwr_values.proofs.Grouping.{count_records, transmission_counted}
 use Rattle.cwr_values.proofs.transmissions.Transmission.records.Goals as goal
 

@@ -1,0 +1,10 @@
+-- What the code keeps, and what its calls do to that.
+pub mod Calls
+pub mod Decoding
+pub mod LastReads
+pub mod Machines
+pub mod PiecesLeft
+pub mod Readings
+pub mod Represents
+pub mod Runs
+pub mod TextLines

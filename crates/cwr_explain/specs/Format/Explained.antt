@@ -1,0 +1,48 @@
+-- What is written where a check is explained.
+use Rattle.std.specs.Prelude.{◌≡◌, ℕ, ◌-◌, ◌^◌, min, List, length, Option, Result, Ok, Err}
+use Rattle.std.specs.Io.KnownBytes.{Appends, Consumes}
+use Rattle.cwr_fields.specs.Format.Failures.{one_more_failure}
+use Rattle.cwr_tools.specs.declared.verdicts.Verdict.{Verdict}
+use Rattle.cwr_tools.specs.declared.verdicts.ToolFault.{ToolFault}
+use Rattle.cwr_tools.specs.declared.verdicts.ToolFault.TheVariants.{Reader, Writer, Memory}
+use Rattle.cwr_explain.specs.declared.trailing.Trailing.{Trailing}
+
+-- words were written after what the writer had
+abbrev pub AddsWords : {W : Type 0} → (W → Option (List ℕ)) → W → W → Type 0
+AddsWords contents old new = (words : List ℕ) × Appends (contents old) (contents new) words
+
+-- bytes were taken from a reader
+abbrev pub TakesMore : Option (List ℕ) → Option (List ℕ) → Type 0
+TakesMore left after = (more : List ℕ) × Consumes left after more
+
+-- what stands after a transmission was read and counted
+pub record IsTrailing (left after : Option (List ℕ)) (found : Trailing) : Type 0 where
+  pub more : List ℕ
+  pub consumed : Consumes left after more
+  pub counted : found.bytes ≡ min (length more) (2 ^ 64 - 1)
+
+-- a writer's failures count one more where its fault is answered, and else they stay; no other fault is answered
+abbrev pub WritesOnly : Result (Unit {0}) ToolFault → ℕ → ℕ → Type 0
+WritesOnly (Ok u) old new = new ≡ old
+WritesOnly (Err (Writer written)) old new = new ≡ one_more_failure old
+WritesOnly (Err fault) old new = ⊥
+
+-- so do a reader's, where memory may be refused too
+abbrev pub ReadsOnly : {A : Type 0} → Result A ToolFault → ℕ → ℕ → Type 0
+ReadsOnly (Ok x) old new = new ≡ old
+ReadsOnly (Err Reader) old new = new ≡ one_more_failure old
+ReadsOnly (Err Memory) old new = new ≡ old
+ReadsOnly (Err fault) old new = ⊥
+
+-- an answer after a verdict: the verdict, or that a device or memory failed
+abbrev pub IsAnswerTo : Verdict → Result Verdict ToolFault → Type 0
+IsAnswerTo verdict (Ok other) = other ≡ verdict
+IsAnswerTo verdict (Err Reader) = Unit {0}
+IsAnswerTo verdict (Err (Writer written)) = Unit {0}
+IsAnswerTo verdict (Err Memory) = Unit {0}
+IsAnswerTo verdict (Err fault) = ⊥
+
+-- what the answer of a check becomes: a fault stays
+abbrev pub IsAnswerAfter : Result Verdict ToolFault → Result Verdict ToolFault → Type 0
+IsAnswerAfter (Ok verdict) result = IsAnswerTo verdict result
+IsAnswerAfter (Err fault) result = result ≡ Err fault

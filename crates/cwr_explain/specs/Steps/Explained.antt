@@ -1,0 +1,29 @@
+-- What is written where a check is explained.
+use Rattle.std.specs.Prelude.{◌≡◌, ℕ, ◌+◌, ◌-◌, ◌^◌, min, List, length, Option, Result}
+use Rattle.std.specs.Io.KnownBytes.{Appends, Consumes}
+use Rattle.cwr_shape.specs.declared.limits.Limits.{Limits}
+use Rattle.cwr_tools.specs.declared.verdicts.Verdict.{Verdict}
+use Rattle.cwr_tools.specs.declared.verdicts.ToolFault.{ToolFault}
+use Rattle.cwr_explain.specs.declared.trailing.Trailing.{Trailing}
+use Rattle.cwr_tools.specs.Format.Reports.{lines_of_explained}
+use Rattle.cwr_tools.specs.Steps.Reports.{Reports}
+use Rattle.cwr_explain.specs.Format.Explained.{IsAnswerAfter}
+
+-- a piece more was taken and counted
+pub record TakesPiece (left after : Option (List ℕ)) (old new : Trailing) : Type 0 where
+  pub piece : List ℕ
+  pub consumed : Consumes left after piece
+  pub counted : new.bytes ≡ min (old.bytes + length piece) (2 ^ 64 - 1)
+
+-- First a check is made, and what it writes is written: the text on the findings and the verdict, with all that is said of a
+-- check of these bytes. Then words follow it; after a fault of the check there are none. More bytes may be taken from the reader.
+pub record Explains {W : Type 0} (limits : Limits) (before after : Option (List ℕ)) (contents : W → Option (List ℕ)) (old new : W) (result : Result Verdict ToolFault) : Type 0 where
+  pub between : W
+  pub left : Option (List ℕ)
+  pub checked : Result Verdict ToolFault
+  pub reported : Reports lines_of_explained limits before left contents old between checked
+  pub words : List ℕ
+  pub written : Appends (contents between) (contents new) words
+  pub more : List ℕ
+  pub taken : Consumes left after more
+  pub answered : IsAnswerAfter checked result

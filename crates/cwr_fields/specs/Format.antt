@@ -1,0 +1,22 @@
+-- What is promised, in the words of the format.
+pub mod AgreementCodes
+pub mod Bytes
+pub mod Cells
+pub mod Codes
+pub mod DateCells
+pub mod DateLaws
+pub mod DurationCells
+pub mod Failures
+pub mod FaultTexts
+pub mod Flags
+pub mod Iswc
+pub mod MemberLaws
+pub mod Members
+pub mod MessageCodes
+pub mod NumberLaws
+pub mod PartyCodes
+pub mod SenderCodes
+pub mod SenderLaws
+pub mod ShareLaws
+pub mod TimeLaws
+pub mod WorkCodes

@@ -1,0 +1,23 @@
+-- Records that are kept as whole lines, one after another in one text.
+use Rattle.std.specs.Prelude.{◌≡◌, ℕ, ◌+◌, ◌≤◌, List, length, map, take, drop}
+use Rattle.cwr_layouts.specs.declared.record_lists.LineStart.{LineStart}
+use Rattle.cwr_layouts.specs.Format.Layouts.{line_width}
+use Rattle.cwr_layouts.specs.Format.Records.{RecordValue, IsRecord}
+use Rattle.cwr_layouts.specs.Steps.Carried.{record_in}
+
+-- the line at a place of the text
+abbrev pub line_at : List ℕ → LineStart → List ℕ
+line_at text p = take (line_width p.kind) (drop p.start text)
+
+-- the record that it carries
+abbrev pub record_at : List ℕ → LineStart → RecordValue
+record_at text p = record_in p.kind (line_at text p)
+
+-- the records at these places
+abbrev pub kept_records : List ℕ → List LineStart → List RecordValue
+kept_records text places = map (record_at text) places
+
+-- the line stands in the text, and carries a record
+pub record IsKeptLine (text : List ℕ) (p : LineStart) : Type 0 where
+  pub within : p.start + line_width p.kind ≤ length text
+  pub fits : IsRecord (record_at text p)

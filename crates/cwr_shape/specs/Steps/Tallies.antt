@@ -1,0 +1,40 @@
+-- What is counted of the records of a transmission as they come, and what their order and the limits say of one more.
+use Rattle.std.specs.Prelude.{◌≡◌, ◌≤◌, List}
+use Rattle.cwr_shape.specs.declared.symbols.Symbol.{Symbol}
+use Rattle.cwr_shape.specs.declared.stages.Stage.{Stage}
+use Rattle.cwr_shape.specs.declared.tallies.Counts.{Counts}
+use Rattle.cwr_shape.specs.Format.Ranges.{LimitValues, AreInRange}
+use Rattle.cwr_shape.specs.Format.Outlines.{IsWithin, Continues}
+use Rattle.cwr_shape.specs.Steps.Left.{StandsAt}
+use Rattle.cwr_shape.specs.Format.NextSymbols.{after_header, counts_of, MayCome}
+
+-- the limits, how far the records have come, and what was counted of them
+pub record TallyValue : Type 0 where
+  pub limits : LimitValues
+  pub stage : Stage
+  pub counts : Counts
+
+-- the tally is that of some symbols, with which a transmission within its limits begins
+pub record IsTallyOf (t : TallyValue) (xs : List Symbol) : Type 0 where
+  pub stands : StandsAt xs t.stage
+  pub counted : t.counts ≡ counts_of xs
+  pub within : Continues (IsWithin t.limits) xs
+
+-- the tally is that of some symbols after which that one may come
+abbrev pub IsAdmitted : TallyValue → Symbol → Type 0
+IsAdmitted t s = (xs : List Symbol) × IsTallyOf t xs × MayCome t.limits xs s
+
+-- a tally's counts keep to its limits, which are in range
+pub record KeepsCounts (limits : LimitValues) (counts : Counts) : Type 0 where
+  pub in_range : AreInRange limits
+  pub records : counts.records ≤ limits.records
+  pub groups : counts.groups ≤ limits.groups
+  pub transactions : counts.transactions ≤ counts.records
+  pub in_group : counts.in_group ≤ counts.records
+  pub after_grh : counts.after_grh ≤ counts.records
+  pub after_header : counts.after_header ≤ counts.records
+
+-- a tally is that of some symbols
+pub record KeepsTally (t : TallyValue) : Type 0 where
+  pub counts : KeepsCounts t.limits t.counts
+  pub stands : (xs : List Symbol) × IsTallyOf t xs

@@ -1,0 +1,22 @@
+-- What the outputs of a split have had.
+use Rattle.std.specs.Prelude.{◌≡◌, ℕ, ◌+◌, ◌==◌, List, [], ◌∷◌, ◌++◌, Option, Some, None, Result, Ok, Err, if◌then◌else◌}
+use Rattle.cwr_fields.specs.Format.Failures.{one_more_failure}
+
+-- texts that were known stay at the front, and these come after them
+abbrev pub AddsTexts : Option (List (List ℕ)) → Option (List (List ℕ)) → List (List ℕ) → Type 0
+AddsTexts None new added = Unit {0}
+AddsTexts (Some texts) None added = ⊥
+AddsTexts (Some texts) (Some now) added = now ≡ texts ++ added
+
+-- one text does
+abbrev pub AddsText : Option (List (List ℕ)) → Option (List (List ℕ)) → List ℕ → Type 0
+AddsText old new text = AddsTexts old new (text ∷ [])
+
+-- how many failed writers were given up, with one more that has so many failures
+abbrev pub given_up_with : ℕ → ℕ → ℕ
+given_up_with failures before = if failures == 0 then before else one_more_failure before
+
+-- how many writers are lent with one more, where it could be made
+abbrev pub lent_after : {A B : Type 0} → Result A B → ℕ → ℕ
+lent_after (Ok writer) before = before + 1
+lent_after (Err fault) before = before

@@ -1,0 +1,64 @@
+-- What a run over a text reports: lines of the items that are handed out, in order, and then the line of the verdict.
+use Rattle.std.specs.Prelude.{◌≡◌, ℕ, ◌+◌, Bool, false, nat_lt, length, List, ◌++◌, drop, Option, Some, IfSome, Result, Err}
+use Rattle.std.specs.Io.KnownBytes.{Appends}
+use Rattle.cwr_fields.specs.Format.Failures.{one_more_failure}
+use Rattle.cwr_shape.specs.declared.limits.Limits.{Limits}
+use Rattle.cwr_values.specs.declared.items.Item.{Item}
+use Rattle.cwr_values.specs.declared.items.Item.TheVariants.{Transaction}
+use Rattle.cwr_values.specs.Format.Values.{TransmissionValue, IsTransmission, FitsIn}
+use Rattle.cwr_values.specs.Format.Rows.{canonical_text}
+use Rattle.cwr_judge.specs.Format.Ends.{IsAccepted}
+use Rattle.cwr_judge.specs.Format.Items.{value_items}
+use Rattle.cwr_levels.specs.Format.Findings.{findings}
+use Rattle.cwr_tools.specs.declared.verdicts.Verdict.{Verdict}
+use Rattle.cwr_tools.specs.declared.verdicts.ToolFault.{ToolFault}
+use Rattle.cwr_tools.specs.declared.verdicts.ToolFault.TheVariants.{Reader, Writer}
+use Rattle.cwr_tools.specs.Format.Texts.{check_lines, good_verdict, show_lines, verdict_line}
+use Rattle.cwr_tools.specs.Format.FindingNotes.{explained_lines}
+
+-- the lines of items, in order, and for which items they take memory
+pub record ItemLines : Type 0 where
+  pub lines : List Item → List ℕ
+  pub take_memory : Item → Bool
+
+-- the item is a transaction that has findings
+abbrev pub has_findings : Item → Bool
+has_findings (Transaction t) = nat_lt 0 (length (findings t))
+has_findings item = false
+
+-- the findings in each transaction
+abbrev pub lines_of_findings : ItemLines
+lines_of_findings = record { lines = check_lines; take_memory = has_findings }
+
+-- the same, and lines under each finding
+abbrev pub lines_of_explained : ItemLines
+lines_of_explained = record { lines = explained_lines; take_memory = has_findings }
+
+-- the records with their cells
+abbrev pub lines_of_records : ItemLines
+lines_of_records = record { lines = show_lines; take_memory = λ item. false }
+
+-- the text on items and the verdict
+abbrev pub text_on : ItemLines → List Item → Verdict → List ℕ
+text_on of given verdict = of.lines given ++ verdict_line verdict
+
+-- the reader's failures count one more where its fault is reported, and else they stay
+abbrev pub CountsReaderFault : Result Verdict ToolFault → ℕ → ℕ → Type 0
+CountsReaderFault (Err Reader) old new = new ≡ one_more_failure old
+CountsReaderFault result old new = new ≡ old
+
+-- and so do the writer's
+abbrev pub CountsWriterFault : Result Verdict ToolFault → ℕ → ℕ → Type 0
+CountsWriterFault (Err (Writer written)) old new = new ≡ one_more_failure old
+CountsWriterFault result old new = new ≡ old
+
+-- a text that is accepted has its transmission's verdict and is consumed as far as it spells that, and what is written is
+-- the text on that transmission
+abbrev pub JudgesAccepted : {W : Type 0} → ItemLines → Limits → Option (List ℕ) → Option (List ℕ) → (W → Option (List ℕ)) → W → W → Verdict → Type 0
+JudgesAccepted of limits before after contents old new verdict = IfSome before (λ text. (v : TransmissionValue) (n : ℕ) → IsAccepted limits text v n
+    → (verdict ≡ good_verdict v) × (after ≡ Some (drop n text)) × Appends (contents old) (contents new) (text_on of (value_items v) (good_verdict v)))
+
+-- so has the canonical text of a transmission within the limits, and what follows it stays unread
+abbrev pub JudgesCanonical : {W : Type 0} → ItemLines → Limits → Option (List ℕ) → Option (List ℕ) → (W → Option (List ℕ)) → W → W → Verdict → Type 0
+JudgesCanonical of limits before after contents old new verdict = (v : TransmissionValue) (more : List ℕ) → IsTransmission v → FitsIn limits v → before ≡ Some (canonical_text v ++ more)
+    → (verdict ≡ good_verdict v) × (after ≡ Some more) × Appends (contents old) (contents new) (text_on of (value_items v) (good_verdict v))

@@ -1,0 +1,35 @@
+-- The verdict on the bytes that a reader has, and the items that were handed out before it.
+use Rattle.std.specs.Prelude.{◌≡◌, ℕ, List, Option, IfSome, Result, Ok, Err}
+use Rattle.cwr_shape.specs.declared.limits.Limits.{Limits}
+use Rattle.cwr_values.specs.Format.Values.{TransmissionValue}
+use Rattle.cwr_decode.specs.declared.readings.ReadFault.{ReadFault}
+use Rattle.cwr_decode.specs.declared.readings.ReadFault.TheVariants as read_faults
+use Rattle.cwr_judge.specs.Format.Ends.{IsAccepted, IsRefused, IsTruncated}
+use Rattle.cwr_tools.specs.declared.verdicts.Verdict.{Verdict}
+use Rattle.cwr_tools.specs.declared.verdicts.Verdict.TheVariants.{Good, Refused, Truncated}
+use Rattle.cwr_tools.specs.declared.verdicts.ToolFault.{ToolFault}
+use Rattle.cwr_tools.specs.declared.verdicts.ToolFault.TheVariants.{Reader, Writer, Memory}
+use Rattle.cwr_tools.specs.Format.Texts.{good_verdict}
+
+-- The verdict is that on the text: good where it begins with a transmission within the limits, with that one's numbers, and else
+-- the refusal with which it is refused or the number of records after which it is truncated.
+abbrev pub IsVerdictOn : Limits → List ℕ → Verdict → Type 0
+IsVerdictOn limits text (Good groups transactions records) =
+    (v : TransmissionValue) × (n : ℕ) × IsAccepted limits text v n × (Good groups transactions records ≡ good_verdict v)
+IsVerdictOn limits text (Refused refusal) = IsRefused limits text refusal
+IsVerdictOn limits text (Truncated records) = IsTruncated limits text records
+
+-- where the bytes are known, the verdict is that on them; else a device or memory failed
+abbrev pub JudgesText : Limits → Option (List ℕ) → Result Verdict ToolFault → Type 0
+JudgesText limits before (Ok verdict) = IfSome before (λ text. IsVerdictOn limits text verdict)
+JudgesText limits before (Err Reader) = Unit {0}
+JudgesText limits before (Err (Writer written)) = Unit {0}
+JudgesText limits before (Err Memory) = Unit {0}
+JudgesText limits before (Err fault) = ⊥
+
+-- what a fault of a reading is reported as
+abbrev pub IsVerdictOf : ReadFault → Result Verdict ToolFault → Type 0
+IsVerdictOf read_faults.Reader result = result ≡ Err Reader
+IsVerdictOf (read_faults.Refused refusal) result = result ≡ Ok (Refused refusal)
+IsVerdictOf (read_faults.Truncated records) result = result ≡ Ok (Truncated records)
+IsVerdictOf read_faults.Memory result = result ≡ Err Memory

@@ -1,0 +1,12 @@
+-- What the code keeps, and what its calls do to that.
+pub mod FieldLines
+pub mod Joined
+pub mod Joins
+pub mod OtherRecords
+pub mod Reports
+pub mod SplitItems
+pub mod SplitOutputs
+pub mod SplitPlaces
+pub mod SplitSteps
+pub mod Splitting
+pub mod Verdicts

@@ -1,0 +1,93 @@
+-- What a run over a text reports: lines of the items that are handed out, in order, and then the line of the verdict.
+use Rattle.std.specs.Prelude.{◌≡◌, ◌⊎◌, ℕ, ◌+◌, Bool, true, false, List, [], ◌∷◌, ◌++◌, Option, Result, Ok, Err}
+use Rattle.std.specs.Io.KnownBytes.{Appends}
+use Rattle.cwr_fields.specs.Format.Failures.{one_more_failure}
+use Rattle.cwr_shape.specs.declared.limits.Limits.{Limits}
+use Rattle.cwr_values.specs.declared.items.Item.{Item}
+use Rattle.cwr_judge.specs.Format.Items.{item_records}
+use Rattle.cwr_decode.specs.declared.readings.ReadFault.TheVariants as read_faults
+use Rattle.cwr_decode.specs.Steps.Machines.{Standing}
+use Rattle.cwr_decode.specs.Steps.Runs.{HasRead}
+use Rattle.cwr_encode.specs.declared.sinks.Sink.{Sink}
+use Rattle.cwr_encode.specs.Steps.Sinks.{HasWritten, Puts, has_failed, writer_of, written_of}
+use Rattle.cwr_encode.specs.Format.Finishing.{HasFront}
+use Rattle.cwr_tools.specs.declared.verdicts.Verdict.{Verdict}
+use Rattle.cwr_tools.specs.declared.verdicts.ToolFault.{ToolFault}
+use Rattle.cwr_tools.specs.declared.verdicts.ToolFault.TheVariants.{Reader, Writer, Memory}
+use Rattle.cwr_tools.specs.declared.totals.Totals.{Totals}
+use Rattle.cwr_tools.specs.declared.item_lines.Report.{Report}
+use Rattle.cwr_tools.specs.declared.item_lines.Report.TheVariants as reports
+use Rattle.cwr_tools.specs.Format.Texts.{finding_lines_in, numbered_records}
+use Rattle.cwr_tools.specs.Format.FindingNotes.{explained_in}
+use Rattle.cwr_tools.specs.Steps.Verdicts.{StopsAfter, IsRightVerdict}
+use Rattle.cwr_tools.specs.Format.Reports.{ItemLines, lines_of_findings, lines_of_explained, lines_of_records, text_on}
+
+-- ---- what a whole run has written
+
+-- these items were handed out so far
+abbrev pub HasHandedOut : Limits → Option (List ℕ) → Option (List ℕ) → List Item → Type 0
+HasHandedOut limits before after given = (decoder : Standing) × HasRead limits decoder before after given
+
+-- the text on the items so far, or on all items and the verdict
+abbrev pub IsReported : ItemLines → Limits → Option (List ℕ) → Option (List ℕ) → List Item → List ℕ → Type 0
+IsReported of limits before after given text =
+    (HasHandedOut limits before after given × (text ≡ of.lines given)) ⊎ ((verdict : Verdict) × IsRightVerdict limits before verdict after given × (text ≡ text_on of given verdict))
+
+-- Memory was refused for a record that was accepted after these items, or for the lines of the next item, which was handed out
+-- too.
+abbrev pub LacksMemory : ItemLines → Limits → Option (List ℕ) → Option (List ℕ) → List Item → Type 0
+LacksMemory of limits before after given =
+    StopsAfter limits read_faults.Memory before after given ⊎ ((item : Item) × (of.take_memory item ≡ true) × HasHandedOut limits before after (given ++ item ∷ []))
+
+-- After what the writer had, the text on the items and the verdict is written. Where the reader failed or memory was refused,
+-- that on the items before is; where the writer failed, the first bytes of such a text are, so many as the fault says. There
+-- is no other fault.
+abbrev pub Reports : {W : Type 0} → ItemLines → Limits → Option (List ℕ) → Option (List ℕ) → (W → Option (List ℕ)) → W → W → Result Verdict ToolFault → Type 0
+Reports of limits before after contents old new (Ok verdict) = (given : List Item) × IsRightVerdict limits before verdict after given × Appends (contents old) (contents new) (text_on of given verdict)
+Reports of limits before after contents old new (Err Reader) = (given : List Item) × StopsAfter limits read_faults.Reader before after given × Appends (contents old) (contents new) (of.lines given)
+Reports of limits before after contents old new (Err Memory) = (given : List Item) × LacksMemory of limits before after given × Appends (contents old) (contents new) (of.lines given)
+Reports of limits before after contents old new (Err (Writer written)) =
+    (given : List Item) × (text : List ℕ) × IsReported of limits before after given text × HasFront contents (contents old) new text written
+Reports of limits before after contents old new (Err fault) = ⊥
+
+-- ---- the same of its parts, over a sink
+
+-- what is written of the items
+abbrev pub lines_in : Report → ItemLines
+lines_in reports.Findings = lines_of_findings
+lines_in reports.Explained = lines_of_explained
+lines_in reports.Records = lines_of_records
+
+-- the lines of one item more, after items with these numbers
+abbrev pub lines_at : Report → Totals → Item → List ℕ
+lines_at reports.Findings counts item = finding_lines_in counts.groups counts.in_group item
+lines_at reports.Explained counts item = explained_in counts.groups counts.in_group (counts.records + 1) item
+lines_at reports.Records counts item = numbered_records (counts.records + 1) (item_records item)
+
+-- The lines of an item are put, or the writer fails in them. Where memory for them is refused none of them is put.
+abbrev pub PutsLines : {W : Type 0} → (W → Option (List ℕ)) → (W → ℕ) → Bool → List ℕ → Result (Unit {0}) ToolFault → Sink W → Sink W → Type 0
+PutsLines contents failures takes_memory text (Ok u) old new = Puts {E = ToolFault} contents failures text (Ok u) old new
+PutsLines contents failures takes_memory text (Err Memory) old new = (takes_memory ≡ true) × (new ≡ old)
+PutsLines contents failures takes_memory text (Err (Writer written)) old new = Puts {E = ToolFault} contents failures text (Err (Writer written)) old new × (written ≡ written_of new)
+PutsLines contents failures takes_memory text (Err fault) old new = ⊥
+
+-- after what the writer had, the text is written
+pub record HasPut {W : Type 0} (contents : W → Option (List ℕ)) (failures : W → ℕ) (text : List ℕ) (old new : Sink W) : Type 0 where
+  pub written : HasWritten contents (contents (writer_of old)) text new
+  pub unfailed : has_failed new ≡ false
+  pub quiet : failures (writer_of new) ≡ failures (writer_of old)
+
+-- the writer failed, and so many of the text's first bytes are written
+pub record HasPutFront {W : Type 0} (contents : W → Option (List ℕ)) (failures : W → ℕ) (text : List ℕ) (count : ℕ) (old new : Sink W) : Type 0 where
+  pub written : HasWritten contents (contents (writer_of old)) text new
+  pub counted : count ≡ written_of new
+  pub failed : failures (writer_of new) ≡ one_more_failure (failures (writer_of old))
+
+-- what a run has put: with the lines of the items, what stands at the end for the verdict
+abbrev pub PutsReport : {W : Type 0} → ItemLines → (Verdict → List ℕ) → Limits → Option (List ℕ) → Option (List ℕ) → (W → Option (List ℕ)) → (W → ℕ) → Result Verdict ToolFault → Sink W → Sink W → Type 0
+PutsReport of end limits before after contents failures (Ok verdict) old new = (given : List Item) × IsRightVerdict limits before verdict after given × HasPut contents failures (of.lines given ++ end verdict) old new
+PutsReport of end limits before after contents failures (Err Reader) old new = (given : List Item) × StopsAfter limits read_faults.Reader before after given × HasPut contents failures (of.lines given) old new
+PutsReport of end limits before after contents failures (Err Memory) old new = (given : List Item) × LacksMemory of limits before after given × HasPut contents failures (of.lines given) old new
+PutsReport of end limits before after contents failures (Err (Writer written)) old new =
+    (given : List Item) × (text : List ℕ) × IsReported of limits before after given text × HasPutFront contents failures text written old new
+PutsReport of end limits before after contents failures (Err fault) old new = ⊥

@@ -1,0 +1,6 @@
+-- What is promised, in the words of the format.
+pub mod Begins
+pub mod Begun
+pub mod Fits
+pub mod Rows
+pub mod Values

@@ -1,0 +1,6 @@
+//! The words of the command line of `cwr`, and what they ask for.
+#![tactic(auto)]
+
+mod words;
+
+pub use words::{Task, Work, task_of};

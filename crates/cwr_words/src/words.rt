@@ -1,0 +1,310 @@
+//! The words of the command line.
+
+ghost use Rattle.std.specs.Prelude.{◌≡◌, ℕ, List, None, Some, Ok, IfOk, IfSome, codes, false, true, if◌then◌else◌};
+ghost use Rattle.std.specs.Str.{bytes_eq};
+ghost use Rattle.std.specs.Str.Parse.{digits_value, without_leading_plus};
+ghost use Rattle.clap.specs.Words.{found_of, has_subcommand, one_text};
+ghost use Rattle.cwr_shape.specs.Format.Ranges.{limit_values};
+ghost use Rattle.cwr_words.specs.Format.Words.{IsAskedBy, IsJoinOf, IsSplitOf, IsWorkOf};
+
+use clap::error::ErrorKind;
+use clap::{Arg, ArgMatches, Command, Error, value_parser};
+use cwr_shape::Limits;
+use std::alloc::{AllocError, Global};
+use std::convert::AsStr;
+use std::num::NonZeroU32;
+
+/// What is done.
+#[derive(Debug, PartialEq, Eq, Drop)]
+pub enum Work<'a> {
+    /// A transmission is checked, that of the file, or without one that on standard input.
+    Check(Option<&'a str>),
+    /// Its records are shown.
+    Show(Option<&'a str>),
+    /// It is checked, and what is found is explained.
+    Explain(Option<&'a str>),
+    /// A transmission is cut into parts.
+    Split {
+        /// The transactions of a part; the last may have fewer.
+        transactions: NonZeroU32,
+        /// The name of the transmission's file.
+        file: &'a str,
+        /// What the names of the parts' files begin with.
+        prefix: &'a str,
+    },
+    /// Transmissions are joined to one.
+    Join {
+        /// The name of the file that is written.
+        out: &'a str,
+        /// The names of the transmissions' files, in their order.
+        files: Vec<&'a str>,
+    },
+}
+
+/// What the words ask for.
+#[derive(Debug, PartialEq, Eq, Drop)]
+pub struct Task<'a> {
+    /// What is done.
+    pub work: Work<'a>,
+    /// The limits that transmissions are read and joined within.
+    pub limits: Limits,
+}
+
+/// The name of the subcommand that checks.
+const CHECK: &str = "check";
+
+/// The name of the subcommand that shows.
+const SHOW: &str = "show";
+
+/// The name of the subcommand that explains.
+const EXPLAIN: &str = "explain";
+
+/// The name of the subcommand that splits.
+const SPLIT: &str = "split";
+
+/// The name of the subcommand that joins.
+const JOIN: &str = "join";
+
+/// The id of the one file of a subcommand, or of its files.
+const FILE: &str = "FILE";
+
+/// The id of the number of transactions of a part.
+const NUMBER: &str = "N";
+
+/// The id of what the names of the parts' files begin with.
+const PREFIX: &str = "PREFIX";
+
+/// The id of the file that is written.
+const OUT: &str = "OUT";
+
+/// The id of the most records of a transmission.
+const RECORDS: &str = "records";
+
+/// The id of the most groups of a transmission.
+const GROUPS: &str = "groups";
+
+/// The id of the most records of one transaction.
+const TRANSACTION: &str = "transaction";
+
+/// A limit, which is `--` and its id, with a whole number from `least` to `most`.
+fn limit<'a>(alloc: Global, id: &'a str, least: i64, most: i64, largest: &'a str) -> Arg<'a> {
+    Arg::new(alloc, id)
+        .long(id)
+        .value_name("NUMBER")
+        .value_parser(value_parser!(u32).range(least..=most))
+        .default_value(largest)
+}
+
+/// Adds the three limits, each with its largest number where it isn't given.
+fn with_limits<'a>(alloc: Global, command: Command<'a>) -> Result<Command<'a>, AllocError> {
+    let records = limit(alloc, RECORDS, 5, 99_999_999, "99999999");
+    let groups = limit(alloc, GROUPS, 1, 99_999, "99999");
+    let transaction = limit(alloc, TRANSACTION, 1, 999_999, "999999");
+    command
+        .arg(records.help("The most records of a transmission, 5 to 99999999"))?
+        .arg(groups.help("The most groups of a transmission, 1 to 99999"))?
+        .arg(transaction.help("The most records of one transaction, 1 to 999999"))
+}
+
+/// A subcommand over one transmission, within the limits that its words give.
+fn over_one<'a>(alloc: Global, name: &'a str, about: &'a str) -> Result<Command<'a>, AllocError> {
+    let file = Arg::new(alloc, FILE).help("The transmission; without it standard input is read");
+    let command = Command::new(alloc, name).about(about);
+    with_limits(alloc, command)?.arg(file)
+}
+
+/// The subcommand that splits.
+fn splitting<'a>(alloc: Global) -> Result<Command<'a>, AllocError> {
+    let number = Arg::new(alloc, NUMBER)
+        .short('n')
+        .value_name(NUMBER)
+        .required(true)
+        .value_parser(value_parser!(u32).range(1..=99_999_999))
+        .help("The transactions of a part, 1 to 99999999; the last part may have fewer");
+    let file = Arg::new(alloc, FILE)
+        .required(true)
+        .help("The transmission");
+    let prefix = Arg::new(alloc, PREFIX).required(true).help(
+        "The parts are written to PREFIX00000001, PREFIX00000002 and so on",
+    );
+    let command = Command::new(alloc, SPLIT).about("Cuts a transmission into parts");
+    with_limits(alloc, command)?
+        .arg(number)?
+        .arg(file)?
+        .arg(prefix)
+}
+
+/// The subcommand that joins.
+fn joining<'a>(alloc: Global) -> Result<Command<'a>, AllocError> {
+    let out = Arg::new(alloc, OUT).required(true).help(
+        "The file that the result is written to; it is none of the inputs",
+    );
+    let files = Arg::new(alloc, FILE)
+        .required(true)
+        .num_args(1..)
+        .help("The transmissions, in their order");
+    let command = Command::new(alloc, JOIN).about("Joins transmissions to one");
+    with_limits(alloc, command)?.arg(out)?.arg(files)
+}
+
+/// The version of the program.
+const VERSION: &str = "0.1.0";
+
+/// What stands at the end of the program's help.
+const OUTCOMES: &str = "\
+The last line on standard output:
+  GOOD groups G transactions T records R     the input begins with a transmission
+  REFUSED record R field F level L REASON    no transmission continues from that field of line R
+  TRUNCATED records R                        the input ended too early, after R records
+  SPLIT outputs O transactions T             the parts are written
+  JOINED inputs I groups G transactions T records R
+                                             the result is written
+  input I: LIMIT records, groups or transaction
+                                             the result would pass that limit with input I
+
+Before it `cwr check` writes a line for each finding in a transaction, and `cwr show` each record with its cells:
+  FINDING group G transaction T record S field F level L rule V
+
+Indented, `cwr explain` writes under each finding the rule in words and the cells that it speaks of, and after the last
+line what a refusal speaks of, what stands there and what may.
+
+Before REFUSED and TRUNCATED `cwr join` writes the number of the input.
+
+Exit status: 0 good, 1 refused, truncated or a limit, 2 a wrong command line (or help), 3 a file, a device or memory failed
+
+Examples: cwr check works.cwr
+          cwr explain works.cwr
+          cwr split -n 1000 works.cwr part-
+          cwr join whole.cwr part-00000001 part-00000002";
+
+/// The program's words.
+fn command<'a>(alloc: Global) -> Result<Command<'a>, AllocError> {
+    Command::new(alloc, "cwr")
+        .version(VERSION)
+        .about("Reads CWR 2.1 transmissions; without words it is `cwr check`")
+        .after_help(OUTCOMES)
+        .subcommand(over_one(alloc, CHECK, "Judges a transmission")?)?
+        .subcommand(over_one(
+            alloc,
+            SHOW,
+            "Shows the records of a transmission, and judges it",
+        )?)?
+        .subcommand(over_one(
+            alloc,
+            EXPLAIN,
+            "Judges a transmission, and explains what is wrong with it",
+        )?)?
+        .subcommand(splitting(alloc)?)?
+        .subcommand(joining(alloc)?)
+}
+
+/// The largest limits.
+fn largest() -> Limits
+    ensures { result ≡ limit_values 99999999 99999 999999 }
+{
+    Limits::new(99_999_999, 99_999, 999_999).unwrap()
+}
+
+/// The limits that the words of a subcommand give. `None` where one is missing or out of its range.
+fn limits_of(matches: &ArgMatches<'_>) -> Option<Limits>
+    ensures records { IfSome result (λ limits. (text : List ℕ) → one_text (found_of matches.now) (codes "records") ≡ Some text
+        → limits.records ≡ digits_value 10 (without_leading_plus text)) }
+    ensures groups { IfSome result (λ limits. (text : List ℕ) → one_text (found_of matches.now) (codes "groups") ≡ Some text
+        → limits.groups ≡ digits_value 10 (without_leading_plus text)) }
+    ensures transaction { IfSome result (λ limits. (text : List ℕ) → one_text (found_of matches.now) (codes "transaction") ≡ Some text
+        → limits.transaction ≡ digits_value 10 (without_leading_plus text)) }
+{
+    let records = matches.get_one::<u32>(RECORDS)?;
+    let groups = matches.get_one::<u32>(GROUPS)?;
+    let transaction = matches.get_one::<u32>(TRANSACTION)?;
+    Limits::new(records, groups, transaction).ok()
+}
+
+/// The work of a subcommand over one transmission.
+fn work_over<'a>(name: &str, given: &ArgMatches<'a>) -> Work<'a>
+    ensures { IsWorkOf name.now (found_of given.now) result }
+{
+    let file = given.get_str(FILE);
+    if name == SHOW {
+        Work::Show(file)
+    } else if name == EXPLAIN {
+        Work::Explain(file)
+    } else {
+        Work::Check(file)
+    }
+}
+
+/// The work of a split. `None` where a word is missing or out of its range.
+fn split_in<'a>(given: &ArgMatches<'a>) -> Option<Work<'a>>
+    ensures { IfSome result (λ work. IsSplitOf (found_of given.now) work) }
+{
+    let number = given.get_one::<u32>(NUMBER)?;
+    Some(Work::Split {
+        transactions: NonZeroU32::new(number)?,
+        file: given.get_str(FILE)?,
+        prefix: given.get_str(PREFIX)?,
+    })
+}
+
+/// The work of a join. `None` where a word is missing.
+fn join_in<'a>(alloc: Global, given: &ArgMatches<'a>) -> Result<Option<Work<'a>>, AllocError>
+    ensures { IfOk result (λ found. IfSome found (λ work. IsJoinOf (found_of given.now) work)) }
+{
+    match (given.get_str(OUT), given.get_strs(FILE)) {
+        (Some(out), Some(names)) => Ok(Some(Work::Join {
+            out,
+            files: names.to_vec(alloc)?,
+        })),
+        _ => Ok(None),
+    }
+}
+
+/// The work that a subcommand asks for. `None` where a word is missing or out of its range.
+fn work_in<'a>(
+    alloc: Global,
+    name: &str,
+    given: &ArgMatches<'a>,
+) -> Result<Option<Work<'a>>, AllocError>
+    ensures { IfOk result (λ found. IfSome found (λ work. IsWorkOf name.now (found_of given.now) work)) }
+{
+    if name == SPLIT {
+        Ok(split_in(given))
+    } else if name == JOIN {
+        join_in(alloc, given)
+    } else {
+        Ok(Some(work_over(name, given)))
+    }
+}
+
+/// What is asked for. `None` where a word is missing or out of its range.
+fn task_in<'a>(alloc: Global, matches: &ArgMatches<'a>) -> Result<Option<Task<'a>>, AllocError>
+    // Without a subcommand it is a check of standard input within the largest limits.
+    ensures without { has_subcommand matches.now ≡ false
+        → result ≡ Ok (Some (record { work = Work.Check None; limits = limit_values 99999999 99999 999999 })) }
+    ensures asked { IfOk result (λ found. IfSome found (λ task. has_subcommand matches.now ≡ true → IsAskedBy matches.now task)) }
+{
+    let Some((name, given)) = matches.subcommand() else {
+        return Ok(Some(Task {
+            work: Work::Check(None),
+            limits: largest(),
+        }));
+    };
+    match (work_in(alloc, name, given)?, limits_of(given)) {
+        (Some(work), Some(limits)) => Ok(Some(Task { work, limits })),
+        _ => Ok(None),
+    }
+}
+
+/// What the words ask for, the program's name first, or what to tell the user in its place.
+pub fn task_of<'a, S: AsStr>(alloc: Global, words: &'a [S]) -> Result<Task<'a>, Error> {
+    let mut command = command(alloc)?;
+    let matches = command.try_get_matches_from_mut(words)?;
+    match task_in(alloc, &matches)? {
+        Some(task) => Ok(task),
+        // `clap` has judged the numbers already, but its clauses don't say so of a subcommand's.
+        None => Err(command.error(
+            ErrorKind::ValueValidation,
+            "a word is missing, or a number is out of its range",
+        )?),
+    }
+}
