@@ -24,7 +24,7 @@ use Rattle.cwr_values.specs.Format.Begins.{row_after, rows_so_far}
 use Rattle.cwr_values.proofs.RowAt.{rows_so_far-snoc}
 use Rattle.cwr_decode.specs.declared.outcomes.Outcome.{Outcome}
 use Rattle.cwr_decode.specs.declared.outcomes.Outcome.TheVariants as outcomes
-use Rattle.cwr_judge.specs.Format.Items.{stands_in_transaction}
+use Rattle.cwr_layouts.specs.Format.Kinds.{is_in_transaction}
 use Rattle.cwr_judge.specs.Steps.Judged.{IsNext}
 use Rattle.cwr_decode.specs.Steps.Machines.{Standing, Empties, Accepts, Follows, with_tally, pending, held_list, held_of}
 use Rattle.cwr_judge.specs.Steps.Open.{items_so_far, open_of, continues_open, ended_transaction, item_of}
@@ -114,7 +114,7 @@ is_line limits xs h s r n ended = by h.ended ended (never_too_long h r n.carried
 
 -- ---- an accepted line
 
-no_item : (kind : Kind) (r : RecordValue) → stands_in_transaction kind ≡ true → item_of kind r ≡ []
+no_item : (kind : Kind) (r : RecordValue) → is_in_transaction kind ≡ true → item_of kind r ≡ []
 no_item kinds.Hdr r h = absurd (true≢false (sym h))
 no_item kinds.Grh r h = absurd (true≢false (sym h))
 no_item kinds.Grt r h = absurd (true≢false (sym h))
@@ -179,7 +179,7 @@ goes_after d input given next r a h g =
       read = a.read;
       split = a.split;
       given_are = ap (λ (is : List Item). is ++ item_of r.kind r) (a.given_are ∙ sym (append-nil (items_so_far a.records))) ∙ sym (closes.given ∙ ap (λ (rs : List RecordValue). items_so_far a.records ++ ended_transaction rs ++ item_of r.kind r) nothing);
-      open_now = closes.open_now ∙ ap (λ (o : Option (List RecordValue)). cond (stands_in_transaction r.kind) (held_list o ++ r ∷ []) []) h;
+      open_now = closes.open_now ∙ ap (λ (o : Option (List RecordValue)). cond (is_in_transaction r.kind) (held_list o ++ r ∷ []) []) h;
       none = λ e. sym h;
     }
 

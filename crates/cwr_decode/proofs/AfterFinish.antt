@@ -1,5 +1,5 @@
 -- What the call that takes the end of the input answers.
-use Rattle.std.proofs.Common.{◌≡◌, ℕ, Bool, true, List, [], ◌++◌, length, map, Option, Some, None, refl, sym, ap, subst, ◌∙◌, append-nil, arith, inl, inr}
+use Rattle.std.proofs.Common.{◌≡◌, ℕ, Bool, true, List, [], ◌++◌, length, map, Option, Some, None, refl, sym, ap, subst, ◌∙◌, append-nil, arith}
 use Rattle.std.specs.Prelude.{IfSome}
 use Rattle.std.proofs.lemmas.List.{length-map}
 use Rattle.cwr_layouts.specs.Format.Lines.{closed}
@@ -33,7 +33,7 @@ ends_finish old new o e = record {
   empties = e.empties;
   again = if_some (again old.state) (λ p. (Some o ≡ None) × (new ≡ end_input old)) (λ p. (o ≡ p) × (new ≡ end_input old)) (λ p h. absurd (nothing h.0)) e.stays;
   more = λ q. e.more (ap (λ (x : Outcome). Some x) q);
-  memory = λ q l input given st. inr ((e.grows input given st).1 (ap (λ (x : Outcome). Some x) q));
+  memory = λ q l input given st few. absurd (omega (arith, few, (e.grows input given st).1 (ap (λ (x : Outcome). Some x) q)));
   kept = λ input given st. (e.grows input given st).0;
   finished = e.finished;
   limits = e.limits;
@@ -58,7 +58,7 @@ settles_finish old mid new o e s =
       empties = λ input given st. m.empties input given (there input given st);
       again = by (again old.state) refl e.stays;
       more = λ q. settles_more mid.state mid new (subst (λ (x : Outcome). Settles mid.state mid (Some x) new) q s);
-      memory = λ q l input given st. inl (e.waits (settles_pending mid.state mid new o (e.none l) s), refl);
+      memory = λ q l input given st few. (e.waits (settles_pending mid.state mid new o (e.none l) s), refl);
       kept = λ input given st. omega (arith, (e.grows input given st).0, m.counts);
       finished = m.finished ∙ e.finished;
       limits = m.limits ∙ e.limits;

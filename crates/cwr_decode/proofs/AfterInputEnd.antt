@@ -83,6 +83,10 @@ ended_stands d input given ready empty st = record { in_range = st.in_range; her
     by states.Memory e h = record {
       through = record { lines = h.through.lines; records = h.through.records; read = h.through.read; split = whole_lines d.finished h.through.lines h.through.split; empty = h.through.empty; nothing = h.through.nothing; given_are = h.through.given_are };
       inside = h.inside;
+      earlier = h.earlier;
+      last = h.last;
+      opened = h.opened;
+      asked = h.asked;
     }
 
 -- no last line is there

@@ -18,7 +18,7 @@ use Rattle.cwr_decode.specs.declared.outcomes.Outcome.{Outcome}
 use Rattle.cwr_judge.specs.declared.judging.LineFault.{LineFault}
 use Rattle.cwr_decode.specs.declared.machine.State.{State}
 use Rattle.cwr_decode.specs.declared.machine.State.TheVariants as states
-use Rattle.cwr_judge.specs.Format.Items.{stands_in_transaction}
+use Rattle.cwr_layouts.specs.Format.Kinds.{is_in_transaction}
 use Rattle.cwr_judge.specs.Steps.Judged.{IsOfNone, IsFirstFault}
 use Rattle.cwr_decode.specs.Steps.Machines.{Standing, Empties, Refuses, ReportsFault, Judges, EntersHeld, stopped, held_list}
 use Rattle.cwr_judge.specs.Steps.Open.{item_of}
@@ -115,7 +115,7 @@ waits_in d input given p in_range =
       read = p.read;
       split = p.split;
       given_are = ap (λ (is : List Item). is ++ item_of p.last.kind p.last) p.given_are ∙ sym closes.given;
-      open_now = closes.open_now ∙ ap (λ (o : Option (List RecordValue)). cond (stands_in_transaction p.last.kind) (held_list o ++ p.last ∷ []) []) (sym p.held);
+      open_now = closes.open_now ∙ ap (λ (o : Option (List RecordValue)). cond (is_in_transaction p.last.kind) (held_list o ++ p.last ∷ []) []) (sym p.held);
       none = λ f. p.held;
     }
 

@@ -1,5 +1,5 @@
 -- What a decoder represents after a piece, line by line.
-use Rattle.std.proofs.Common.{◌≡◌, ℕ, zero, suc, ◌+◌, ◌-◌, ◌<◌, ◌≤◌, Bool, true, false, List, [], ◌∷◌, ◌++◌, length, take, drop, Option, Some, None, refl, sym, ap, subst, ◌∙◌, append_assoc, append-nil, arith, inr, true≢false}
+use Rattle.std.proofs.Common.{◌≡◌, ℕ, zero, suc, ◌+◌, ◌-◌, ◌<◌, ◌≤◌, Bool, true, false, List, [], ◌∷◌, ◌++◌, length, take, drop, Option, Some, None, refl, sym, ap, subst, ◌∙◌, append_assoc, append-nil, arith, true≢false}
 use Rattle.std.specs.Prelude.{IfSome, IsNone, IsSomeAnd}
 use Rattle.std.proofs.lemmas.List.{length-drop, take-append-drop}
 use Rattle.cwr_layouts.specs.declared.kinds.Kind.{Kind}
@@ -12,7 +12,7 @@ use Rattle.cwr_decode.specs.declared.outcomes.Outcome.{Outcome}
 use Rattle.cwr_decode.specs.declared.outcomes.Outcome.TheVariants as outcomes
 use Rattle.cwr_decode.specs.declared.machine.State.{State}
 use Rattle.cwr_decode.specs.declared.machine.State.TheVariants as states
-use Rattle.cwr_judge.specs.Format.Items.{stands_in_transaction}
+use Rattle.cwr_layouts.specs.Format.Kinds.{is_in_transaction}
 use Rattle.cwr_decode.specs.Steps.Machines.{Standing, IsReady, Settles, Enters, EntersHeld, WaitsOutside, again, end_input}
 use Rattle.cwr_decode.specs.Steps.Represents.{Represents, IsRight, IsSound, items_out}
 use Rattle.cwr_decode.specs.Steps.Calls.{Advances, Fed, Feeds, Finishes, seen_input}
@@ -22,14 +22,14 @@ use Rattle.cwr_decode.proofs.AnsweredAtOnce.{settles_live, if_some}
 -- ---- line by line
 
 -- a record that is an item of its own isn't entered without an answer
-outside_enters : (kind : Kind) (r : RecordValue) (old new : Standing) → stands_in_transaction kind ≡ false → Enters kind r old None new → ⊥
+outside_enters : (kind : Kind) (r : RecordValue) (old new : Standing) → is_in_transaction kind ≡ false → Enters kind r old None new → ⊥
 outside_enters Hdr r old new out e = cc e.0
 outside_enters Grh r old new out e = cc e.0
 outside_enters Grt r old new out e = cc e.0
 outside_enters Trl r old new out e = cc e.0
 outside_enters kind r old new out e = cc out
 
-outside_held : (held : Option RecordValue) (old new : Standing) → IsSomeAnd held (λ r. stands_in_transaction r.kind ≡ false) → EntersHeld held old None new → ⊥
+outside_held : (held : Option RecordValue) (old new : Standing) → IsSomeAnd held (λ r. is_in_transaction r.kind ≡ false) → EntersHeld held old None new → ⊥
 outside_held None old new w e = e
 outside_held (Some r) old new w e = outside_enters r.kind r old new w e
 
@@ -151,10 +151,10 @@ fed_out old d new piece used n o f a = record {
   more = λ e. (omega (arith, f.within, a.more (ap (λ (x : Outcome). Some x) e), length-drop used piece), f.was_fresh);
   unused = λ z. absurd (true≢false (sym z ∙ f.was_fresh));
   alone = λ w. absurd (f.inside w);
-  memory = λ q l input given st.
+  memory = λ q l input given st few.
       let before : old.tally.counts.records ≤ d.tally.counts.records = f.grows input given st in
       let more : d.tally.counts.records < new.tally.counts.records = (a.grows (input ++ take used piece) given (f.stands input given st)).1 (ap (λ (x : Outcome). Some x) q) in
-      inr (omega (arith, before, more));
+      absurd (omega (arith, few, before, more));
   kept = λ input given st. omega (arith, f.grows input given st, (a.grows (input ++ take used piece) given (f.stands input given st)).0);
   finished = a.finished ∙ f.fresh ∙ sym f.was_fresh;
   limits = a.limits ∙ f.limits;

@@ -1,6 +1,6 @@
 -- What a decoder represents after an accepted record.
 use Rattle.std.proofs.Common.{◌≡◌, ℕ, ◌≤◌, Bool, true, false, cond, List, [], ◌∷◌, ◌++◌, length, map, Option, Some, None, refl, sym, ap, subst, ◌∙◌, append-nil, arith, true≢false}
-use Rattle.std.specs.Prelude.{MatchOption, IfSome}
+use Rattle.std.specs.Prelude.{IfSome}
 use Rattle.cwr_layouts.specs.declared.kinds.Kind.{Kind}
 use Rattle.cwr_layouts.specs.declared.kinds.Kind.TheVariants.{Hdr, Grh, Grt, Trl}
 use Rattle.cwr_layouts.specs.Format.Records.{RecordValue}
@@ -22,8 +22,8 @@ use Rattle.cwr_values.proofs.OneTransmissionOfRecords.{plain_kind}
 use Rattle.cwr_decode.specs.declared.outcomes.Outcome.{Outcome}
 use Rattle.cwr_decode.specs.declared.outcomes.Outcome.TheVariants as outcomes
 use Rattle.cwr_decode.specs.declared.machine.State.TheVariants as states
-use Rattle.cwr_judge.specs.Format.Items.{stands_in_transaction}
-use Rattle.cwr_decode.specs.Steps.Machines.{Standing, Empties, Enters, held_list, reading, stopped, held_of}
+use Rattle.cwr_layouts.specs.Format.Kinds.{is_in_transaction}
+use Rattle.cwr_decode.specs.Steps.Machines.{Standing, Empties, Enters, EntersTransaction, held_list, reading, stopped, held_of}
 use Rattle.cwr_judge.specs.Steps.Open.{items_so_far, open_of, item_of}
 use Rattle.cwr_decode.specs.Steps.Represents.{AreAccepted, IsInput, Represents, items_in, text_of}
 use Rattle.cwr_judge.proofs.Trailers.{trailer_ends, whole_ends}
@@ -55,8 +55,8 @@ pub record MayEnter (d : Standing) (input : List ℕ) (given : List Item) (kind 
   pub read : AreAccepted d.tally lines (records ++ r ∷ [])
   pub split : IsInput d.finished input (text_of lines)
   pub given_are : given ++ item_of kind r ≡ items_so_far (records ++ r ∷ [])
-  pub open_now : open_of (records ++ r ∷ []) ≡ cond (stands_in_transaction kind) (held_list d.held ++ r ∷ []) []
-  pub none : stands_in_transaction kind ≡ false → d.held ≡ None
+  pub open_now : open_of (records ++ r ∷ []) ≡ cond (is_in_transaction kind) (held_list d.held ++ r ∷ []) []
+  pub none : is_in_transaction kind ≡ false → d.held ≡ None
 
 held_snoc : (records : List RecordValue) (r : RecordValue) → Some (records ++ r ∷ []) ≡ held_of (records ++ r ∷ [])
 held_snoc [] r = refl
@@ -92,7 +92,7 @@ reads_on d input given kind r held m no_trailer h = record {
 
 -- an item of its own
 around : (d : Standing) (input : List ℕ) (given : List Item) (kind : Kind) (r : RecordValue) (item : Item) (out : Option Outcome) (new : Standing) → MayEnter d input given kind r → (kind ≡ Trl → ⊥)
-    → stands_in_transaction kind ≡ false → item_of kind r ≡ item ∷ [] → (out ≡ Some (outcomes.Item item)) × (new ≡ reading d d.held) → Represents new input (given ++ items_in out)
+    → is_in_transaction kind ≡ false → item_of kind r ≡ item ∷ [] → (out ≡ Some (outcomes.Item item)) × (new ≡ reading d d.held) → Represents new input (given ++ items_in out)
 around d input given kind r item out new m no_trailer outside own e =
     let nothing : open_of (m.records ++ r ∷ []) ≡ [] = m.open_now ∙ ap (λ (b : Bool). cond b (held_list d.held ++ r ∷ []) []) outside in
     let held : d.held ≡ held_of (open_of (m.records ++ r ∷ [])) = m.none outside ∙ sym (ap held_of nothing) in
@@ -101,13 +101,13 @@ around d input given kind r item out new m no_trailer outside own e =
     (subst (λ (is : List Item). Represents (reading d d.held) input (given ++ is)) own_item (reads_on d input given kind r d.held m no_trailer held))
 
 -- the place after a record inside a transaction
-pub inside_last : (kind : Kind) (records : List RecordValue) (r : RecordValue) → r.kind ≡ kind → stands_in_transaction kind ≡ true → tallies_there.has_open_transaction (place_after (map symbol_of (records ++ r ∷ []))) ≡ true
+pub inside_last : (kind : Kind) (records : List RecordValue) (r : RecordValue) → r.kind ≡ kind → is_in_transaction kind ≡ true → tallies_there.has_open_transaction (place_after (map symbol_of (records ++ r ∷ []))) ≡ true
 inside_last kind records r e h =
     ap (λ (xs : List Symbol). tallies_there.has_open_transaction (place_after xs)) (map-snoc records r)
     ∙ ap (λ (o : Option Symbol). tallies_there.has_open_transaction (place_by o)) (last_or-snoc None (map symbol_of records) (symbol_of r) ∙ ap (λ (k : Kind). Some (symbol_by k r)) e)
     ∙ by kind h
   where
-    by : (k : Kind) → stands_in_transaction k ≡ true → tallies_there.has_open_transaction (place_by (Some (symbol_by k r))) ≡ true
+    by : (k : Kind) → is_in_transaction k ≡ true → tallies_there.has_open_transaction (place_by (Some (symbol_by k r))) ≡ true
     by Hdr f = absurd (true≢false (sym f))
     by Grh f = absurd (true≢false (sym f))
     by Grt f = absurd (true≢false (sym f))
@@ -115,8 +115,8 @@ inside_last kind records r e h =
     by k f = refl
 
 -- a record inside a transaction
-inside : (d : Standing) (input : List ℕ) (given : List Item) (kind : Kind) (r : RecordValue) (out : Option Outcome) (new : Standing) → MayEnter d input given kind r → (kind ≡ Trl → ⊥) → stands_in_transaction kind ≡ true → item_of kind r ≡ []
-    → MatchOption out (new ≡ reading d (Some (held_list d.held ++ r ∷ []))) (λ o. (o ≡ outcomes.Memory) × (new ≡ stopped d states.Memory)) → Represents new input (given ++ items_in out)
+inside : (d : Standing) (input : List ℕ) (given : List Item) (kind : Kind) (r : RecordValue) (out : Option Outcome) (new : Standing) → MayEnter d input given kind r → (kind ≡ Trl → ⊥) → is_in_transaction kind ≡ true → item_of kind r ≡ []
+    → EntersTransaction r d out new → Represents new input (given ++ items_in out)
 inside d input given kind r None new m no_trailer within own e =
     let opened : open_of (m.records ++ r ∷ []) ≡ held_list d.held ++ r ∷ [] = m.open_now ∙ ap (λ (b : Bool). cond b (held_list d.held ++ r ∷ []) []) within in
     let held : Some (held_list d.held ++ r ∷ []) ≡ held_of (open_of (m.records ++ r ∷ [])) = held_snoc (held_list d.held) r ∙ sym (ap held_of opened) in
@@ -130,6 +130,10 @@ inside d input given kind r (Some o) new m no_trailer within own e =
       here = record {
         through = record { lines = m.lines; records = m.records ++ r ∷ []; read = m.read; split = m.split; empty = refl; nothing = refl; given_are = all_items };
         inside = inside_last kind m.records r m.of_kind within;
+        earlier = held_list d.held;
+        last = r;
+        opened = m.open_now ∙ ap (λ (b : Bool). cond b (held_list d.held ++ r ∷ []) []) within;
+        asked = e.2;
       };
     })
 
@@ -156,9 +160,9 @@ enters_stands d input given kind r out new m e = inside d input given kind r out
 pub empties_by : (new is : Standing) (out o : Option Outcome) → out ≡ o → new ≡ is → IfSome o (λ x. Empties x is) → IfSome out (λ x. Empties x new)
 empties_by new is out o e f h = subst (λ (q : Option Outcome). IfSome q (λ x. Empties x new)) (sym e) (subst (λ (q : Standing). IfSome o (λ x. Empties x q)) (sym f) h)
 
-inside_empties : (d new : Standing) (held : Option (List RecordValue)) (out : Option Outcome) → MatchOption out (new ≡ reading d held) (λ o. (o ≡ outcomes.Memory) × (new ≡ stopped d states.Memory)) → IfSome out (λ o. Empties o new)
-inside_empties d new held None e = tt
-inside_empties d new held (Some o) e = empties_by new (stopped d states.Memory) (Some o) (Some outcomes.Memory) (ap (λ (x : Outcome). Some x) e.0) e.1 tt
+inside_empties : (d new : Standing) (r : RecordValue) (out : Option Outcome) → EntersTransaction r d out new → IfSome out (λ o. Empties o new)
+inside_empties d new r None e = tt
+inside_empties d new r (Some o) e = empties_by new (stopped d states.Memory) (Some o) (Some outcomes.Memory) (ap (λ (x : Outcome). Some x) e.0) e.1 tt
 
 pub enters_empties : (d : Standing) (input : List ℕ) (given : List Item) (kind : Kind) (r : RecordValue) (out : Option Outcome) (new : Standing) → MayEnter d input given kind r → Enters kind r d out new
     → IfSome out (λ o. Empties o new)
@@ -166,4 +170,4 @@ enters_empties d input given Hdr r out new m e = empties_by new (reading d d.hel
 enters_empties d input given Grh r out new m e = empties_by new (reading d d.held) out (Some (outcomes.Item (items.GroupOpened r))) e.0 e.1 (refl, m.none refl)
 enters_empties d input given Grt r out new m e = empties_by new (reading d d.held) out (Some (outcomes.Item (items.GroupClosed r))) e.0 e.1 (refl, m.none refl)
 enters_empties d input given Trl r out new m e = empties_by new (stopped d states.Ended) out (Some (outcomes.Item items.Ended)) e.0 e.1 (refl, refl)
-enters_empties d input given kind r out new m e = inside_empties d new (Some (held_list d.held ++ r ∷ [])) out e
+enters_empties d input given kind r out new m e = inside_empties d new r out e

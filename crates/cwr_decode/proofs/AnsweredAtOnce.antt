@@ -1,5 +1,5 @@
 -- What is answered before a piece is looked at.
-use Rattle.std.proofs.Common.{◌≡◌, ℕ, Bool, false, List, [], ◌++◌, Option, Some, None, refl, sym, ap, subst, ◌∙◌, append-nil, arith, inl, true≢false}
+use Rattle.std.proofs.Common.{◌≡◌, ℕ, Bool, false, List, [], ◌++◌, Option, Some, None, refl, sym, ap, subst, ◌∙◌, append-nil, arith, true≢false}
 use Rattle.std.specs.Prelude.{IfSome}
 use Rattle.cwr_layouts.specs.Format.Records.{RecordValue}
 use Rattle.cwr_layouts.specs.Steps.Held.{held_record}
@@ -90,7 +90,7 @@ settled_feeds old new piece o ready fresh e =
       more = λ q. absurd (settles_more old.state old new (subst (λ (x : Outcome). Settles old.state old (Some x) new) q e));
       unused = λ z. refl;
       alone = λ w. (refl, λ q. settles_more old.state old new (subst (λ (x : Outcome). Settles old.state old (Some x) new) q e));
-      memory = λ q l input given st. inl (settles_pending old.state old new o l e, refl);
+      memory = λ q l input given st few. (settles_pending old.state old new o l e, refl);
       kept = λ input given st. omega (arith, m.counts);
       finished = m.finished;
       limits = m.limits;

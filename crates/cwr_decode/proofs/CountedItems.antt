@@ -24,7 +24,8 @@ use Rattle.cwr_values.proofs.OneTransmissionOfRecords.{is_trailer}
 use Rattle.cwr_values.proofs.Spelling.{length-rows}
 use Rattle.cwr_decode.specs.declared.machine.State.{State}
 use Rattle.cwr_decode.specs.declared.machine.State.TheVariants as states
-use Rattle.cwr_judge.specs.Format.Items.{stands_in_transaction, group_items, value_items, item_records, records_in, opens_group, is_transaction}
+use Rattle.cwr_layouts.specs.Format.Kinds.{is_in_transaction}
+use Rattle.cwr_judge.specs.Format.Items.{group_items, value_items, item_records, records_in, opens_group, is_transaction}
 use Rattle.cwr_decode.specs.Steps.Machines.{Standing}
 use Rattle.cwr_judge.specs.Steps.Open.{items_so_far, open_of, continues_open, ended_transaction, item_of}
 use Rattle.cwr_decode.specs.Steps.Represents.{AreAccepted, IsThrough, Represents, RepresentsIn}
@@ -64,14 +65,14 @@ record Counts (records : List RecordValue) : Type 0 where
   few : length (items_so_far records) + length (ended_transaction (open_of records)) ≤ length records
 
 -- a record after which the open transaction was handed out is in its own item, or begins a transaction
-own_record : (kind : Kind) (r : RecordValue) → r.kind ≡ kind → IsRecord r → records_in (item_of kind r) ++ cond (stands_in_transaction kind) (r ∷ []) [] ≡ r ∷ []
+own_record : (kind : Kind) (r : RecordValue) → r.kind ≡ kind → IsRecord r → records_in (item_of kind r) ++ cond (is_in_transaction kind) (r ∷ []) [] ≡ r ∷ []
 own_record kinds.Hdr r e h = refl
 own_record kinds.Grh r e h = refl
 own_record kinds.Grt r e h = refl
 own_record kinds.Trl r e h = ap (λ (x : RecordValue). x ∷ []) (sym (is_trailer r e h))
 own_record kind r e h = refl
 
-own_few : (kind : Kind) (r : RecordValue) → length (item_of kind r) + length (ended_transaction (cond (stands_in_transaction kind) (r ∷ []) [])) ≤ 1
+own_few : (kind : Kind) (r : RecordValue) → length (item_of kind r) + length (ended_transaction (cond (is_in_transaction kind) (r ∷ []) [])) ≤ 1
 own_few kinds.Hdr r = omega arith
 own_few kinds.Grh r = omega arith
 own_few kinds.Grt r = omega arith
@@ -102,7 +103,7 @@ counts_close records r h g few e c =
     let s = ends_closes records r h g few e in
     let before : List Item = items_so_far records ++ ended_transaction (open_of records) in
     let own : List Item = item_of r.kind r in
-    let open_now : List RecordValue = cond (stands_in_transaction r.kind) (r ∷ []) [] in
+    let open_now : List RecordValue = cond (is_in_transaction r.kind) (r ∷ []) [] in
     let given : records_in (items_so_far (records ++ r ∷ [])) ≡ records ++ records_in own =
     ap records_in s.given ∙ flat_map-append item_records before own ∙ ap (λ (rs : List RecordValue). rs ++ records_in own) (records_with_open records c.all) in
     record {

@@ -254,17 +254,11 @@ feeds_both m n a p b q c r f g = record {
 }
 
 -- a decoder that reads is out of memory only with one more record
-pub wants_more : (d new : Standing) (used : ℕ) → d.state ≡ states.Reading → RunsOutOfMemory d used new → d.tally.counts.records < new.tally.counts.records
-wants_more d new used reading (inl waits) = absurd (not_both (sym reading ∙ waits.0))
+pub wants_more : (d new : Standing) (used : ℕ) → d.state ≡ states.Reading → RunsOutOfMemory d used new → new.tally.counts.records ≤ d.tally.counts.records → ⊥
+wants_more d new used reading h few = not_both (sym reading ∙ (h few).0)
   where
     not_both : states.Reading ≡ states.Pending → ⊥
     not_both e = cc e
-wants_more d new used reading (inr more) = more
-
--- a record that waits is out of memory with what the fact says
-pub wants_waiting : (d new : Standing) (used : ℕ) (P : Type 0) → P → RunsOutOfMemory d used new → ((d.state ≡ states.Pending) × P) ⊎ (d.tally.counts.records < new.tally.counts.records)
-wants_waiting d new used P h (inl waits) = inl (waits.0, h)
-wants_waiting d new used P h (inr more) = inr more
 
 right_after : (limits after_limits : LimitValues) (answer : Answer) (p q : Option (List ℕ)) (bytes more input : List ℕ) (given : List Item) → after_limits ≡ limits → Consumes p q bytes
     → IfSome q (λ rest. IsRightOf after_limits answer ((input ++ bytes) ++ more) ((input ++ bytes) ++ rest) given)
@@ -287,7 +281,7 @@ reads_after n answer a p b q c r f g = record {
   leaves = g.leaves;
   empties = g.empties;
   none = λ is. absurd (reading_ends (sym f.reading ∙ g.none is));
-  memory = λ is live. inr (omega (arith, f.kept, wants_more b c (length g.bytes) f.reading (g.memory is (ap again f.reading))));
+  memory = λ is live few. absurd (wants_more b c (length g.bytes) f.reading (g.memory is (ap again f.reading)) (omega (arith, f.kept, few)));
   input_ended = λ spent. spent_after p q r f.bytes c f.consumed (g.input_ended (not_ended b q f.fresh));
   limits = g.limits ∙ f.limits;
 } where

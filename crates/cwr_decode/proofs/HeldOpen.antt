@@ -20,7 +20,7 @@ use Rattle.cwr_values.specs.Format.Values.{symbol_of}
 use Rattle.cwr_values.specs.Format.Begun.{BeginsWithOneMore}
 use Rattle.cwr_decode.specs.declared.machine.State.{State}
 use Rattle.cwr_decode.specs.declared.machine.State.TheVariants as states
-use Rattle.cwr_judge.specs.Format.Items.{stands_in_transaction}
+use Rattle.cwr_layouts.specs.Format.Kinds.{is_in_transaction}
 use Rattle.cwr_judge.specs.Steps.Judged.{IsNext}
 use Rattle.cwr_judge.specs.Steps.Open.{open_of, continues_open}
 use Rattle.cwr_judge.proofs.EndingRecord.{ends_closes}
@@ -39,7 +39,7 @@ open_symbols records =
     sym (drop-map symbol_of (length records - open_records xs) records) ∙ ap (λ (n : ℕ). drop (n - open_records xs) xs) (sym (length-map records symbol_of))
 
 -- after a record that stands inside transactions, the open one's records begin a transaction
-open_fits : (records : List RecordValue) (r : RecordValue) → Continues Any (map symbol_of (records ++ r ∷ [])) → stands_in_transaction r.kind ≡ true → BeginsShape (map symbol_of (open_of (records ++ r ∷ [])))
+open_fits : (records : List RecordValue) (r : RecordValue) → Continues Any (map symbol_of (records ++ r ∷ [])) → is_in_transaction r.kind ≡ true → BeginsShape (map symbol_of (open_of (records ++ r ∷ [])))
 open_fits records r g inside =
     subst BeginsShape (sym (open_symbols (records ++ r ∷ []))) (open_begins (map symbol_of (records ++ r ∷ [])) g (inside_last r.kind records r refl inside))
 
@@ -74,7 +74,7 @@ entry_fits d h line s r continues taken left n g hands = λ inside. by continues
     few : length h.records ≤ 99999999
     few = few_counted d.tally h.records h.in_range h.counted
 
-    by : (b : Bool) → stands_in_transaction r.kind ≡ true → b ≡ continues_open xs (symbol_of r) → HandsOut b d.held taken left → BeginsWithOneMore (held_list left) r
+    by : (b : Bool) → is_in_transaction r.kind ≡ true → b ≡ continues_open xs (symbol_of r) → HandsOut b d.held taken left → BeginsWithOneMore (held_list left) r
     by true inside e o =
         let kept : held_list left ≡ open_of h.records = ap held_list (o.1 ∙ h.held) ∙ list_held (open_of h.records) in
         let now = (continuing_stays h.records r in_order goes few (sym e)).longer ∙ ap (λ (q : List RecordValue). q ++ r ∷ []) (sym kept) in
@@ -113,7 +113,7 @@ holds_as d new t e h = record {
 -- ---- after the steps of a call
 
 -- records of any other kinds stand inside transactions
-pub inside_unless : (kind : Kind) → (kind ≡ Hdr → ⊥) → (kind ≡ Grh → ⊥) → (kind ≡ Grt → ⊥) → (kind ≡ Trl → ⊥) → stands_in_transaction kind ≡ true
+pub inside_unless : (kind : Kind) → (kind ≡ Hdr → ⊥) → (kind ≡ Grh → ⊥) → (kind ≡ Grt → ⊥) → (kind ≡ Trl → ⊥) → is_in_transaction kind ≡ true
 inside_unless Hdr a b c d = absurd (a refl)
 inside_unless Grh a b c d = absurd (b refl)
 inside_unless Grt a b c d = absurd (c refl)

@@ -1,9 +1,10 @@
 -- The steps of a decoder, put together.
 use Rattle.std.proofs.Common.{◌≡◌, ℕ, Bool, true, false, ◌&&◌, List, [], ◌∷◌, ◌++◌, Option, Some, None, refl, sym, ap, ap₂, subst, ◌∙◌, inl, inr}
-use Rattle.std.specs.Prelude.{◌==◌, Result, Ok, Err, MatchResult, MatchOption, IsSomeAnd}
+use Rattle.std.specs.Prelude.{◌==◌, Result, Ok, Err, MatchResult, IsSomeAnd}
 use Rattle.std.proofs.lemmas.Bool.{eq-eqb, ne_eqb}
 use Rattle.cwr_layouts.specs.declared.kinds.Kind.{Kind}
 use Rattle.cwr_layouts.specs.declared.kinds.Kind.TheVariants.{Hdr, Grh, Grt, Trl}
+use Rattle.cwr_layouts.specs.Format.Growth.{AsksMemory}
 use Rattle.cwr_layouts.specs.Format.Records.{RecordValue, IsRecord}
 use Rattle.cwr_layouts.specs.Steps.Held.{HeldLine, carried_by, held_cells, held_excess, held_kind, held_record}
 use Rattle.cwr_shape.specs.declared.symbols.Symbol.{Symbol}
@@ -19,9 +20,9 @@ use Rattle.cwr_judge.specs.declared.judging.LineFault.{LineFault}
 use Rattle.cwr_judge.specs.Steps.Judged.{IsNext, IsOfNone, IsFirstFault}
 use Rattle.cwr_decode.specs.declared.outcomes.Outcome.TheVariants as outcomes
 use Rattle.cwr_decode.specs.declared.machine.State.TheVariants as states
-use Rattle.cwr_judge.specs.Format.Items.{stands_in_transaction as inside_kind}
+use Rattle.cwr_layouts.specs.Format.Kinds.{is_in_transaction as inside_kind}
 use Rattle.cwr_judge.specs.Steps.Open.{continues_open}
-use Rattle.cwr_decode.specs.Steps.Machines.{Standing, Adds, FinishesRecord, Enters, Follows, HandsOut, Judges, ReportsFault, with_tally, held_list, reading, stopped}
+use Rattle.cwr_decode.specs.Steps.Machines.{Standing, Adds, FinishesRecord, Enters, EntersTransaction, Follows, HandsOut, Judges, ReportsFault, with_tally, held_list, reading, stopped}
 
 -- ---- whether a record continues the open transaction
 
@@ -60,13 +61,13 @@ last_enters : (d : Standing) (result : Result (Option Item) AllocError) (held : 
 last_enters d result held out new a g = subst (λ (x : Result (Option Item) AllocError). FinishesRecord x (holding d held) out new) a.0 g
 
 inside_enters : (r : RecordValue) (d : Standing) (result : Result (Option Item) AllocError) (held : Option (List RecordValue)) (out : Option Outcome) (new : Standing)
-    → MatchResult result (λ item. (item ≡ None) × (held ≡ Some (held_list d.held ++ r ∷ []))) (λ fault. Unit {0}) → FinishesRecord result (holding d held) out new
-    → MatchOption out (new ≡ reading d (Some (held_list d.held ++ r ∷ []))) (λ o. (o ≡ outcomes.Memory) × (new ≡ stopped d states.Memory))
+    → MatchResult result (λ item. (item ≡ None) × (held ≡ Some (held_list d.held ++ r ∷ []))) (λ fault. AsksMemory (held_list d.held) r) → FinishesRecord result (holding d held) out new
+    → EntersTransaction r d out new
 inside_enters r d (Err fault) held out new a g =
-    subst (λ (o : Option Outcome). MatchOption o (new ≡ reading d (Some (held_list d.held ++ r ∷ []))) (λ x. (x ≡ outcomes.Memory) × (new ≡ stopped d states.Memory))) (sym g.0) (refl, g.1)
+    subst (λ (o : Option Outcome). EntersTransaction r d o new) (sym g.0) (refl, g.1, a)
 inside_enters r d (Ok item) held out new a g =
     let now = subst (λ (x : Option Item). FinishesRecord (Ok x) (holding d held) out new) a.0 g in
-    subst (λ (o : Option Outcome). MatchOption o (new ≡ reading d (Some (held_list d.held ++ r ∷ []))) (λ x. (x ≡ outcomes.Memory) × (new ≡ stopped d states.Memory))) (sym now.0) (now.1 ∙ ap (reading d) a.1)
+    subst (λ (o : Option Outcome). EntersTransaction r d o new) (sym now.0) (now.1 ∙ ap (reading d) a.1)
 
 -- an accepted record is added, and then reading continues
 pub adds_enters : (kind : Kind) (r : RecordValue) (d : Standing) (result : Result (Option Item) AllocError) (held : Option (List RecordValue)) (out : Option Outcome) (new : Standing)

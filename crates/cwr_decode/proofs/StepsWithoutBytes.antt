@@ -1,6 +1,6 @@
 -- The steps of a decoder: what is left after each, and what its answer says.
 use Rattle.std.proofs.Common.{◌≡◌, Bool, true, false, List, [], ◌∷◌, ◌++◌, Option, Some, None, refl, sym, ap, subst, ◌∙◌, append-nil}
-use Rattle.std.specs.Prelude.{◌≢◌, IfSome, IfNone, IsSomeAnd, MatchOption}
+use Rattle.std.specs.Prelude.{◌≢◌, IfSome, IfNone, IsSomeAnd}
 use Rattle.cwr_layouts.specs.declared.kinds.Kind.{Kind}
 use Rattle.cwr_layouts.specs.declared.kinds.Kind.TheVariants.{Hdr, Grh, Grt, Trl}
 use Rattle.cwr_layouts.specs.declared.lines.LineEnd.TheVariants.{Open}
@@ -13,7 +13,7 @@ use Rattle.cwr_decode.specs.declared.outcomes.Outcome.{Outcome}
 use Rattle.cwr_decode.specs.declared.outcomes.Outcome.TheVariants as outcomes
 use Rattle.cwr_decode.specs.declared.machine.State.{State}
 use Rattle.cwr_decode.specs.declared.machine.State.TheVariants as states
-use Rattle.cwr_decode.specs.Steps.Machines.{Standing, IsReady, Leaves, Empties, state_after, Enters, EntersHeld, Follows, Settles, pending, reading, stopped, held_list}
+use Rattle.cwr_decode.specs.Steps.Machines.{Standing, IsReady, Leaves, Empties, state_after, Enters, EntersHeld, EntersTransaction, Follows, Settles, pending, reading, stopped, held_list}
 use Rattle.cwr_decode.specs.Steps.Represents.{Represents, items_in}
 use Rattle.cwr_decode.specs.Steps.Calls.{IsLive, Moves}
 use Rattle.cwr_decode.proofs.AfterLine.{waiting_stands, waiting_empties}
@@ -52,8 +52,7 @@ pub record Entered (d : Standing) (out : Option Outcome) (new : Standing) : Type
 entered_by : (d new is : Standing) (out o : Option Outcome) → out ≡ o → new ≡ is → Rest d o is → IfSome o IsPlain → is.tally ≡ d.tally → Entered d out new
 entered_by d new is out o e f h p t = record { rest = rest_by d new is out o e f h; plain = subst (λ (q : Option Outcome). IfSome q IsPlain) (sym e) p; tally = ap (λ (q : Standing). q.tally) f ∙ t }
 
-inside_rest : (r : RecordValue) (d : Standing) (out : Option Outcome) (new : Standing)
-    → MatchOption out (new ≡ reading d (Some (held_list d.held ++ r ∷ []))) (λ o. (o ≡ outcomes.Memory) × (new ≡ stopped d states.Memory)) → Entered d out new
+inside_rest : (r : RecordValue) (d : Standing) (out : Option Outcome) (new : Standing) → EntersTransaction r d out new → Entered d out new
 inside_rest r d None new e = entered_by d new (reading d (Some (held_list d.held ++ r ∷ []))) None None refl e (reading_rest d (Some (held_list d.held ++ r ∷ [])) None tt) tt refl
 inside_rest r d (Some o) new e =
     entered_by d new (stopped d states.Memory) (Some o) (Some outcomes.Memory) (ap (λ (x : Outcome). Some x) e.0) e.1 (record { ready = tt; leaves = refl; none = tt; finished = refl; limits = refl }) tt refl

@@ -65,10 +65,11 @@ impl Decoder {
     }
 
     /// How many bytes of the line that is read or waits are held, its line feed not counted, and how many records of
-    /// the open transaction.
+    /// the open transaction: at most 1,024 bytes, and at most as many records as the limit of a transaction.
     pub fn holds(&self) -> (usize, usize)
         ensures line { result.0 ≡ length self.now.line.bytes }
         ensures transaction { result.1 ≡ length (held_list self.now.held) }
+        ensures bounded { (result.0 ≤ 1024) × (result.1 ≤ (limits_of self.now).transaction) }
     {
         self.machine.holds()
     }
@@ -117,7 +118,7 @@ impl Decoder {
         ensures unused { has_ended self.old ≡ true → result.used ≡ 0 }
         // What was answered for good is answered again.
         ensures again { IfSome (final_answer self.old) (λ outcome. (result.outcome ≡ outcome) × (result.used ≡ 0) × (self.new ≡ self.old)) }
-        // Out of memory comes only with a record that was being added: the one that waited, or one that was accepted.
+        // Out of memory comes only with a record that was being added: where none was accepted, it was the one that waited.
         ensures memory { result.outcome ≡ Outcome.Memory → final_answer self.old ≡ None → RunsOutOfMemory self.old result.used self.new }
         ensures kept { accepted_records self.old ≤ accepted_records self.new }
         ensures input_ended { has_ended self.new ≡ has_ended self.old }
@@ -146,7 +147,7 @@ impl Decoder {
         ensures empties { Empties result.outcome self.new }
         // What was answered for good is answered again.
         ensures again { IfSome (final_answer self.old) (λ outcome. (result.outcome ≡ outcome) × (self.new ≡ end_input self.old)) }
-        // Out of memory comes only with a record that was being added: the one that waited, or one that was accepted.
+        // Out of memory comes only with a record that was being added: where none was accepted, it was the one that waited.
         ensures memory { result.outcome ≡ Outcome.Memory → final_answer self.old ≡ None → RunsOutOfMemory self.old 0 self.new }
         ensures kept { accepted_records self.old ≤ accepted_records self.new }
         ensures input_ended { has_ended self.new ≡ true }

@@ -6,17 +6,20 @@ ghost use Rattle.cwr_shape.specs.Format.Ranges.{LimitValues};
 ghost use Rattle.cwr_judge.specs.Format.GoodFronts.{ContinuesFrom};
 ghost use Rattle.cwr_judge.specs.Format.Places.{Viable};
 ghost use Rattle.cwr_judge.specs.Format.Ends.{IsAccepted, IsNotAccepted, IsRefused, IsTruncated};
+ghost use Rattle.cwr_judge.specs.Format.FormerEnds.{IsAcceptedIn};
 ghost use Rattle.cwr_judge.specs.Format.Items.{AreFirstItems, items, value_items};
 ghost use Rattle.cwr_judge.specs.Format.Places.{IsFirstBad};
 ghost use Rattle.cwr_judge.specs.declared.refusals.Refusal.{Refusal};
 ghost use Rattle.cwr_values.specs.declared.items.Item.{Item};
-ghost use Rattle.cwr_decode.specs.Steps.Machines.{Standing};
+ghost use Rattle.cwr_decode.specs.Steps.Machines.{Standing, held_list};
 ghost use Rattle.cwr_decode.specs.Steps.Represents.{Represents};
 ghost use Rattle.cwr_layouts.specs.Format.Lines.{closed, raw_lines};
+ghost use Rattle.cwr_shape.specs.Format.UncarriedOrder.{IsUncarriedShape, IsUncopiedShape};
 ghost use Rattle.cwr_shape.specs.declared.limits.Limits.{Limits};
 ghost use Rattle.cwr_values.specs.Format.Rows.{canonical_text, rows};
 ghost use Rattle.cwr_values.specs.Format.Values.{FitsIn, IsTransmission, TransmissionValue};
 
+use crate::decoders::Decoder;
 pub use cwr_shape::laws::no_transmission_continues;
 pub use cwr_values::laws::{
     canonical_text_spells, line_has_one_row, numbers_fit_their_fields,
@@ -40,6 +43,15 @@ pub fn canonical_text_is_accepted()
 pub fn accepted_again_when_canonical()
     ensures { (limits : Limits) (text : List ℕ) (v : TransmissionValue) (n : ℕ) (more : List ℕ) → IsAccepted limits text v n
         → IsAccepted limits (canonical_text v ++ more) v (length (canonical_text v)) }
+{}
+
+/// A text that is accepted in an order without copies, with carried records or without, is accepted today, with the same value
+/// and as many bytes.
+pub fn accepted_in_former_orders()
+    ensures uncarried { (limits : Limits) (text : List ℕ) (v : TransmissionValue) (n : ℕ) → IsAcceptedIn IsUncarriedShape limits text v n
+        → IsAccepted limits text v n }
+    ensures uncopied { (limits : Limits) (text : List ℕ) (v : TransmissionValue) (n : ℕ) → IsAcceptedIn IsUncopiedShape limits text v n
+        → IsAccepted limits text v n }
 {}
 
 /// The items that a transmission's rows give are it, opened, each of its groups with each of its transactions, and
@@ -82,6 +94,15 @@ pub fn viable_where_cells_are_good()
 pub fn used_bytes_are_bounded()
     ensures { (d : Standing) (input : List ℕ) (given : List Item) → Represents d input given → length input ≤ 1025 * d.tally.limits.records }
 {}
+
+/// Whatever a decoder was fed, it holds at most 1,024 bytes of a line, and no more records of a transaction than the limit.
+pub fn what_is_held_is_bounded(decoder: &Decoder) -> (usize, usize)
+    ensures line { result.0 ≡ length decoder.now.line.bytes }
+    ensures transaction { result.1 ≡ length (held_list decoder.now.held) }
+    ensures bounded { (result.0 ≤ 1024) × (result.1 ≤ decoder.now.tally.limits.transaction) }
+{
+    decoder.holds()
+}
 
 /// The items that a decoder handed out are the first of those of some transmission within its limits: a transaction is a
 /// whole one of its group's type, and each comes in its place.

@@ -1,13 +1,13 @@
 //! The steps of a decoder.
 
-ghost use Rattle.std.specs.Prelude.{List, ◌∷◌, ◌++◌, [], ◌≡◌, ◌≢◌, ◌<◌, ◌≤◌, length, take, true, false, None, Some, IsTrue, IsFalse, IsSome, IsSomeAnd, IsNone, IfSome, OnOk, OnErr};
+ghost use Rattle.std.specs.Prelude.{List, ◌∷◌, ◌++◌, [], ◌≡◌, ◌≢◌, ◌↔◌, ◌<◌, ◌≤◌, length, take, true, false, None, Some, Err, IsOk, IsTrue, IsFalse, IsSome, IsSomeAnd, IsNone, IfSome, OnOk, OnErr};
 ghost use Rattle.cwr_layouts.specs.Steps.Held.{IsHeld, Takes, held_kind, held_record};
+ghost use Rattle.cwr_layouts.specs.Format.Growth.{AsksMemory};
 ghost use Rattle.cwr_layouts.specs.Format.Kinds.{kind_of};
 ghost use Rattle.cwr_shape.specs.Format.Ranges.{AreInRange};
 ghost use Rattle.cwr_shape.specs.Steps.Stages.{stage_after};
 ghost use Rattle.cwr_shape.specs.Steps.Tallies.{IsAdmitted, IsTallyOf};
 ghost use Rattle.cwr_shape.specs.declared.symbols.Symbol.{Symbol};
-ghost use Rattle.cwr_judge.specs.Format.Items.{stands_in_transaction};
 ghost use Rattle.cwr_judge.specs.Steps.Open.{continues_open};
 ghost use Rattle.cwr_decode.specs.Steps.Machines.{Adds, ClosesLine, EntersHeld, FindsCut, FindsFront, FindsLine, FinishesRecord, HandsOut, HasRecord, HoldsOpen, FitsHeld, FitsWaiting, IsReady, Judges, Settles, ReportsFault, at_start, emptied, held_list, reading, stopped};
 ghost use Rattle.cwr_decode.specs.Steps.Represents.{IsSound};
@@ -17,7 +17,7 @@ ghost use Rattle.cwr_values.specs.Format.Begun.{BeginsWithOneMore};
 use crate::outcomes::{Outcome, Step};
 use cwr_fields::SpelledPair;
 use cwr_judge::{LineFault, Refusal, count_quickly, judge};
-use cwr_layouts::{CutLine, Kind, LineBuf, LineEnd, RecordRef, Taken};
+use cwr_layouts::{CutLine, Kind, LineBuf, LineEnd, RecordRef, Taken, is_in_transaction};
 use cwr_shape::{Limits, Place, Stage, Symbol, Tally, level};
 use cwr_values::{Item, PushFault, Transaction};
 use std::alloc::{AllocError, Global};
@@ -97,13 +97,6 @@ fn step_continues_open(tally: &mut Tally, symbol: Symbol) -> bool
     stays_open(&before, tally)
 }
 
-/// Whether records of the kind stand inside transactions.
-fn stands_inside(kind: Kind) -> bool
-    ensures { result ≡ stands_in_transaction kind }
-{
-    !matches!(kind, Kind::Hdr | Kind::Grh | Kind::Grt | Kind::Trl)
-}
-
 /// Takes the open transaction out, unless the next record continues it.
 fn hand_out(continues: bool, held: &mut Option<Transaction>) -> Option<Transaction>
     ensures { HandsOut continues held.old result held.new }
@@ -111,7 +104,21 @@ fn hand_out(continues: bool, held: &mut Option<Transaction>) -> Option<Transacti
     if continues { None } else { held.take() }
 }
 
-/// Adds a record to the transaction that is held, or begins one with it. Where memory was refused nothing changes.
+/// What adding a record answers that isn't misplaced.
+fn unless_misplaced(added: Result<(), PushFault>) -> Result<(), AllocError>
+    requires { added ≢ Err PushFault.Misplaced }
+    ensures ok { IsOk result ↔ IsOk added }
+    ensures memory { OnErr result (added ≡ Err PushFault.Memory) }
+{
+    match added {
+        Ok(()) => Ok(()),
+        Err(PushFault::Memory) => Err(AllocError),
+        Err(PushFault::Misplaced) => unreachable!(),
+    }
+}
+
+/// Adds a record to the transaction that is held, or begins one with it. It fails only where the list of its records asks
+/// for memory, and then nothing changes.
 fn add(
     alloc: Global,
     held: &mut Option<Transaction>,
@@ -120,21 +127,17 @@ fn add(
     requires { BeginsWithOneMore (held_list held.old) accepted }
     ensures ok { OnOk result (held.new ≡ Some (held_list held.old ++ accepted.entry ∷ [])) }
     ensures err { OnErr result (held.new ≡ held.old) }
+    ensures asks { OnErr result (AsksMemory (held_list held.old) accepted.entry) }
 {
-    let added = match held {
-        Some(open) => open.push(accepted),
+    match held {
+        Some(transaction) => unless_misplaced(transaction.push(accepted)),
         None => match Transaction::new(alloc, accepted) {
             Ok(begun) => {
                 *held = Some(begun);
                 Ok(())
             }
-            Err(fault) => Err(fault),
+            Err(fault) => unless_misplaced(Err(fault)),
         },
-    };
-    match added {
-        Ok(()) => Ok(()),
-        Err(PushFault::Memory) => Err(AllocError),
-        Err(PushFault::Misplaced) => unreachable!(),
     }
 }
 
@@ -162,17 +165,17 @@ fn add_accepted(
 
 /// Adds a record to the open transaction, where that may be and memory is found. Else nothing changes.
 #[inline(never)]
-fn adds_known(open: &mut Transaction, next: RecordRef<'_>) -> bool
-    ensures added { IsTrue result → open.new ≡ open.old ++ next.entry ∷ [] }
-    ensures kept { IsFalse result → open.new ≡ open.old }
+fn adds_known(transaction: &mut Transaction, next: RecordRef<'_>) -> bool
+    ensures added { IsTrue result → transaction.new ≡ transaction.old ++ next.entry ∷ [] }
+    ensures kept { IsFalse result → transaction.new ≡ transaction.old }
 {
-    open.push(next).is_ok()
+    transaction.push(next).is_ok()
 }
 
 /// Judges a line by quick tests. A record that continues the open transaction is added to it and counted; one that ends it
 /// is counted. Most lines are such, and no answer of a transaction's size is built for them.
 #[inline(always)]
-fn find_cut(
+fn enter_cut(
     tally: &mut Tally,
     held: &mut Option<Transaction>,
     expected: &mut SpelledPair,
@@ -183,10 +186,10 @@ fn find_cut(
     let Some(kind) = cut.kind() else {
         return Found::Nothing;
     };
-    if !stands_inside(kind) {
+    if !is_in_transaction(kind) {
         return Found::Nothing;
     }
-    let Some(open) = held else {
+    let Some(transaction) = held else {
         return Found::Nothing;
     };
     let before = *tally;
@@ -196,7 +199,7 @@ fn find_cut(
     if !stays_open(&before, tally) {
         return Found::Ends;
     }
-    if !adds_known(open, cut.known_record()) {
+    if !adds_known(transaction, cut.known_record()) {
         *tally = before;
         return Found::Nothing;
     }
@@ -336,12 +339,12 @@ impl Machine {
 
     /// Judges the line that ended by quick tests. The record of one that ends the open transaction waits.
     #[inline(never)]
-    fn find_line(&mut self) -> Found
+    fn enter_line(&mut self) -> Found
         requires { self.old.line.ended ≢ LineEnd.Open }
         ensures { FindsLine result self.old self.new }
     {
         let cut = self.line.cut_looked_through();
-        let found = find_cut(&mut self.tally, &mut self.held, &mut self.expected, &cut);
+        let found = enter_cut(&mut self.tally, &mut self.held, &mut self.expected, &cut);
         match found {
             Found::Added => self.begin_line(),
             Found::Ends => self.state = State::Pending,
@@ -353,7 +356,7 @@ impl Machine {
     /// Judges the line that the piece begins with by quick tests, filled up in the line buffer, and answers how many bytes it
     /// takes. Of one that the piece cuts nothing is found.
     #[inline(always)]
-    fn find_filled(&mut self, piece: &[u8]) -> (usize, Found)
+    fn enter_filled(&mut self, piece: &[u8]) -> (usize, Found)
         requires unended { self.old.line.ended ≡ LineEnd.Open }
         requires empty { length self.old.line.bytes ≡ 0 }
         ensures { FindsFront result.1 self.old piece.now result.0 self.new }
@@ -361,7 +364,7 @@ impl Machine {
         let Some(used) = self.line.take_ended(piece) else {
             return (0, Found::Nothing);
         };
-        match self.find_line() {
+        match self.enter_line() {
             Found::Added => (used, Found::Added),
             Found::Ends => (used, Found::Ends),
             Found::Nothing => {
@@ -375,7 +378,7 @@ impl Machine {
     /// bytes it takes. It is copied only where it waits. A kind that is constant where this is called makes each width and
     /// place constant too.
     #[inline(always)]
-    fn find_as(&mut self, kind: Kind, piece: &[u8]) -> (usize, Found)
+    fn enter_as(&mut self, kind: Kind, piece: &[u8]) -> (usize, Found)
         requires unended { self.old.line.ended ≡ LineEnd.Open }
         requires reading { self.old.state ≡ State.Reading }
         requires empty { length self.old.line.bytes ≡ 0 }
@@ -384,9 +387,9 @@ impl Machine {
         ensures { FindsFront result.1 self.old piece.now result.0 self.new }
     {
         let Some((cut, used)) = CutLine::at_front(kind, piece) else {
-            return self.find_filled(piece);
+            return self.enter_filled(piece);
         };
-        match find_cut(&mut self.tally, &mut self.held, &mut self.expected, &cut) {
+        match enter_cut(&mut self.tally, &mut self.held, &mut self.expected, &cut) {
             Found::Added => (used, Found::Added),
             Found::Ends => {
                 self.line.keep(&cut);
@@ -400,7 +403,7 @@ impl Machine {
     /// Judges the line that the piece begins with by quick tests, where it stands, and answers how many bytes it takes. Of a
     /// line that is under way, and of one that the piece cuts, nothing is found. The kinds of most lines have a branch each.
     #[inline(always)]
-    fn find_front(&mut self, piece: &[u8]) -> (usize, Found)
+    fn enter_front(&mut self, piece: &[u8]) -> (usize, Found)
         requires unended { self.old.line.ended ≡ LineEnd.Open }
         requires reading { self.old.state ≡ State.Reading }
         ensures { FindsFront result.1 self.old piece.now result.0 self.new }
@@ -412,28 +415,28 @@ impl Machine {
             return (0, Found::Nothing);
         };
         match kind {
-            Kind::Ter => self.find_as(Kind::Ter, piece),
-            Kind::Ipa => self.find_as(Kind::Ipa, piece),
-            Kind::Spu => self.find_as(Kind::Spu, piece),
-            Kind::Opu => self.find_as(Kind::Opu, piece),
-            Kind::Spt => self.find_as(Kind::Spt, piece),
-            Kind::Swr => self.find_as(Kind::Swr, piece),
-            Kind::Owr => self.find_as(Kind::Owr, piece),
-            Kind::Swt => self.find_as(Kind::Swt, piece),
-            Kind::Pwr => self.find_as(Kind::Pwr, piece),
-            Kind::Alt => self.find_as(Kind::Alt, piece),
-            Kind::Ewt => self.find_as(Kind::Ewt, piece),
-            Kind::Ver => self.find_as(Kind::Ver, piece),
-            Kind::Per => self.find_as(Kind::Per, piece),
-            Kind::Rec => self.find_as(Kind::Rec, piece),
-            Kind::Orn => self.find_as(Kind::Orn, piece),
-            Kind::Com => self.find_as(Kind::Com, piece),
-            Kind::Msg => self.find_as(Kind::Msg, piece),
-            Kind::Agr => self.find_as(Kind::Agr, piece),
-            Kind::Nwr => self.find_as(Kind::Nwr, piece),
-            Kind::Rev => self.find_as(Kind::Rev, piece),
-            Kind::Ack => self.find_as(Kind::Ack, piece),
-            _ => self.find_as(kind, piece),
+            Kind::Ter => self.enter_as(Kind::Ter, piece),
+            Kind::Ipa => self.enter_as(Kind::Ipa, piece),
+            Kind::Spu => self.enter_as(Kind::Spu, piece),
+            Kind::Opu => self.enter_as(Kind::Opu, piece),
+            Kind::Spt => self.enter_as(Kind::Spt, piece),
+            Kind::Swr => self.enter_as(Kind::Swr, piece),
+            Kind::Owr => self.enter_as(Kind::Owr, piece),
+            Kind::Swt => self.enter_as(Kind::Swt, piece),
+            Kind::Pwr => self.enter_as(Kind::Pwr, piece),
+            Kind::Alt => self.enter_as(Kind::Alt, piece),
+            Kind::Ewt => self.enter_as(Kind::Ewt, piece),
+            Kind::Ver => self.enter_as(Kind::Ver, piece),
+            Kind::Per => self.enter_as(Kind::Per, piece),
+            Kind::Rec => self.enter_as(Kind::Rec, piece),
+            Kind::Orn => self.enter_as(Kind::Orn, piece),
+            Kind::Com => self.enter_as(Kind::Com, piece),
+            Kind::Msg => self.enter_as(Kind::Msg, piece),
+            Kind::Agr => self.enter_as(Kind::Agr, piece),
+            Kind::Nwr => self.enter_as(Kind::Nwr, piece),
+            Kind::Rev => self.enter_as(Kind::Rev, piece),
+            Kind::Ack => self.enter_as(Kind::Ack, piece),
+            _ => self.enter_as(kind, piece),
         }
     }
 
@@ -469,7 +472,7 @@ impl Machine {
         ensures kept { IsFalse result → self.new ≡ self.old }
     {
         let accepted = self.line.cut().known_record();
-        if !stands_inside(accepted.kind()) {
+        if !is_in_transaction(accepted.kind()) {
             return false;
         }
         match add(self.alloc, &mut self.held, accepted) {
@@ -560,7 +563,7 @@ impl Machine {
     {
         let mut used = 0;
         loop {
-            let (front, found) = self.find_front(&piece[used..]);
+            let (front, found) = self.enter_front(&piece[used..]);
             match found {
                 Found::Added => used += front,
                 Found::Ends => return (used + front, Some(self.take_whole())),
@@ -594,7 +597,7 @@ impl Machine {
                     outcome: Outcome::More,
                 };
             }
-            match self.find_line() {
+            match self.enter_line() {
                 Found::Added => continue,
                 Found::Ends => {
                     return Step {

@@ -1,6 +1,6 @@
 //! Reading a transmission from a reader, item by item.
 
-ghost use Rattle.std.specs.Prelude.{◌≡◌, ◌<◌, ◌⊎◌, ℕ, List, [], ◌++◌, Option, Err, IfNone, IfSome, IsSome, IsSomeAnd, None, Some, true, false};
+ghost use Rattle.std.specs.Prelude.{◌≡◌, ◌≤◌, ℕ, List, [], ◌++◌, Option, Err, IfNone, IfSome, IsSome, IsSomeAnd, None, Some, true, false};
 ghost use Rattle.cwr_decode.specs.Steps.Decoding.{HasWaiting, accepted_records, final_answer, has_ended, limits_of};
 ghost use Rattle.cwr_decode.specs.Steps.Represents.{RepresentsSome, Represents};
 ghost use Rattle.cwr_decode.specs.Steps.Machines.{WaitsOutside, again};
@@ -270,11 +270,11 @@ impl<'a, R: Source> Reading<'a, R> {
         ensures same_reference { self.new.reader.ghost_name ≡ self.old.reader.ghost_name }
         ensures reads { Reads self.old.decoder (R.remaining self.old.reader.now) result self.new.decoder (R.remaining self.new.reader.now) }
         ensures failures { CountsReader result (R.failures self.old.reader.now) (R.failures self.new.reader.now) }
-        // Out of memory comes only with a record that was being added: the one that waited, with the reader as it was, or
-        // one that was accepted in this call.
+        // Out of memory comes only with a record that was being added: where none was accepted in this call, it was the one
+        // that waited, and the reader is as it was.
         ensures memory { result ≡ Err ReadFault.Memory → final_answer self.old.decoder ≡ None
-            → (HasWaiting self.old.decoder × (self.new.reader.now ≡ self.old.reader.now))
-            ⊎ (accepted_records self.old.decoder < accepted_records self.new.decoder) }
+            → accepted_records self.new.decoder ≤ accepted_records self.old.decoder
+            → HasWaiting self.old.decoder × (self.new.reader.now ≡ self.old.reader.now) }
         // After the end or a fault of the input, that is answered again, and nothing changes.
         ensures again { IfSome (final_answer self.old.decoder) (λ outcome. (Some result ≡ answer_of outcome)
             × (self.new.decoder ≡ self.old.decoder) × (self.new.reader.now ≡ self.old.reader.now)) }

@@ -1,6 +1,6 @@
 //! Transmissions that are written call by call.
 
-ghost use Rattle.std.specs.Prelude.{◌≡◌, ◌↔◌, ◌≤◌, IsTrue, ℕ, List, Option, [], ◌∷◌, length, map, true, false, IfErr, MatchOption, IfOk, Err, Some};
+ghost use Rattle.std.specs.Prelude.{◌≡◌, ◌↔◌, ◌≤◌, IsTrue, ℕ, List, Option, [], ◌∷◌, length, map, true, false, IfErr, MatchOption, IfOk, OnOk, Err, Some};
 ghost use Rattle.cwr_layouts.specs.Format.Records.{RecordValue, row_of};
 ghost use Rattle.cwr_shape.specs.declared.symbols.Symbol.{Symbol};
 ghost use Rattle.cwr_shape.specs.Steps.Tallies.{IsTallyOf};
@@ -329,6 +329,8 @@ impl<W: Target> Encoder<W> {
             → JudgesEnd (encoder_limits self) (map symbol_by_cells records) result.1 }
         ensures unlimited { IsUnlimited result.1 }
         ensures finishes { is_stopped self ≡ false → FinishesWriting W.contents W.failures self result.0 result.1 }
+        // All that was written was handed on.
+        ensures handed_on { OnOk result.1 (W.handed_on result.0 ≡ true) }
     {
         let mut encoder = self;
         match encoder.end() {
@@ -401,6 +403,7 @@ pub(crate) fn flushed<W: Target>(sink: Sink<W>) -> (W, Result<u64, EncodeFault>)
     ensures kept { Keeps (W.contents (writer_of sink)) (W.contents result.0) }
     ensures ok { IfOk result.1 (λ n. (n ≡ written_of sink) × (W.failures result.0 ≡ W.failures (writer_of sink))) }
     ensures err { IfErr result.1 (λ e. (e ≡ EncodeFault.Writer (written_of sink)) × (W.failures result.0 ≡ one_more_failure (W.failures (writer_of sink)))) }
+    ensures handed_on { OnOk result.1 (W.handed_on result.0 ≡ true) }
 {
     let written = sink.written();
     let mut writer = sink.into_inner();

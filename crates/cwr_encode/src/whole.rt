@@ -1,6 +1,6 @@
 //! Whole transmissions that are written.
 
-ghost use Rattle.std.specs.Prelude.{◌≡◌, false, Err, None, Some, IfErr};
+ghost use Rattle.std.specs.Prelude.{◌≡◌, true, false, Err, None, Some, IfErr, OnOk};
 ghost use Rattle.cwr_values.specs.Format.Fits.{value_fault};
 ghost use Rattle.cwr_values.specs.Format.Rows.{canonical_text};
 ghost use Rattle.cwr_values.specs.declared.transmissions.ValueFault.{ValueFault};
@@ -56,7 +56,8 @@ fn write_transmission<W: Target>(
     writer: W,
 ) -> (W, Result<u64, EncodeFault>)
     requires { IsFew transmission.now }
-    ensures { WritesAll W.contents W.failures (canonical_text transmission.now) writer result.0 result.1 }
+    ensures writes { WritesAll W.contents W.failures (canonical_text transmission.now) writer result.0 result.1 }
+    ensures handed_on { OnOk result.1 (W.handed_on result.0 ≡ true) }
 {
     let mut sink = Sink::new(writer);
     match put_transmission(&mut sink, transmission) {
@@ -82,6 +83,8 @@ pub fn encode<W: Target>(
         → (result.0 ≡ writer) × (result.1 ≡ Err (refusal_of fault)) }
     ensures written { value_fault limits transmission.now ≡ None
         → WritesAll W.contents W.failures (canonical_text transmission.now) writer result.0 result.1 }
+    // All that was written was handed on.
+    ensures handed_on { OnOk result.1 (W.handed_on result.0 ≡ true) }
 {
     match transmission.fits(limits) {
         Ok(()) => {

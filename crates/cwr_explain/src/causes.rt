@@ -9,7 +9,8 @@ use crate::trailing::Trailing;
 use cwr_decode::{LastRead, Refusal};
 use cwr_fields::{CellFault, first_control};
 use cwr_layouts::{CutLine, Field, Kind, LONGEST_LINE, field, is_carried, width};
-use cwr_shape::{Level, LimitKind, Limits, Reason, Stage, Symbol};
+use cwr_shape::{LimitKind, Limits, Reason, Stage, Symbol};
+use cwr_tools::level_words;
 use std::alloc::{AllocError, Global};
 use std::fmt::Write;
 
@@ -28,20 +29,9 @@ pub(crate) struct Refused<'a> {
     pub is_too_long: bool,
 }
 
-/// How much a level rejects.
-fn level_words(level: Level) -> &'static str {
-    match level {
-        Level::E => "the entire file is rejected",
-        Level::G => "the group is rejected",
-        Level::T => "the transaction is rejected",
-        Level::R => "the record is rejected",
-        Level::F => "the field is rejected",
-    }
-}
-
 impl Refused<'_> {
     /// The field at which it is refused, where its kind has that.
-    fn place(&self) -> Option<Field> {
+    fn refused_field(&self) -> Option<Field> {
         field(self.kind?, self.refusal.field)
     }
 
@@ -70,7 +60,7 @@ impl Refused<'_> {
 
     /// The first byte of what is shown, and how many, from 0.
     fn shown(&self) -> (usize, usize) {
-        match (self.place(), self.refusal.reason) {
+        match (self.refused_field(), self.refusal.reason) {
             (Some(place), _) => (place.start, place.width),
             (None, Reason::Excess) => (self.excess(), 1),
             (None, _) => (0, 3),
@@ -101,7 +91,7 @@ impl Refused<'_> {
     /// Adds the name of the field.
     fn add_field(&self, text: &mut String) -> Result<(), AllocError> {
         add_label(text, "field")?;
-        match (self.kind, self.place()) {
+        match (self.kind, self.refused_field()) {
             (Some(kind), Some(place)) => {
                 let (letters, name) = (letters_of(kind), place.name);
                 writeln!(text, "{letters} {name}")
@@ -246,7 +236,7 @@ impl Refused<'_> {
     /// Adds the number that belongs there.
     fn add_number_expected(&self, text: &mut String, number: u64) -> Result<(), AllocError> {
         add_label(text, "expected")?;
-        if let (Some(kind), Some(place)) = (self.kind, self.place()) {
+        if let (Some(kind), Some(place)) = (self.kind, self.refused_field()) {
             add_number(text, place.width, number)?;
             let rule = number_rule(kind, self.refusal.field);
             write!(text, ": {rule}")?;
@@ -281,7 +271,7 @@ impl Refused<'_> {
         stage: Stage,
         cut: &CutLine<'_>,
     ) -> Result<(), AllocError> {
-        match (self.refusal.reason, self.place()) {
+        match (self.refusal.reason, self.refused_field()) {
             (Reason::UnknownKind | Reason::Misplaced, _) => add_coming(alloc, text, stage),
             (Reason::Cell(fault), Some(place)) => self.add_cell_expected(text, &place, cut, fault),
             (Reason::Number { expected }, _) => self.add_number_expected(text, expected),
@@ -310,10 +300,9 @@ impl Refused<'_> {
 
     /// Adds the refusal's level.
     fn add_level(&self, text: &mut String) -> Result<(), AllocError> {
-        let level = self.refusal.level;
-        let words = level_words(level);
+        let words = level_words(self.refusal.level);
         add_label(text, "level")?;
-        writeln!(text, "{level}: {words}")
+        writeln!(text, "{words}")
     }
 
     /// Adds all that is said of the refusal.

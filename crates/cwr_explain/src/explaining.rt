@@ -1,5 +1,6 @@
 //! Checking a transmission, and explaining what was found.
 
+ghost use Rattle.std.specs.Prelude.{◌≡◌, true, OnOk};
 ghost use Rattle.cwr_tools.specs.Format.Verdicts.{JudgesText};
 ghost use Rattle.cwr_tools.specs.Format.Reports.{CountsReaderFault, CountsWriterFault};
 ghost use Rattle.cwr_explain.specs.Format.Explained.{AddsWords, IsAnswerTo, ReadsOnly, TakesMore, WritesOnly};
@@ -108,6 +109,7 @@ fn explanation(
 fn write_text<W: Target>(writer: W, text: &str) -> (W, Result<(), ToolFault>)
     ensures words { AddsWords W.contents writer result.0 }
     ensures failures { WritesOnly result.1 (W.failures writer) (W.failures result.0) }
+    ensures handed_on { OnOk result.1 (W.handed_on result.0 ≡ true) }
 {
     let mut sink = Sink::new(writer);
     let put = sink.put(text.as_bytes());
@@ -161,6 +163,7 @@ fn add_explanation<R: Source, W: Target>(
     ensures answered { IsAnswerTo verdict result.1 }
     ensures reader_failures { CountsReaderFault result.1 (R.failures reader.old) (R.failures reader.new) }
     ensures writer_failures { CountsWriterFault result.1 (W.failures writer) (W.failures result.0) }
+    ensures handed_on { OnOk result.1 (W.handed_on result.0 ≡ true) }
 {
     match explained(alloc, limits, name, reader, &verdict, last) {
         Err(fault) => (writer, Err(fault)),
@@ -191,6 +194,8 @@ pub fn explain<R: Source, W: Target + Drop>(
     // No failure is passed over: a device failed only where that is the answer.
     ensures reader_failures { CountsReaderFault result.1 (R.failures reader.old) (R.failures reader.new) }
     ensures writer_failures { CountsWriterFault result.1 (W.failures writer) (W.failures result.0) }
+    // All that was written was handed on.
+    ensures handed_on { OnOk result.1 (W.handed_on result.0 ≡ true) }
 {
     let (writer, checked, last) = check_explained(alloc, limits, reader, writer);
     match checked {

@@ -9,6 +9,7 @@ pub mod DurationCells
 pub mod Failures
 pub mod FaultTexts
 pub mod Flags
+pub mod Growth
 pub mod Iswc
 pub mod MemberLaws
 pub mod Members

@@ -21,6 +21,8 @@ pub struct Counted<T> {
     end: usize,
     shown: usize,
     failures: u64,
+    // All that was written was handed on.
+    handed_on: bool,
     ghost ordered: { start + shown ≤ end },
     ghost within: { end ≤ AHEAD },
 }
@@ -44,6 +46,7 @@ impl<T> Counted<T> {
             end: 0,
             shown: 0,
             failures: 0,
+            handed_on: true,
         }
     }
 
@@ -133,13 +136,16 @@ impl<R: Read> Source for Counted<R> {
 }
 
 impl<W: Write> Target for Counted<W> {
-    ghost use Rattle.cwr_fields.specs.Steps.Counted.{inner_of, failures_of};
+    ghost use Rattle.cwr_fields.specs.Steps.Counted.{inner_of, failures_of, has_handed_on};
 
     ghost contents = { λ counted. W.contents (inner_of counted) };
+
+    ghost handed_on = { has_handed_on };
 
     ghost failures = { failures_of };
 
     fn write(&mut self, text: &[u8]) -> Result<usize, DeviceFault> {
+        self.handed_on = false;
         if self.failures == u64::MAX {
             return Err(DeviceFault);
         }
@@ -154,7 +160,10 @@ impl<W: Write> Target for Counted<W> {
             return Err(DeviceFault);
         }
         match self.inner.flush() {
-            Ok(()) => Ok(()),
+            Ok(()) => {
+                self.handed_on = true;
+                Ok(())
+            }
             Err(_) => Err(self.count_failure()),
         }
     }

@@ -1,6 +1,6 @@
 //! Readers and writers that show their bytes and how often they failed.
 
-ghost use Rattle.std.specs.Prelude.{◌≡◌, ℕ, ◌-◌, ◌≤◌, List, [], length, drop, Option, Some, IfSome, IfOk};
+ghost use Rattle.std.specs.Prelude.{◌≡◌, ℕ, ◌-◌, ◌≤◌, Bool, true, false, List, [], length, drop, Option, Some, IfSome, IfOk, OnOk};
 ghost use Rattle.std.specs.Io.{StartsWith};
 ghost use Rattle.std.specs.Io.BufRead.{Rests};
 ghost use Rattle.std.specs.Io.KnownBytes.{Keeps, WriteAppends};
@@ -44,6 +44,9 @@ pub trait Target {
     // The bytes that were written, where they are known.
     ghost contents: { Self → Option (List ℕ) };
 
+    // Whether all that was written was handed on.
+    ghost handed_on: { Self → Bool };
+
     // How many calls failed.
     ghost failures: { Self → ℕ };
 
@@ -53,10 +56,12 @@ pub trait Target {
         ensures bound { IfOk result (λ count. count ≤ length text.now) }
         ensures some { IfOk result (λ count. count ≡ 0 → text.now ≡ []) }
         ensures bytes { WriteAppends (contents self.old) (contents self.new) result text.now }
+        ensures waits { handed_on self.new ≡ false }
         ensures failures { CountsFailure result (failures self.old) (failures self.new) };
 
     /// Hands on what was written so far.
     fn flush(&mut self) -> Result<(), DeviceFault>
         ensures bytes { Keeps (contents self.old) (contents self.new) }
+        ensures handed_on { OnOk result (handed_on self.new ≡ true) }
         ensures failures { CountsFailure result (failures self.old) (failures self.new) };
 }

@@ -30,7 +30,8 @@ use Rattle.cwr_values.specs.declared.items.Item.{Item}
 use Rattle.cwr_values.specs.declared.items.Item.TheVariants.{Transaction}
 use Rattle.cwr_values.specs.Format.Values.{symbol_of}
 use Rattle.cwr_values.specs.Format.Begins.{row_after, rows_after, rows_so_far}
-use Rattle.cwr_judge.specs.Format.Items.{stands_in_transaction, record_sequence, continues_transaction, ends_transaction, transaction_at_end, own_item, items_after}
+use Rattle.cwr_layouts.specs.Format.Kinds.{is_in_transaction}
+use Rattle.cwr_judge.specs.Format.Items.{record_sequence, continues_transaction, ends_transaction, transaction_at_end, own_item, items_after}
 use Rattle.cwr_judge.specs.Steps.Open.{items_so_far, open_of, continues_open, Stays}
 use Rattle.cwr_judge.proofs.ItemsOfTransactions.{no_item}
 use Rattle.cwr_judge.proofs.OneMoreRecord.{IsInner, inner_record_symbol, is_header, count_after_header, later_sequence, place-snoc, goes_inside, symbols-snoc, open_longer}
@@ -131,8 +132,8 @@ after_header_fewer records g is_open =
 quiet : (o : Option Row) (rows : List Row) (row : Row) → continues_transaction row ≡ true → own_item row.kind row ≡ [] → cond (ends_transaction o row) (Transaction (transaction_at_end o rows) ∷ []) [] ++ own_item row.kind row ≡ []
 quiet None rows row on own = own
 quiet (Some last) rows row on own =
-    ap (λ (c : Bool). cond (stands_in_transaction last.kind && not c) (Transaction (transaction_at_end (Some last) rows) ∷ []) [] ++ own_item row.kind row) on
-    ∙ by (stands_in_transaction last.kind)
+    ap (λ (c : Bool). cond (is_in_transaction last.kind && not c) (Transaction (transaction_at_end (Some last) rows) ∷ []) [] ++ own_item row.kind row) on
+    ∙ by (is_in_transaction last.kind)
     ∙ own
   where
     by : (b : Bool) → cond (b && false) (Transaction (transaction_at_end (Some last) rows) ∷ []) [] ++ own_item row.kind row ≡ own_item row.kind row
@@ -146,7 +147,7 @@ continuing_stays records r h g few e =
     let s : Symbol = symbol_of r in
     let parts = and_parts (transactions_begun Acknowledgement (xs ++ s ∷ []) == transactions_begun Acknowledgement xs) (tallies_there.has_open_transaction (place_after (xs ++ s ∷ []))) e in
     let inner : IsInner s = sym (place-snoc xs s) ∙ parts.1 in
-    let inside : stands_in_transaction r.kind ≡ true = sym (inner_record_symbol r) ∙ inner in
+    let inside : is_in_transaction r.kind ≡ true = sym (inner_record_symbol r) ∙ inner in
     let later : is_header records r ≡ false = not_true (is_header records r) (sym (goes_inside xs s inner) ∙ e) in
     let goes : Continues Any (xs ++ s ∷ []) = subst (Continues Any) (symbols-snoc records r) g in
     let is_open : tallies_there.has_open_transaction (place_after xs) ≡ true = open_before records s inner later goes in

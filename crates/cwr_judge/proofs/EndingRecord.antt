@@ -17,7 +17,8 @@ use Rattle.cwr_values.specs.declared.items.Item.TheVariants.{Opened, GroupOpened
 use Rattle.cwr_values.specs.Format.Values.{symbol_of}
 use Rattle.cwr_values.specs.Format.Begins.{row_after, rows_after, rows_so_far}
 use Rattle.cwr_values.proofs.RowAt.{rows_so_far-snoc, length-rows_so_far}
-use Rattle.cwr_judge.specs.Format.Items.{stands_in_transaction, record_sequence, continues_transaction, ends_transaction, transaction_at_end, own_item, items_at, items_after, items}
+use Rattle.cwr_layouts.specs.Format.Kinds.{is_in_transaction}
+use Rattle.cwr_judge.specs.Format.Items.{record_sequence, continues_transaction, ends_transaction, transaction_at_end, own_item, items_at, items_after, items}
 use Rattle.cwr_judge.specs.Steps.Open.{items_so_far, open_of, continues_open, ended_transaction, item_of, Closes}
 use Rattle.cwr_judge.proofs.ItemsOfTransactions.{items-append, last-snoc, idle, snoc_of, all_last}
 use Rattle.cwr_judge.proofs.OneMoreRecord.{inner_record_symbol, is_header, count_after_header, first_sequence, row_sequence, goes_inside, open_inside, open_outside, some_open, open_header}
@@ -46,7 +47,7 @@ after_header_few records =
 record Hands (records : List RecordValue) (row : Row) : Type 0 where
   gives : items_at (rows_so_far records) row ≡ ended_transaction (open_of records) ++ own_item row.kind row
 
-hands_by : (front : List RecordValue) (last : RecordValue) (row : Row) (b : Bool) → stands_in_transaction last.kind ≡ b → AllByRecursion IsRecord (front ++ last ∷ []) → length (front ++ last ∷ []) ≤ 99999999 → continues_transaction row ≡ false
+hands_by : (front : List RecordValue) (last : RecordValue) (row : Row) (b : Bool) → is_in_transaction last.kind ≡ b → AllByRecursion IsRecord (front ++ last ∷ []) → length (front ++ last ∷ []) ≤ 99999999 → continues_transaction row ≡ false
     → Hands (front ++ last ∷ []) row
 hands_by front last row false outside h few n = record {
   gives = ap (λ (rows : List Row). items_at rows row) (rows_so_far-snoc front last)
@@ -77,7 +78,7 @@ hands [] row h few n = record { gives = refl }
 hands (x ∷ xs) row h few n =
     let s = snoc_of x xs in
     subst (λ (rs : List RecordValue). Hands rs row) (sym s.whole)
-    (hands_by s.front s.last row (stands_in_transaction s.last.kind) refl (subst (AllByRecursion IsRecord) s.whole h) (subst (λ (rs : List RecordValue). length rs ≤ 99999999) s.whole few) n)
+    (hands_by s.front s.last row (is_in_transaction s.last.kind) refl (subst (AllByRecursion IsRecord) s.whole h) (subst (λ (rs : List RecordValue). length rs ≤ 99999999) s.whole few) n)
 
 -- ---- the items with one more record
 
@@ -101,7 +102,7 @@ all_front P (y ∷ xs) x h = (h.0, all_front P xs x h.1)
 -- ---- one more record ends the open transaction
 
 closes_by : (records : List RecordValue) (r : RecordValue) → AllByRecursion IsRecord (records ++ r ∷ []) → length records ≤ 99999999 → continues_transaction (row_after records r) ≡ false
-    → open_of (records ++ r ∷ []) ≡ cond (stands_in_transaction r.kind) (r ∷ []) [] → Closes records r
+    → open_of (records ++ r ∷ []) ≡ cond (is_in_transaction r.kind) (r ∷ []) [] → Closes records r
 closes_by records r h few n e =
     let row : Row = row_after records r in
     let given = hands records row (all_front IsRecord records r h) few n in
@@ -113,7 +114,7 @@ closes_by records r h few n e =
           ∙ sym (append_assoc (items_so_far records) (ended_transaction (open_of records)) (item_of r.kind r));
     }
 
-ends_by : (records : List RecordValue) (r : RecordValue) (b : Bool) → stands_in_transaction r.kind ≡ b → AllByRecursion IsRecord (records ++ r ∷ []) → length records ≤ 99999999
+ends_by : (records : List RecordValue) (r : RecordValue) (b : Bool) → is_in_transaction r.kind ≡ b → AllByRecursion IsRecord (records ++ r ∷ []) → length records ≤ 99999999
     → continues_open (map symbol_of records) (symbol_of r) ≡ false → Closes records r
 ends_by records r true inside h few e =
     let header : is_header records r ≡ true = not_false (is_header records r) (sym (goes_inside (map symbol_of records) (symbol_of r) (inner_record_symbol r ∙ inside)) ∙ e) in
@@ -129,4 +130,4 @@ ends_by records r false outside h few e =
 
 pub ends_closes : (records : List RecordValue) (r : RecordValue) → AllByRecursion IsRecord (records ++ r ∷ []) → Continues Any (map symbol_of (records ++ r ∷ [])) → length records ≤ 99999999
     → continues_open (map symbol_of records) (symbol_of r) ≡ false → Closes records r
-ends_closes records r h g few e = ends_by records r (stands_in_transaction r.kind) refl h few e
+ends_closes records r h g few e = ends_by records r (is_in_transaction r.kind) refl h few e

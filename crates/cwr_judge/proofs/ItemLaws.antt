@@ -21,7 +21,8 @@ use Rattle.cwr_values.proofs.RowsByParts.{rows_of_transactions, rows_of_group, r
 use Rattle.cwr_values.proofs.OneSpelling.{parts_of, symbols-outline}
 use Rattle.cwr_values.specs.declared.items.Item.{Item}
 use Rattle.cwr_values.specs.declared.items.Item.TheVariants.{Opened, GroupOpened, Transaction, GroupClosed, Ended}
-use Rattle.cwr_judge.specs.Format.Items.{stands_in_transaction, record_sequence, continues_transaction, own_item, items_at, items_after, items, group_items, value_items}
+use Rattle.cwr_layouts.specs.Format.Kinds.{is_in_transaction}
+use Rattle.cwr_judge.specs.Format.Items.{record_sequence, continues_transaction, own_item, items_at, items_after, items, group_items, value_items}
 use Rattle.cwr_judge.proofs.ItemsOfTransactions.{items-append, inside_kind, Ready, idle, start, IsInsideRow, items_given, transactions_walked}
 
 -- ---- group by group
@@ -31,20 +32,20 @@ record Gives (before xs : List Row) (whole : List Item) : Type 0 where
   gives : items_after before xs ≡ whole
   ready : Ready (before ++ xs) []
 
-around : (row : Row) → stands_in_transaction row.kind ≡ false → continues_transaction row ≡ false
+around : (row : Row) → is_in_transaction row.kind ≡ false → continues_transaction row ≡ false
 around row h = ap (λ (b : Bool). b && not (record_sequence row == 0)) h
 
 is_inside : (ty : TransactionType) (t : List RecordValue) → IsTransaction ty t → IsOnePart (λ r. part_class ty (symbol_of r)) t → IsInsideRow t
 is_inside ty t h p = record {
   some = omega (arith, ap length p.whole);
-  inside = subst (AllByRecursion (λ r. stands_in_transaction r.kind ≡ true)) (sym p.whole) (inside_kind ty p.head.kind p.head (one_not_zero (part_class ty (symbol_of p.head)) 0 p.first), later p.rest p.later);
+  inside = subst (AllByRecursion (λ r. is_in_transaction r.kind ≡ true)) (sym p.whole) (inside_kind ty p.head.kind p.head (one_not_zero (part_class ty (symbol_of p.head)) 0 p.first), later p.rest p.later);
   in_order = h.0;
 }
   where
     one_not_zero : (n m : ℕ) → n ≡ suc m → n ≡ 0 → ⊥
     one_not_zero n m e z = omega arith
 
-    later : (rs : List RecordValue) → AllByRecursion (λ r. part_class ty (symbol_of r) ≡ 2) rs → AllByRecursion (λ r. stands_in_transaction r.kind ≡ true) rs
+    later : (rs : List RecordValue) → AllByRecursion (λ r. part_class ty (symbol_of r) ≡ 2) rs → AllByRecursion (λ r. is_in_transaction r.kind ≡ true) rs
     later [] h = tt
     later (r ∷ rs) h = (inside_kind ty r.kind r (one_not_zero (part_class ty (symbol_of r)) 1 h.0), later rs h.1)
 
@@ -60,8 +61,8 @@ unfolding items_after
 group_gives before i g h k short =
     let head : Row = row_of ((i + 1) ∷ []) g.head in
     let foot : Row = foot_row i g in
-    let is_head : stands_in_transaction head.kind ≡ false = ap stands_in_transaction k.head.0 in
-    let is_foot : stands_in_transaction foot.kind ≡ false = ap stands_in_transaction k.foot.0 in
+    let is_head : is_in_transaction head.kind ≡ false = ap is_in_transaction k.head.0 in
+    let is_foot : is_in_transaction foot.kind ≡ false = ap is_in_transaction k.foot.0 in
     let opens : items_at before head ≡ GroupOpened g.head ∷ [] = h head (around head is_head) ∙ head_item ((i + 1) ∷ []) g.head kinds.Grh k.head.0 k.head.1 GroupOpened (λ row. refl) in
     let xs : List Row = rows_of_transactions 0 g.transactions in
     let walk = transactions_walked (before ++ head ∷ []) [] 0 g.transactions (idle before head is_head) (are_inside (type_of g.head) g.transactions k.each (parts_of (type_of g.head) g.transactions k.each)) short in
@@ -95,7 +96,7 @@ items_of_parts limits v h k a =
     let symbols : length (symbols_of (outline_of v)) ≡ length (records_of v) = ap length (symbols-outline v h) ∙ length-map (records_of v) symbol_of in
     let short : sum_by group_records (lengths_of_value v) ≤ 10 ^ 8 = omega (arith, k.0, symbols, length-records_of v, a) in
     let opening : Row = row_of [] v.opening in
-    let is_opening : stands_in_transaction opening.kind ≡ false = ap stands_in_transaction h.opening.0 in
+    let is_opening : is_in_transaction opening.kind ≡ false = ap is_in_transaction h.opening.0 in
     let opens : items_at [] opening ≡ Opened v.opening ∷ [] = start opening (around opening is_opening) ∙ head_item [] v.opening kinds.Hdr h.opening.0 h.opening.1 Opened (λ row. refl) in
     let groups = groups_give (opening ∷ []) 0 v.groups (idle [] opening is_opening) h.each short in
     let ends : items_at (opening ∷ rows_of_groups 0 v.groups) (trailer_row v) ≡ Ended ∷ [] = groups.ready (trailer_row v) refl in

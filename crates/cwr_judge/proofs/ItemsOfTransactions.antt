@@ -19,8 +19,9 @@ use Rattle.cwr_values.specs.Format.Values.{symbol_by}
 use Rattle.cwr_values.proofs.RowsByParts.{rows_inside, rows_of_transactions}
 use Rattle.cwr_values.specs.declared.items.Item.{Item}
 use Rattle.cwr_values.specs.declared.items.Item.TheVariants.{Transaction}
-use Rattle.cwr_judge.specs.Format.Items.{stands_in_transaction, record_sequence, continues_transaction, ends_transaction, transaction_at_end, own_item, items_at, items_after}
-use Rattle.cwr_judge.specs.Format.Items.{stands_in_transaction, record_sequence, continues_transaction, ends_transaction, transaction_at_end, own_item, items_at, items_after}
+use Rattle.cwr_layouts.specs.Format.Kinds.{is_in_transaction, is_in_transaction}
+use Rattle.cwr_judge.specs.Format.Items.{record_sequence, continues_transaction, ends_transaction, transaction_at_end, own_item, items_at, items_after}
+use Rattle.cwr_judge.specs.Format.Items.{record_sequence, continues_transaction, ends_transaction, transaction_at_end, own_item, items_at, items_after}
 
 pub items-append : (before xs ys : List Row) → items_after before (xs ++ ys) ≡ items_after before xs ++ items_after (before ++ xs) ys
 unfolding items_after
@@ -33,7 +34,7 @@ pub last-snoc : (d : Option Row) (xs : List Row) (x : Row) → last_or d (xs ++ 
 last-snoc d [] x = refl
 last-snoc d (y ∷ xs) x = last-snoc (Some y) xs x
 
-pub inside_kind : (ty : TransactionType) (k : Kind) (r : RecordValue) → (part_class ty (symbol_by k r) ≡ 0 → ⊥) → stands_in_transaction k ≡ true
+pub inside_kind : (ty : TransactionType) (k : Kind) (r : RecordValue) → (part_class ty (symbol_by k r) ≡ 0 → ⊥) → is_in_transaction k ≡ true
 inside_kind ty kinds.Hdr r h = absurd (h refl)
 inside_kind ty kinds.Grh r h = absurd (h refl)
 inside_kind ty kinds.Grt r h = absurd (h refl)
@@ -41,17 +42,17 @@ inside_kind ty kinds.Trl r h = absurd (h refl)
 inside_kind ty k r h = refl
 
 -- the third cell of such a record's row is its record sequence
-sequence_cell : (j k : ℕ) (kind : Kind) (cells : List (List ℕ)) → stands_in_transaction kind ≡ true → slice_index_or (row_cells (fields_after_type kind) (j ∷ k ∷ []) cells) 1 [] ≡ digits 8 k
+sequence_cell : (j k : ℕ) (kind : Kind) (cells : List (List ℕ)) → is_in_transaction kind ≡ true → slice_index_or (row_cells (fields_after_type kind) (j ∷ k ∷ []) cells) 1 [] ≡ digits 8 k
 sequence_cell j k kinds.Hdr cells h = absurd (true≢false (sym h))
 sequence_cell j k kinds.Grh cells h = absurd (true≢false (sym h))
 sequence_cell j k kinds.Grt cells h = absurd (true≢false (sym h))
 sequence_cell j k kinds.Trl cells h = absurd (true≢false (sym h))
 sequence_cell j k kind cells h = refl
 
-pub sequence_of : (j k : ℕ) (r : RecordValue) → stands_in_transaction r.kind ≡ true → k < 10 ^ 8 → record_sequence (row_of (j ∷ k ∷ []) r) ≡ k
+pub sequence_of : (j k : ℕ) (r : RecordValue) → is_in_transaction r.kind ≡ true → k < 10 ^ 8 → record_sequence (row_of (j ∷ k ∷ []) r) ≡ k
 sequence_of j k r h less = ap number_of (sequence_cell j k r.kind r.cells h) ∙ number_of-digits 8 k less
 
-pub no_item : (kind : Kind) (row : Row) → stands_in_transaction kind ≡ true → own_item kind row ≡ []
+pub no_item : (kind : Kind) (row : Row) → is_in_transaction kind ≡ true → own_item kind row ≡ []
 no_item kinds.Hdr row h = absurd (true≢false (sym h))
 no_item kinds.Grh row h = absurd (true≢false (sym h))
 no_item kinds.Grt row h = absurd (true≢false (sym h))
@@ -65,7 +66,7 @@ abbrev pub Ready : List Row → List Item → Type 0
 Ready before emit = (row : Row) → continues_transaction row ≡ false → items_at before row ≡ emit ++ own_item row.kind row
 
 -- after a row that stands in no transaction nothing waits
-pub idle : (before : List Row) (row : Row) → stands_in_transaction row.kind ≡ false → Ready (before ++ row ∷ []) []
+pub idle : (before : List Row) (row : Row) → is_in_transaction row.kind ≡ false → Ready (before ++ row ∷ []) []
 idle before row h next n =
     ap (λ (o : Option Row). cond (ends_transaction o next) (Transaction (transaction_at_end o (before ++ row ∷ [])) ∷ []) [] ++ own_item next.kind next) (last-snoc None before row)
     ∙ ap (λ (b : Bool). cond (b && not (continues_transaction next)) (Transaction (transaction_at_end (Some row) (before ++ row ∷ [])) ∷ []) [] ++ own_item next.kind next) h
@@ -77,7 +78,7 @@ start row n = refl
 record Pending (before : List Row) (j : ℕ) (p : List RecordValue) : Type 0 where
   front : List Row
   text : before ≡ front ++ rows_inside j 0 p
-  inside : AllByRecursion (λ r. stands_in_transaction r.kind ≡ true) p
+  inside : AllByRecursion (λ r. is_in_transaction r.kind ≡ true) p
   in_order : AllByRecursion IsRecord p
   short : length p ≤ 10 ^ 8
 
@@ -117,7 +118,7 @@ all_snoc P (y ∷ xs) x h p = (h.0, all_snoc P xs x h.1 p)
 record Ends (before : List Row) (j : ℕ) (p : List RecordValue) : Type 0 where
   last : Row
   is_last : last_or None before ≡ Some last
-  inside : stands_in_transaction last.kind ≡ true
+  inside : is_in_transaction last.kind ≡ true
   sequence : 1 + record_sequence last ≡ length p
 
 ends_of : (before : List Row) (j : ℕ) (p : List RecordValue) → Pending before j p → 0 < length p → Ends before j p
@@ -128,7 +129,7 @@ ends_of before j (r ∷ rs) h some =
     let row : Row = row_of (j ∷ (0 + length s.front) ∷ []) s.last in
     let text : before ≡ (h.front ++ rows_inside j 0 s.front) ++ row ∷ [] =
     h.text ∙ ap (λ (p : List RecordValue). h.front ++ rows_inside j 0 p) s.whole ∙ ap (λ (x : List Row). h.front ++ x) (rows_inside-snoc j 0 s.front s.last) ∙ sym (append_assoc h.front (rows_inside j 0 s.front) (row ∷ [])) in
-    let inside : stands_in_transaction s.last.kind ≡ true = all_last (λ (x : RecordValue). stands_in_transaction x.kind ≡ true) s.front s.last (subst (AllByRecursion (λ (x : RecordValue). stands_in_transaction x.kind ≡ true)) s.whole h.inside) in
+    let inside : is_in_transaction s.last.kind ≡ true = all_last (λ (x : RecordValue). is_in_transaction x.kind ≡ true) s.front s.last (subst (AllByRecursion (λ (x : RecordValue). is_in_transaction x.kind ≡ true)) s.whole h.inside) in
     let sequence : record_sequence row ≡ 0 + length s.front = sequence_of j (0 + length s.front) s.last inside (omega (arith, h.short, many)) in
     record { last = row; is_last = ap (last_or None) text ∙ last-snoc None (h.front ++ rows_inside j 0 s.front) row; inside = inside; sequence = omega arith }
 
@@ -144,7 +145,7 @@ waits before j p h some next n =
     ∙ ap (λ (t : List RecordValue). Transaction t ∷ own_item next.kind next) whole
 
 -- a record of the transaction continues it
-stays : (before : List Row) (j : ℕ) (p : List RecordValue) (r : RecordValue) → Pending before j p → 0 < length p → length p < 10 ^ 8 → stands_in_transaction r.kind ≡ true
+stays : (before : List Row) (j : ℕ) (p : List RecordValue) (r : RecordValue) → Pending before j p → 0 < length p → length p < 10 ^ 8 → is_in_transaction r.kind ≡ true
     → items_at before (row_of (j ∷ length p ∷ []) r) ≡ []
 stays before j p r h some short inside =
     let row : Row = row_of (j ∷ length p ∷ []) r in
@@ -155,13 +156,13 @@ stays before j p r h some short inside =
     ∙ ap₂ (λ (b c : Bool). cond (b && not c) (Transaction (transaction_at_end (Some e.last) before) ∷ []) [] ++ own_item row.kind row) e.inside on
     ∙ no_item r.kind row inside
 
-longer : (before : List Row) (j : ℕ) (p : List RecordValue) (r : RecordValue) → Pending before j p → length p < 10 ^ 8 → stands_in_transaction r.kind ≡ true → IsRecord r
+longer : (before : List Row) (j : ℕ) (p : List RecordValue) (r : RecordValue) → Pending before j p → length p < 10 ^ 8 → is_in_transaction r.kind ≡ true → IsRecord r
     → Pending (before ++ row_of (j ∷ length p ∷ []) r ∷ []) j (p ++ r ∷ [])
 longer before j p r h short inside in_order = record {
   front = h.front;
   text = ap (λ (b : List Row). b ++ row_of (j ∷ length p ∷ []) r ∷ []) h.text ∙ append_assoc h.front (rows_inside j 0 p) (row_of (j ∷ length p ∷ []) r ∷ [])
       ∙ ap (λ (x : List Row). h.front ++ x) (ap (λ (n : ℕ). rows_inside j 0 p ++ row_of (j ∷ n ∷ []) r ∷ []) (omega arith) ∙ sym (rows_inside-snoc j 0 p r));
-  inside = all_snoc (λ (x : RecordValue). stands_in_transaction x.kind ≡ true) p r h.inside inside;
+  inside = all_snoc (λ (x : RecordValue). is_in_transaction x.kind ≡ true) p r h.inside inside;
   in_order = all_snoc IsRecord p r h.in_order in_order;
   short = omega (arith, length-append p (r ∷ []));
 }
@@ -174,7 +175,7 @@ record Stayed (before xs : List Row) (j : ℕ) (t : List RecordValue) : Type 0 w
   pending : Pending (before ++ xs) j t
 
 rest_stays : (before : List Row) (j : ℕ) (p rs : List RecordValue) → Pending before j p → 0 < length p → length p + length rs ≤ 10 ^ 8
-    → AllByRecursion (λ r. stands_in_transaction r.kind ≡ true) rs → AllByRecursion IsRecord rs → Stayed before (rows_inside j (length p) rs) j (p ++ rs)
+    → AllByRecursion (λ r. is_in_transaction r.kind ≡ true) rs → AllByRecursion IsRecord rs → Stayed before (rows_inside j (length p) rs) j (p ++ rs)
 unfolding items_after
 rest_stays before j p [] h some short inside in_order = record {
   nothing = refl;
@@ -193,7 +194,7 @@ rest_stays before j p (r ∷ rs) h some short inside in_order =
 -- a transaction: some records, each in order and of a kind that stands in one
 pub record IsInsideRow (t : List RecordValue) : Type 0 where
   pub some : 0 < length t
-  pub inside : AllByRecursion (λ r. stands_in_transaction r.kind ≡ true) t
+  pub inside : AllByRecursion (λ r. is_in_transaction r.kind ≡ true) t
   pub in_order : AllByRecursion IsRecord t
 
 -- it gives what was ready, and then waits itself

@@ -19,7 +19,8 @@ use Rattle.cwr_shape.specs.Steps.Counting.{counts_with, counts_with_header, coun
 use Rattle.cwr_shape.proofs.OneMore.{last_or-snoc, counts-snoc}
 use Rattle.cwr_values.specs.Format.Values.{symbol_of, symbol_by}
 use Rattle.cwr_values.specs.Format.Begins.{row_after}
-use Rattle.cwr_judge.specs.Format.Items.{stands_in_transaction, record_sequence}
+use Rattle.cwr_layouts.specs.Format.Kinds.{is_in_transaction}
+use Rattle.cwr_judge.specs.Format.Items.{record_sequence}
 use Rattle.cwr_judge.specs.Steps.Open.{open_of, continues_open}
 use Rattle.cwr_judge.proofs.ItemsOfTransactions.{sequence_of}
 
@@ -29,17 +30,17 @@ use Rattle.cwr_judge.proofs.ItemsOfTransactions.{sequence_of}
 abbrev pub IsInner : Symbol → Type 0
 IsInner s = tallies_there.has_open_transaction (place_by (Some s)) ≡ true
 
-inner_by : (kind : Kind) (r : RecordValue) → tallies_there.has_open_transaction (place_by (Some (symbol_by kind r))) ≡ stands_in_transaction kind
+inner_by : (kind : Kind) (r : RecordValue) → tallies_there.has_open_transaction (place_by (Some (symbol_by kind r))) ≡ is_in_transaction kind
 inner_by kinds.Ipa r = refl
 inner_by kinds.Grh r = refl
 inner_by kind r = refl
 
 -- a record stands in a transaction where its symbol does
-pub inner_record_symbol : (r : RecordValue) → tallies_there.has_open_transaction (place_by (Some (symbol_of r))) ≡ stands_in_transaction r.kind
+pub inner_record_symbol : (r : RecordValue) → tallies_there.has_open_transaction (place_by (Some (symbol_of r))) ≡ is_in_transaction r.kind
 inner_record_symbol r = inner_by r.kind r
 
 -- it is a header where the symbol of its kind is one
-header_by : (ty : TransactionType) (kind : Kind) (r : RecordValue) → stands_in_transaction kind ≡ true → is_header_of ty (Plain kind) ≡ is_header_of ty (symbol_by kind r)
+header_by : (ty : TransactionType) (kind : Kind) (r : RecordValue) → is_in_transaction kind ≡ true → is_header_of ty (Plain kind) ≡ is_header_of ty (symbol_by kind r)
 header_by Agreement kinds.Ipa r h = refl
 header_by NewWork kinds.Ipa r h = refl
 header_by RevisedWork kinds.Ipa r h = refl
@@ -47,7 +48,7 @@ header_by Acknowledgement kinds.Ipa r h = refl
 header_by ty kinds.Grh r h = absurd (true≢false (sym h))
 header_by ty kind r h = refl
 
-expected_by : (ty : TransactionType) (c : Counts) (kind : Kind) → stands_in_transaction kind ≡ true → expected_numbers ty c kind ≡ expected_inside (is_header_of ty (Plain kind)) c
+expected_by : (ty : TransactionType) (c : Counts) (kind : Kind) → is_in_transaction kind ≡ true → expected_numbers ty c kind ≡ expected_inside (is_header_of ty (Plain kind)) c
 expected_by ty c kinds.Hdr h = absurd (true≢false (sym h))
 expected_by ty c kinds.Grh h = absurd (true≢false (sym h))
 expected_by ty c kinds.Grt h = absurd (true≢false (sym h))
@@ -64,22 +65,22 @@ count_after_header records = length (after_header (map symbol_of records))
 
 -- ---- record sequences
 
-row_inside : (before : List RecordValue) (r : RecordValue) (b : Bool) → stands_in_transaction r.kind ≡ true → is_header before r ≡ b
+row_inside : (before : List RecordValue) (r : RecordValue) (b : Bool) → is_in_transaction r.kind ≡ true → is_header before r ≡ b
     → row_after before r ≡ row_of (expected_inside b (counts_of (map symbol_of before))) r
 row_inside before r b inside h =
     let xs : List Symbol = map symbol_of before in
     ap (λ (ns : List ℕ). row_of ns r) (expected_by (open_type xs) (counts_of xs) r.kind inside ∙ ap (λ (c : Bool). expected_inside c (counts_of xs)) (header_by (open_type xs) r.kind r inside ∙ h))
 
 -- that of a header is 0
-pub first_sequence : (before : List RecordValue) (r : RecordValue) → stands_in_transaction r.kind ≡ true → is_header before r ≡ true → record_sequence (row_after before r) ≡ 0
+pub first_sequence : (before : List RecordValue) (r : RecordValue) → is_in_transaction r.kind ≡ true → is_header before r ≡ true → record_sequence (row_after before r) ≡ 0
 first_sequence before r inside h = ap record_sequence (row_inside before r true inside h) ∙ sequence_of (counts_of (map symbol_of before)).in_group 0 r inside (omega arith)
 
 -- that of any other record is one more than stand after the header
-pub later_sequence : (before : List RecordValue) (r : RecordValue) → stands_in_transaction r.kind ≡ true → is_header before r ≡ false → count_after_header before + 1 < 10 ^ 8 → record_sequence (row_after before r) ≡ count_after_header before + 1
+pub later_sequence : (before : List RecordValue) (r : RecordValue) → is_in_transaction r.kind ≡ true → is_header before r ≡ false → count_after_header before + 1 < 10 ^ 8 → record_sequence (row_after before r) ≡ count_after_header before + 1
 later_sequence before r inside h less =
     ap record_sequence (row_inside before r false inside h) ∙ sequence_of ((counts_of (map symbol_of before)).in_group - 1) (count_after_header before + 1) r inside less
 
-pub row_sequence : (before : List RecordValue) (r : RecordValue) (b : Bool) → stands_in_transaction r.kind ≡ true → is_header before r ≡ b → count_after_header before + 1 < 10 ^ 8 → record_sequence (row_after before r) ≡ cond b 0 (count_after_header before + 1)
+pub row_sequence : (before : List RecordValue) (r : RecordValue) (b : Bool) → is_in_transaction r.kind ≡ true → is_header before r ≡ b → count_after_header before + 1 < 10 ^ 8 → record_sequence (row_after before r) ≡ cond b 0 (count_after_header before + 1)
 row_sequence before r true inside h less = first_sequence before r inside h
 row_sequence before r false inside h less = later_sequence before r inside h less
 
@@ -124,13 +125,13 @@ goes_inside xs s h =
 pub symbols-snoc : (records : List RecordValue) (r : RecordValue) → map symbol_of (records ++ r ∷ []) ≡ map symbol_of records ++ symbol_of r ∷ []
 symbols-snoc records r = map-append symbol_of records (r ∷ [])
 
-pub open_inside : (records : List RecordValue) (r : RecordValue) → stands_in_transaction r.kind ≡ true → open_records (map symbol_of (records ++ r ∷ [])) ≡ 1 + cond (is_header records r) 0 (count_after_header records + 1)
+pub open_inside : (records : List RecordValue) (r : RecordValue) → is_in_transaction r.kind ≡ true → open_records (map symbol_of (records ++ r ∷ [])) ≡ 1 + cond (is_header records r) 0 (count_after_header records + 1)
 open_inside records r h =
     let xs : List Symbol = map symbol_of records in
     ap open_records (symbols-snoc records r)
     ∙ ap₂ (λ (b : Bool) (n : ℕ). cond b (1 + n) 0) (place-snoc xs (symbol_of r) ∙ inner_record_symbol r ∙ h) (after-snoc xs (symbol_of r) (inner_record_symbol r ∙ h))
 
-pub open_outside : (records : List RecordValue) (r : RecordValue) → stands_in_transaction r.kind ≡ false → open_of (records ++ r ∷ []) ≡ []
+pub open_outside : (records : List RecordValue) (r : RecordValue) → is_in_transaction r.kind ≡ false → open_of (records ++ r ∷ []) ≡ []
 open_outside records r h =
     let xs : List Symbol = map symbol_of records in
     let none : open_records (map symbol_of (records ++ r ∷ [])) ≡ 0 =
@@ -138,18 +139,18 @@ open_outside records r h =
     ∙ ap (λ (b : Bool). cond b (1 + length (after_header (xs ++ symbol_of r ∷ []))) 0) (place-snoc xs (symbol_of r) ∙ inner_record_symbol r ∙ h) in
     drop_all (length (records ++ r ∷ []) - open_records (map symbol_of (records ++ r ∷ []))) (records ++ r ∷ []) (omega (arith, none))
 
-pub some_open : (records : List RecordValue) (r : RecordValue) → stands_in_transaction r.kind ≡ true → 0 < length (open_of (records ++ r ∷ []))
+pub some_open : (records : List RecordValue) (r : RecordValue) → is_in_transaction r.kind ≡ true → 0 < length (open_of (records ++ r ∷ []))
 some_open records r h =
     omega (arith, open_inside records r h, length-append records (r ∷ []), length-drop (length (records ++ r ∷ []) - open_records (map symbol_of (records ++ r ∷ []))) (records ++ r ∷ []))
 
 -- a header is the whole of the transaction that it begins
-pub open_header : (records : List RecordValue) (r : RecordValue) → stands_in_transaction r.kind ≡ true → is_header records r ≡ true → open_of (records ++ r ∷ []) ≡ r ∷ []
+pub open_header : (records : List RecordValue) (r : RecordValue) → is_in_transaction r.kind ≡ true → is_header records r ≡ true → open_of (records ++ r ∷ []) ≡ r ∷ []
 open_header records r inside h =
     let one : open_records (map symbol_of (records ++ r ∷ [])) ≡ 1 = open_inside records r inside ∙ ap (λ (b : Bool). 1 + cond b 0 (count_after_header records + 1)) h in
     drop_at records (r ∷ []) (length (records ++ r ∷ []) - open_records (map symbol_of (records ++ r ∷ []))) (omega (arith, one, length-append records (r ∷ [])))
 
 -- any other record is one more of the open one
-pub open_longer : (records : List RecordValue) (r : RecordValue) → stands_in_transaction r.kind ≡ true → is_header records r ≡ false → tallies_there.has_open_transaction (place_after (map symbol_of records)) ≡ true
+pub open_longer : (records : List RecordValue) (r : RecordValue) → is_in_transaction r.kind ≡ true → is_header records r ≡ false → tallies_there.has_open_transaction (place_after (map symbol_of records)) ≡ true
     → open_of (records ++ r ∷ []) ≡ open_of records ++ r ∷ []
 open_longer records r inside h is_open =
     let xs : List Symbol = map symbol_of records in

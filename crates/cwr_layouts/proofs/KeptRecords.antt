@@ -1,14 +1,18 @@
 -- Records that are kept in one text stay as they are where a line is added at its end.
-use Rattle.std.proofs.Common.{◌≡◌, ℕ, zero, suc, ◌+◌, ◌≤◌, Bool, false, ltb-false, List, [], ◌∷◌, ◌++◌, length, map, take, drop, Option, Some, None, refl, sym, ap, subst, ◌∙◌, arith}
+use Rattle.std.proofs.Common.{◌≡◌, ℕ, zero, suc, ◌+◌, ◌≤◌, Bool, false, ltb-false, List, [], ◌∷◌, ◌++◌, length, map, take, drop, Option, Some, None, inl, inr, refl, sym, ap, subst, ◌∙◌, arith}
 use Rattle.std.specs.Prelude.{slice_get, nat_lt}
 use Rattle.std.specs.List.{AllByRecursion}
 use Rattle.std.proofs.lemmas.List.{map-append, length-map, length-append, length-drop, length-take-le, drop-append-le, take-append-le}
+use Rattle.std.proofs.lemmas.List.Sums.{sum_by-append}
 use Rattle.std.proofs.Math.Seq.{drop-append_seam, take-length}
+use Rattle.cwr_fields.specs.Format.Growth.{Outgrows}
+use Rattle.cwr_layouts.specs.declared.kinds.Kind.{Kind}
 use Rattle.cwr_layouts.specs.declared.record_lists.LineStart.{LineStart}
+use Rattle.cwr_layouts.specs.Format.Growth.{lines_width, AsksMemory}
 use Rattle.cwr_layouts.specs.Format.Layouts.{line_width}
 use Rattle.cwr_layouts.specs.Format.Records.{RecordValue, IsRecord}
 use Rattle.cwr_layouts.specs.Steps.Carried.{record_in}
-use Rattle.cwr_layouts.specs.Steps.KeptLines.{IsKeptLine, kept_records, line_at, record_at}
+use Rattle.cwr_layouts.specs.Steps.KeptLines.{IsKeptLine, KeepsLines, kept_records, line_at, record_at}
 
 -- each of them is in order
 all_in_order : (text : List ℕ) (places : List LineStart) → AllByRecursion (IsKeptLine text) places → AllByRecursion IsRecord (kept_records text places)
@@ -78,8 +82,8 @@ records_with text line places p r h at whole e =
 -- ---- the list as it is shown
 
 -- its records are in order
-pub in_order : (text : List ℕ) (places : List LineStart) (records : List RecordValue) → AllByRecursion (IsKeptLine text) places → kept_records text places ≡ records → AllByRecursion IsRecord records
-in_order text places records h e = subst (AllByRecursion IsRecord) e (all_in_order text places h)
+pub in_order : (text : List ℕ) (places : List LineStart) (records : List RecordValue) → KeepsLines text places → kept_records text places ≡ records → AllByRecursion IsRecord records
+in_order text places records h e = subst (AllByRecursion IsRecord) e (all_in_order text places h.each)
 
 none_after : {X : Type 0} (xs : List X) (i : ℕ) → length xs ≤ i → None ≡ slice_get xs i
 none_after [] i h = refl
@@ -91,12 +95,46 @@ pub none_there : (text : List ℕ) (places items : List LineStart) (records : Li
 none_there text places items records i h same e = none_after records i (omega (arith, ltb-false i (length items) (sym h), ap length same, ap length e, length-map places (record_at text)))
 
 -- with a record more
-pub shows_more : (text line added : List ℕ) (places more : List LineStart) (p : LineStart) (old : List RecordValue) (r : RecordValue) → AllByRecursion (IsKeptLine text) places → kept_records text places ≡ old
-    → p.start ≡ length text → length line ≡ line_width p.kind → r ≡ record_in p.kind line → added ≡ text ++ line → more ≡ places ++ p ∷ [] → kept_records added more ≡ old ++ r ∷ []
+pub shows_more : (text line added : List ℕ) (places more : List LineStart) (p : LineStart) (old : List RecordValue) (r : RecordValue)
+    → KeepsLines text places → kept_records text places ≡ old → p.start ≡ length text → length line ≡ line_width p.kind
+    → r ≡ record_in p.kind line → added ≡ text ++ line → more ≡ places ++ p ∷ [] → kept_records added more ≡ old ++ r ∷ []
 shows_more text line added places more p old r h e at whole carries a b =
-    ap (λ (t : List ℕ). kept_records t more) a ∙ ap (kept_records (text ++ line)) b ∙ records_with text line places p r h at whole carries ∙ ap (λ (l : List RecordValue). l ++ r ∷ []) e
+    ap (λ (t : List ℕ). kept_records t more) a ∙ ap (kept_records (text ++ line)) b
+    ∙ records_with text line places p r h.each at whole carries ∙ ap (λ (l : List RecordValue). l ++ r ∷ []) e
 
-pub keeps_more : (text line added : List ℕ) (places more : List LineStart) (p : LineStart) (r : RecordValue) → AllByRecursion (IsKeptLine text) places
-    → p.start ≡ length text → length line ≡ line_width p.kind → r ≡ record_in p.kind line → IsRecord r → added ≡ text ++ line → more ≡ places ++ p ∷ [] → AllByRecursion (IsKeptLine added) more
-keeps_more text line added places more p r h at whole carries good a b =
-    subst (λ (t : List ℕ). AllByRecursion (IsKeptLine t) more) (sym a) (subst (AllByRecursion (IsKeptLine (text ++ line))) (sym b) (kept_with text line places p r h at whole carries good))
+-- its line is as wide as its kind says
+width_more : (old : List RecordValue) (r : RecordValue) → lines_width (old ++ r ∷ []) ≡ lines_width old + line_width r.kind
+width_more old r = omega (arith, sum_by-append (λ (s : RecordValue). line_width s.kind) old (r ∷ []))
+
+pub keeps_more : (text line added : List ℕ) (places more : List LineStart) (p : LineStart) (r : RecordValue) → KeepsLines text places
+    → p.start ≡ length text → length line ≡ line_width p.kind → r ≡ record_in p.kind line → IsRecord r
+    → added ≡ text ++ line → more ≡ places ++ p ∷ [] → KeepsLines added more
+keeps_more text line added places more p r h at whole carries good a b = record {
+  each = subst (λ (t : List ℕ). AllByRecursion (IsKeptLine t) more) (sym a)
+      (subst (AllByRecursion (IsKeptLine (text ++ line))) (sym b) (kept_with text line places p r h.each at whole carries good));
+  whole =
+      let wide : line_width r.kind ≡ line_width p.kind = ap (λ (s : RecordValue). line_width s.kind) carries in
+      let after : lines_width (kept_records added more) ≡ lines_width (kept_records text places) + line_width r.kind =
+      ap lines_width (shows_more text line added places more p (kept_records text places) r h refl at whole carries a b)
+      ∙ width_more (kept_records text places) r in
+      omega (arith, ap length a, length-append text line, h.whole, whole, wide, after);
+}
+
+-- ---- when it asks for memory
+
+-- for a line
+pub asks_for_line : (text line : List ℕ) (places : List LineStart) (old : List RecordValue) (r : RecordValue) (kind : Kind)
+    → KeepsLines text places → kept_records text places ≡ old → length line ≡ line_width kind → kind ≡ r.kind
+    → Outgrows 2048 (length text) (length text + length line) → AsksMemory old r
+asks_for_line text line places old r kind h e whole same asks =
+    let before : length text ≡ lines_width old = h.whole ∙ ap lines_width e in
+    let more : length line ≡ line_width r.kind = whole ∙ ap line_width same in
+    inl (subst (λ (n : ℕ). Outgrows 2048 (lines_width old) (lines_width old + n)) more
+    (subst (λ (n : ℕ). Outgrows 2048 n (n + length line)) before asks))
+
+-- for a place
+pub asks_for_place : (text : List ℕ) (places : List LineStart) (old : List RecordValue) (r : RecordValue)
+    → kept_records text places ≡ old → Outgrows 16 (length places) (length places + 1) → AsksMemory old r
+asks_for_place text places old r e asks =
+    let before : length places ≡ length old = omega (arith, length-map places (record_at text), ap length e) in
+    inr (subst (λ (n : ℕ). Outgrows 16 n (n + 1)) before asks)

@@ -188,9 +188,9 @@ pub fn letters(kind: Kind) -> &'static [u8]
     }
 }
 
-/// Whether records of the kind stand in transactions.
+/// Whether records of the kind stand in transactions: all do but HDR, GRH, GRT and TRL (CWR 2.1).
 #[inline(always)]
-pub(crate) fn is_in_transaction(kind: Kind) -> bool
+pub fn is_in_transaction(kind: Kind) -> bool
     ensures { result ≡ is_in_transaction kind }
 {
     match kind {

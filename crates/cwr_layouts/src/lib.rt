@@ -14,7 +14,7 @@ mod records;
 
 pub use canonical_lines::CanonicalLine;
 pub use drafts::{Draft, DraftFault, SetFault};
-pub use kinds::{Kind, is_carried, letters};
+pub use kinds::{Kind, is_carried, is_in_transaction, letters};
 pub use layouts::Field;
 pub use lines::{CutLine, LONGEST_LINE, LineBuf, LineEnd, Taken};
 pub use lookups::{field, fields, width};

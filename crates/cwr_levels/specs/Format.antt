@@ -1,4 +1,4 @@
 -- What is promised, in the words of the format.
 pub mod Fields
 pub mod Findings
-pub mod Lines
+pub mod ReportLines

@@ -4,7 +4,7 @@ ghost use Rattle.std.specs.Prelude.{◌≡◌, ◌++◌, ◌∷◌, [], List, op
 ghost use Rattle.cwr_layouts.specs.Format.Records.{RecordValue};
 ghost use Rattle.cwr_levels.specs.Steps.Walks.{IsBefore};
 
-use crate::named_cells::cell;
+use crate::named_cells::{PUBLISHER_NUMBER, WRITER_NUMBER, cell};
 use cwr_layouts::{Kind, RecordRef};
 
 /// What the records before one leave behind.
@@ -38,11 +38,11 @@ impl<'a> Before<'a> {
     {
         match shown.kind() {
             Kind::Spu => Before {
-                publisher: Some(cell(shown, 5)),
+                publisher: Some(cell(shown, PUBLISHER_NUMBER)),
                 ..self
             },
             Kind::Swr => Before {
-                writer: Some(cell(shown, 4)),
+                writer: Some(cell(shown, WRITER_NUMBER)),
                 ..self
             },
             Kind::Ter => Before {

@@ -10,7 +10,10 @@ ghost use Rattle.cwr_levels.specs.Format.Findings.{breaks, counts_others, ends_b
 ghost use Rattle.cwr_levels.specs.Steps.Walks.{AreTotals, IsBefore, KnowsNumbersOf, capped, is_number};
 
 use crate::before::Before;
-use crate::named_cells::{cell, is_of, number_of};
+use crate::named_cells::{
+    COMPONENT_COUNT, END_DATE, EXCERPT_TYPE, NAMED_ISWC, PUBLISHER_OF_WRITER, START_DATE,
+    TERRITORY_NUMBER, WORK_ISWC, cell, is_of, number_of,
+};
 use crate::publishers::Publishers;
 use crate::registered::Registered;
 use crate::rules::Rule;
@@ -47,8 +50,8 @@ fn has_wrong_iswc(shown: &RecordRef<'_>) -> bool
     ensures { (t : List RecordValue) (k : ℕ) → result ≡ breaks V1 t k shown.now }
 {
     match shown.kind() {
-        Kind::Nwr | Kind::Rev => is_wrong_iswc(cell(shown, 7)),
-        Kind::Ewt | Kind::Ver | Kind::Com => is_wrong_iswc(cell(shown, 5)),
+        Kind::Nwr | Kind::Rev => is_wrong_iswc(cell(shown, WORK_ISWC)),
+        Kind::Ewt | Kind::Ver | Kind::Com => is_wrong_iswc(cell(shown, NAMED_ISWC)),
         _ => false,
     }
 }
@@ -70,8 +73,8 @@ fn names_another_party(shown: &RecordRef<'_>, before: &Before<'_>) -> bool
     ensures { (t : List RecordValue) (k : ℕ) → is_work t ≡ true → IsBefore (take k t) before.now → result ≡ breaks V2 t k shown.now }
 {
     match shown.kind() {
-        Kind::Spt => !is_number(cell(shown, 4), before.publisher),
-        Kind::Swt => !is_number(cell(shown, 4), before.writer),
+        Kind::Spt => !is_number(cell(shown, TERRITORY_NUMBER), before.publisher),
+        Kind::Swt => !is_number(cell(shown, TERRITORY_NUMBER), before.writer),
         _ => false,
     }
 }
@@ -87,7 +90,12 @@ fn names_no_publisher(
     requires publishers { KnowsNumbersOf (take totals.now.publishers_end transaction.now) publishers.now }
     ensures { (k : ℕ) → is_work transaction.now ≡ true → result ≡ breaks V7 transaction.now k shown.now }
 {
-    is_of(shown, Kind::Pwr) && !publishers.have(transaction, totals.publishers_end, cell(shown, 4))
+    is_of(shown, Kind::Pwr)
+        && !publishers.have(
+            transaction,
+            totals.publishers_end,
+            cell(shown, PUBLISHER_OF_WRITER),
+        )
 }
 
 /// Whether the header of a work has no excerpt type.
@@ -96,7 +104,7 @@ fn has_no_excerpt_type(transaction: &Registered<'_>) -> bool
     ensures { result ≡ list_any (is_blank "excerpt type") (take 1 transaction.now) }
 {
     match transaction.record(0) {
-        Some(header) => is_spaces(cell(&header, 16)),
+        Some(header) => is_spaces(cell(&header, EXCERPT_TYPE)),
         None => false,
     }
 }
@@ -115,7 +123,7 @@ fn counts_others(header: &RecordRef<'_>, components: u64) -> bool
     requires { is_work (header.now ∷ []) ≡ true }
     ensures { (n : ℕ) → components ≡ capped n → result ≡ counts_others header.now n }
 {
-    let count = cell(header, 23);
+    let count = cell(header, COMPONENT_COUNT);
     !is_spaces(count) && number_of(count) != components
 }
 
@@ -124,8 +132,8 @@ fn ends_before_start(header: &RecordRef<'_>) -> bool
     requires { is_agreement (header.now ∷ []) ≡ true }
     ensures { result ≡ ends_before_start header.now }
 {
-    let start = number_of(cell(header, 7));
-    let end = number_of(cell(header, 8));
+    let start = number_of(cell(header, START_DATE));
+    let end = number_of(cell(header, END_DATE));
     end != 0 && end < start
 }
 

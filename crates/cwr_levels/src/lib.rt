@@ -3,16 +3,17 @@
 
 mod before;
 mod judging;
-mod lines;
 mod named_cells;
 mod publishers;
 mod registered;
+mod report_lines;
 mod rules;
 mod shares;
 mod totals;
 mod walk;
 
-pub use lines::{
+pub use named_cells::{PUBLISHER_SHARES, WRITER_SHARES, cell, is_of, is_owner, number_of};
+pub use report_lines::{
     LONGEST_REPORT_LINE, finding_line, good_line, input_mark, joined_line, limit_line,
     refusal_line, split_line, truncated_line,
 };

@@ -1,24 +1,77 @@
-//! The cells that the rules read.
+//! The cells that the rules read, and the numbers of their fields, from 1 (CWR 2.1).
 
 ghost use Rattle.std.specs.Prelude.{◌≡◌, ◌<◌, ◌≤◌, ◌^◌, [], length, unwrap_or};
 ghost use Rattle.cwr_fields.specs.Format.Bytes.{number_of};
 ghost use Rattle.cwr_layouts.specs.Format.Records.{IsRecord};
 ghost use Rattle.cwr_layouts.specs.Format.Carried.{record_cell};
-ghost use Rattle.cwr_levels.specs.Format.Findings.{is_a};
+ghost use Rattle.cwr_levels.specs.Format.Findings.{is_a, is_owner};
 
 use cwr_layouts::{Kind, RecordRef};
 
+/// AGR: agreement start date.
+pub(crate) const START_DATE: u8 = 7;
+
+/// AGR: agreement end date.
+pub(crate) const END_DATE: u8 = 8;
+
+/// NWR, REV: ISWC.
+pub(crate) const WORK_ISWC: u8 = 7;
+
+/// NWR, REV: excerpt type.
+pub(crate) const EXCERPT_TYPE: u8 = 16;
+
+/// NWR, REV: composite component count.
+pub(crate) const COMPONENT_COUNT: u8 = 23;
+
+/// EWT, VER, COM: ISWC of the work that they name.
+pub(crate) const NAMED_ISWC: u8 = 5;
+
+/// IPA: agreement role.
+pub(crate) const ROLE: u8 = 4;
+
+/// SPU, OPU: interested party number.
+pub(crate) const PUBLISHER_NUMBER: u8 = 5;
+
+/// SWR, OWR: interested party number.
+pub(crate) const WRITER_NUMBER: u8 = 4;
+
+/// SWR, OWR: writer designation.
+pub(crate) const DESIGNATION: u8 = 8;
+
+/// SPT, SWT: interested party number.
+pub(crate) const TERRITORY_NUMBER: u8 = 4;
+
+/// PWR: interested party number of the publisher.
+pub(crate) const PUBLISHER_OF_WRITER: u8 = 4;
+
+/// SPU, OPU: performing ownership share. Those of the other rights are two and four fields further.
+pub const PUBLISHER_SHARES: u8 = 13;
+
+/// SWR, OWR: performing ownership share. Those of the other rights are two and four fields further.
+pub const WRITER_SHARES: u8 = 12;
+
 /// Whether the record is of the kind.
 #[inline(always)]
-pub(crate) fn is_of(shown: &RecordRef<'_>, kind: Kind) -> bool
+pub fn is_of(shown: &RecordRef<'_>, kind: Kind) -> bool
     ensures { result ≡ is_a kind shown.now }
 {
     shown.kind() == kind
 }
 
+/// Whether the record owns shares of a work: it is SPU, OPU, SWR or OWR.
+#[inline(always)]
+pub fn is_owner(shown: &RecordRef<'_>) -> bool
+    ensures { result ≡ is_owner shown.now }
+{
+    is_of(shown, Kind::Spu)
+        || is_of(shown, Kind::Opu)
+        || is_of(shown, Kind::Swr)
+        || is_of(shown, Kind::Owr)
+}
+
 /// The cell of field `j`, from 1, and no bytes where the record carries none there.
 #[inline(always)]
-pub(crate) fn cell<'a>(shown: &RecordRef<'a>, j: u8) -> &'a [u8]
+pub fn cell<'a>(shown: &RecordRef<'a>, j: u8) -> &'a [u8]
     ensures value { result.now ≡ unwrap_or (record_cell shown.now j) [] }
     ensures fits { IsRecord shown.now }
 {
@@ -30,7 +83,7 @@ pub(crate) fn cell<'a>(shown: &RecordRef<'a>, j: u8) -> &'a [u8]
 
 /// The number that the digits of a cell write, and 0 of a blank cell.
 #[inline(always)]
-pub(crate) fn number_of(cell: &[u8]) -> u64
+pub fn number_of(cell: &[u8]) -> u64
     requires { length cell.now ≤ 8 }
     ensures value { result ≡ number_of cell.now }
     ensures small { result < 10 ^ 10 }

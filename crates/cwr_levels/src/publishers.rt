@@ -4,7 +4,7 @@ ghost use Rattle.std.specs.Prelude.{◌≡◌, take, IfOk};
 ghost use Rattle.std.specs.List.{list_any};
 ghost use Rattle.cwr_levels.specs.Steps.Walks.{HasNumbersOf, KnowsNumbersOf, is_publisher};
 
-use crate::named_cells::{cell, is_of};
+use crate::named_cells::{PUBLISHER_NUMBER, cell, is_of};
 use crate::registered::Registered;
 use cwr_layouts::{Kind, RecordRef};
 use std::alloc::{AllocFailed, Global};
@@ -18,7 +18,7 @@ fn is_publisher(number: &[u8], shown: &RecordRef<'_>) -> bool
     ensures { result ≡ is_publisher number.now shown.now }
 {
     match shown.kind() {
-        Kind::Spu => number == cell(shown, 5),
+        Kind::Spu => number == cell(shown, PUBLISHER_NUMBER),
         _ => false,
     }
 }
@@ -56,7 +56,7 @@ fn numbers_among<'a>(
             break;
         };
         if is_of(&shown, Kind::Spu) {
-            numbers.insert(cell(&shown, 5))?;
+            numbers.insert(cell(&shown, PUBLISHER_NUMBER))?;
         }
     }
     Ok(numbers)

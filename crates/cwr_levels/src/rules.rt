@@ -1,7 +1,7 @@
 //! The rules for accepted transactions.
 
 ghost use Rattle.std.specs.Prelude.{◌≡◌, ◌≤◌, length};
-ghost use Rattle.cwr_levels.specs.Format.Lines.{rule_text};
+ghost use Rattle.cwr_levels.specs.Format.ReportLines.{rule_text};
 
 use cwr_shape::Level;
 

@@ -6,7 +6,7 @@ ghost use Rattle.cwr_levels.specs.Format.Fields.{HasSharesFrom};
 ghost use Rattle.cwr_levels.specs.Format.Findings.{is_off, is_party, parties_after, are_over_whole, have_side_over_whole};
 ghost use Rattle.cwr_levels.specs.Steps.Walks.{AddUpTo, SidesAddUpTo, capped, has_shares};
 
-use crate::named_cells::{cell, is_of, number_of};
+use crate::named_cells::{PUBLISHER_SHARES, ROLE, WRITER_SHARES, cell, is_of, number_of};
 use crate::registered::Registered;
 use cwr_layouts::{Kind, RecordRef};
 
@@ -36,8 +36,8 @@ impl Shares {
         ensures { AddUpTo (shown.now ∷ []) result }
     {
         match shown.kind() {
-            Kind::Spu | Kind::Opu => Shares::from_field(shown, 13),
-            Kind::Swr | Kind::Owr => Shares::from_field(shown, 12),
+            Kind::Spu | Kind::Opu => Shares::from_field(shown, PUBLISHER_SHARES),
+            Kind::Swr | Kind::Owr => Shares::from_field(shown, WRITER_SHARES),
             _ => Shares::from_field(shown, 11),
         }
     }
@@ -110,7 +110,7 @@ impl Sides {
         requires { is_party party.now ≡ true }
         ensures { (rs : List RecordValue) → SidesAddUpTo rs self → SidesAddUpTo (rs ++ party.now ∷ []) result }
     {
-        let role = cell(party, 4);
+        let role = cell(party, ROLE);
         Sides {
             assignors: self.assignors.with(party, role == b"AS".as_slice()),
             acquirers: self.acquirers.with(party, role == b"AC".as_slice()),

@@ -2,24 +2,13 @@
 
 ghost use Rattle.std.specs.Prelude.{◌≡◌, ◌+◌, ◌^◌, ◌<◌, ◌++◌, ◌∷◌, [], List, length};
 ghost use Rattle.cwr_layouts.specs.Format.Records.{RecordValue};
-ghost use Rattle.cwr_levels.specs.Format.Findings.{is_owner, is_author, names_author};
+ghost use Rattle.cwr_levels.specs.Format.Findings.{is_author, names_author};
 ghost use Rattle.cwr_levels.specs.Steps.Walks.{AreTotals};
 
-use crate::named_cells::{cell, is_of};
+use crate::named_cells::{DESIGNATION, cell, is_of, is_owner};
 use crate::registered::Registered;
 use crate::shares::Shares;
 use cwr_layouts::{Kind, RecordRef};
-
-/// Whether the record owns shares of a work.
-#[inline(always)]
-fn is_owner(shown: &RecordRef<'_>) -> bool
-    ensures { result ≡ is_owner shown.now }
-{
-    is_of(shown, Kind::Spu)
-        || is_of(shown, Kind::Opu)
-        || is_of(shown, Kind::Swr)
-        || is_of(shown, Kind::Owr)
-}
 
 /// Whether the designation is that of someone who has written words or music.
 #[inline(always)]
@@ -37,7 +26,7 @@ fn is_author(shown: &RecordRef<'_>) -> bool
     ensures { result ≡ is_author shown.now }
 {
     match shown.kind() {
-        Kind::Swr | Kind::Owr => names_author(cell(shown, 8)),
+        Kind::Swr | Kind::Owr => names_author(cell(shown, DESIGNATION)),
         _ => false,
     }
 }

@@ -7,7 +7,7 @@ ghost use Rattle.cwr_shape.specs.declared.symbols.Symbol.{Symbol};
 ghost use Rattle.cwr_shape.specs.declared.stages.Stage.{Stage};
 ghost use Rattle.cwr_shape.specs.Steps.Left.{StandsAt, LeavesAt};
 ghost use Rattle.cwr_shape.specs.Format.Shapes.{IsShape};
-ghost use Rattle.cwr_shape.specs.Format.UncarriedOrder.{IsUncarriedShape, IsUncarriedWhole, AreFormer};
+ghost use Rattle.cwr_shape.specs.Format.UncarriedOrder.{IsUncarriedShape, IsUncarriedWhole, AreFormer, IsUncopiedShape, IsUncopiedWhole, AreUncopied};
 ghost use Rattle.cwr_fields.specs.declared.codes.TransactionType.{TransactionType};
 
 /// No whole transmission continues to another: after TRL nothing more belongs to it.
@@ -38,4 +38,15 @@ pub fn orders_without_carried_records_are_kept()
 /// Each transmission without carried records and copies that was whole in the order that knows neither still is.
 pub fn transmissions_without_carried_records_are_kept()
     ensures { (xs : List Symbol) → IsUncarriedWhole xs → IsWhole xs }
+{}
+
+/// Copies change no order without them, with carried records or without: the records of an acknowledgement in which no copy
+/// begins are whole exactly where they are in the order that knows no copies, and any other transaction's are in both.
+pub fn orders_without_copies_are_kept()
+    ensures { (ty : TransactionType) (xs : List Symbol) → IsUncopiedShape ty xs ↔ (IsShape ty xs × AreUncopied ty xs) }
+{}
+
+/// Each transmission without copies that was whole in the order that knows none, with carried records or without, still is.
+pub fn transmissions_without_copies_are_kept()
+    ensures { (xs : List Symbol) → IsUncopiedWhole xs → IsWhole xs }
 {}

@@ -10,7 +10,7 @@ use Rattle.cwr_values.specs.declared.items.Item.TheVariants.{Transaction}
 use Rattle.cwr_judge.specs.Format.Items.{records_in, opens_group, is_transaction}
 use Rattle.cwr_levels.specs.declared.rules.Finding.{Finding}
 use Rattle.cwr_levels.specs.Format.Findings.{findings}
-use Rattle.cwr_levels.specs.Format.Lines.{finding_line}
+use Rattle.cwr_levels.specs.Format.ReportLines.{finding_line}
 use Rattle.cwr_tools.specs.declared.verdicts.Verdict.{Verdict}
 use Rattle.cwr_tools.specs.Format.FindingNotes.{explained_finding, explained_findings, explained_in, explained_lines, finding_notes, notes_on}
 use Rattle.cwr_tools.specs.Format.Texts.{check_lines, check_text, finding_lines, finding_lines_in, verdict_line}

@@ -5,7 +5,7 @@ use Rattle.cwr_encode.specs.declared.sinks.Sink.{Sink}
 use Rattle.cwr_encode.specs.declared.sinks.SinkFault.{SinkFault}
 use Rattle.cwr_encode.specs.Steps.Sinks.{Puts, has_failed}
 use Rattle.cwr_encode.proofs.Numbered.{puts_as, puts_cut}
-use Rattle.cwr_levels.specs.Format.Lines.{input_mark}
+use Rattle.cwr_levels.specs.Format.ReportLines.{input_mark}
 use Rattle.cwr_levels.specs.Steps.Putting.{PutsText}
 use Rattle.cwr_tools.specs.declared.verdicts.JoinFault.{JoinFault}
 use Rattle.cwr_tools.specs.Format.Outcomes.{input_line, is_of_input, join_outcome}

@@ -1,6 +1,6 @@
 //! Checking a transmission.
 
-ghost use Rattle.std.specs.Prelude.{IfOk, IsSomeAnd};
+ghost use Rattle.std.specs.Prelude.{◌≡◌, true, IfOk, OnOk, IsSomeAnd};
 ghost use Rattle.cwr_tools.specs.Format.Verdicts.{JudgesText};
 ghost use Rattle.cwr_tools.specs.Steps.Verdicts.{IsReadLast};
 ghost use Rattle.cwr_tools.specs.Format.Reports.{CountsReaderFault, CountsWriterFault, JudgesAccepted, JudgesCanonical, lines_of_explained, lines_of_findings};
@@ -34,6 +34,8 @@ pub fn check<R: Source, W: Target + Drop>(
     // No failure is passed over: a device failed only where that is the answer.
     ensures reader_failures { CountsReaderFault result.1 (R.failures reader.old) (R.failures reader.new) }
     ensures writer_failures { CountsWriterFault result.1 (W.failures writer) (W.failures result.0) }
+    // All that was written was handed on.
+    ensures handed_on { OnOk result.1 (W.handed_on result.0 ≡ true) }
 {
     write_report(Report::Findings, alloc, limits, reader, &mut None, writer)
 }
@@ -52,6 +54,8 @@ pub fn check_explained<R: Source, W: Target + Drop>(
     ensures judged { JudgesText limits (R.remaining reader.old) result.1 }
     ensures reader_failures { CountsReaderFault result.1 (R.failures reader.old) (R.failures reader.new) }
     ensures writer_failures { CountsWriterFault result.1 (W.failures writer) (W.failures result.0) }
+    // All that was written was handed on.
+    ensures handed_on { OnOk result.1 (W.handed_on result.0 ≡ true) }
     ensures last { IfOk result.1 (λ verdict. IsSomeAnd result.2 (IsReadLast limits (R.remaining reader.old) (R.remaining reader.new) verdict)) }
 {
     let mut last = None;

@@ -5,7 +5,7 @@ ghost use Rattle.cwr_encode.specs.Steps.Sinks.{Puts, has_failed, written_of};
 ghost use Rattle.cwr_judge.specs.Format.Items.{item_records};
 ghost use Rattle.cwr_values.specs.Format.Rows.{trailer};
 ghost use Rattle.std.specs.List.{flat_map};
-ghost use Rattle.cwr_levels.specs.Format.Lines.{finding_line};
+ghost use Rattle.cwr_levels.specs.Format.ReportLines.{finding_line};
 ghost use Rattle.cwr_tools.specs.Format.Texts.{finding_lines_in, numbered_records, record_lines};
 ghost use Rattle.cwr_tools.specs.Format.FindingNotes.{explained_in};
 ghost use Rattle.cwr_tools.specs.Format.Reports.{ItemLines, has_findings};

@@ -1,6 +1,6 @@
 //! What was joined so far: the encoder of the result, and the numbers of what it wrote.
 
-ghost use Rattle.std.specs.Prelude.{◌≡◌, ◌≢◌, ◌+◌, ◌≤◌, ◌∷◌, ℕ, Bool, List, Option, [], map, length, true, false, filter, Result, Ok, Err};
+ghost use Rattle.std.specs.Prelude.{◌≡◌, ◌≢◌, ◌+◌, ◌≤◌, ◌∷◌, ℕ, Bool, List, Option, [], map, length, true, false, filter, Result, Ok, Err, OnOk};
 ghost use Rattle.std.specs.List.{AllByRecursion};
 ghost use Rattle.cwr_layouts.specs.Format.Records.{RecordValue};
 ghost use Rattle.cwr_shape.specs.Format.Ranges.{AreInRange};
@@ -144,7 +144,8 @@ impl<W: Target> Joined<W> {
     pub(crate) fn finish(self, inputs: usize) -> (W, Result<JoinReport, JoinFault>)
         requires unfailed { is_stopped self.encoder ≡ false }
         requires all { HasJoinedAll W.contents inputs self }
-        ensures { EndsJoin W.contents W.failures inputs self result.0 result.1 }
+        ensures ends { EndsJoin W.contents W.failures inputs self result.0 result.1 }
+        ensures handed_on { OnOk result.1 (W.handed_on result.0 ≡ true) }
     {
         let counts = self.counts;
         let (writer, outcome) = self.encoder.finish();

@@ -1,6 +1,6 @@
 //! Joining transmissions.
 
-ghost use Rattle.std.specs.Prelude.{◌≡◌, ◌<◌, [], false, length};
+ghost use Rattle.std.specs.Prelude.{◌≡◌, ◌<◌, [], true, false, length, OnOk};
 ghost use Rattle.cwr_encode.specs.Steps.Encoders.{is_stopped, encoder_limits};
 ghost use Rattle.cwr_tools.specs.Format.Joins.{CountsJoinWriter, JoinsAccepted};
 ghost use Rattle.cwr_tools.specs.Steps.Joins.{Joins};
@@ -102,6 +102,8 @@ pub fn join<R: Source, W: Target + Drop>(
     ensures joins { Joins limits R.remaining R.failures W.contents readers.old readers.new writer result.0 result.1 }
     // No failure is passed over: the writer failed only where that is the answer.
     ensures writer_failures { CountsJoinWriter result.1 (W.failures writer) (W.failures result.0) }
+    // All that was written was handed on.
+    ensures handed_on { OnOk result.1 (W.handed_on result.0 ≡ true) }
     ensures accepted { JoinsAccepted limits R.remaining W.contents readers.old writer result.0 result.1 }
 {
     let mut joined = Joined::new(writer, limits);

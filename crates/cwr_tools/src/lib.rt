@@ -22,6 +22,7 @@ mod verdicts;
 
 pub use checking::{check, check_explained};
 pub use joining::join;
+pub use note_lines::level_words;
 pub use outcomes::{put_join_outcome, put_split_outcome};
 pub use outputs::{OutputFault, Outputs};
 pub use showing::show;

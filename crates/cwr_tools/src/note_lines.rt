@@ -45,8 +45,8 @@ fn rule_words(rule: Rule) -> &'static str
     }
 }
 
-/// How much the level rejects.
-fn level_words(level: Level) -> &'static str
+/// A level's letter, and how much it rejects.
+pub fn level_words(level: Level) -> &'static str
     ensures value { result.now ≡ level_words level }
     ensures short { length result.now ≤ 40 }
 {

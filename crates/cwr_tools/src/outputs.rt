@@ -1,6 +1,6 @@
 //! Where the outputs of a split go.
 
-ghost use Rattle.std.specs.Prelude.{◌≡◌, ℕ, ◌-◌, [], List, Option, Some, IfOk, IfSome, OnErr, OnOk};
+ghost use Rattle.std.specs.Prelude.{◌≡◌, ℕ, ◌-◌, [], List, Option, Some, true, IfOk, IfSome, OnErr, OnOk};
 ghost use Rattle.cwr_fields.specs.Format.Failures.{CountsFailure};
 ghost use Rattle.cwr_tools.specs.Format.Outputs.{AddsText, given_up_with, lent_after};
 
@@ -37,9 +37,11 @@ pub trait Outputs {
         ensures given_up { given_up self.new ≡ given_up self.old }
         ensures lent { lent self.new ≡ lent_after result (lent self.old) };
 
-    /// Takes an output that is whole, and whose writer hasn't failed. Where that fails the writer is dropped.
+    /// Takes an output that is whole, and whose writer hasn't failed and has handed on all of it. Where that fails the writer
+    /// is dropped.
     fn done(&mut self, writer: Self::W) -> Result<(), OutputFault>
         requires unfailed { Self.W.failures writer ≡ 0 }
+        requires handed_on { Self.W.handed_on writer ≡ true }
         ensures added { OnOk result (IfSome (Self.W.contents writer) (AddsText (texts self.old) (texts self.new))) }
         ensures kept { OnErr result (texts self.new ≡ texts self.old) }
         ensures failures { CountsFailure result (failures self.old) (failures self.new) }

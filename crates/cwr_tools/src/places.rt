@@ -1,18 +1,15 @@
 //! The places of records in a transaction, from 0: the first ones, and how many there are.
 
-ghost use Rattle.std.specs.Prelude.{◌≡◌, ◌+◌, ◌<◌, ◌≤◌, ◌^◌, ◌++◌, ◌∷◌, ℕ, List, [], false, drop, length, if◌then◌else◌, unwrap_or};
+ghost use Rattle.std.specs.Prelude.{◌≡◌, ◌+◌, ◌<◌, ◌≤◌, ◌^◌, ◌++◌, ◌∷◌, ℕ, List, [], false, drop, length, if◌then◌else◌};
 ghost use Rattle.std.specs.Option.{option_to_list};
-ghost use Rattle.cwr_layouts.specs.Format.Records.{IsRecord};
-ghost use Rattle.cwr_layouts.specs.Format.Carried.{record_cell};
 ghost use Rattle.cwr_levels.specs.Format.Fields.{HasSharesFrom};
-ghost use Rattle.cwr_levels.specs.Format.Findings.{is_a, is_owner, ownership, share_of};
-ghost use Rattle.cwr_fields.specs.Format.Bytes.{number_of};
+ghost use Rattle.cwr_levels.specs.Format.Findings.{is_owner, ownership, share_of};
 ghost use Rattle.cwr_tools.specs.Format.FindingNotes.{parties_from, places, right_of};
 ghost use Rattle.cwr_tools.specs.Steps.OtherRecords.{AreListed, is_other};
 
 use arrayvec::ArrayVec;
 use cwr_layouts::{Kind, RecordRef};
-use cwr_levels::Rule;
+use cwr_levels::{PUBLISHER_SHARES, Rule, WRITER_SHARES, cell, is_of, is_owner, number_of};
 use cwr_values::Transaction;
 
 /// The most places that are listed.
@@ -82,13 +79,6 @@ impl Places {
     }
 }
 
-/// Whether the record is of the kind.
-fn is_of(shown: &RecordRef<'_>, kind: Kind) -> bool
-    ensures { result ≡ is_a kind shown.now }
-{
-    shown.kind() == kind
-}
-
 /// Whether the rule, on the header of a work, speaks of the record.
 fn is_other(rule: Rule, shown: &RecordRef<'_>) -> bool
     ensures { result ≡ is_other rule shown.now }
@@ -98,16 +88,6 @@ fn is_other(rule: Rule, shown: &RecordRef<'_>) -> bool
         Rule::V9 => is_of(shown, Kind::Com),
         _ => is_owner(shown),
     }
-}
-
-/// Whether the record owns shares of a work.
-fn is_owner(shown: &RecordRef<'_>) -> bool
-    ensures { result ≡ is_owner shown.now }
-{
-    is_of(shown, Kind::Spu)
-        || is_of(shown, Kind::Opu)
-        || is_of(shown, Kind::Swr)
-        || is_of(shown, Kind::Owr)
 }
 
 /// The places of the records of which the rule, on the header of a work, speaks.
@@ -149,30 +129,6 @@ pub(crate) fn parties_of(transaction: &Transaction, first: usize) -> Places
     found
 }
 
-/// The cell of field `j`, from 1, and no bytes where the record carries none there.
-fn cell<'a>(shown: &RecordRef<'a>, j: u8) -> &'a [u8]
-    ensures value { result.now ≡ unwrap_or (record_cell shown.now j) [] }
-    ensures fits { IsRecord shown.now }
-{
-    match shown.cell(j) {
-        Some(text) => text,
-        None => b"",
-    }
-}
-
-/// The number that the digits of a cell write, and 0 of a blank cell.
-fn number_of(cell: &[u8]) -> u64
-    requires { length cell.now ≤ 8 }
-    ensures value { result ≡ number_of cell.now }
-    ensures small { result < 10 ^ 10 }
-{
-    let mut number = 0;
-    for byte in cell {
-        number = 10 * number + u64::from(byte.saturating_sub(b'0'));
-    }
-    number
-}
-
 /// The record's share in the right of the rule, where the share in the first right stands in that field.
 fn share_from(rule: Rule, shown: &RecordRef<'_>, first: u8) -> u64
     requires few { first < 20 }
@@ -193,8 +149,8 @@ fn owned_share(rule: Rule, shown: &RecordRef<'_>) -> u64
     ensures small { result < 10 ^ 10 }
 {
     match shown.kind() {
-        Kind::Spu | Kind::Opu => share_from(rule, shown, 13),
-        Kind::Swr | Kind::Owr => share_from(rule, shown, 12),
+        Kind::Spu | Kind::Opu => share_from(rule, shown, PUBLISHER_SHARES),
+        Kind::Swr | Kind::Owr => share_from(rule, shown, WRITER_SHARES),
         _ => 0,
     }
 }

@@ -1,11 +1,11 @@
 //! Whole runs over a text: the lines of its items, and the line of the verdict.
 
-ghost use Rattle.std.specs.Prelude.{◌≡◌, ◌≤◌, [], false, length, None, IfOk, IsSomeAnd};
+ghost use Rattle.std.specs.Prelude.{◌≡◌, ◌≤◌, [], true, false, length, None, IfOk, OnOk, IsSomeAnd};
 ghost use Rattle.cwr_decode.specs.Steps.Decoding.{final_answer, has_ended, limits_of};
 ghost use Rattle.cwr_decode.specs.Steps.LastReads.{AreHeld};
 ghost use Rattle.cwr_decode.specs.Steps.Represents.{Represents};
 ghost use Rattle.cwr_encode.specs.Steps.Sinks.{HasWritten, has_failed, writer_of};
-ghost use Rattle.cwr_levels.specs.declared.lines.TheConstants.{LONGEST_REPORT_LINE};
+ghost use Rattle.cwr_levels.specs.declared.report_lines.TheConstants.{LONGEST_REPORT_LINE};
 ghost use Rattle.cwr_levels.specs.Steps.Putting.{PutsText};
 ghost use Rattle.cwr_tools.specs.Format.Texts.{verdict_line};
 ghost use Rattle.cwr_tools.specs.Format.Verdicts.{IsVerdictOf};
@@ -145,6 +145,7 @@ pub(crate) fn write_report<R: Source, W: Target>(
     ensures reported { Reports (lines_in report) limits (R.remaining reader.old) (R.remaining reader.new) W.contents writer result.0 result.1 }
     ensures reader_failures { CountsReaderFault result.1 (R.failures reader.old) (R.failures reader.new) }
     ensures writer_failures { CountsWriterFault result.1 (W.failures writer) (W.failures result.0) }
+    ensures handed_on { OnOk result.1 (W.handed_on result.0 ≡ true) }
     ensures last { report ≡ Report.Explained → IfOk result.1 (λ verdict. IsSomeAnd last.new (IsReadLast limits (R.remaining reader.old) (R.remaining reader.new) verdict)) }
 {
     let mut sink = Sink::new(writer);

@@ -1,6 +1,6 @@
 //! Showing a transmission.
 
-ghost use Rattle.std.specs.Prelude.{IfOk};
+ghost use Rattle.std.specs.Prelude.{◌≡◌, true, IfOk, OnOk};
 ghost use Rattle.cwr_tools.specs.Format.Verdicts.{JudgesText};
 ghost use Rattle.cwr_tools.specs.Format.Reports.{CountsReaderFault, CountsWriterFault, JudgesAccepted, JudgesCanonical, lines_of_records};
 ghost use Rattle.cwr_tools.specs.Steps.Reports.{Reports};
@@ -32,6 +32,8 @@ pub fn show<R: Source, W: Target + Drop>(
     // No failure is passed over: a device failed only where that is the answer.
     ensures reader_failures { CountsReaderFault result.1 (R.failures reader.old) (R.failures reader.new) }
     ensures writer_failures { CountsWriterFault result.1 (W.failures writer) (W.failures result.0) }
+    // All that was written was handed on.
+    ensures handed_on { OnOk result.1 (W.handed_on result.0 ≡ true) }
 {
     write_report(Report::Records, alloc, limits, reader, &mut None, writer)
 }

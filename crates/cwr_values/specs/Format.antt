@@ -2,5 +2,6 @@
 pub mod Begins
 pub mod Begun
 pub mod Fits
+pub mod FormerOrders
 pub mod Rows
 pub mod Values

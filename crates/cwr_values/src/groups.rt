@@ -1,7 +1,8 @@
 //! Groups as values.
 
-ghost use Rattle.std.specs.Prelude.{◌≡◌, ◌↔◌, ◌++◌, ◌∷◌, [], length, option_copied, slice_get, map, min, nat_lt, position, IsOk, IfOk, IfErr, IfSome, IsTrue, OnOk};
+ghost use Rattle.std.specs.Prelude.{◌≡◌, ◌↔◌, ◌+◌, ◌++◌, ◌∷◌, [], length, option_copied, slice_get, map, min, nat_lt, position, IsOk, IfOk, IfErr, IfSome, IsTrue, OnOk};
 ghost use Rattle.std.specs.Result.{IsErrAnd};
+ghost use Rattle.cwr_fields.specs.Format.Growth.{Outgrows};
 ghost use Rattle.cwr_layouts.specs.Format.Records.{blank_record};
 ghost use Rattle.cwr_shape.specs.Format.Numbers.{group_records};
 ghost use Rattle.cwr_values.specs.Format.Values.{type_of, IsTransaction};
@@ -9,7 +10,7 @@ ghost use Rattle.cwr_values.specs.Format.Begun.{HasHeaderOf, IsBegunGroup, IsWho
 
 use crate::symbols::symbol_of;
 use crate::transactions::Transaction;
-use cwr_fields::TransactionType;
+use cwr_fields::{TransactionType, make_room};
 use cwr_layouts::{Draft, Kind, Record};
 use cwr_shape::Symbol;
 use std::alloc::Global;
@@ -50,12 +51,17 @@ fn blank_foot() -> Record
     }
 }
 
+/// How many transactions there is room for from the first one on.
+const FIRST_TRANSACTIONS: usize = 4;
+
 /// A group, or one that has no transaction yet: its GRH record, its transactions, each of the type that GRH names, and
 /// its GRT record.
 #[derive(Drop)]
 pub struct Group {
     head: Record,
     transactions: Vec<Transaction>,
+    /// How many transactions there is room for.
+    room: usize,
     foot: Record,
 }
 
@@ -64,11 +70,14 @@ impl Model for Group {
 
     ghost Value = { GroupValue };
 
+    ghost use Rattle.std.specs.Prelude.{vec_len, vec_capacity};
+    ghost use Rattle.cwr_fields.specs.Steps.Growth.{IsRoom};
     ghost use Rattle.cwr_values.specs.Format.Begun.{IsBegunGroup};
 
     ghost view = { λ g. record { head = g.head; transactions = g.transactions.items; foot = g.foot } };
 
-    ghost invariant = { λ g. IsBegunGroup (record { head = g.head; transactions = g.transactions.items; foot = g.foot }) };
+    ghost invariant = { λ g. IsBegunGroup (record { head = g.head; transactions = g.transactions.items; foot = g.foot })
+        × IsRoom 4 g.room (vec_len g.transactions) (vec_capacity g.transactions) };
 }
 
 impl Group {
@@ -85,6 +94,7 @@ impl Group {
         Ok(Group {
             head,
             transactions: Vec::new(alloc),
+            room: 0,
             foot: blank_foot(),
         })
     }
@@ -114,8 +124,8 @@ impl Group {
     }
 
     /// Adds a transaction at the end. It is refused as of the wrong kind exactly where its header isn't of the group's
-    /// type, and else as incomplete exactly where it isn't whole. A refused one is handed back, and the group stays as
-    /// it is.
+    /// type, else as incomplete exactly where it isn't whole, and for want of memory only where the list asks for some. A
+    /// refused one is handed back, and the group stays as it is.
     pub fn push(&mut self, transaction: Transaction) -> Result<(), (GroupFault, Transaction)>
         ensures ok { OnOk result (self.new ≡ record self.old { transactions = self.old.transactions ++ transaction ∷ [] }) }
         ensures err { IfErr result (λ e. (e.1 ≡ transaction) × (self.new ≡ self.old)) }
@@ -123,6 +133,8 @@ impl Group {
             ↔ ¬ HasHeaderOf (type_of self.old.head) transaction }
         ensures incomplete { IsErrAnd result (λ e. e.0 ≡ GroupFault.Incomplete)
             ↔ (HasHeaderOf (type_of self.old.head) transaction × ¬ IsWholeTransaction transaction) }
+        ensures memory { IsErrAnd result (λ e. e.0 ≡ GroupFault.Memory)
+            → Outgrows 4 (length self.old.transactions) (length self.old.transactions + 1) }
     {
         if !transaction.is_of(self.ty()) {
             return Err((GroupFault::WrongKind, transaction));
@@ -130,9 +142,13 @@ impl Group {
         if !transaction.complete() {
             return Err((GroupFault::Incomplete, transaction));
         }
-        match self.transactions.push(transaction) {
-            Ok(()) => Ok(()),
-            Err(refused) => Err((GroupFault::Memory, refused.value)),
+        match make_room(&mut self.transactions, self.room, FIRST_TRANSACTIONS, 1) {
+            Ok(room) => {
+                self.room = room;
+                self.transactions.push_reserved(transaction);
+                Ok(())
+            }
+            Err(_) => Err((GroupFault::Memory, transaction)),
         }
     }
 

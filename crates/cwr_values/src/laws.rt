@@ -7,10 +7,12 @@ ghost use Rattle.cwr_layouts.specs.Format.Lines.{IsLineOf};
 ghost use Rattle.cwr_layouts.specs.Format.Records.{IsRecord, RecordValue, Row};
 ghost use Rattle.cwr_shape.specs.Format.Numbers.{numbers_of};
 ghost use Rattle.cwr_shape.specs.Format.Outlines.{GroupOutline, IsOutline, IsWhole, symbols_of};
+ghost use Rattle.cwr_shape.specs.Format.UncarriedOrder.{IsUncarriedShape, IsUncopiedShape};
 ghost use Rattle.cwr_shape.specs.declared.limits.Limits.{Limits};
 ghost use Rattle.cwr_shape.specs.declared.symbols.Symbol.{Symbol};
 ghost use Rattle.cwr_values.specs.Format.Begins.{rows_so_far};
 ghost use Rattle.cwr_values.specs.Format.Fits.{value_fault};
+ghost use Rattle.cwr_values.specs.Format.FormerOrders.{IsTransmissionIn};
 ghost use Rattle.cwr_values.specs.Format.Rows.{canonical_text, lengths_of_value, records_of, rows, Spells};
 ghost use Rattle.cwr_values.specs.Format.Values.{FitsIn, IsTransmission, outline_of, symbol_of, TransmissionValue};
 
@@ -67,4 +69,10 @@ pub fn records_are_completed()
     ensures { (groups : List GroupOutline) (records : List RecordValue) (rest : List Symbol) → IsOutline groups → AllByRecursion IsRecord records
         → symbols_of groups ≡ map symbol_of records ++ rest
         → (v : TransmissionValue) × IsTransmission v × (outline_of v ≡ groups) × (more : List RecordValue) × (records_of v ≡ records ++ more) }
+{}
+
+/// Each transmission without copies, with carried records or without, is a transmission in today's order: the same value.
+pub fn transmissions_in_former_orders_are_kept()
+    ensures uncarried { (v : TransmissionValue) → IsTransmissionIn IsUncarriedShape v → IsTransmission v }
+    ensures uncopied { (v : TransmissionValue) → IsTransmissionIn IsUncopiedShape v → IsTransmission v }
 {}

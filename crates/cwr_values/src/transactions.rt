@@ -1,6 +1,7 @@
 //! Transactions as values.
 
 ghost use Rattle.std.specs.Prelude.{◌≡◌, ◌↔◌, List, [], ◌∷◌, ◌++◌, length, option_map, slice_get, IsTrue, IsSome, IfSome, IfOk, OnOk, OnErr, Some, Err};
+ghost use Rattle.cwr_layouts.specs.Format.Growth.{AsksMemory};
 ghost use Rattle.cwr_shape.specs.Format.Shapes.{BeginsShape};
 ghost use Rattle.cwr_shape.specs.Steps.Left.{StandsAtStep};
 ghost use Rattle.cwr_values.specs.Format.Values.{symbol_of};
@@ -111,13 +112,14 @@ impl Transaction {
         self.records.record(i)
     }
 
-    /// Adds a record at the end. It is refused as misplaced exactly where no transaction continues so, and a refused one
-    /// changes nothing.
+    /// Adds a record at the end. It is refused as misplaced exactly where no transaction continues so, and for want of
+    /// memory only where its list asks for some. A refused one changes nothing.
     #[inline(always)]
     pub fn push(&mut self, next: RecordRef<'_>) -> Result<(), PushFault>
         ensures ok { OnOk result (self.new ≡ self.old ++ next.entry ∷ []) }
         ensures err { OnErr result (self.new ≡ self.old) }
         ensures misplaced { (result ≡ Err PushFault.Misplaced) ↔ ¬ BeginsWithOneMore self.old next.entry }
+        ensures memory { result ≡ Err PushFault.Memory → AsksMemory self.old next.entry }
     {
         let Some(step) = self.step.next(symbol_of(&next)) else {
             return Err(PushFault::Misplaced);

@@ -1,13 +1,15 @@
 //! Transmissions as values.
 
-ghost use Rattle.std.specs.Prelude.{◌≡◌, ◌↔◌, ◌<◌, ◌++◌, ◌∷◌, [], length, option_copied, slice_get, Some, min, IsOk, IfOk, IfErr, IfSome, OnOk};
+ghost use Rattle.std.specs.Prelude.{◌≡◌, ◌↔◌, ◌+◌, ◌<◌, ◌++◌, ◌∷◌, [], length, option_copied, slice_get, Some, min, IsOk, IfOk, IfErr, IfSome, OnOk};
 ghost use Rattle.std.specs.Result.{IsErrAnd};
+ghost use Rattle.cwr_fields.specs.Format.Growth.{Outgrows};
 ghost use Rattle.cwr_values.specs.Format.Values.{FitsIn, IsGroup, IsTransmission};
 ghost use Rattle.cwr_values.specs.Format.Begun.{IsBegunTransmission};
 ghost use Rattle.cwr_values.specs.Format.Rows.{rows};
 ghost use Rattle.cwr_values.specs.Format.Fits.{first_too_long, value_fault};
 
 use crate::groups::Group;
+use cwr_fields::make_room;
 use cwr_layouts::{Kind, Record};
 use cwr_shape::Limits;
 use std::alloc::Global;
@@ -71,11 +73,16 @@ impl Display for ValueFault {
 
 impl Error for ValueFault {}
 
+/// How many groups there is room for from the first one on.
+const FIRST_GROUPS: usize = 4;
+
 /// A transmission, or one that has no group yet: its HDR record and its groups, each with a transaction.
 #[derive(Drop)]
 pub struct Transmission {
     opening: Record,
     groups: Vec<Group>,
+    /// How many groups there is room for.
+    room: usize,
 }
 
 impl Model for Transmission {
@@ -83,11 +90,14 @@ impl Model for Transmission {
 
     ghost Value = { TransmissionValue };
 
+    ghost use Rattle.std.specs.Prelude.{vec_len, vec_capacity};
+    ghost use Rattle.cwr_fields.specs.Steps.Growth.{IsRoom};
     ghost use Rattle.cwr_values.specs.Format.Begun.{IsBegunTransmission};
 
     ghost view = { λ t. record { opening = t.opening; groups = t.groups.items } };
 
-    ghost invariant = { λ t. IsBegunTransmission (record { opening = t.opening; groups = t.groups.items }) };
+    ghost invariant = { λ t. IsBegunTransmission (record { opening = t.opening; groups = t.groups.items })
+        × IsRoom 4 t.room (vec_len t.groups) (vec_capacity t.groups) };
 }
 
 impl Transmission {
@@ -103,22 +113,29 @@ impl Transmission {
         Ok(Transmission {
             opening,
             groups: Vec::new(alloc),
+            room: 0,
         })
     }
 
-    /// Adds a group at the end. It is refused as empty exactly where it has no transaction. A refused one is handed
-    /// back, and the transmission stays as it is.
+    /// Adds a group at the end. It is refused as empty exactly where it has no transaction, and for want of memory only
+    /// where the list asks for some. A refused one is handed back, and the transmission stays as it is.
     pub fn push(&mut self, group: Group) -> Result<(), (TransmissionFault, Group)>
         ensures ok { OnOk result (self.new ≡ record self.old { groups = self.old.groups ++ group ∷ [] }) }
         ensures err { IfErr result (λ e. (e.1 ≡ group) × (self.new ≡ self.old)) }
         ensures empty { IsErrAnd result (λ e. e.0 ≡ TransmissionFault.Empty) ↔ (length group.transactions ≡ 0) }
+        ensures memory { IsErrAnd result (λ e. e.0 ≡ TransmissionFault.Memory)
+            → Outgrows 4 (length self.old.groups) (length self.old.groups + 1) }
     {
         if group.len() == 0 {
             return Err((TransmissionFault::Empty, group));
         }
-        match self.groups.push(group) {
-            Ok(()) => Ok(()),
-            Err(refused) => Err((TransmissionFault::Memory, refused.value)),
+        match make_room(&mut self.groups, self.room, FIRST_GROUPS, 1) {
+            Ok(room) => {
+                self.room = room;
+                self.groups.push_reserved(group);
+                Ok(())
+            }
+            Err(_) => Err((TransmissionFault::Memory, group)),
         }
     }
 

@@ -1,4 +1,4 @@
--- Reading from a reader call by call: what was read so far, and how a whole run ends.
+-- What a whole run over a reader answers, and which bytes it takes.
 use Rattle.std.specs.Prelude.{◌≡◌, ◌⊎◌, ℕ, List, ◌∷◌, ◌++◌, length, map, drop, Option, Some, IfSome, Result, MatchResult}
 use Rattle.std.specs.List.{AllByRecursion}
 use Rattle.std.specs.Io.KnownBytes.{Consumes}

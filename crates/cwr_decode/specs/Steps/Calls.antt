@@ -1,5 +1,5 @@
 -- What a call of a decoder does to what the decoder represents, and what its answer says of the input.
-use Rattle.std.specs.Prelude.{◌≡◌, ◌≢◌, ◌⊎◌, ℕ, ◌<◌, ◌≤◌, Bool, true, false, List, ◌++◌, length, take, Option, Some, None, IfSome, IfNone}
+use Rattle.std.specs.Prelude.{◌≡◌, ◌≢◌, ℕ, ◌<◌, ◌≤◌, Bool, true, false, List, ◌++◌, length, take, Option, Some, None, IfSome, IfNone}
 use Rattle.cwr_layouts.specs.declared.lines.LineEnd.TheVariants as line_ends
 use Rattle.cwr_values.specs.declared.items.Item.{Item}
 use Rattle.cwr_decode.specs.declared.outcomes.Outcome.{Outcome}
@@ -18,10 +18,10 @@ IsLive state = again state ≡ None
 abbrev pub Grows : ℕ → Option Outcome → ℕ → Type 0
 Grows old out new = (old ≤ new) × (out ≡ Some Memory → old < new)
 
--- Out of memory comes only with a record that was being added: the one that waited, with no byte used, or one that was
--- accepted.
+-- Out of memory comes only with a record that was being added: where none was accepted, it was the one that waited, and no
+-- byte was used.
 abbrev pub RunsOutOfMemory : Standing → ℕ → Standing → Type 0
-RunsOutOfMemory old used new = ((old.state ≡ Pending) × (used ≡ 0)) ⊎ (old.tally.counts.records < new.tally.counts.records)
+RunsOutOfMemory old used new = new.tally.counts.records ≤ old.tally.counts.records → (old.state ≡ Pending) × (used ≡ 0)
 
 -- what the end of the input refuses is the last line, which ended there and isn't too long
 abbrev pub RefusesLast : Outcome → Standing → List ℕ → List Item → Type 0

@@ -5,6 +5,7 @@ use Rattle.std.specs.declared.alloc.AllocError.{AllocError}
 use Rattle.cwr_layouts.specs.declared.kinds.Kind.{Kind}
 use Rattle.cwr_layouts.specs.declared.kinds.Kind.TheVariants.{Hdr, Grh, Grt, Trl}
 use Rattle.cwr_layouts.specs.declared.lines.LineEnd.TheVariants as line_ends
+use Rattle.cwr_layouts.specs.Format.Growth.{AsksMemory}
 use Rattle.cwr_layouts.specs.Format.Records.{RecordValue, IsRecord}
 use Rattle.cwr_layouts.specs.Steps.Held.{HeldLine, IsHeld, Takes, held_excess, held_kind, held_record, empty_line}
 use Rattle.cwr_shape.specs.declared.symbols.Symbol.{Symbol}
@@ -23,7 +24,7 @@ use Rattle.cwr_decode.specs.declared.machine.Found.TheVariants.{Added, Ends, Not
 use Rattle.cwr_decode.specs.declared.machine.State.TheVariants.{Reading, Pending, Ended, Refused, Truncated, Memory}
 use Rattle.cwr_judge.specs.declared.refusals.Refusal.{Refusal}
 use Rattle.cwr_judge.specs.Steps.Judged.{IsNext, IsOfNone, IsFirstFault}
-use Rattle.cwr_judge.specs.Format.Items.{stands_in_transaction}
+use Rattle.cwr_layouts.specs.Format.Kinds.{is_in_transaction}
 use Rattle.cwr_values.specs.Format.Values.{symbol_of}
 use Rattle.cwr_values.specs.Format.Begun.{BeginsWithOneMore}
 use Rattle.cwr_judge.specs.Steps.Open.{continues_open, open_of}
@@ -53,7 +54,7 @@ IsReady Memory finished line = Unit {0}
 
 -- a record waits that is an item of its own
 abbrev pub WaitsOutside : Standing → Type 0
-WaitsOutside d = (d.state ≡ Pending) × IsSomeAnd (held_record d.line) (λ r. stands_in_transaction r.kind ≡ false)
+WaitsOutside d = (d.state ≡ Pending) × IsSomeAnd (held_record d.line) (λ r. is_in_transaction r.kind ≡ false)
 
 -- what is answered for good, once it was answered
 abbrev pub again : State → Option Outcome
@@ -122,7 +123,7 @@ pub record HoldsOpen (d : Standing) : Type 0 where
 
 -- a record that stands inside transactions continues the one that is held, or begins one where none is
 abbrev pub FitsHeld : RecordValue → Option (List RecordValue) → Type 0
-FitsHeld r held = stands_in_transaction r.kind ≡ true → BeginsWithOneMore (held_list held) r
+FitsHeld r held = is_in_transaction r.kind ≡ true → BeginsWithOneMore (held_list held) r
 
 -- so does the record that waits, if one does
 abbrev pub FitsWaiting : Standing → Type 0
@@ -133,13 +134,14 @@ abbrev pub HandsOut : Bool → Option (List RecordValue) → Option (List Record
 HandsOut true old result new = (result ≡ None) × (new ≡ old)
 HandsOut false old result new = (result ≡ old) × (new ≡ None)
 
--- an accepted record of the kind is added to those that are held, or it is an item of its own
+-- an accepted record of the kind is added to those that are held, unless their list asks for memory and finds none; or it is
+-- an item of its own
 abbrev pub Adds : Kind → RecordValue → Option (List RecordValue) → Result (Option Item) AllocError → Option (List RecordValue) → Type 0
 Adds Hdr r old result new = (result ≡ Ok (Some (items.Opened r))) × (new ≡ old)
 Adds Grh r old result new = (result ≡ Ok (Some (items.GroupOpened r))) × (new ≡ old)
 Adds Grt r old result new = (result ≡ Ok (Some (items.GroupClosed r))) × (new ≡ old)
 Adds Trl r old result new = (result ≡ Ok (Some items.Ended)) × (new ≡ old)
-Adds this_kind r old result new = MatchResult result (λ item. (item ≡ None) × (new ≡ Some (held_list old ++ r ∷ []))) (λ fault. Unit {0})
+Adds this_kind r old result new = MatchResult result (λ item. (item ≡ None) × (new ≡ Some (held_list old ++ r ∷ []))) (λ fault. AsksMemory (held_list old) r)
 
 -- after an accepted record a new line begins, unless that was the last one or found no memory
 abbrev pub FinishesRecord : Result (Option Item) AllocError → Standing → Option Outcome → Standing → Type 0
@@ -148,13 +150,18 @@ FinishesRecord (Ok None) old result new = (result ≡ None) × (new ≡ reading 
 FinishesRecord (Ok (Some items.Ended)) old result new = (result ≡ Some (outcomes.Item items.Ended)) × (new ≡ stopped old Ended)
 FinishesRecord (Ok (Some item)) old result new = (result ≡ Some (outcomes.Item item)) × (new ≡ reading old old.held)
 
+-- a record is added to those that are held, or finds no memory where their list asks for some
+abbrev pub EntersTransaction : RecordValue → Standing → Option Outcome → Standing → Type 0
+EntersTransaction r old result new = MatchOption result (new ≡ reading old (Some (held_list old.held ++ r ∷ [])))
+    (λ o. (o ≡ outcomes.Memory) × (new ≡ stopped old Memory) × AsksMemory (held_list old.held) r)
+
 -- an accepted record of the kind is entered
 abbrev pub Enters : Kind → RecordValue → Standing → Option Outcome → Standing → Type 0
 Enters Hdr r old result new = (result ≡ Some (outcomes.Item (items.Opened r))) × (new ≡ reading old old.held)
 Enters Grh r old result new = (result ≡ Some (outcomes.Item (items.GroupOpened r))) × (new ≡ reading old old.held)
 Enters Grt r old result new = (result ≡ Some (outcomes.Item (items.GroupClosed r))) × (new ≡ reading old old.held)
 Enters Trl r old result new = (result ≡ Some (outcomes.Item items.Ended)) × (new ≡ stopped old Ended)
-Enters this_kind r old result new = MatchOption result (new ≡ reading old (Some (held_list old.held ++ r ∷ []))) (λ o. (o ≡ outcomes.Memory) × (new ≡ stopped old Memory))
+Enters this_kind r old result new = EntersTransaction r old result new
 
 -- the same with that tally
 abbrev pub with_tally : Standing → TallyValue → Standing

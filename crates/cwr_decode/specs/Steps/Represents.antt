@@ -2,6 +2,7 @@
 use Rattle.std.specs.Prelude.{◌≡◌, ◌≢◌, ◌⊎◌, ℕ, ◌+◌, Bool, true, false, IsTrue, IsFalse, List, [], ◌∷◌, ◌++◌, length, map, Option, Some, None}
 use Rattle.std.specs.List.{AllZip, AllByRecursion, flat_map, list_any}
 use Rattle.cwr_layouts.specs.declared.lines.LineEnd.TheVariants as line_ends
+use Rattle.cwr_layouts.specs.Format.Growth.{AsksMemory}
 use Rattle.cwr_layouts.specs.Format.Records.{RecordValue, IsRecord}
 use Rattle.cwr_layouts.specs.Format.Lines.{IsLineOf, closed, is_lf, longest_line}
 use Rattle.cwr_layouts.specs.Steps.Held.{HeldLine, IsHeld, held_kind, held_text, held_record}
@@ -80,10 +81,14 @@ pub record IsThrough (d : Standing) (input : List ℕ) (given : List Item) : Typ
   pub nothing : d.held ≡ None
   pub given_are : given ≡ items_so_far records
 
--- the last record stands in a transaction, and found no memory there
+-- the last record stands in a transaction, and found no memory there: the list of those before it asked for some
 pub record IsOutOfMemory (d : Standing) (input : List ℕ) (given : List Item) : Type 0 where
   pub through : IsThrough d input given
   pub inside : IsTrue (tallies_there.has_open_transaction (place_after (map symbol_of through.records)))
+  pub earlier : List RecordValue
+  pub last : RecordValue
+  pub opened : open_of through.records ≡ earlier ++ last ∷ []
+  pub asked : AsksMemory earlier last
 
 -- the records of all lines are those of a whole transmission
 pub record IsEnded (d : Standing) (input : List ℕ) (given : List Item) : Type 0 where

@@ -1,4 +1,4 @@
--- Reading from a reader call by call: what was read so far, and how a whole run ends.
+-- What a decoder and its reader are at while items are read, and where a run stops.
 use Rattle.std.specs.Prelude.{◌≡◌, ◌⊎◌, ℕ, List, ◌∷◌, length, Option, Some, IfSome, Err}
 use Rattle.std.specs.Io.KnownBytes.{Consumes}
 use Rattle.cwr_shape.specs.Format.Ranges.{LimitValues}

@@ -1,4 +1,4 @@
--- What an encoder represents: the records that it accepted. What its writer has is their part of the canonical text.
+-- The part of the canonical text that some records make, and how each call of an encoder is answered.
 use Rattle.std.specs.Prelude.{◌≡◌, ℕ, ◌+◌, List, [], ◌∷◌, ◌++◌, map, Option, Some, None, Result, Ok, Err}
 use Rattle.std.specs.List.{last_or, flat_map}
 use Rattle.cwr_layouts.specs.declared.kinds.Kind.TheVariants as kinds

@@ -1,4 +1,4 @@
--- What finishing an encoder does.
+-- How finishing is answered: when a transmission may end, and what is written then.
 use Rattle.std.specs.Prelude.{◌≡◌, ℕ, ◌-◌, ◌^◌, min, List, [], ◌∷◌, ◌++◌, length, Option, Result}
 use Rattle.std.specs.Io.KnownBytes.{Appends}
 use Rattle.cwr_layouts.specs.declared.kinds.Kind.TheVariants as kinds

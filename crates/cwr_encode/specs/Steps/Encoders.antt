@@ -1,4 +1,4 @@
--- What an encoder represents: the records that it accepted. What its writer has is their part of the canonical text.
+-- What an encoder keeps and represents, and what its calls do to that.
 use Rattle.std.specs.Prelude.{◌≡◌, ℕ, ◌+◌, Bool, true, false, List, [], ◌∷◌, ◌++◌, map, Option, Some, None, unwrap_or, Result, Ok, Err, nat_lt, if◌then◌else◌}
 use Rattle.std.specs.List.{AllByRecursion}
 use Rattle.cwr_fields.specs.Format.Failures.{one_more_failure}

@@ -1,4 +1,4 @@
--- What finishing an encoder does.
+-- What finishing does to an encoder's writer.
 use Rattle.std.specs.Prelude.{◌≡◌, ℕ, List, Option, Result, Ok, Err}
 use Rattle.cwr_fields.specs.Format.Failures.{one_more_failure}
 use Rattle.cwr_layouts.specs.Format.Records.{RecordValue}

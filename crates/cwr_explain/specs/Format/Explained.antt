@@ -1,4 +1,4 @@
--- What is written where a check is explained.
+-- What words after a verdict add, what they may take from the reader, and which faults they have.
 use Rattle.std.specs.Prelude.{◌≡◌, ℕ, ◌-◌, ◌^◌, min, List, length, Option, Result, Ok, Err}
 use Rattle.std.specs.Io.KnownBytes.{Appends, Consumes}
 use Rattle.cwr_fields.specs.Format.Failures.{one_more_failure}

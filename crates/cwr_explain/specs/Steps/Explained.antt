@@ -1,4 +1,4 @@
--- What is written where a check is explained.
+-- What an explained check has written and taken, step by step.
 use Rattle.std.specs.Prelude.{◌≡◌, ℕ, ◌+◌, ◌-◌, ◌^◌, min, List, length, Option, Result}
 use Rattle.std.specs.Io.KnownBytes.{Appends, Consumes}
 use Rattle.cwr_shape.specs.declared.limits.Limits.{Limits}

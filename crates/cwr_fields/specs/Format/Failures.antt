@@ -1,4 +1,4 @@
--- What the calls of a source and of a target do to the bytes and the failures that they show.
+-- How the calls of a source and of a target count their failures.
 use Rattle.std.specs.Prelude.{◌≡◌, ℕ, ◌+◌, ◌-◌, ◌<◌, ◌^◌, min, Result, Ok, Err}
 
 -- the highest count of failures

@@ -1,5 +1,5 @@
 -- What a `Counted` shows of itself.
-use Rattle.std.specs.Prelude.{ℕ, List, slice_range}
+use Rattle.std.specs.Prelude.{ℕ, Bool, List, slice_range}
 use Rattle.cwr_fields.specs.declared.counted.Counted.{Counted}
 
 -- the reader or the writer in it
@@ -17,3 +17,7 @@ shown_of counted = counted.shown
 -- how many calls failed
 abbrev pub failures_of : {T : Type 0} → Counted T → ℕ
 failures_of counted = counted.failures
+
+-- all that was written was handed on
+abbrev pub has_handed_on : {T : Type 0} → Counted T → Bool
+has_handed_on counted = counted.handed_on

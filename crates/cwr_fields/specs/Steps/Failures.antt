@@ -1,4 +1,4 @@
--- What the calls of a source and of a target do to the bytes and the failures that they show.
+-- How many bytes a `fill` showed.
 use Rattle.std.specs.Prelude.{ℕ, List, length, Result, Ok, Err}
 use denote.Ref.{Bor}
 

@@ -1,4 +1,4 @@
--- Members of code tables, their codes, and the cells that hold these.
+-- The lists of members that the code has, and how a cell is looked up in one.
 use Rattle.std.specs.Prelude.{ℕ, List, find, Option, option_map}
 use Rattle.std.specs.Str.{bytes_eq}
 use denote.Ref.{Bor}

@@ -4,6 +4,7 @@ use Rattle.std.specs.List.{last_or, flat_map}
 use Rattle.cwr_fields.specs.Format.Bytes.{number_of}
 use Rattle.cwr_layouts.specs.declared.kinds.Kind.{Kind}
 use Rattle.cwr_layouts.specs.declared.kinds.Kind.TheVariants.{Hdr, Grh, Grt, Trl}
+use Rattle.cwr_layouts.specs.Format.Kinds.{is_in_transaction}
 use Rattle.cwr_layouts.specs.Format.Records.{RecordValue, Row, record_of}
 use Rattle.cwr_values.specs.declared.items.Item.{Item}
 use Rattle.cwr_values.specs.declared.items.Item.TheVariants.{Opened, GroupOpened, Transaction, GroupClosed, Ended}
@@ -11,26 +12,18 @@ use Rattle.cwr_shape.specs.declared.limits.Limits.{Limits}
 use Rattle.cwr_values.specs.Format.Values.{GroupValue, TransmissionValue, IsTransmission, FitsIn}
 use Rattle.cwr_values.specs.Format.Rows.{trailer}
 
--- records of the kind stand inside transactions
-abbrev pub stands_in_transaction : Kind → Bool
-stands_in_transaction Hdr = false
-stands_in_transaction Grh = false
-stands_in_transaction Grt = false
-stands_in_transaction Trl = false
-stands_in_transaction this_kind = true
-
 -- the record sequence that a row inside a transaction carries in its third cell
 abbrev pub record_sequence : Row → ℕ
 record_sequence row = number_of (slice_index_or row.cells 2 [])
 
 -- the row belongs to the transaction of the row before it
 abbrev pub continues_transaction : Row → Bool
-continues_transaction row = stands_in_transaction row.kind && not (record_sequence row == 0)
+continues_transaction row = is_in_transaction row.kind && not (record_sequence row == 0)
 
 -- a transaction ends with the last of the rows, where this row comes next
 abbrev pub ends_transaction : Option Row → Row → Bool
 ends_transaction None row = false
-ends_transaction (Some last) row = stands_in_transaction last.kind && not (continues_transaction row)
+ends_transaction (Some last) row = is_in_transaction last.kind && not (continues_transaction row)
 
 -- the transaction that ends with the last of the rows: as many rows before that one belong to it as its record sequence says
 abbrev pub transaction_at_end : Option Row → List Row → List RecordValue

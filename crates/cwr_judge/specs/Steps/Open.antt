@@ -11,7 +11,8 @@ use Rattle.cwr_values.specs.declared.items.Item.{Item}
 use Rattle.cwr_values.specs.declared.items.Item.TheVariants.{Opened, GroupOpened, Transaction, GroupClosed, Ended}
 use Rattle.cwr_values.specs.Format.Values.{symbol_of}
 use Rattle.cwr_values.specs.Format.Begins.{rows_so_far}
-use Rattle.cwr_judge.specs.Format.Items.{stands_in_transaction, items}
+use Rattle.cwr_layouts.specs.Format.Kinds.{is_in_transaction}
+use Rattle.cwr_judge.specs.Format.Items.{items}
 
 -- the items that the rows of these records give
 abbrev pub items_so_far : List RecordValue → List Item
@@ -40,12 +41,12 @@ item_of this_kind r = []
 
 -- one more record continues the open transaction
 pub record Stays (records : List RecordValue) (r : RecordValue) : Type 0 where
-  pub inside : stands_in_transaction r.kind ≡ true
+  pub inside : is_in_transaction r.kind ≡ true
   pub some : 0 < length (open_of records)
   pub longer : open_of (records ++ r ∷ []) ≡ open_of records ++ r ∷ []
   pub nothing : items_so_far (records ++ r ∷ []) ≡ items_so_far records
 
 -- one more record ends the open transaction, if there is one
 pub record Closes (records : List RecordValue) (r : RecordValue) : Type 0 where
-  pub open_now : open_of (records ++ r ∷ []) ≡ (if stands_in_transaction r.kind then r ∷ [] else [])
+  pub open_now : open_of (records ++ r ∷ []) ≡ (if is_in_transaction r.kind then r ∷ [] else [])
   pub given : items_so_far (records ++ r ∷ []) ≡ items_so_far records ++ ended_transaction (open_of records) ++ item_of r.kind r

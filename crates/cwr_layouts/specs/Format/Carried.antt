@@ -1,4 +1,4 @@
--- The carried cells of a record, found by their fields, set and judged, and the line that a record is kept in.
+-- The carried cells of a record, found by their fields, set and judged.
 use Rattle.std.specs.Prelude.{◌≡◌, ◌≢◌, ℕ, ◌-◌, ◌<◌, ◌≤◌, IsTrue, not, List, length, filter, take, Option, Some, None, IfSome, IsSomeAnd, slice_get, slice_set, if◌then◌else◌}
 use Rattle.std.specs.Option.{option_and_then}
 use Rattle.cwr_fields.specs.declared.cell_types.CellFault.{CellFault}

@@ -1,4 +1,4 @@
--- The carried cells of a record, found by their fields, set and judged, and the line that a record is kept in.
+-- The whole line in which a record is kept.
 use Rattle.std.specs.Prelude.{◌≡◌, ℕ, List, length, map}
 use Rattle.cwr_layouts.specs.declared.kinds.Kind.{Kind}
 use Rattle.cwr_layouts.specs.Format.Layouts.{layout, line_width}

@@ -1,6 +1,8 @@
 -- Records that are kept as whole lines, one after another in one text.
 use Rattle.std.specs.Prelude.{◌≡◌, ℕ, ◌+◌, ◌≤◌, List, length, map, take, drop}
+use Rattle.std.specs.List.{AllByRecursion}
 use Rattle.cwr_layouts.specs.declared.record_lists.LineStart.{LineStart}
+use Rattle.cwr_layouts.specs.Format.Growth.{lines_width}
 use Rattle.cwr_layouts.specs.Format.Layouts.{line_width}
 use Rattle.cwr_layouts.specs.Format.Records.{RecordValue, IsRecord}
 use Rattle.cwr_layouts.specs.Steps.Carried.{record_in}
@@ -21,3 +23,8 @@ kept_records text places = map (record_at text) places
 pub record IsKeptLine (text : List ℕ) (p : LineStart) : Type 0 where
   pub within : p.start + line_width p.kind ≤ length text
   pub fits : IsRecord (record_at text p)
+
+-- the text is the lines at these places, and no more than those
+pub record KeepsLines (text : List ℕ) (places : List LineStart) : Type 0 where
+  pub each : AllByRecursion (IsKeptLine text) places
+  pub whole : length text ≡ lines_width (kept_records text places)

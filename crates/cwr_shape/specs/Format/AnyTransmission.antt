@@ -1,4 +1,4 @@
--- Where symbols stand, and what is left of a transmission at each stage: the pattern of what may still come.
+-- Any transmission, whatever its limits.
 use Rattle.std.specs.Prelude.{List}
 use Rattle.cwr_shape.specs.Format.Outlines.{GroupOutline}
 

@@ -1,4 +1,4 @@
--- How the counters continue with one more record, and the numbers that they give it.
+-- The numbers that a record must have, by its kind and what was counted before it.
 use Rattle.std.specs.Prelude.{ℕ, ◌+◌, ◌-◌, Bool, true, false, List, [], ◌∷◌}
 use Rattle.cwr_fields.specs.declared.codes.TransactionType.{TransactionType}
 use Rattle.cwr_layouts.specs.declared.kinds.Kind.{Kind}

@@ -1,4 +1,4 @@
--- How far symbols have come.
+-- The last of some symbols that passes a test.
 use Rattle.std.specs.Prelude.{Bool, true, false, List, Option, Some, None}
 use Rattle.std.specs.List.{last_or, filter}
 use Rattle.cwr_fields.specs.declared.codes.TransactionType.{TransactionType}

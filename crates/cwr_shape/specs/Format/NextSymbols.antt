@@ -1,4 +1,4 @@
--- What is counted of the records of a transmission as they come, and what their order and the limits say of one more.
+-- What is open after some symbols, what is counted of them, and which symbol may come next.
 use Rattle.std.specs.Prelude.{ℕ, ◌+◌, Bool, true, false, nat_lt, List, [], ◌∷◌, ◌++◌, length, count_by, Option, Some, None, Result, MatchResult, if◌then◌else◌}
 use Rattle.std.specs.List.{after_last, last_or, IsAmong}
 use Rattle.cwr_fields.specs.declared.codes.TransactionType.{TransactionType}

@@ -1,4 +1,4 @@
--- The order of records without carried ones and without copies, for the law that each order that was one without them still is.
+-- The orders of records without copies, with carried records and without, for the laws that each order that was one of these still is.
 use Rattle.std.specs.Prelude.{◌≡◌, ◌<◌, Bool, true, false, not, List, [], ◌∷◌, length}
 use Rattle.std.specs.List.{AllByRecursion, list_all}
 use Rattle.cwr_fields.specs.declared.codes.TransactionType.{TransactionType}
@@ -8,7 +8,7 @@ use Rattle.cwr_layouts.specs.declared.kinds.Kind.TheVariants as kinds
 use Rattle.cwr_shape.specs.declared.symbols.Symbol.{Symbol}
 use Rattle.cwr_shape.specs.declared.symbols.Symbol.TheVariants.{Plain}
 use Rattle.cwr_shape.specs.Format.Outlines.{GroupOutline, symbols_of}
-use Rattle.cwr_shape.specs.Format.Shapes.{Pattern, ◌then◌, many, Matches, is_carried_symbol, a, some, block, publisher, writer, tail_record}
+use Rattle.cwr_shape.specs.Format.Shapes.{Pattern, ◌then◌, many, Matches, is_carried_symbol, a, some, block, publisher, writer, tail_record, agreement, work}
 
 -- an agreement
 abbrev pub uncarried_agreement : Pattern
@@ -46,3 +46,34 @@ IsUncarriedGroup g = (0 < length g.transactions) × AllByRecursion (IsUncarriedS
 -- the symbols are those of a whole transmission, in which no record is carried, and no acknowledgement has a copy
 abbrev pub IsUncarriedWhole : List Symbol → Type 0
 IsUncarriedWhole xs = (groups : List GroupOutline) × (0 < length groups) × AllByRecursion IsUncarriedGroup groups × (xs ≡ symbols_of groups)
+
+-- ---- with carried records
+
+-- the pattern of the transactions of a type, of which an acknowledgement has no copy
+abbrev pub uncopied_pattern : TransactionType → Pattern
+uncopied_pattern Agreement = agreement
+uncopied_pattern NewWork = work kinds.Nwr
+uncopied_pattern RevisedWork = work kinds.Rev
+uncopied_pattern Acknowledgement = a kinds.Ack then many (a kinds.Msg)
+
+-- the symbols are a whole transaction of the type, without a copy
+abbrev pub IsUncopiedShape : TransactionType → List Symbol → Type 0
+IsUncopiedShape ty xs = Matches (uncopied_pattern ty) xs
+
+-- a symbol that such a transaction may have: in an acknowledgement no header of its copy
+abbrev pub is_uncopied : TransactionType → Symbol → Bool
+is_uncopied Acknowledgement (Plain kinds.Agr) = false
+is_uncopied Acknowledgement (Plain kinds.Nwr) = false
+is_uncopied Acknowledgement (Plain kinds.Rev) = false
+is_uncopied ty s = true
+
+abbrev pub AreUncopied : TransactionType → List Symbol → Type 0
+AreUncopied ty xs = list_all (is_uncopied ty) xs ≡ true
+
+-- one or more such transactions, each of the group's type
+abbrev pub IsUncopiedGroup : GroupOutline → Type 0
+IsUncopiedGroup g = (0 < length g.transactions) × AllByRecursion (IsUncopiedShape g.ty) g.transactions
+
+-- the symbols are those of a whole transmission, in which no acknowledgement has a copy
+abbrev pub IsUncopiedWhole : List Symbol → Type 0
+IsUncopiedWhole xs = (groups : List GroupOutline) × (0 < length groups) × AllByRecursion IsUncopiedGroup groups × (xs ≡ symbols_of groups)

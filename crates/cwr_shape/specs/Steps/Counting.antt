@@ -1,4 +1,4 @@
--- How the counters continue with one more record, and the numbers that they give it.
+-- How the counters continue with one more record at a stage, and the numbers that they give it.
 use Rattle.std.specs.Prelude.{ℕ, ◌+◌, ◌-◌, ◌≤◌, Bool, ◌==◌, nat_lt, Option, Some, None, if◌then◌else◌}
 use Rattle.cwr_fields.specs.declared.codes.Role.{Role}
 use Rattle.cwr_fields.specs.declared.codes.Role.TheVariants.{Assignor, Acquirer}

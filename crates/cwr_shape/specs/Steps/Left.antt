@@ -1,4 +1,4 @@
--- Where symbols stand, and what is left of a transmission at each stage: the pattern of what may still come.
+-- What is left of a transmission at each stage: the pattern of what may still come.
 use Rattle.std.specs.Prelude.{◌≡◌, ◌↔◌, Bool, true, false, IsTrue, List, [], ◌∷◌, ◌++◌}
 use Rattle.cwr_fields.specs.declared.codes.Role.TheVariants.{Assignor, Acquirer}
 use Rattle.cwr_fields.specs.declared.codes.TransactionType.{TransactionType}

@@ -1,4 +1,4 @@
--- How far symbols have come.
+-- The stage that some symbols have come to.
 use Rattle.std.specs.Prelude.{Bool, true, false, not, List, Option, Some, None, if◌then◌else◌}
 use Rattle.std.specs.List.{after_last, last_or, list_any}
 use Rattle.cwr_fields.specs.declared.codes.Role.{Role}

@@ -1,4 +1,4 @@
--- What is counted of the records of a transmission as they come, and what their order and the limits say of one more.
+-- What a tally keeps: limits, stage and counts, and of which symbols these are.
 use Rattle.std.specs.Prelude.{◌≡◌, ◌≤◌, List}
 use Rattle.cwr_shape.specs.declared.symbols.Symbol.{Symbol}
 use Rattle.cwr_shape.specs.declared.stages.Stage.{Stage}

@@ -21,7 +21,7 @@ use Rattle.cwr_levels.specs.declared.rules.Rule.TheVariants.{V1, V2, V3, V4, V5,
 use Rattle.cwr_levels.specs.declared.rules.Finding.{Finding}
 use Rattle.cwr_levels.specs.Format.Fields.{place_of}
 use Rattle.cwr_levels.specs.Format.Findings.{findings, is_a, is_owner, is_party, ownership}
-use Rattle.cwr_levels.specs.Format.Lines.{finding_line}
+use Rattle.cwr_levels.specs.Format.ReportLines.{finding_line}
 
 -- ---- in words
 

@@ -1,4 +1,4 @@
--- Transmissions that are joined to one: the records that are written of which items, and how a join ends.
+-- The transmission to which inputs are joined, and how a join ends.
 use Rattle.std.specs.Prelude.{◌≡◌, ℕ, ◌+◌, Bool, true, false, length, sum_by, filter, List, [], ◌∷◌, ◌++◌, Option, Some, Result, Ok, Err, MatchResult}
 use Rattle.std.specs.List.{AllZip, flat_map}
 use Rattle.std.specs.Io.KnownBytes.{Appends}

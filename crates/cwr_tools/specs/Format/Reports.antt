@@ -1,4 +1,4 @@
--- What a run over a text reports: lines of the items that are handed out, in order, and then the line of the verdict.
+-- The lines of a report: those of each item, and the verdict's.
 use Rattle.std.specs.Prelude.{◌≡◌, ℕ, ◌+◌, Bool, false, nat_lt, length, List, ◌++◌, drop, Option, Some, IfSome, Result, Err}
 use Rattle.std.specs.Io.KnownBytes.{Appends}
 use Rattle.cwr_fields.specs.Format.Failures.{one_more_failure}

@@ -1,4 +1,4 @@
--- Transmissions that are split: what the outputs have had, and how a split ends.
+-- The outputs of a split, and how it ends.
 use Rattle.std.specs.Prelude.{◌≡◌, ℕ, ◌/◌, List, ◌++◌, length, map, take, drop, count_by, sum_by, Option, Some, IfSome, Result, Ok, Err, MatchResult}
 use Rattle.cwr_fields.specs.Format.Failures.{one_more_failure}
 use Rattle.cwr_shape.specs.declared.limits.Limits.{Limits}

@@ -1,4 +1,4 @@
--- The verdict on the bytes that a reader has, and the items that were handed out before it.
+-- The verdict on the bytes that a reader has.
 use Rattle.std.specs.Prelude.{◌≡◌, ℕ, List, Option, IfSome, Result, Ok, Err}
 use Rattle.cwr_shape.specs.declared.limits.Limits.{Limits}
 use Rattle.cwr_values.specs.Format.Values.{TransmissionValue}

@@ -1,4 +1,4 @@
--- Transmissions that are joined to one: the records that are written of which items, and how a join ends.
+-- Where a join stops, and what is written then.
 use Rattle.std.specs.Prelude.{◌≡◌, ◌⊎◌, ℕ, ◌+◌, length, map, List, [], ◌∷◌, ◌++◌, Option, Result, Ok, Err}
 use Rattle.cwr_shape.specs.declared.limits.Limits.{Limits}
 use Rattle.cwr_shape.specs.declared.limits.LimitKind.{LimitKind}

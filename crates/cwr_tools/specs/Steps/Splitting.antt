@@ -1,4 +1,4 @@
--- Transmissions that are split: what the outputs have had, and how a split ends.
+-- Where a split stops, and which outputs were handed over then.
 use Rattle.std.specs.Prelude.{ℕ, List, [], ◌∷◌, ◌++◌, Option, Result, Ok, Err}
 use Rattle.cwr_shape.specs.declared.limits.Limits.{Limits}
 use Rattle.cwr_values.specs.declared.items.Item.{Item}

@@ -1,4 +1,4 @@
--- The verdict on the bytes that a reader has, and the items that were handed out before it.
+-- How a run comes to its verdict: the items before it, and what was read last.
 use Rattle.std.specs.Prelude.{◌≡◌, ℕ, ◌+◌, List, [], ◌∷◌, count_by, length, Option, IfSome, if◌then◌else◌}
 use Rattle.std.specs.Io.KnownBytes.{Consumes}
 use Rattle.cwr_shape.specs.declared.limits.Limits.{Limits}

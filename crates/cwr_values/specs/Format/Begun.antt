@@ -1,4 +1,4 @@
--- What begins a transaction, a group and a transmission, and how the records of a transaction are kept.
+-- What begins a transaction, a group and a transmission.
 use Rattle.std.specs.Prelude.{◌≡◌, List, [], ◌∷◌, ◌++◌, map, slice_get, IsSomeAnd}
 use Rattle.std.specs.List.{AllByRecursion}
 use Rattle.cwr_fields.specs.declared.codes.TransactionType.{TransactionType}

@@ -1,5 +1,5 @@
 use Rattle.cwr_encode.proofs.Numbered.{puts_both, puts_cut}
-use Rattle.cwr_levels.specs.Format.Lines.{finding_line}
+use Rattle.cwr_levels.specs.Format.ReportLines.{finding_line}
 use Rattle.cwr_tools.specs.Format.FindingNotes.{finding_notes}
 use Rattle.cwr_tools.proofs.FindingsPut.{puts_line}
 use Rattle.cwr_tools.proofs.finding_notes.put_explained.Goals as goal

@@ -36,8 +36,8 @@ loop-whole-smaller-in-Added c =
     let none : IsNone c.feed_quickly-front.result.1 = subst (λ (o : Option (List RecordValue)). IsNone o) (sym c.in_default.is) refl in
     let rest : Fed c.loop-whole.self (drop c.loop-whole.used c.args.piece.now) c.feed_quickly-front.result.0 c.feed_quickly-front.new.self = rw take_rest at (c.feed_quickly-front.ensures.none none) in
     let at = fed_on c.args.self.now c.loop-whole.self c.feed_quickly-front.new.self c.args.piece.now c.loop-whole.used c.feed_quickly-front.result.0 c.loop-whole.invariant rest in
-    let less = rest_smaller c.args.piece.now (c.loop-whole.used + c.feed_quickly-front.result.0) c.take-taken.result.used c.feed_quickly-front.new.self c.find_line.new.self
-    (advanced_line c.feed_quickly-front.new.self c.take-taken.new.self c.find_line.new.self (drop (c.loop-whole.used + c.feed_quickly-front.result.0) c.args.piece.now) c.take-taken.result.used None at.reading at.fresh
+    let less = rest_smaller c.args.piece.now (c.loop-whole.used + c.feed_quickly-front.result.0) c.take-taken.result.used c.feed_quickly-front.new.self c.enter_line.new.self
+    (advanced_line c.feed_quickly-front.new.self c.take-taken.new.self c.enter_line.new.self (drop (c.loop-whole.used + c.feed_quickly-front.result.0) c.args.piece.now) c.take-taken.result.used None at.reading at.fresh
     (rw take_rest at c.take-taken.ensures.takes) c.take-taken.ensures.held c.take-taken.ensures.others (λ e. c.in_default-ended.not-Open (c.take-taken.ensures.ended ∙ e)) c.in-Added.ensures) in
     let all : length c.args.piece.now - ((c.loop-whole.used + c.feed_quickly-front.result.0) + c.take-taken.result.used) < length c.args.piece.now - c.loop-whole.used = omega (arith, less) in
     all
@@ -47,12 +47,12 @@ loop-whole-preserved-in-Added c =
     let none : IsNone c.feed_quickly-front.result.1 = subst (λ (o : Option (List RecordValue)). IsNone o) (sym c.in_default.is) refl in
     let rest : Fed c.loop-whole.self (drop c.loop-whole.used c.args.piece.now) c.feed_quickly-front.result.0 c.feed_quickly-front.new.self = rw take_rest at (c.feed_quickly-front.ensures.none none) in
     let at = fed_on c.args.self.now c.loop-whole.self c.feed_quickly-front.new.self c.args.piece.now c.loop-whole.used c.feed_quickly-front.result.0 c.loop-whole.invariant rest in
-    fed_more c.args.self.now c.feed_quickly-front.new.self c.find_line.new.self c.args.piece.now (c.loop-whole.used + c.feed_quickly-front.result.0) c.take-taken.result.used at
-    (advanced_line c.feed_quickly-front.new.self c.take-taken.new.self c.find_line.new.self (drop (c.loop-whole.used + c.feed_quickly-front.result.0) c.args.piece.now) c.take-taken.result.used None at.reading at.fresh
+    fed_more c.args.self.now c.feed_quickly-front.new.self c.enter_line.new.self c.args.piece.now (c.loop-whole.used + c.feed_quickly-front.result.0) c.take-taken.result.used at
+    (advanced_line c.feed_quickly-front.new.self c.take-taken.new.self c.enter_line.new.self (drop (c.loop-whole.used + c.feed_quickly-front.result.0) c.args.piece.now) c.take-taken.result.used None at.reading at.fresh
     (rw take_rest at c.take-taken.ensures.takes) c.take-taken.ensures.held c.take-taken.ensures.others (λ e. c.in_default-ended.not-Open (c.take-taken.ensures.ended ∙ e)) c.in-Added.ensures)
 
 pub take_whole-requires : goal.take_whole-requires
-take_whole-requires c = held_some _ c.find_line.new.self.held c.in-Ends.ensures
+take_whole-requires c = held_some _ c.enter_line.new.self.held c.in-Ends.ensures
 
 pub returns-in-Ends : goal.returns-in-Ends
 returns-in-Ends c =
@@ -60,7 +60,7 @@ returns-in-Ends c =
     let rest : Fed c.loop-whole.self (drop c.loop-whole.used c.args.piece.now) c.feed_quickly-front.result.0 c.feed_quickly-front.new.self = rw take_rest at (c.feed_quickly-front.ensures.none none) in
     let at = fed_on c.args.self.now c.loop-whole.self c.feed_quickly-front.new.self c.args.piece.now c.loop-whole.used c.feed_quickly-front.result.0 c.loop-whole.invariant rest in
     let out = outcomes.Item (items.Transaction c.take_whole.result) in
-    let judged : Judges c.take-taken.new.self (Some out) (emptied c.find_line.new.self) = of_whole _ c.find_line.new.self.held c.take_whole.result c.take_whole.ensures.whole c.in-Ends.ensures in
+    let judged : Judges c.take-taken.new.self (Some out) (emptied c.enter_line.new.self) = of_whole _ c.enter_line.new.self.held c.take_whole.result c.take_whole.ensures.whole c.in-Ends.ensures in
     fed_through c.args.self.now c.feed_quickly-front.new.self c.take_whole.new.self c.args.piece.now (c.loop-whole.used + c.feed_quickly-front.result.0) c.take-taken.result.used out at
     (advanced_line c.feed_quickly-front.new.self c.take-taken.new.self c.take_whole.new.self (drop (c.loop-whole.used + c.feed_quickly-front.result.0) c.args.piece.now) c.take-taken.result.used (Some out) at.reading at.fresh
     (rw take_rest at c.take-taken.ensures.takes) c.take-taken.ensures.held c.take-taken.ensures.others (λ e. c.in_default-ended.not-Open (c.take-taken.ensures.ended ∙ e))
@@ -72,7 +72,7 @@ take_line-requires-clause-holds c =
     let rest : Fed c.loop-whole.self (drop c.loop-whole.used c.args.piece.now) c.feed_quickly-front.result.0 c.feed_quickly-front.new.self = rw take_rest at (c.feed_quickly-front.ensures.none none) in
     let at = fed_on c.args.self.now c.loop-whole.self c.feed_quickly-front.new.self c.args.piece.now c.loop-whole.used c.feed_quickly-front.result.0 c.loop-whole.invariant rest in
     let same = c.in-Nothing.ensures ∙ c.take-taken.ensures.others in
-    fed_holds c.args.self.now c.feed_quickly-front.new.self c.find_line.new.self c.args.piece.now (c.loop-whole.used + c.feed_quickly-front.result.0) c.requires.sound.under_way at (ap (λ (d : Standing). d.tally) same) (ap (λ (d : Standing). d.held) same)
+    fed_holds c.args.self.now c.feed_quickly-front.new.self c.enter_line.new.self c.args.piece.now (c.loop-whole.used + c.feed_quickly-front.result.0) c.requires.sound.under_way at (ap (λ (d : Standing). d.tally) same) (ap (λ (d : Standing). d.held) same)
 
 pub returns-in-Some-take_line : goal.returns-in-Some-take_line
 returns-in-Some-take_line c =

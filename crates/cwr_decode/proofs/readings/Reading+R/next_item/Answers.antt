@@ -1,7 +1,7 @@
-use Rattle.std.proofs.Common.{None, inr, ap, refl, arith}
+use Rattle.std.proofs.Common.{None, ap, refl, arith}
 use Rattle.cwr_decode.specs.Steps.Machines.{again}
 use Rattle.cwr_decode.proofs.LastHeld.{reads_both}
-use Rattle.cwr_decode.proofs.FromReader.{reads_after, wants_more, wants_waiting}
+use Rattle.cwr_decode.proofs.FromReader.{reads_after, wants_more}
 use Rattle.cwr_decode.proofs.readings.Reading+R.next_item.Goals as goal
 
 pub pull_quickly-requires-clause-reading : goal.pull_quickly-requires-clause-reading
@@ -20,13 +20,14 @@ pub returns-in-Nothing-clause-reads : goal.returns-in-Nothing-clause-reads
 returns-in-Nothing-clause-reads g c = reads_after 0 _ _ _ _ _ _ _ (c.in_default.ensures.continues _) (reads_after 0 _ _ _ _ _ _ _ c.in-Nothing.ensures.reads c.read_on.ensures.reads)
 
 pub returns-in-Some-clause-memory : goal.returns-in-Some-clause-memory
-returns-in-Some-clause-memory g c = λ is live. wants_waiting c.args.self.now.decoder c.settle.new.decoder _ _ refl ((c.in-Some.ensures.reads None).memory is live)
+returns-in-Some-clause-memory g c = λ is live few. (((c.in-Some.ensures.reads None).memory is live few).0, refl)
 
 pub returns-in-Nothing-clause-memory : goal.returns-in-Nothing-clause-memory
-returns-in-Nothing-clause-memory g c = λ is live.
+returns-in-Nothing-clause-memory g c = λ is live few.
     let on = c.in_default.ensures.continues None in
     let fed = c.in-Nothing.ensures.reads in
-    inr (omega (arith, on.kept, fed.kept, wants_more c.pull_quickly.new.decoder c.read_on.new.decoder _ fed.reading (c.read_on.ensures.reads.memory is (ap again fed.reading))))
+    absurd (wants_more c.pull_quickly.new.decoder c.read_on.new.decoder _ fed.reading
+    (c.read_on.ensures.reads.memory is (ap again fed.reading)) (omega (arith, on.kept, fed.kept, few)))
 
 pub returns-in-Nothing-clause-last : goal.returns-in-Nothing-clause-last
 returns-in-Nothing-clause-last g c = reads_both _ _ _ _ _ _ c.in-Nothing.ensures.last c.read_on.ensures.last

@@ -1,5 +1,7 @@
-use Rattle.std.proofs.Common.{Err, refl, ap, map}
+use Rattle.std.proofs.Common.{List, Err, refl, ap, map, subst}
 use Rattle.std.specs.Prelude.{is_some}
+use Rattle.cwr_layouts.specs.Format.Growth.{AsksMemory}
+use Rattle.cwr_layouts.specs.Format.Records.{RecordValue}
 use Rattle.cwr_values.specs.declared.transactions.PushFault.TheVariants.{Memory}
 use Rattle.cwr_values.specs.Format.Values.{symbol_of}
 use Rattle.cwr_values.proofs.Beginnings.{more_exact, none_is_some, keeps_more, ok_is_refused, memory_is_misplaced}
@@ -24,3 +26,6 @@ pub returns-in-Err-clause-misplaced : goal.returns-in-Err-clause-misplaced
 returns-in-Err-clause-misplaced c =
     let more = more_exact c.self.inside.ty c.self.inside.step c.self.inside.records c.args.self.now c.symbol_of.result c.args.next c.next.result c.self.invariant c.self.view_is c.symbol_of.ensures c.next.ensures.some in
     (λ e. absurd (memory_is_misplaced (Err Memory) refl e), λ n. absurd (n (more.0 (ap is_some c.in-Some.is))))
+
+pub returns-in-Err-clause-memory : goal.returns-in-Err-clause-memory
+returns-in-Err-clause-memory c = λ e. subst (λ (rs : List RecordValue). AsksMemory rs c.args.next) c.self.view_is c.in-Err.ensures.asks

@@ -3,11 +3,11 @@ use Rattle.std.specs.Prelude.{◌≡◌, true, IsSomeAnd}
 use Rattle.cwr_layouts.specs.declared.kinds.Kind.{Kind}
 use Rattle.cwr_layouts.specs.Format.Records.{RecordValue, IsRecord}
 use Rattle.cwr_layouts.specs.Steps.Held.{HeldLine, held_record}
-use Rattle.cwr_judge.specs.Format.Items.{stands_in_transaction}
+use Rattle.cwr_layouts.specs.Format.Kinds.{is_in_transaction}
 use Rattle.cwr_judge.specs.Steps.Judged.{IsCounted}
 use Rattle.cwr_decode.specs.Steps.Machines.{HandsOut, Standing, reading, with_tally}
 use Rattle.cwr_decode.proofs.LineSteps.{added_now, waits_now}
-use Rattle.cwr_decode.proofs.machine.find_cut.Goals as goal
+use Rattle.cwr_decode.proofs.machine.enter_cut.Goals as goal
 
 same_record : (h : HeldLine) (r s : RecordValue) → held_record h ≡ Some r → held_record h ≡ Some s → r ≡ s
 same_record h r s er es = inside (Some r) (Some s) (sym er ∙ es)
@@ -28,19 +28,19 @@ pub returns-then-not-stays_open : goal.returns-then-not-stays_open
 returns-then-not-stays_open c = λ state finished.
     let d : Standing = record { line = c.args.cut.now; tally = c.args.tally.now; held = c.args.held.now; state = state; finished = finished } in
     let q = c.count_quickly.ensures.counted c.if-not-count_quickly.false in
-    waits_now d c.count_quickly.new.tally c.args.cut.now q.symbol q.accepted c.stays_open.result c.in-Some-held.open (Some c.in-Some-held.open) None refl
+    waits_now d c.count_quickly.new.tally c.args.cut.now q.symbol q.accepted c.stays_open.result c.in-Some-held.transaction (Some c.in-Some-held.transaction) None refl
     (q.carried, q.in_order, q.excess) q.next q.limits q.stands
     (λ xs st. c.stays_open.ensures xs q.symbol st (q.stands xs st))
-    (subst (λ (b : Bool). HandsOut b c.args.held.now (Some c.in-Some-held.open) None) (sym c.if-not-stays_open.true) (sym c.in-Some-held.is, refl)) refl
+    (subst (λ (b : Bool). HandsOut b c.args.held.now (Some c.in-Some-held.transaction) None) (sym c.if-not-stays_open.true) (sym c.in-Some-held.is, refl)) refl
 
 pub returns : goal.returns
 returns c = λ state finished.
     let d : Standing = record { line = c.args.cut.now; tally = c.args.tally.now; held = c.args.held.now; state = state; finished = finished } in
     let q = c.count_quickly.ensures.counted c.if-not-count_quickly.false in
     let e : q.accepted ≡ c.known_record.result = same_record c.args.cut.now q.accepted c.known_record.result q.carried c.known_record.ensures in
-    added_now d c.count_quickly.new.tally c.args.cut.now q.symbol q.accepted c.stays_open.result c.in-Some-held.open
-    (reading (with_tally d c.count_quickly.new.tally) (Some c.adds_known.new.open)) refl
-    (subst (λ (q : Option Kind). IsSomeAnd q (λ kind. stands_in_transaction kind ≡ true)) (sym c.in-Some.is ∙ c.kind.ensures) (sym c.stands_inside.ensures ∙ c.if-not-stands_inside.false))
+    added_now d c.count_quickly.new.tally c.args.cut.now q.symbol q.accepted c.stays_open.result c.in-Some-held.transaction
+    (reading (with_tally d c.count_quickly.new.tally) (Some c.adds_known.new.transaction)) refl
+    (subst (λ (q : Option Kind). IsSomeAnd q (λ kind. is_in_transaction kind ≡ true)) (sym c.in-Some.is ∙ c.kind.ensures) (sym c.is_in_transaction.ensures ∙ c.if-not-is_in_transaction.false))
     (q.carried, q.in_order, q.excess) q.next q.limits q.stands
     (λ xs st. c.stays_open.ensures xs q.symbol st (q.stands xs st)) c.if-not-stays_open.false c.in-Some-held.is
-    (ap (λ (xs : List RecordValue). reading (with_tally d c.count_quickly.new.tally) (Some xs)) (c.adds_known.ensures.added c.if-not-adds_known.false ∙ ap (λ (r : RecordValue). c.in-Some-held.open ++ r ∷ []) (sym e)))
+    (ap (λ (xs : List RecordValue). reading (with_tally d c.count_quickly.new.tally) (Some xs)) (c.adds_known.ensures.added c.if-not-adds_known.false ∙ ap (λ (r : RecordValue). c.in-Some-held.transaction ++ r ∷ []) (sym e)))

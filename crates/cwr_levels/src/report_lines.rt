@@ -2,7 +2,7 @@
 
 ghost use Rattle.std.specs.Prelude.{◌≡◌, ◌+◌, ◌≤◌, ◌++◌, [], ◌∷◌, length, codes, decimal};
 ghost use Rattle.cwr_shape.specs.Format.ReasonTexts.{reason_text};
-ghost use Rattle.cwr_levels.specs.Format.Lines.{finding_line, good_line, input_mark, joined_line, limit_line, refusal_line, split_line, truncated_line, with_numbers};
+ghost use Rattle.cwr_levels.specs.Format.ReportLines.{finding_line, good_line, input_mark, joined_line, limit_line, refusal_line, split_line, truncated_line, with_numbers};
 ghost use Rattle.cwr_levels.specs.Steps.Putting.{PutsText};
 
 use crate::rules::Finding;

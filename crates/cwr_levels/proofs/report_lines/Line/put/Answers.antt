@@ -1,5 +1,5 @@
 use Rattle.cwr_levels.proofs.SameText.{puts_same}
-use Rattle.cwr_levels.proofs.lines.Line.put.Goals as goal
+use Rattle.cwr_levels.proofs.report_lines.Line.put.Goals as goal
 
 pub returns-clause-puts : goal.returns-clause-puts
 returns-clause-puts g c = puts_same _ _ c.as_slice.result.now _ _ _ _ c.as_slice.ensures.value (record {
