@@ -2,7 +2,7 @@
 
 ghost use Rattle.std.specs.Prelude.{◌<◌, ◌≤◌};
 
-use crate::decoders::{decoder, feed, text_of};
+use crate::decoders::{LARGEST, decoder_within, feed, text_of};
 use cwr_decode::{Outcome, Step};
 use cwr_fields::{Cell, CivilDate, DateCell, Number, TimeOfDay, TransactionStatus, trimmed};
 use cwr_layouts::{Kind, RecordRef};
@@ -22,7 +22,7 @@ fn transaction_in(step: Step) -> Option<Transaction> {
 /// The transaction of the transmission of one acknowledgement, as a decoder hands it out after HDR and GRH.
 fn read_transaction(rt: &(impl Abort + AllocGlobal)) -> Transaction {
     let text = text_of(rt, ONE_ACKNOWLEDGEMENT);
-    let mut decoder = decoder(rt);
+    let mut decoder = decoder_within(rt, LARGEST);
     let mut left = text.as_slice();
     for _ in 0..2 {
         let (used, _) = feed(&mut decoder, left);
@@ -93,11 +93,5 @@ fn the_cells_of_an_acknowledgement(rt: HostRuntime) {
     let record = transaction.record(0).expect(&rt, "no record");
     assert_eq!(rt; record.kind(), Kind::Ack);
     check_cells(&rt, &record, &cells);
-}
-
-#[test]
-fn the_typed_cells_of_an_acknowledgement(rt: HostRuntime) {
-    let transaction = read_transaction(&rt);
-    let record = transaction.record(0).expect(&rt, "no record");
     check_typed_cells(&rt, &record);
 }
