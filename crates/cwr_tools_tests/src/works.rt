@@ -1,8 +1,11 @@
-//! Worked transmissions of new and revised works, the parts of a larger one; and what tests of runs share: texts and limits.
+//! Worked transmissions of new and revised works, the parts of a larger one and the joins of them; and what tests of runs
+//! share: texts and limits.
 
-use cwr_shape::Limits;
+use cwr_decode::Refusal;
+use cwr_fields::CellFault;
+use cwr_shape::{Level, Limits, Reason};
 use cwr_worked::lines::*;
-use cwr_worked::texts::{canonical, trimmed_text};
+use cwr_worked::texts::{ONE_ACKNOWLEDGEMENT, TWO_GROUPS, canonical, trimmed_text};
 use std::process::Abort;
 
 /// The most records, groups and records of a transaction.
@@ -21,9 +24,52 @@ pub(crate) fn text_of(rt: &(impl Abort + AllocGlobal), lines: &[&[u8]]) -> Vec<u
     canonical(rt.alloc(), lines).expect(rt, "no memory")
 }
 
-/// The text of lines without trailing spaces.
-pub(crate) fn short_text_of(rt: &(impl Abort + AllocGlobal), lines: &[&[u8]]) -> Vec<u8> {
-    trimmed_text(rt.alloc(), lines).expect(rt, "no memory")
+/// What is given of lines.
+#[derive(Clone, Copy)]
+pub(crate) enum Given {
+    /// Their canonical text.
+    Whole,
+    /// Their text without trailing spaces, and without the last line feed.
+    Trimmed,
+    /// So many bytes of their canonical text.
+    Front(usize),
+    /// Their canonical text with these bytes in the place of as many, from there on.
+    Changed(usize, &'static [u8]),
+    /// The first of them, filled up with spaces to so many bytes, and a line feed.
+    Filled(usize),
+}
+
+/// A line that is filled up with spaces to so many bytes, and its line feed.
+fn filled_up(rt: &(impl Abort + AllocGlobal), line: &[u8], len: usize) -> Vec<u8> {
+    let mut text = line.to_vec(rt.alloc()).expect(rt, "no memory");
+    text.resize(len, b' ').expect(rt, "no memory");
+    text.push(b'\n').expect(rt, "no memory");
+    text
+}
+
+/// The text with these bytes in the place of as many, from there on.
+fn changed(mut text: Vec<u8>, at: usize, new: &[u8]) -> Vec<u8> {
+    for (byte, other) in text.as_mut_slice().iter_mut().skip(at).zip(new) {
+        *byte = *other;
+    }
+    text
+}
+
+/// The front of a text.
+fn cut_off(mut text: Vec<u8>, len: usize) -> Vec<u8> {
+    text.truncate(len);
+    text
+}
+
+/// The text that is given of lines.
+pub(crate) fn text_given(rt: &(impl Abort + AllocGlobal), lines: &[&[u8]], what: Given) -> Vec<u8> {
+    match what {
+        Given::Whole => text_of(rt, lines),
+        Given::Trimmed => trimmed_text(rt.alloc(), lines).expect(rt, "no memory"),
+        Given::Front(len) => cut_off(text_of(rt, lines), len),
+        Given::Changed(at, new) => changed(text_of(rt, lines), at, new),
+        Given::Filled(len) => filled_up(rt, lines.first().copied().unwrap_or(b""), len),
+    }
 }
 
 /// GRH of type REV, the first group.
@@ -34,7 +80,7 @@ pub(crate) const REV_0_OF_GREEN_SEA: &[u8] =
     b"REV0000000000000000GREEN SEA                                                     W0003                                                        ORI";
 
 /// A new work in one group, and a revised work in another: 1,155 bytes.
-pub(crate) const NEW_AND_REVISED: &[&[u8]] = &[
+const NEW_AND_REVISED: &[&[u8]] = &[
     HDR,
     GRH_NWR,
     NWR_0,
@@ -48,7 +94,7 @@ pub(crate) const NEW_AND_REVISED: &[&[u8]] = &[
 ];
 
 /// Another revised work: 642 bytes.
-pub(crate) const REVISED: &[&[u8]] = &[
+const REVISED: &[&[u8]] = &[
     HDR,
     GRH_REV,
     REV_0_OF_GREEN_SEA,
@@ -58,7 +104,7 @@ pub(crate) const REVISED: &[&[u8]] = &[
 ];
 
 /// The new work alone: 642 bytes.
-pub(crate) const NEW: &[&[u8]] = &[
+const NEW: &[&[u8]] = &[
     HDR,
     GRH_NWR,
     NWR_0,
@@ -68,7 +114,7 @@ pub(crate) const NEW: &[&[u8]] = &[
 ];
 
 /// The first revised work alone: 642 bytes.
-pub(crate) const REVISED_FIRST: &[&[u8]] = &[
+const REVISED_FIRST: &[&[u8]] = &[
     HDR,
     GRH_REV,
     REV_0,
@@ -76,3 +122,100 @@ pub(crate) const REVISED_FIRST: &[&[u8]] = &[
     b"GRT000010000000100000004",
     b"TRL000010000000100000006",
 ];
+
+/// GRH of type REV, the third group.
+const GRH_REV_3: &[u8] = b"GRHREV0000302.100000000001";
+
+/// The first of these transmissions joined with the second: the groups of revised works stay apart.
+const BOTH: &[&[u8]] = &[
+    HDR,
+    GRH_NWR,
+    NWR_0,
+    SWR_0_1,
+    b"GRT000010000000100000004",
+    GRH_REV_2,
+    REV_0,
+    SWR_0_1,
+    b"GRT000020000000100000004",
+    GRH_REV_3,
+    REV_0_OF_GREEN_SEA,
+    SWR_0_1,
+    b"GRT000030000000100000004",
+    b"TRL000030000000300000014",
+];
+
+/// The transmission of one acknowledgement, joined with itself.
+const TWICE: &[&[u8]] = &[
+    HDR,
+    GRH_ACK,
+    ACK_0,
+    b"GRT000010000000100000003",
+    GRH_ACK_2,
+    ACK_0,
+    b"GRT000020000000100000003",
+    b"TRL000020000000200000008",
+];
+
+/// Two works, of which the second one's writer has no name: its last record is refused.
+pub(crate) const NAMELESS: &[&[u8]] = &[HDR, GRH_NWR, NWR_0, SWR_0_1, NWR_1, SWR_1_1_WITHOUT_NAME];
+
+/// That refusal.
+pub(crate) const WITHOUT_NAME: Refusal = Refusal {
+    rec: 6,
+    field: 5,
+    level: Level::R,
+    reason: Reason::Cell(CellFault::Blank),
+};
+
+/// A worked transmission, or the beginning of one, by its name in tables.
+#[derive(Clone, Copy, Debug)]
+pub(crate) enum Worked {
+    OneAcknowledgement,
+    Twice,
+    TwoGroups,
+    New,
+    RevisedFirst,
+    Revised,
+    NewAndRevised,
+    Both,
+    Nameless,
+    OtherVersion,
+}
+
+/// The lines of a worked transmission.
+pub(crate) fn lines_of(worked: Worked) -> &'static [&'static [u8]] {
+    match worked {
+        Worked::OneAcknowledgement => ONE_ACKNOWLEDGEMENT,
+        Worked::Twice => TWICE,
+        Worked::TwoGroups => TWO_GROUPS,
+        Worked::New => NEW,
+        Worked::RevisedFirst => REVISED_FIRST,
+        Worked::Revised => REVISED,
+        Worked::NewAndRevised => NEW_AND_REVISED,
+        Worked::Both => BOTH,
+        Worked::Nameless => NAMELESS,
+        Worked::OtherVersion => &[HDR_OF_ANOTHER_VERSION],
+    }
+}
+
+/// How many bytes each text has.
+static LENGTHS: [(Worked, usize); 8] = [
+    (Worked::OneAcknowledgement, 359),
+    (Worked::Twice, 589),
+    (Worked::TwoGroups, 1599),
+    (Worked::New, 642),
+    (Worked::RevisedFirst, 642),
+    (Worked::Revised, 642),
+    (Worked::NewAndRevised, 1155),
+    (Worked::Both, 1668),
+];
+
+#[test]
+fn lengths_of_texts(rt: HostRuntime) {
+    for (worked, len) in &LENGTHS {
+        let text = text_of(&rt, lines_of(*worked));
+        assert_eq!(rt; text.len(), *len, "{worked:?}");
+    }
+    let short = text_given(&rt, ONE_ACKNOWLEDGEMENT, Given::Trimmed);
+    assert_eq!(rt; short.len(), 323);
+}
