@@ -3,40 +3,20 @@
 ghost use Rattle.std.specs.Prelude.{None};
 
 use crate::decoders::{LARGEST, Numbers, limits_of, text_of};
-use crate::refused_lines::filled_up;
 use cwr_decode::{ReadFault, Reading, Refusal};
 use cwr_fields::{DeviceFault, Source};
 use cwr_shape::{Level, LimitKind, Reason};
 use cwr_worked::lines::{ACK_0, GRH_ACK, HDR};
 use std::process::Abort;
 
-/// A reader that gives a text and then one line for ever, whose first number of eight digits is one more each time.
+/// A reader that gives a text, and then another one again and again.
 #[derive(Drop)]
 struct Endless<'a> {
-    front: &'a [u8],
-    line: Vec<u8>,
-    /// How many bytes of the line were consumed.
-    taken: usize,
+    left: &'a [u8],
+    again: &'a [u8],
     shown: usize,
-    /// How many bytes were consumed in all.
+    /// How many bytes were consumed.
     consumed: usize,
-}
-
-/// Adds one to the number of eight digits after a line's first three bytes.
-fn count_on(line: &mut [u8]) {
-    for back in 0..8 {
-        let Some(digit) = line.get_mut(10_usize.saturating_sub(back)) else {
-            return;
-        };
-        match *digit {
-            b'0'..=b'8' => {
-                *digit = digit.saturating_add(1);
-                return;
-            }
-            b'9' => *digit = b'0',
-            _ => return,
-        }
-    }
 }
 
 impl Source for Endless<'_> {
@@ -47,35 +27,51 @@ impl Source for Endless<'_> {
     ghost failures = { λ reader. 0 };
 
     fn fill(&mut self) -> Result<&[u8], DeviceFault> {
-        if !self.front.is_empty() {
-            self.shown = self.front.len();
-            return Ok(self.front);
+        if self.left.is_empty() {
+            self.left = self.again;
         }
-        let left = self.line.get(self.taken..).unwrap_or(b"");
-        self.shown = left.len();
-        Ok(left)
+        self.shown = self.left.len();
+        Ok(self.left)
     }
 
     fn consume(&mut self, count: usize) {
         self.shown -= count;
         self.consumed = self.consumed.saturating_add(count);
-        if !self.front.is_empty() {
-            self.front = self.front.get(count..).unwrap_or(b"");
-            return;
-        }
-        self.taken = self.taken.saturating_add(count);
-        if self.taken >= self.line.len() {
-            self.taken = 0;
-            count_on(self.line.as_mut_slice());
-        }
+        self.left = self.left.get(count..).unwrap_or(b"");
     }
 }
 
+/// Adds one to the number of eight digits after a line's first three bytes.
+fn count_on(line: &mut [u8]) {
+    for back in 0..8 {
+        let Some(digit) = line.get_mut(10_usize.saturating_sub(back)) else {
+            return;
+        };
+        if *digit != b'9' {
+            *digit = digit.saturating_add(1);
+            return;
+        }
+        *digit = b'0';
+    }
+}
+
+/// A thousand acknowledgements, numbered on.
+fn acknowledgements(rt: &(impl Abort + AllocGlobal)) -> Vec<u8> {
+    let mut line = text_of(rt, &[ACK_0]);
+    let mut text = Vec::new(rt.alloc());
+    for _ in 0..1000 {
+        text.extend_from_slice(line.as_slice())
+            .expect(rt, "no memory");
+        count_on(line.as_mut_slice());
+    }
+    text
+}
+
 /// Reads item by item: how many come before the fault.
-fn count_items(
+fn count_items<R: Source>(
     rt: &(impl Abort + AllocGlobal),
     numbers: Numbers,
-    reader: &mut Endless<'_>,
+    reader: &mut R,
 ) -> (usize, Option<ReadFault>) {
     let mut reading = Reading::new(rt.alloc(), limits_of(rt, numbers), reader);
     for items in 0..99 {
@@ -86,19 +82,18 @@ fn count_items(
     (99, None)
 }
 
-/// Limits, the text and the line that are given, how many items come, the refusal, and how many bytes are consumed.
+/// Reads a text and another one again and again, within limits: so many items come, the input is refused so, and so many
+/// bytes are consumed.
 fn check_endless(
     rt: &(impl Abort + AllocGlobal),
     numbers: Numbers,
-    (front, line): (&[u8], Vec<u8>),
-    items: usize,
+    (left, again): (&[u8], &[u8]),
+    (items, consumed): (usize, usize),
     refusal: Refusal,
-    consumed: usize,
 ) {
     let mut reader = Endless {
-        front,
-        line,
-        taken: 0,
+        left,
+        again,
         shown: 0,
         consumed: 0,
     };
@@ -118,14 +113,17 @@ const fn refused(rec: u32, reason: Reason) -> Refusal {
 }
 
 #[test]
-fn spaces_and_acknowledgements_for_ever(rt: HostRuntime) {
-    let mut spaces = filled_up(&rt, b"", 4096);
-    spaces.truncate(4096);
+fn spaces_for_ever(rt: HostRuntime) {
     let refusal = refused(1, Reason::UnknownKind);
-    check_endless(&rt, LARGEST, (b"", spaces), 0, refusal, 1024);
+    check_endless(&rt, LARGEST, (b"", &[b' '; 100]), (0, 1024), refusal);
+}
+
+#[test]
+fn acknowledgements_for_ever(rt: HostRuntime) {
     let front = text_of(&rt, &[HDR, GRH_ACK]);
-    let given = (front.as_slice(), text_of(&rt, &[ACK_0]));
+    let again = acknowledgements(&rt);
+    let given = (front.as_slice(), again.as_slice());
     // HDR and GRH, and five transactions. The sixth is open when the seventh ACK is refused.
     let refusal = refused(9, Reason::Limit(LimitKind::Records));
-    check_endless(&rt, (10, 1, 5), given, 7, refusal, 1260);
+    check_endless(&rt, (10, 1, 5), given, (7, 1260), refusal);
 }

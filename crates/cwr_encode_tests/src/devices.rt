@@ -1,7 +1,8 @@
-//! Writers and limits of the tests.
+//! Writers, limits and texts of the tests.
 
 use cwr_fields::Counted;
 use cwr_shape::Limits;
+use cwr_worked::texts::canonical;
 use std::io::{self, ErrorKind, Write};
 use std::process::Abort;
 
@@ -34,10 +35,13 @@ pub(crate) const WIDE: Width = Width {
     stuck: false,
 };
 
-/// The same with so much room.
-pub(crate) const fn wide_with_room(room: usize) -> Width {
-    Width { room, ..WIDE }
-}
+/// The same, one byte a call.
+pub(crate) const ONE_BYTE: Width = Width {
+    at_once: 1,
+    room: 9999,
+    fails: true,
+    stuck: false,
+};
 
 /// A writer that keeps what it is given.
 #[derive(Drop)]
@@ -78,4 +82,9 @@ pub(crate) fn narrow_writer(rt: &impl AllocGlobal, width: Width) -> Counted<Narr
 /// What a writer was given.
 pub(crate) fn text_in(writer: Counted<Narrow>) -> Vec<u8> {
     writer.into_inner().text
+}
+
+/// The canonical text of lines.
+pub(crate) fn text_of(rt: &(impl Abort + AllocGlobal), lines: &[&[u8]]) -> Vec<u8> {
+    canonical(rt.alloc(), lines).expect(rt, "no memory")
 }

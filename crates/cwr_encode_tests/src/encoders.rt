@@ -1,12 +1,14 @@
 //! Tests of encoders, call by call.
 
-use crate::devices::{LARGEST, Narrow, Numbers, limits_of, narrow_writer, text_in, wide_with_room};
+use crate::devices::{
+    LARGEST, Narrow, Numbers, WIDE, Width, limits_of, narrow_writer, text_in, text_of,
+};
 use crate::worked_values::{WorkedGroup, record, transaction};
 use cwr_encode::{EncodeFault, Encoder};
 use cwr_fields::{Counted, Target};
 use cwr_shape::LimitKind;
 use cwr_worked::lines::*;
-use cwr_worked::texts::{ONE_ACKNOWLEDGEMENT, canonical};
+use cwr_worked::texts::ONE_ACKNOWLEDGEMENT;
 use std::process::Abort;
 
 /// A call of an encoder with what worked lines carry.
@@ -131,9 +133,20 @@ static RUNS: [Run; 5] = [
     (LARGEST, 9999, &[(Call::Open(HDR), Ok(()))], Some(Err(EncodeFault::Incomplete)), (ONE_ACKNOWLEDGEMENT, 103)),
 ];
 
-/// Ends an encoder, which is finished or abandoned.
-fn end(encoder: Encoder<Counted<Narrow>>, finishes: bool) -> (Counted<Narrow>, Ended) {
-    if finishes {
+/// Makes calls in turn, each of which gives its answer.
+fn check_calls(
+    rt: &(impl Abort + AllocGlobal),
+    encoder: &mut Encoder<Counted<Narrow>>,
+    calls: &[Answered],
+) {
+    for (call, answer) in calls {
+        assert_eq!(rt; make_call(rt, *call, encoder), *answer);
+    }
+}
+
+/// Ends an encoder: it is finished where there is an answer to that, and else abandoned.
+fn end(encoder: Encoder<Counted<Narrow>>, ended: Ended) -> (Counted<Narrow>, Ended) {
+    if ended.is_some() {
         let (writer, answer) = encoder.finish();
         (writer, Some(answer))
     } else {
@@ -141,18 +154,26 @@ fn end(encoder: Encoder<Counted<Narrow>>, finishes: bool) -> (Counted<Narrow>, E
     }
 }
 
-/// Makes the calls of a row, each of which gives its answer, and ends the encoder.
+/// Makes the calls of a row, and ends the encoder.
 fn check_run(rt: &(impl Abort + AllocGlobal), row: &Run) {
     let (numbers, room, calls, ended, (lines, len)) = *row;
-    let writer = narrow_writer(rt, wide_with_room(room));
+    let writer = narrow_writer(rt, Width { room, ..WIDE });
     let mut encoder = Encoder::new(writer, limits_of(rt, numbers));
-    for (call, answer) in calls {
-        assert_eq!(rt; make_call(rt, *call, &mut encoder), *answer);
-    }
-    let (writer, answer) = end(encoder, ended.is_some());
+    check_calls(rt, &mut encoder, calls);
+    let (writer, answer) = end(encoder, ended);
     assert_eq!(rt; answer, ended);
-    let text = canonical(rt.alloc(), lines).expect(rt, "no memory");
-    assert_eq!(rt; Some(text_in(writer).as_slice()), text.get(..len));
+    check_text(rt, writer, (lines, len));
+}
+
+/// Checks that so many bytes of a text are written.
+fn check_text(
+    rt: &(impl Abort + AllocGlobal),
+    writer: Counted<Narrow>,
+    (lines, len): (&[&[u8]], usize),
+) {
+    let text = text_of(rt, lines);
+    let kept = text_in(writer);
+    assert_eq!(rt; Some(kept.as_slice()), text.get(..len));
 }
 
 #[test]

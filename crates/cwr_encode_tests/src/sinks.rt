@@ -1,7 +1,8 @@
 //! Tests of sinks.
 
-use crate::devices::{Width, narrow_writer, text_in};
+use crate::devices::{Narrow, Width, narrow_writer, text_in};
 use cwr_encode::{Sink, SinkFault};
+use cwr_fields::Counted;
 use std::process::Abort;
 
 /// A text that is put, whether all of it is written, and how many bytes are written in all then.
@@ -16,16 +17,23 @@ static PUTS: [Puts; 2] = [
     (Width { at_once: 9, room: 3, fails: false, stuck: false }, &[(b"", true, 0), (b"text", false, 3), (b"", false, 3)], b"tex"),
 ];
 
+/// Puts a text.
+fn check_put(rt: &impl Abort, sink: &mut Sink<Counted<Narrow>>, put: &Put) {
+    let (text, is_whole, count) = *put;
+    let fault = SinkFault { written: count };
+    let answer = if is_whole { Ok(()) } else { Err(fault) };
+    assert_eq!(rt; sink.put(text), answer);
+    assert_eq!(rt; sink.written(), count);
+}
+
 /// Puts the texts of a row.
 fn check_puts(rt: &(impl Abort + AllocGlobal), row: &Puts) {
-    let (width, puts, written) = row;
-    let mut sink = Sink::new(narrow_writer(rt, *width));
-    for (text, whole, count) in *puts {
-        let fault = SinkFault { written: *count };
-        let answer = if *whole { Ok(()) } else { Err(fault) };
-        assert_eq!(rt; (sink.put(text), sink.written()), (answer, *count));
+    let (width, puts, written) = *row;
+    let mut sink = Sink::new(narrow_writer(rt, width));
+    for put in puts {
+        check_put(rt, &mut sink, put);
     }
-    assert_eq!(rt; text_in(sink.into_inner()).as_slice(), *written);
+    assert_eq!(rt; text_in(sink.into_inner()).as_slice(), written);
 }
 
 #[test]

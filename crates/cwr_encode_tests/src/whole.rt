@@ -1,22 +1,24 @@
 //! Tests of whole transmissions, which are written as a value and call by call.
 
 use crate::devices::{
-    LARGEST, Narrow, Numbers, WIDE, Width, limits_of, narrow_writer, text_in, wide_with_room,
+    LARGEST, Narrow, Numbers, ONE_BYTE, WIDE, Width, limits_of, narrow_writer, text_in, text_of,
 };
 use crate::encoders::encoded;
-use crate::worked_values::{ACKNOWLEDGED, NEW_AND_REVISED, WORKED, WorkedGroup, transmission};
+use crate::worked_values::{
+    ACKNOWLEDGED, NEW_AND_REVISED, WORKED, Worked, WorkedGroup, transmission,
+};
 use cwr_encode::{EncodeFault, encode};
 use cwr_fields::Counted;
 use cwr_shape::LimitKind;
 use cwr_values::Transmission;
-use cwr_worked::texts::{ONE_ACKNOWLEDGEMENT, canonical};
+use cwr_worked::texts::{ONE_ACKNOWLEDGEMENT, TWO_GROUPS};
 use std::process::Abort;
 
 /// What is written of a transmission, and what is answered.
-type Written = (Counted<Narrow>, Result<u64, EncodeFault>);
+pub(crate) type Written = (Counted<Narrow>, Result<u64, EncodeFault>);
 
 /// Checks what is answered, and that so many bytes are written: the first ones of a text.
-fn check_written(
+pub(crate) fn check_written(
     rt: &impl Abort,
     written: Written,
     answer: Result<u64, EncodeFault>,
@@ -53,39 +55,44 @@ fn check_both(
     check_written(rt, by_calls, answer, text, len);
 }
 
+/// Writes the transmission of a row into writers that take all, or one byte a call.
+fn check_worked(rt: &(impl Abort + AllocGlobal), row: &Worked) {
+    let (groups, lines, length) = *row;
+    let value = transmission(rt, groups);
+    let text = text_of(rt, lines);
+    let all = (text.as_slice(), text.len());
+    check_both(rt, (groups, &value), WIDE, Ok(length), all);
+    check_both(rt, (groups, &value), ONE_BYTE, Ok(length), all);
+}
+
 #[test]
 fn worked_transmissions(rt: HostRuntime) {
-    for (groups, lines, length) in &WORKED {
-        let value = transmission(&rt, groups);
-        let text = canonical(rt.alloc(), lines).expect(&rt, "no memory");
-        let all = (text.as_slice(), text.len());
-        for at_once in [1, 4096] {
-            let width = Width { at_once, ..WIDE };
-            check_both(&rt, (groups, &value), width, Ok(*length), all);
-        }
+    for row in &WORKED {
+        check_worked(&rt, row);
+    }
+}
+
+/// What a writer takes that fails after so many bytes of one acknowledgement: where it has room for all of them, it can't hand
+/// them on.
+fn failing_after(room: usize) -> Width {
+    Width {
+        room,
+        stuck: room == 359,
+        ..WIDE
     }
 }
 
 #[test]
 fn writers_that_fail(rt: HostRuntime) {
     let value = transmission(&rt, ACKNOWLEDGED);
-    let text = canonical(rt.alloc(), ONE_ACKNOWLEDGEMENT).expect(&rt, "no memory");
+    let text = text_of(&rt, ONE_ACKNOWLEDGEMENT);
     assert_eq!(rt; text.len(), 359);
-    let stuck = Width {
-        stuck: true,
-        ..WIDE
-    };
     for room in 0..360 {
-        // A writer with room for all can't hand it on.
-        let width = if room == 359 {
-            stuck
-        } else {
-            wide_with_room(room)
-        };
         let fault = EncodeFault::Writer {
             written: room as u64,
         };
         let written = (text.as_slice(), room);
+        let width = failing_after(room);
         check_both(&rt, (ACKNOWLEDGED, &value), width, Err(fault), written);
     }
 }
@@ -106,13 +113,19 @@ static LIMITED: [Limited; 5] = [
     (&[], LARGEST, Err(EncodeFault::Incomplete)),
 ];
 
+/// Writes a value of a row: nothing is written where it doesn't fit.
+fn check_limited(rt: &(impl Abort + AllocGlobal), row: &Limited) {
+    let (groups, numbers, answer) = *row;
+    let value = transmission(rt, groups);
+    let text = text_of(rt, TWO_GROUPS);
+    let written = encode_within(rt, &value, numbers, WIDE);
+    let len = answer.unwrap_or(0) as usize;
+    check_written(rt, written, answer, text.as_slice(), len);
+}
+
 #[test]
 fn values_at_limits(rt: HostRuntime) {
-    for (groups, numbers, answer) in &LIMITED {
-        let value = transmission(&rt, groups);
-        let (writer, answered) = encode_within(&rt, &value, *numbers, WIDE);
-        assert_eq!(rt; answered, *answer);
-        let written = text_in(writer).len() as u64;
-        assert_eq!(rt; written, answer.unwrap_or(0));
+    for row in &LIMITED {
+        check_limited(&rt, row);
     }
 }

@@ -64,15 +64,25 @@ pub(crate) fn record(rt: &impl Abort, line: &[u8]) -> Record {
     }
 }
 
+/// Adds the record of a line, which may come.
+fn add_record(rt: &impl Abort, transaction: &mut Transaction, line: &[u8]) {
+    assert_eq!(rt; transaction.push(record(rt, line).view()), Ok(()));
+}
+
 /// The transaction of worked lines.
 pub(crate) fn transaction(rt: &(impl Abort + AllocGlobal), lines: &[&[u8]]) -> Transaction {
     let (header, others) = lines.split_first().expect(rt, "no line");
     let begun = Transaction::new(rt.alloc(), record(rt, header).view());
     let mut transaction = begun.expect(rt, "no transaction");
     for line in others {
-        assert_eq!(rt; transaction.push(record(rt, line).view()), Ok(()));
+        add_record(rt, &mut transaction, line);
     }
     transaction
+}
+
+/// Adds the transaction of lines, which may come.
+fn add_transaction(rt: &(impl Abort + AllocGlobal), group: &mut Group, lines: &[&[u8]]) {
+    assert!(rt; group.push(transaction(rt, lines)).is_ok());
 }
 
 /// A group of worked lines, whose GRT has nothing set.
@@ -81,10 +91,18 @@ fn group(rt: &(impl Abort + AllocGlobal), worked: &WorkedGroup<'_>) -> Group {
     let begun = Group::new(rt.alloc(), record(rt, head));
     let mut group = begun.ok().expect(rt, "no group");
     for lines in *transactions {
-        let taken = group.push(transaction(rt, lines)).is_ok();
-        assert!(rt; taken);
+        add_transaction(rt, &mut group, lines);
     }
     group
+}
+
+/// Adds a group, which may come.
+fn add_group(
+    rt: &(impl Abort + AllocGlobal),
+    transmission: &mut Transmission,
+    worked: &WorkedGroup<'_>,
+) {
+    assert!(rt; transmission.push(group(rt, worked)).is_ok());
 }
 
 /// The transmission of worked groups.
@@ -95,8 +113,7 @@ pub(crate) fn transmission(
     let begun = Transmission::new(rt.alloc(), record(rt, HDR));
     let mut transmission = begun.ok().expect(rt, "no transmission");
     for worked in groups {
-        let taken = transmission.push(group(rt, worked)).is_ok();
-        assert!(rt; taken);
+        add_group(rt, &mut transmission, worked);
     }
     transmission
 }

@@ -69,7 +69,7 @@ pub(crate) const STUCK: Width = Width {
 #[derive(Drop)]
 pub(crate) struct Bounded {
     pub(crate) text: Vec<u8>,
-    width: Width,
+    pub(crate) width: Width,
 }
 
 impl Write for Bounded {

@@ -3,7 +3,7 @@
 ghost use Rattle.std.specs.Prelude.{◌≡◌, Some, map};
 ghost use Rattle.cwr_fields.specs.Format.Failures.{one_more_failure};
 
-use crate::devices::{Bounded, WIDE, Width, writer_of};
+use crate::devices::{Bounded, WIDE, Width};
 use crate::works::{Worked, lines_of, text_of};
 use cwr_fields::Counted;
 use cwr_tools::{OutputFault, Outputs};
@@ -118,7 +118,10 @@ impl Outputs for Shelf {
             return Err(self.count_failure());
         }
         self.lent += 1;
-        Ok(writer_of(self.alloc, self.width()))
+        Ok(Counted::new(Bounded {
+            text: Vec::new(self.alloc),
+            width: self.width(),
+        }))
     }
 
     fn done(&mut self, writer: Counted<Bounded>) -> Result<(), OutputFault> {
