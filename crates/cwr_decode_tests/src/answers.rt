@@ -66,11 +66,11 @@ fn add_piece(rt: &impl Abort, decoder: &mut Decoder, piece: Option<&[u8]>, answe
 /// Checks that the decoder holds nothing, and answers for good that the input has ended so.
 fn check_ended(rt: &impl Abort, decoder: &mut Decoder, end: Option<End>) {
     let name = name_after(end.expect(rt, "no end"));
-    assert_eq!(rt; decoder.holds(), (0, 0));
-    for piece in [b"".as_slice(), b"HDR"] {
-        assert_eq!(rt; feed(decoder, piece), (0, name));
-    }
-    assert_eq!(rt; finish(decoder), name);
+    let again = (feed(decoder, b""), feed(decoder, b"HDR"), finish(decoder));
+    assert_eq!(rt;
+        (decoder.holds(), again),
+        ((0, 0), ((0, name), (0, name), name))
+    );
 }
 
 /// What a decoder answers on a text in pieces of these sizes, after which all that is left is one piece.
@@ -110,12 +110,10 @@ pub(crate) fn check_same(
     wanted: &Answers,
 ) {
     let answers = answers_on(rt, numbers, text, sizes);
-    let first = sizes.first().copied();
     assert_eq!(rt;
-        answers.numbers(),
-        wanted.numbers(),
-        "first piece of {first:?}"
+        (answers.numbers(), answers.items.as_slice()),
+        (wanted.numbers(), wanted.items.as_slice()),
+        "pieces of {:?}",
+        sizes.first()
     );
-    let same = answers.items.as_slice() == wanted.items.as_slice();
-    assert!(rt; same, "first piece of {first:?}");
 }

@@ -68,30 +68,38 @@ fn check_typed_cells(rt: &impl Abort, record: &RecordRef<'_>) {
     check_read::<Number<8>>(rt, record, 2, None);
 }
 
+#[rattlefmt::skip]
+static CELLS: [(u8, Option<&[u8]>); 15] = [
+    (0, None),
+    (1, None),
+    (2, None),
+    (3, None),
+    (4, Some(b"20240102")),
+    (5, Some(b"101500")),
+    (6, Some(b"00001")),
+    (7, Some(b"00000000")),
+    (8, Some(b"NWR")),
+    (9, Some(b"BLUE RIVER")),
+    (10, Some(b"W0001")),
+    (11, Some(b"")),
+    (12, Some(b"20240110")),
+    (13, Some(b"AS")),
+    (14, None),
+];
+
+/// Checks the record of an acknowledgement.
+fn check_record(rt: &impl Abort, record: &RecordRef<'_>) {
+    assert_eq!(rt; record.kind(), Kind::Ack);
+    check_cells(rt, record, &CELLS);
+    check_typed_cells(rt, record);
+}
+
 #[test]
 fn the_cells_of_an_acknowledgement(rt: HostRuntime) {
-    let cells: [(u8, Option<&[u8]>); 15] = [
-        (0, None),
-        (1, None),
-        (2, None),
-        (3, None),
-        (4, Some(b"20240102")),
-        (5, Some(b"101500")),
-        (6, Some(b"00001")),
-        (7, Some(b"00000000")),
-        (8, Some(b"NWR")),
-        (9, Some(b"BLUE RIVER")),
-        (10, Some(b"W0001")),
-        (11, Some(b"")),
-        (12, Some(b"20240110")),
-        (13, Some(b"AS")),
-        (14, None),
-    ];
     let transaction = read_transaction(&rt);
-    assert_eq!(rt; transaction.len(), 1);
-    assert!(rt; transaction.record(1).is_none());
-    let record = transaction.record(0).expect(&rt, "no record");
-    assert_eq!(rt; record.kind(), Kind::Ack);
-    check_cells(&rt, &record, &cells);
-    check_typed_cells(&rt, &record);
+    assert_eq!(rt;
+        (transaction.len(), transaction.record(1).is_none()),
+        (1, true)
+    );
+    check_record(&rt, &transaction.record(0).expect(&rt, "no record"));
 }

@@ -99,16 +99,21 @@ fn check_fronts(rt: &(impl Abort + AllocGlobal), text: &[u8], wanted: &Answers) 
     }
 }
 
+/// Cuts a transmission that gives so many items.
+fn check_transmission(rt: &(impl Abort + AllocGlobal), lines: &[&[u8]], items: usize) {
+    let text = text_of(rt, lines);
+    let everywhere = (0, text.len().saturating_add(1));
+    let answers = check_accepted(rt, text.as_slice(), items, everywhere);
+    check_fronts(rt, text.as_slice(), &answers);
+    let short = short_text_of(rt, lines);
+    let same = check_accepted(rt, short.as_slice(), items, (300, 400));
+    assert!(rt; same.items.as_slice() == answers.items.as_slice());
+}
+
 #[test]
 fn transmissions_cut_at_each_byte(rt: HostRuntime) {
     for (lines, items) in &WORKED {
-        let text = text_of(&rt, lines);
-        let everywhere = (0, text.len().saturating_add(1));
-        let answers = check_accepted(&rt, text.as_slice(), *items, everywhere);
-        check_fronts(&rt, text.as_slice(), &answers);
-        let short = short_text_of(&rt, lines);
-        let same = check_accepted(&rt, short.as_slice(), *items, (300, 400));
-        assert!(rt; same.items.as_slice() == answers.items.as_slice());
+        check_transmission(&rt, lines, *items);
     }
 }
 
@@ -125,16 +130,20 @@ static CHANGES: [(usize, u8); 8] = [
     (639, 7),
 ];
 
+/// Checks that a work with another byte there is refused, and answered alike wherever it is cut in SPT.
+fn check_changed(rt: &(impl Abort + AllocGlobal), mut text: Vec<u8>, at: usize, byte: u8) {
+    if let Some(changed) = text.as_mut_slice().get_mut(at) {
+        *changed = byte;
+    }
+    let answers = answers_on(rt, LARGEST, text.as_slice(), &[]);
+    assert!(rt; matches!(answers.end, Some(End::Refused(_))));
+    check_cuts(rt, text.as_slice(), (570, 840), &answers);
+}
+
 #[test]
 fn refused_lines_cut_at_each_byte(rt: HostRuntime) {
     for (at, byte) in &CHANGES {
-        let mut text = text_of(&rt, WORK_OF_ELEVEN);
-        if let Some(changed) = text.as_mut_slice().get_mut(*at) {
-            *changed = *byte;
-        }
-        let answers = answers_on(&rt, LARGEST, text.as_slice(), &[]);
-        assert!(rt; matches!(answers.end, Some(End::Refused(_))));
-        check_cuts(&rt, text.as_slice(), (570, 840), &answers);
+        check_changed(&rt, text_of(&rt, WORK_OF_ELEVEN), *at, *byte);
     }
 }
 
@@ -170,13 +179,19 @@ static FRONTS: [(usize, usize, usize, End); 11] = [
     (718, 5, 359, End::Accepted { used: 359 }),
 ];
 
+/// Checks how the front of a text ends.
+fn check_end(rt: &(impl Abort + AllocGlobal), front: &[u8], numbers: (usize, usize, End)) {
+    let (items, used, end) = numbers;
+    let answers = answers_on(rt, LARGEST, front, &[]);
+    assert_eq!(rt; answers.numbers(), (items, used, Some(end)));
+    assert_eq!(rt; end_of(limits_of(rt, LARGEST), front), end);
+}
+
 #[test]
 fn fronts_of_acknowledgements(rt: HostRuntime) {
     let text = twice_of(&rt, ONE_ACKNOWLEDGEMENT);
     for (len, items, used, end) in &FRONTS {
         let front = text.get(..*len).unwrap_or(b"");
-        let answers = answers_on(&rt, LARGEST, front, &[]);
-        assert_eq!(rt; answers.numbers(), (*items, *used, Some(*end)));
-        assert_eq!(rt; end_of(limits_of(&rt, LARGEST), front), *end);
+        check_end(&rt, front, (*items, *used, *end));
     }
 }

@@ -32,24 +32,40 @@ fn feed_byte(decoder: &mut Decoder, byte: u8) -> (Option<usize>, (usize, usize))
     (len, decoder.holds())
 }
 
+/// Feeds the line feed of a line, before which so many records were open, and after it what waits: how many are open then.
+fn check_line(rt: &impl Abort, decoder: &mut Decoder, line: &[u8], open: usize) -> usize {
+    let (len, holds) = feed_byte(decoder, b'\n');
+    if len.is_some() {
+        assert_eq!(rt; (len, holds), (Some(open), (line.len(), 0)));
+        let _waited = feed(decoder, b"");
+    }
+    let open = open_after(line, open);
+    assert_eq!(rt; decoder.holds(), (0, open));
+    open
+}
+
+/// Feeds a byte that isn't a line feed, of which no item comes.
+fn check_byte(rt: &impl Abort, decoder: &mut Decoder, byte: u8, holds: (usize, usize)) {
+    assert_eq!(rt; feed_byte(decoder, byte), (None, holds));
+}
+
 /// Checks what a decoder holds after each byte of a text: the line that is read, and the records of the open transaction.
 fn check_holds(rt: &(impl Abort + AllocGlobal), text: &[u8]) {
     let mut decoder = decoder_within(rt, LARGEST);
     let (mut start, mut open) = (0, 0);
     for (at, byte) in text.iter().enumerate() {
         let line = text.get(start..at).unwrap_or(b"");
-        let (len, holds) = feed_byte(&mut decoder, *byte);
-        if *byte != b'\n' {
-            assert_eq!(rt; holds, (line.len().saturating_add(1), open), "at {at}");
-            continue;
+        if *byte == b'\n' {
+            open = check_line(rt, &mut decoder, line, open);
+            start = at.saturating_add(1);
+        } else {
+            check_byte(
+                rt,
+                &mut decoder,
+                *byte,
+                (line.len().saturating_add(1), open),
+            );
         }
-        if let Some(len) = len {
-            assert_eq!(rt; (len, holds), (open, (line.len(), 0)), "at {at}");
-            let _waited = feed(&mut decoder, b"");
-        }
-        open = open_after(line, open);
-        start = at.saturating_add(1);
-        assert_eq!(rt; decoder.holds(), (0, open), "at {at}");
     }
 }
 

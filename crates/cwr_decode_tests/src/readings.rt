@@ -148,43 +148,65 @@ const BEFORE_FAULT: &str =
 const NOTHING: &str =
     "truncated, truncated, truncated, truncated, truncated, truncated, truncated, ";
 
+/// Checks what seven calls answer.
+fn check_words<R: Source>(rt: &(impl Abort + AllocGlobal), reader: &mut R, words: &str) {
+    let called = read_items(rt, reader, 7);
+    assert_eq!(rt; called.words.as_str(), words);
+}
+
+/// Reads one transmission after another: so each is answered, and then so many bytes are left, and so many calls have failed.
+fn check_reader(
+    rt: &(impl Abort + AllocGlobal),
+    mut reader: Failing<'_>,
+    answers: &[&str],
+    numbers: (usize, u64),
+) {
+    for words in answers {
+        check_words(rt, &mut reader, words);
+    }
+    assert_eq!(rt; (reader.left.len(), reader.failures), numbers);
+}
+
 #[test]
-fn acknowledgements_from_readers(rt: HostRuntime) {
-    let twice = twice_of(&rt, ONE_ACKNOWLEDGEMENT);
-    let text = twice.get(..359).unwrap_or(b"");
+fn acknowledgements_from_readers_that_fail(rt: HostRuntime) {
+    let text = twice_of(&rt, ONE_ACKNOWLEDGEMENT);
+    let twice = text.as_slice();
+    let once = twice.get(..359).unwrap_or(b"");
     let front = twice.get(..333).unwrap_or(b"");
-    for (mut reader, words, left, failures) in [
-        (failing_once(text, 1), AFTER_FAULT, 0, 1),
-        (failing_at_end(twice.as_slice()), ITEMS, 359, 0),
-        (failing_at_end(text), ITEMS, 0, 0),
-        (failing_at_end(front), BEFORE_FAULT, 0, 3),
-    ] {
-        let called = read_items(&rt, &mut reader, 7);
-        assert_eq!(rt; called.words.as_str(), words);
-        assert_eq!(rt; (reader.left.len(), reader.failures), (left, failures));
-    }
-    let mut reader = Counted::new(twice.as_slice());
+    check_reader(&rt, failing_once(once, 1), &[AFTER_FAULT], (0, 1));
+    check_reader(&rt, failing_at_end(twice), &[ITEMS], (359, 0));
+    check_reader(&rt, failing_at_end(twice), &[ITEMS, ITEMS], (0, 0));
+    check_reader(&rt, failing_at_end(front), &[BEFORE_FAULT], (0, 3));
+}
+
+#[test]
+fn acknowledgements_one_after_another(rt: HostRuntime) {
+    let text = twice_of(&rt, ONE_ACKNOWLEDGEMENT);
+    let mut reader = Counted::new(text.as_slice());
     for words in [ITEMS, ITEMS, NOTHING] {
-        let called = read_items(&rt, &mut reader, 7);
-        assert_eq!(rt; called.words.as_str(), words);
+        check_words(&rt, &mut reader, words);
     }
+}
+
+/// Reads a text by a reader whose call after so many others fails: these items come all the same.
+fn check_once(rt: &(impl Abort + AllocGlobal), text: &[u8], until: u8, wanted: &[u8]) {
+    let called = read_items(rt, &mut failing_once(text, until), 12);
+    assert_eq!(rt;
+        (called.faults, called.items.as_slice()),
+        (1, wanted),
+        "call {until}"
+    );
+    assert!(rt;
+        called.words.as_str().ends_with("ended, none, none, "),
+        "call {until}"
+    );
 }
 
 #[test]
 fn each_call_of_a_reader_fails_once(rt: HostRuntime) {
     let text = text_of(&rt, TWO_GROUPS);
-    let wanted = answers_on(&rt, LARGEST, text.as_slice(), &[]).items;
+    let answers = answers_on(&rt, LARGEST, text.as_slice(), &[]);
     for until in 0..16 {
-        let mut reader = failing_once(text.as_slice(), until);
-        let called = read_items(&rt, &mut reader, 12);
-        assert_eq!(rt; called.faults, 1, "call {until}");
-        assert!(rt;
-            called.items.as_slice() == wanted.as_slice(),
-            "call {until}"
-        );
-        assert!(rt;
-            called.words.as_str().ends_with("ended, none, none, "),
-            "call {until}"
-        );
+        check_once(&rt, text.as_slice(), until, answers.items.as_slice());
     }
 }

@@ -105,24 +105,28 @@ fn line_of(rt: &(impl Abort + AllocGlobal), row: &RefusedLine) -> Vec<u8> {
     text
 }
 
+/// Checks that the line of a row is refused after the records before it.
+fn check_line(rt: &(impl Abort + AllocGlobal), row: &RefusedLine) {
+    let (before, .., field, level, reason) = *row;
+    let line = line_of(rt, row);
+    let mut text = text_of(rt, before.0);
+    // Of a line that is too long so many bytes are used.
+    let used = text.len().saturating_add(line.len().min(1024));
+    text.extend_from_slice(line.as_slice())
+        .expect(rt, "no memory");
+    let expected = Refusal {
+        rec: before.2,
+        field,
+        level,
+        reason,
+    };
+    let given = (LARGEST, text.as_slice());
+    check_refused(rt, given, (before.1, used), expected);
+}
+
 #[test]
 fn lines_are_refused_at_their_first_wrong_field(rt: HostRuntime) {
     for row in &LINES {
-        let (before, .., field, level, reason) = *row;
-        let line = line_of(&rt, row);
-        // Of a line that is too long so many bytes are used.
-        let used = line.len().min(1024);
-        let mut text = text_of(&rt, before.0);
-        let used = text.len().saturating_add(used);
-        text.extend_from_slice(line.as_slice())
-            .expect(&rt, "no memory");
-        let expected = Refusal {
-            rec: before.2,
-            field,
-            level,
-            reason,
-        };
-        let given = (LARGEST, text.as_slice());
-        check_refused(&rt, given, (before.1, used), expected);
+        check_line(&rt, row);
     }
 }

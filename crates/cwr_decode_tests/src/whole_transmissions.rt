@@ -14,17 +14,23 @@ fn transaction_of(group: &Group, i: usize) -> Option<(Kind, usize)> {
     Some((transaction.kind(), transaction.len()))
 }
 
+/// Checks that it is the group of one acknowledgement.
+fn check_group(rt: &impl Abort, group: &Group) {
+    let acknowledgements: &[u8] = b"ACK";
+    let kinds = (group.foot().view().kind(), transaction_of(group, 0));
+    assert_eq!(rt;
+        (group.len(), kinds),
+        (1, (Kind::Grt, Some((Kind::Ack, 1))))
+    );
+    assert_eq!(rt; group.head().view().cell(2), Some(acknowledgements));
+}
+
 /// Checks that it is the transmission of one acknowledgement.
 fn check_acknowledgement(rt: &impl Abort, transmission: &Transmission) {
     let sender: &[u8] = b"123456789";
     assert_eq!(rt; transmission.open().view().cell(3), Some(sender));
     assert_eq!(rt; transmission.len(), 1);
-    let group = transmission.group(0).expect(rt, "no group");
-    assert_eq!(rt; group.len(), 1);
-    let acknowledgements: &[u8] = b"ACK";
-    assert_eq!(rt; group.head().view().cell(2), Some(acknowledgements));
-    assert_eq!(rt; transaction_of(group, 0), Some((Kind::Ack, 1)));
-    assert_eq!(rt; group.foot().view().kind(), Kind::Grt);
+    check_group(rt, transmission.group(0).expect(rt, "no group"));
 }
 
 /// Reads the transmission of one acknowledgement within these limits.

@@ -100,7 +100,7 @@ const TWICE: &[&[u8]] = &[
 ];
 
 #[rattlefmt::skip]
-static RUNS: [Run; 5] = [
+const RUNS: &[Run] = &[
     (LARGEST, 9999, &[
         (Call::Open(GRH_ACK), Err(EncodeFault::WrongKind)),
         (Call::Open(HDR), Ok(())),
@@ -178,7 +178,7 @@ fn check_text(
 
 #[test]
 fn calls_in_turn(rt: HostRuntime) {
-    for row in &RUNS {
+    for row in RUNS {
         check_run(&rt, row);
     }
 }

@@ -12,7 +12,7 @@ type Put = (&'static [u8], bool, u64);
 type Puts = (Width, &'static [Put], &'static [u8]);
 
 #[rattlefmt::skip]
-static PUTS: [Puts; 2] = [
+const PUTS: &[Puts] = &[
     (Width { at_once: 1, room: 7, fails: true, stuck: false }, &[(b"first", true, 5), (b"second", false, 7), (b"second", false, 7)], b"firstse"),
     (Width { at_once: 9, room: 3, fails: false, stuck: false }, &[(b"", true, 0), (b"text", false, 3), (b"", false, 3)], b"tex"),
 ];
@@ -38,7 +38,7 @@ fn check_puts(rt: &(impl Abort + AllocGlobal), row: &Puts) {
 
 #[test]
 fn texts_are_put(rt: HostRuntime) {
-    for row in &PUTS {
+    for row in PUTS {
         check_puts(&rt, row);
     }
 }

@@ -5,13 +5,17 @@ use crate::devices::{
 };
 use crate::encoders::encoded;
 use crate::worked_values::{
-    ACKNOWLEDGED, NEW_AND_REVISED, WORKED, Worked, WorkedGroup, transmission,
+    ACKNOWLEDGED, COPY_FIRST, NEW_AND_REVISED, OF_ELEVEN, WITH_AGREEMENT, WITH_CARRIED, WITH_COPY,
+    WorkedGroup, transmission,
 };
 use cwr_encode::{EncodeFault, encode};
 use cwr_fields::Counted;
 use cwr_shape::LimitKind;
 use cwr_values::Transmission;
-use cwr_worked::texts::{ONE_ACKNOWLEDGEMENT, TWO_GROUPS};
+use cwr_worked::texts::{
+    CARRIED_RECORDS, COPIED_AGREEMENT, COPIED_WORK, COPY_BEFORE_ANOTHER, ONE_ACKNOWLEDGEMENT,
+    TWO_GROUPS, WORK_OF_ELEVEN,
+};
 use std::process::Abort;
 
 /// What is written of a transmission, and what is answered.
@@ -55,9 +59,13 @@ fn check_both(
     check_written(rt, by_calls, answer, text, len);
 }
 
-/// Writes the transmission of a row into writers that take all, or one byte a call.
-fn check_worked(rt: &(impl Abort + AllocGlobal), row: &Worked) {
-    let (groups, lines, length) = *row;
+/// Writes the transmission of groups, whose text is that of lines, into writers that take all, or one byte a call.
+fn check_worked(
+    rt: &(impl Abort + AllocGlobal),
+    groups: &[WorkedGroup<'_>],
+    lines: &[&[u8]],
+    length: u64,
+) {
     let value = transmission(rt, groups);
     let text = text_of(rt, lines);
     let all = (text.as_slice(), text.len());
@@ -67,9 +75,13 @@ fn check_worked(rt: &(impl Abort + AllocGlobal), row: &Worked) {
 
 #[test]
 fn worked_transmissions(rt: HostRuntime) {
-    for row in &WORKED {
-        check_worked(&rt, row);
-    }
+    check_worked(&rt, ACKNOWLEDGED, ONE_ACKNOWLEDGEMENT, 359);
+    check_worked(&rt, NEW_AND_REVISED, TWO_GROUPS, 1599);
+    check_worked(&rt, OF_ELEVEN, WORK_OF_ELEVEN, 1893);
+    check_worked(&rt, WITH_CARRIED, CARRIED_RECORDS, 2084);
+    check_worked(&rt, WITH_COPY, COPIED_WORK, 990);
+    check_worked(&rt, COPY_FIRST, COPY_BEFORE_ANOTHER, 964);
+    check_worked(&rt, WITH_AGREEMENT, COPIED_AGREEMENT, 1539);
 }
 
 /// What a writer takes that fails after so many bytes of one acknowledgement: where it has room for all of them, it can't hand
@@ -105,7 +117,7 @@ type Limited = (
 );
 
 #[rattlefmt::skip]
-static LIMITED: [Limited; 5] = [
+const LIMITED: &[Limited] = &[
     (NEW_AND_REVISED, (11, 2, 2), Err(EncodeFault::Limit(LimitKind::Records))),
     (NEW_AND_REVISED, (12, 1, 2), Err(EncodeFault::Limit(LimitKind::Groups))),
     (NEW_AND_REVISED, (12, 2, 1), Err(EncodeFault::Limit(LimitKind::Transaction))),
@@ -125,7 +137,7 @@ fn check_limited(rt: &(impl Abort + AllocGlobal), row: &Limited) {
 
 #[test]
 fn values_at_limits(rt: HostRuntime) {
-    for row in &LIMITED {
+    for row in LIMITED {
         check_limited(&rt, row);
     }
 }

@@ -6,10 +6,7 @@ ghost use Rattle.cwr_layouts.specs.declared.lines.LineEnd.TheVariants.{Open};
 use cwr_layouts::{LineBuf, LineEnd, Record};
 use cwr_values::{Group, Transaction, Transmission};
 use cwr_worked::lines::*;
-use cwr_worked::texts::{
-    CARRIED_RECORDS, COPIED_AGREEMENT, COPIED_WORK, COPY_BEFORE_ANOTHER, ELEVEN_RECORDS,
-    ONE_ACKNOWLEDGEMENT, TWO_GROUPS, WORK_OF_ELEVEN,
-};
+use cwr_worked::texts::ELEVEN_RECORDS;
 use std::process::Abort;
 
 /// A group of the worked texts: its GRH, and the lines of its transactions.
@@ -24,25 +21,33 @@ pub(crate) const NEW_AND_REVISED: &[WorkedGroup<'static>] = &[
     (GRH_REV_2, &[&[REV_0, SWR_0_1], &[REV_1, SWR_1_1]]),
 ];
 
-/// Groups of worked texts, and the lines of the transmission that has them.
-pub(crate) type Worked = (
-    &'static [WorkedGroup<'static>],
-    &'static [&'static [u8]],
-    u64,
-);
+/// The group of the work of eleven records.
+pub(crate) const OF_ELEVEN: &[WorkedGroup<'static>] = &[(GRH_NWR, &[ELEVEN_RECORDS])];
 
-/// Groups, and the lines and the number of bytes of their transmission. Each record but a header is numbered by the encoder,
-/// so a line stands for the same record at another place.
-#[rattlefmt::skip]
-pub(crate) static WORKED: [Worked; 7] = [
-    (ACKNOWLEDGED, ONE_ACKNOWLEDGEMENT, 359),
-    (NEW_AND_REVISED, TWO_GROUPS, 1599),
-    (&[(GRH_NWR, &[ELEVEN_RECORDS])], WORK_OF_ELEVEN, 1893),
-    (&[(GRH_NWR, &[&[NWR_0, IND_0_1, SWR_0_1, ARI_0_3]])], CARRIED_RECORDS, 2084),
-    (&[(GRH_ACK, &[&[ACK_0, MSG_0_1, NWR_0, SWR_0_1]])], COPIED_WORK, 990),
-    (&[(GRH_ACK, &[&[ACK_0, NWR_0, SWR_0_1], &[ACK_0]])], COPY_BEFORE_ANOTHER, 964),
-    (&[(GRH_ACK, &[&[ACK_0, AGR_0, TER_0_1, IPA_AS_0_2, NPA_0_1, IPA_AC_0_3]])], COPIED_AGREEMENT, 1539),
-];
+/// The group of a work with carried records. Of each record the encoder counts the numbers, so a line stands for it wherever
+/// it comes.
+pub(crate) const WITH_CARRIED: &[WorkedGroup<'static>] = &[(
+    GRH_NWR,
+    &[&[NWR_0, IND_0_1, SWR_0_1, ARI_0_3]],
+)];
+
+/// The group of an acknowledgement with a message and the copy of a work.
+pub(crate) const WITH_COPY: &[WorkedGroup<'static>] = &[(
+    GRH_ACK,
+    &[&[ACK_0, MSG_0_1, NWR_0, SWR_0_1]],
+)];
+
+/// The group of two acknowledgements, the first with the copy of a work.
+pub(crate) const COPY_FIRST: &[WorkedGroup<'static>] = &[(
+    GRH_ACK,
+    &[&[ACK_0, NWR_0, SWR_0_1], &[ACK_0]],
+)];
+
+/// The group of an acknowledgement with the copy of an agreement, in which a carried record is.
+pub(crate) const WITH_AGREEMENT: &[WorkedGroup<'static>] = &[(
+    GRH_ACK,
+    &[&[ACK_0, AGR_0, TER_0_1, IPA_AS_0_2, NPA_0_1, IPA_AC_0_3]],
+)];
 
 /// The record of a line that ended.
 fn held(rt: &impl Abort, buffer: &LineBuf) -> Record
