@@ -3,9 +3,8 @@
 use crate::devices::{Reader, WIDE, failing_after, writer_of};
 use crate::outputs::Mishap;
 use crate::runs::{Tool, joined, parted, reported};
-use crate::works::{Numbers, text_of};
+use crate::works::{Numbers, Worked, text_of};
 use cwr_tools::{JoinFault, ToolFault};
-use cwr_worked::texts::TWO_GROUPS;
 use std::process::Abort;
 
 /// The limits of all runs.
@@ -35,24 +34,27 @@ fn join_fault(rt: &(impl Abort + AllocGlobal), mut readers: [Reader<'_>; 2]) -> 
     answer.err()
 }
 
+/// Runs over a text whose reader fails after so many reads, in a join the second reader.
+fn check_failing(rt: &(impl Abort + AllocGlobal), left: &[u8], reads: usize) {
+    let fault = Some(ToolFault::Reader);
+    let answers = [
+        fault_of(rt, Tool::Check, failing_after(left, reads)),
+        fault_of(rt, Tool::Show, failing_after(left, reads)),
+        split_fault(rt, failing_after(left, reads)),
+    ];
+    assert_eq!(rt; answers, [fault; 3], "after {reads}");
+    let readers = [failing_after(left, 16), failing_after(left, reads)];
+    let wanted = JoinFault {
+        input: 2,
+        fault: ToolFault::Reader,
+    };
+    assert_eq!(rt; join_fault(rt, readers), Some(wanted), "after {reads}");
+}
+
 #[test]
 fn each_read_that_fails_is_answered(rt: HostRuntime) {
-    let text = text_of(&rt, TWO_GROUPS);
-    let left = text.as_slice();
-    let fault = ToolFault::Reader;
+    let text = text_of(&rt, Worked::TwoGroups);
     for reads in 0..16 {
-        for tool in [Tool::Check, Tool::Show] {
-            let answer = fault_of(&rt, tool, failing_after(left, reads));
-            assert_eq!(rt; answer, Some(fault), "{tool:?} after {reads}");
-        }
-        let answer = split_fault(&rt, failing_after(left, reads));
-        assert_eq!(rt; answer, Some(fault), "after {reads}");
-        let readers = [failing_after(left, 16), failing_after(left, reads)];
-        let answer = join_fault(&rt, readers);
-        assert_eq!(rt;
-            answer,
-            Some(JoinFault { input: 2, fault }),
-            "after {reads}"
-        );
+        check_failing(&rt, text.as_slice(), reads);
     }
 }

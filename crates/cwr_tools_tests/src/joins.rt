@@ -2,7 +2,7 @@
 
 use crate::devices::{Reader, STUCK, WIDE, Width, reader_of, writer_of};
 use crate::runs::joined;
-use crate::works::{Given, LARGEST, Numbers, Worked, lines_of, text_given, text_of};
+use crate::works::{Given, LARGEST, Numbers, Worked, text_given, text_of};
 use cwr_decode::Refusal;
 use cwr_fields::CellFault;
 use cwr_shape::{Level, LimitKind, Reason};
@@ -40,7 +40,7 @@ const OTHER_VERSION: Refusal = Refusal {
 };
 
 #[rattlefmt::skip]
-static JOINS: [Join; 13] = [
+const JOINS: &[Join] = &[
     (LARGEST, (&[ONE], false), WIDE, Ok(JoinReport { inputs: 1, groups: 1, transactions: 1, records: 5 }), (Worked::OneAcknowledgement, 359)),
     (LARGEST, (&[(Worked::OneAcknowledgement, Given::Trimmed)], false), WIDE, Ok(JoinReport { inputs: 1, groups: 1, transactions: 1, records: 5 }), (Worked::OneAcknowledgement, 359)),
     (LARGEST, (&[ONE, ONE], false), WIDE, Ok(JoinReport { inputs: 2, groups: 2, transactions: 2, records: 8 }), (Worked::Twice, 589)),
@@ -64,7 +64,7 @@ static JOINS: [Join; 13] = [
 fn texts_of(rt: &(impl Abort + AllocGlobal), inputs: &[Input]) -> Vec<Vec<u8>> {
     let mut texts = Vec::new(rt.alloc());
     for (worked, what) in inputs {
-        let text = text_given(rt, lines_of(*worked), *what);
+        let text = text_given(rt, *worked, *what);
         texts.push(text).expect(rt, "no memory");
     }
     texts
@@ -84,23 +84,39 @@ fn readers_of<'a>(
     readers
 }
 
-/// Joins the inputs of a row.
-fn check_join(rt: &(impl Abort + AllocGlobal), row: &Join) {
-    let (numbers, (inputs, fail), width, wanted, (worked, len)) = *row;
-    let texts = texts_of(rt, inputs);
-    let mut readers = readers_of(rt, texts.as_slice(), fail);
+/// Joins the readers' texts: so it is answered. What is written comes back.
+fn join_readers(
+    rt: &(impl Abort + AllocGlobal),
+    numbers: Numbers,
+    readers: &mut [Reader<'_>],
+    width: Width,
+    wanted: Result<JoinReport, JoinFault>,
+) -> Vec<u8> {
     assert!(rt; !readers.is_empty());
     let writer = writer_of(rt.alloc(), width);
-    let (writer, answer) = joined(rt, numbers, readers.as_mut_slice(), writer);
+    let (writer, answer) = joined(rt, numbers, readers, writer);
     assert_eq!(rt; answer, wanted);
-    let text = text_of(rt, lines_of(worked));
-    let written = writer.into_inner().text;
-    assert_eq!(rt; Some(written.as_slice()), text.get(..len));
+    writer.into_inner().text
+}
+
+/// Checks that a text is the first bytes of a worked one, so many of them.
+fn check_front(rt: &(impl Abort + AllocGlobal), text: &[u8], (worked, len): (Worked, usize)) {
+    let whole = text_of(rt, worked);
+    assert_eq!(rt; Some(text), whole.get(..len));
+}
+
+/// Joins the inputs of a row.
+fn check_join(rt: &(impl Abort + AllocGlobal), row: &Join) {
+    let (numbers, (inputs, fail), width, wanted, front) = *row;
+    let texts = texts_of(rt, inputs);
+    let mut readers = readers_of(rt, texts.as_slice(), fail);
+    let written = join_readers(rt, numbers, readers.as_mut_slice(), width, wanted);
+    check_front(rt, written.as_slice(), front);
 }
 
 #[test]
 fn joins_of_worked_texts(rt: HostRuntime) {
-    for row in &JOINS {
+    for row in JOINS {
         check_join(&rt, row);
     }
 }

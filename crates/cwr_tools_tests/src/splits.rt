@@ -3,7 +3,7 @@
 use crate::devices::reader_of;
 use crate::outputs::{Mishap, Shelf, check_texts};
 use crate::runs::parted;
-use crate::works::{Given, WITHOUT_NAME, Worked, lines_of, text_given, text_of};
+use crate::works::{Given, WITHOUT_NAME, Worked, text_given, text_of};
 use cwr_tools::{SplitReport, ToolFault};
 use std::process::Abort;
 
@@ -36,7 +36,7 @@ const FAILED: Result<SplitReport, ToolFault> = Err(ToolFault::Output);
 const UNREAD: Result<SplitReport, ToolFault> = Err(ToolFault::Reader);
 
 #[rattlefmt::skip]
-static SPLITS: [Split; 23] = [
+const SPLITS: &[Split] = &[
     (ALL, 1, Mishap::Nothing, Ok(SplitReport { outputs: 3, transactions: 3 }), (&[Worked::New, Worked::RevisedFirst, Worked::Revised], false)),
     (ALL, 2, Mishap::Nothing, Ok(SplitReport { outputs: 2, transactions: 3 }), (&[Worked::NewAndRevised, Worked::Revised], false)),
     (ALL, 3, Mishap::Nothing, Ok(SplitReport { outputs: 1, transactions: 3 }), (&[Worked::TwoGroups], false)),
@@ -86,49 +86,73 @@ fn check_split(
     let (shelf, answer) = parted(rt, (12, 2, 2), &mut reader, n, mishap);
     assert_eq!(rt; answer, wanted, "at {mishap:?}");
     check_texts(rt, shelf.texts(), outputs);
-    let counts = counts_of(&wanted);
-    assert_eq!(rt;
-        (shelf.counts(), shelf.given_up().is_some()),
-        (counts, is_open)
-    );
+    check_counts(rt, &shelf, counts_of(&wanted), (outputs.len(), is_open));
+    shelf
+}
+
+/// Checks what outputs have counted, where so many are done, and whether a writer was given up.
+fn check_counts(
+    rt: &impl Abort,
+    shelf: &Shelf,
+    counts: (u64, u64),
+    (done, is_open): (usize, bool),
+) {
     // The output that failed was asked for too.
     let others = (is_open as usize).saturating_add(counts.0 as usize);
-    assert_eq!(rt;
+    let asked = done.saturating_add(others);
+    let found = (
         shelf.asked() as usize,
-        outputs.len().saturating_add(others)
+        shelf.counts(),
+        shelf.given_up().is_some(),
     );
-    shelf
+    assert_eq!(rt; found, (asked, counts, is_open));
+}
+
+/// Splits the text of a row.
+fn check_row(rt: &(impl Abort + AllocGlobal), row: &Split) {
+    let ((worked, what, fails), n, mishap, wanted, outputs) = *row;
+    let text = text_given(rt, worked, what);
+    let _shelf = check_split(rt, (text.as_slice(), fails), (n, mishap), wanted, outputs);
 }
 
 #[test]
 fn splits_of_worked_texts(rt: HostRuntime) {
-    for ((worked, what, fails), n, mishap, answer, outputs) in &SPLITS {
-        let text = text_given(&rt, lines_of(*worked), *what);
-        let read = (text.as_slice(), *fails);
-        let _shelf = check_split(&rt, read, (*n, *mishap), *answer, *outputs);
+    for row in SPLITS {
+        check_row(&rt, row);
     }
 }
 
 /// The outputs that are done, the number of the next one, and that one.
 #[rattlefmt::skip]
-static FULL: [(Outputs, u32, Worked); 2] = [
+const FULL: &[(Outputs, u32, Worked)] = &[
     (&[], 1, Worked::NewAndRevised),
     (&[Worked::NewAndRevised], 2, Worked::Revised),
 ];
 
+/// Splits three works where the writer of that output, of this number, is full once it has the text.
+fn check_full(
+    rt: &(impl Abort + AllocGlobal),
+    all: &[u8],
+    (outputs, next): (&[Worked], u32),
+    text: &[u8],
+) {
+    let room = text.len();
+    let fault = Err(ToolFault::Writer {
+        written: room as u64,
+    });
+    let split = (2, Mishap::Writer(next, room));
+    let shelf = check_split(rt, (all, false), split, fault, (outputs, true));
+    assert_eq!(rt; shelf.given_up(), Some(text), "after {room} bytes");
+}
+
 #[test]
 fn writers_that_are_full(rt: HostRuntime) {
-    let all = text_of(&rt, lines_of(Worked::TwoGroups));
-    for (outputs, next, worked) in &FULL {
-        let text = text_of(&rt, lines_of(*worked));
+    let all = text_of(&rt, Worked::TwoGroups);
+    for (outputs, next, worked) in FULL {
+        let text = text_of(&rt, *worked);
         for room in 0..text.len() {
-            let fault = Err(ToolFault::Writer {
-                written: room as u64,
-            });
-            let split = (2, Mishap::Writer(*next, room));
-            let read = (all.as_slice(), false);
-            let shelf = check_split(&rt, read, split, fault, (*outputs, true));
-            assert_eq!(rt; shelf.given_up(), text.get(..room), "after {room} bytes");
+            let front = text.get(..room).unwrap_or(b"");
+            check_full(&rt, all.as_slice(), (outputs, *next), front);
         }
     }
 }

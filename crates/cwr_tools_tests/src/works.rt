@@ -5,7 +5,10 @@ use cwr_decode::Refusal;
 use cwr_fields::CellFault;
 use cwr_shape::{Level, Limits, Reason};
 use cwr_worked::lines::*;
-use cwr_worked::texts::{ONE_ACKNOWLEDGEMENT, TWO_GROUPS, canonical, trimmed_text};
+use cwr_worked::texts::{
+    AGREEMENT_OF_TWO_BLOCKS, ONE_ACKNOWLEDGEMENT, TWO_GROUPS, WORK_OF_ELEVEN,
+    WORK_OF_ELEVEN_REORDERED, canonical, trimmed_text,
+};
 use std::process::Abort;
 
 /// The most records, groups and records of a transaction.
@@ -19,23 +22,23 @@ pub(crate) fn limits_of(rt: &impl Abort, numbers: Numbers) -> Limits {
     Limits::new(numbers.0, numbers.1, numbers.2).expect(rt, "no limits")
 }
 
-/// The canonical text of lines.
-pub(crate) fn text_of(rt: &(impl Abort + AllocGlobal), lines: &[&[u8]]) -> Vec<u8> {
-    canonical(rt.alloc(), lines).expect(rt, "no memory")
+/// The canonical text of a worked transmission.
+pub(crate) fn text_of(rt: &(impl Abort + AllocGlobal), worked: Worked) -> Vec<u8> {
+    canonical(rt.alloc(), lines_of(worked)).expect(rt, "no memory")
 }
 
-/// What is given of lines.
+/// What is given of a worked transmission.
 #[derive(Clone, Copy)]
 pub(crate) enum Given {
-    /// Their canonical text.
+    /// Its canonical text.
     Whole,
-    /// Their text without trailing spaces, and without the last line feed.
+    /// Its text without trailing spaces, and without the last line feed.
     Trimmed,
-    /// So many bytes of their canonical text.
+    /// So many bytes of its canonical text.
     Front(usize),
-    /// Their canonical text with these bytes in the place of as many, from there on.
+    /// Its canonical text with these bytes in the place of as many, from there on.
     Changed(usize, &'static [u8]),
-    /// The first of them, filled up with spaces to so many bytes, and a line feed.
+    /// Its first line, filled up with spaces to so many bytes, and a line feed.
     Filled(usize),
 }
 
@@ -49,10 +52,15 @@ fn filled_up(rt: &(impl Abort + AllocGlobal), line: &[u8], len: usize) -> Vec<u8
 
 /// The text with these bytes in the place of as many, from there on.
 fn changed(mut text: Vec<u8>, at: usize, new: &[u8]) -> Vec<u8> {
-    for (byte, other) in text.as_mut_slice().iter_mut().skip(at).zip(new) {
+    put(text.as_mut_slice(), at, new);
+    text
+}
+
+/// Writes over the bytes of a text from a place on.
+fn put(text: &mut [u8], at: usize, new: &[u8]) {
+    for (byte, other) in text.iter_mut().skip(at).zip(new) {
         *byte = *other;
     }
-    text
 }
 
 /// The front of a text.
@@ -61,13 +69,14 @@ fn cut_off(mut text: Vec<u8>, len: usize) -> Vec<u8> {
     text
 }
 
-/// The text that is given of lines.
-pub(crate) fn text_given(rt: &(impl Abort + AllocGlobal), lines: &[&[u8]], what: Given) -> Vec<u8> {
+/// The text that is given of a worked transmission.
+pub(crate) fn text_given(rt: &(impl Abort + AllocGlobal), worked: Worked, what: Given) -> Vec<u8> {
+    let lines = lines_of(worked);
     match what {
-        Given::Whole => text_of(rt, lines),
+        Given::Whole => text_of(rt, worked),
         Given::Trimmed => trimmed_text(rt.alloc(), lines).expect(rt, "no memory"),
-        Given::Front(len) => cut_off(text_of(rt, lines), len),
-        Given::Changed(at, new) => changed(text_of(rt, lines), at, new),
+        Given::Front(len) => cut_off(text_of(rt, worked), len),
+        Given::Changed(at, new) => changed(text_of(rt, worked), at, new),
         Given::Filled(len) => filled_up(rt, lines.first().copied().unwrap_or(b""), len),
     }
 }
@@ -157,9 +166,72 @@ const TWICE: &[&[u8]] = &[
 ];
 
 /// Two works, of which the second one's writer has no name: its last record is refused.
-pub(crate) const NAMELESS: &[&[u8]] = &[HDR, GRH_NWR, NWR_0, SWR_0_1, NWR_1, SWR_1_1_WITHOUT_NAME];
+const NAMELESS: &[&[u8]] = &[HDR, GRH_NWR, NWR_0, SWR_0_1, NWR_1, SWR_1_1_WITHOUT_NAME];
 
-/// That refusal.
+/// One acknowledgement, whose TRL counts two transactions.
+const WRONG_TRAILER: &[&[u8]] = &[
+    HDR,
+    GRH_ACK,
+    ACK_0,
+    b"GRT000010000000100000003",
+    b"TRL000010000000200000005",
+];
+
+/// A work whose fifth record has the number of its fourth.
+const WRONG_SEQUENCE: &[&[u8]] = &[
+    HDR,
+    GRH_NWR,
+    NWR_0,
+    SPU_0_1,
+    SPT_0_2,
+    OPU_0_3,
+    SWR_0_3_WITH_SHARE,
+    SWT_0_5,
+];
+
+/// An agreement that ends without an acquirer.
+const ONE_SIDE: &[&[u8]] = &[
+    HDR,
+    GRH_AGR,
+    AGR_0,
+    TER_0_1,
+    IPA_AS_0_2,
+    IPA_AS_0_3,
+    b"GRT000010000000100000006",
+];
+
+/// One acknowledgement, and the head of another group.
+const SECOND_GROUP: &[&[u8]] = &[HDR, GRH_ACK, ACK_0, b"GRT000010000000100000003", GRH_ACK_2];
+
+/// An acknowledgement and its message.
+const MESSAGE: &[&[u8]] = &[HDR, GRH_ACK, ACK_0, MSG_0_1];
+
+/// Three works in two groups, of which two have a finding.
+const TWO_FINDINGS: &[&[u8]] = &[
+    HDR,
+    GRH_NWR,
+    NWR_0_WITH_WRONG_ISWC,
+    SWR_0_1,
+    b"GRT000010000000100000004",
+    GRH_REV_2,
+    REV_0,
+    SWR_0_1,
+    REV_1,
+    SWR_1_1_OF_AN_ARRANGER,
+    b"GRT000020000000200000006",
+    b"TRL000020000000300000012",
+];
+
+/// A work with a finding, which isn't whole where the next one is refused.
+const FINDING_BEFORE_REFUSAL: &[&[u8]] = &[
+    HDR,
+    GRH_NWR,
+    NWR_0_WITH_WRONG_ISWC,
+    SWR_0_1,
+    NWR_1_OF_UNKNOWN_CATEGORY,
+];
+
+/// The refusal of the work without a name.
 pub(crate) const WITHOUT_NAME: Refusal = Refusal {
     rec: 6,
     field: 5,
@@ -180,6 +252,16 @@ pub(crate) enum Worked {
     Both,
     Nameless,
     OtherVersion,
+    WorkOfEleven,
+    WorkOfElevenReordered,
+    TwoBlocks,
+    WrongTrailer,
+    WrongSequence,
+    OneSide,
+    SecondGroup,
+    Message,
+    TwoFindings,
+    FindingBeforeRefusal,
 }
 
 /// The lines of a worked transmission.
@@ -195,6 +277,16 @@ pub(crate) fn lines_of(worked: Worked) -> &'static [&'static [u8]] {
         Worked::Both => BOTH,
         Worked::Nameless => NAMELESS,
         Worked::OtherVersion => &[HDR_OF_ANOTHER_VERSION],
+        Worked::WorkOfEleven => WORK_OF_ELEVEN,
+        Worked::WorkOfElevenReordered => WORK_OF_ELEVEN_REORDERED,
+        Worked::TwoBlocks => AGREEMENT_OF_TWO_BLOCKS,
+        Worked::WrongTrailer => WRONG_TRAILER,
+        Worked::WrongSequence => WRONG_SEQUENCE,
+        Worked::OneSide => ONE_SIDE,
+        Worked::SecondGroup => SECOND_GROUP,
+        Worked::Message => MESSAGE,
+        Worked::TwoFindings => TWO_FINDINGS,
+        Worked::FindingBeforeRefusal => FINDING_BEFORE_REFUSAL,
     }
 }
 
@@ -213,9 +305,8 @@ static LENGTHS: [(Worked, usize); 8] = [
 #[test]
 fn lengths_of_texts(rt: HostRuntime) {
     for (worked, len) in &LENGTHS {
-        let text = text_of(&rt, lines_of(*worked));
-        assert_eq!(rt; text.len(), *len, "{worked:?}");
+        assert_eq!(rt; text_of(&rt, *worked).len(), *len, "{worked:?}");
     }
-    let short = text_given(&rt, ONE_ACKNOWLEDGEMENT, Given::Trimmed);
+    let short = text_given(&rt, Worked::OneAcknowledgement, Given::Trimmed);
     assert_eq!(rt; short.len(), 323);
 }
