@@ -10,8 +10,8 @@ use cwr_layouts::Kind::{
 use cwr_values::{Item, Transaction};
 use cwr_worked::lines::*;
 use cwr_worked::texts::{
-    AGREEMENT_OF_TWO_BLOCKS, CARRIED_RECORDS, COPIED_WORK, ONE_ACKNOWLEDGEMENT, TWO_GROUPS,
-    WORK_OF_ELEVEN, WORK_OF_ELEVEN_REORDERED,
+    AGREEMENT_OF_TWO_BLOCKS, CARRIED_RECORDS, COPIED_AGREEMENT, COPIED_WORK, COPY_BEFORE_ANOTHER,
+    ONE_ACKNOWLEDGEMENT, TWO_GROUPS, WORK_OF_ELEVEN, WORK_OF_ELEVEN_REORDERED,
 };
 use std::process::Abort;
 
@@ -99,32 +99,6 @@ const CARRIED_BEFORE_WRITER: &[&[u8]] = &[
     SWR_0_2,
     b"GRT000010000000100000005",
     b"TRL000010000000100000007",
-];
-
-/// Two acknowledgements, the first with the copy of a work.
-const COPY_BEFORE_ANOTHER: &[&[u8]] = &[
-    HDR,
-    GRH_ACK,
-    ACK_0,
-    NWR_0_1,
-    SWR_0_2,
-    ACK_1,
-    b"GRT000010000000200000006",
-    b"TRL000010000000200000008",
-];
-
-/// An acknowledgement with the copy of an agreement, and a carried record in it.
-const COPIED_AGREEMENT: &[&[u8]] = &[
-    HDR,
-    GRH_ACK,
-    ACK_0,
-    AGR_0_1,
-    TER_0_2,
-    IPA_AS_0_3,
-    NPA_0_4,
-    IPA_AC_0_5,
-    b"GRT000010000000100000008",
-    b"TRL000010000000100000010",
 ];
 
 /// An acknowledgement with the copy of a work.

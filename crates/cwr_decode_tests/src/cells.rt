@@ -2,7 +2,7 @@
 
 ghost use Rattle.std.specs.Prelude.{◌<◌, ◌≤◌};
 
-use crate::decoders::{decoder, feed, text_of};
+use crate::decoders::{LARGEST, decoder_within, feed, text_of};
 use cwr_decode::{Outcome, Step};
 use cwr_fields::{Cell, CivilDate, DateCell, Number, TimeOfDay, TransactionStatus, trimmed};
 use cwr_layouts::{Kind, RecordRef};
@@ -22,7 +22,7 @@ fn transaction_in(step: Step) -> Option<Transaction> {
 /// The transaction of the transmission of one acknowledgement, as a decoder hands it out after HDR and GRH.
 fn read_transaction(rt: &(impl Abort + AllocGlobal)) -> Transaction {
     let text = text_of(rt, ONE_ACKNOWLEDGEMENT);
-    let mut decoder = decoder(rt);
+    let mut decoder = decoder_within(rt, LARGEST);
     let mut left = text.as_slice();
     for _ in 0..2 {
         let (used, _) = feed(&mut decoder, left);
@@ -68,36 +68,38 @@ fn check_typed_cells(rt: &impl Abort, record: &RecordRef<'_>) {
     check_read::<Number<8>>(rt, record, 2, None);
 }
 
-#[test]
-fn the_cells_of_an_acknowledgement(rt: HostRuntime) {
-    let cells: [(u8, Option<&[u8]>); 15] = [
-        (0, None),
-        (1, None),
-        (2, None),
-        (3, None),
-        (4, Some(b"20240102")),
-        (5, Some(b"101500")),
-        (6, Some(b"00001")),
-        (7, Some(b"00000000")),
-        (8, Some(b"NWR")),
-        (9, Some(b"BLUE RIVER")),
-        (10, Some(b"W0001")),
-        (11, Some(b"")),
-        (12, Some(b"20240110")),
-        (13, Some(b"AS")),
-        (14, None),
-    ];
-    let transaction = read_transaction(&rt);
-    assert_eq!(rt; transaction.len(), 1);
-    assert!(rt; transaction.record(1).is_none());
-    let record = transaction.record(0).expect(&rt, "no record");
+#[rattlefmt::skip]
+static CELLS: [(u8, Option<&[u8]>); 15] = [
+    (0, None),
+    (1, None),
+    (2, None),
+    (3, None),
+    (4, Some(b"20240102")),
+    (5, Some(b"101500")),
+    (6, Some(b"00001")),
+    (7, Some(b"00000000")),
+    (8, Some(b"NWR")),
+    (9, Some(b"BLUE RIVER")),
+    (10, Some(b"W0001")),
+    (11, Some(b"")),
+    (12, Some(b"20240110")),
+    (13, Some(b"AS")),
+    (14, None),
+];
+
+/// Checks the record of an acknowledgement.
+fn check_record(rt: &impl Abort, record: &RecordRef<'_>) {
     assert_eq!(rt; record.kind(), Kind::Ack);
-    check_cells(&rt, &record, &cells);
+    check_cells(rt, record, &CELLS);
+    check_typed_cells(rt, record);
 }
 
 #[test]
-fn the_typed_cells_of_an_acknowledgement(rt: HostRuntime) {
+fn the_cells_of_an_acknowledgement(rt: HostRuntime) {
     let transaction = read_transaction(&rt);
-    let record = transaction.record(0).expect(&rt, "no record");
-    check_typed_cells(&rt, &record);
+    assert_eq!(rt;
+        (transaction.len(), transaction.record(1).is_none()),
+        (1, true)
+    );
+    check_record(&rt, &transaction.record(0).expect(&rt, "no record"));
 }

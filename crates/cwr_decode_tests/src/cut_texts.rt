@@ -1,215 +1,197 @@
-//! Tests of decoders over the transmission of one acknowledgement, call by call, however it is cut, and cut off; and over
-//! others in two pieces.
+//! Tests of decoders over worked transmissions that are cut into pieces, and cut off.
 
-use crate::decoders::{decoder, end_by, feed, finish, short_text_of, text_of};
-use crate::endings::{NO_DATE, NO_DIGITS};
-use cwr_decode::{Decoder, End, Outcome};
+use crate::answers::{Answers, BYTES, answers_on, check_same};
+use crate::decoders::{LARGEST, limits_of, short_text_of, text_of, twice_of};
+use cwr_decode::{End, Refusal, end_of};
+use cwr_fields::CellFault;
+use cwr_shape::{Level, Reason};
 use cwr_worked::texts::{AGREEMENT_OF_TWO_BLOCKS, ONE_ACKNOWLEDGEMENT, TWO_GROUPS, WORK_OF_ELEVEN};
 use std::process::Abort;
 
-#[test]
-fn one_acknowledgement_by_items(rt: HostRuntime) {
-    let text = text_of(&rt, ONE_ACKNOWLEDGEMENT);
-    assert_eq!(rt; text.len(), 359);
-    let mut decoder = decoder(&rt);
-    assert_eq!(rt; decoder.holds(), (0, 0));
-    let steps = [
-        (103, "opened", 1, (0, 0)),
-        (30, "group opened", 2, (0, 0)),
-        (200, "transaction", 4, (38, 0)),
-        (0, "group closed", 4, (0, 0)),
-        (26, "ended", 5, (0, 0)),
-        (0, "done", 5, (0, 0)),
-        (0, "done", 5, (0, 0)),
-    ];
-    let mut left = text.as_slice();
-    for (used, name, records, holds) in steps {
-        assert_eq!(rt; feed(&mut decoder, left), (used, name));
-        assert_eq!(rt; (decoder.records(), decoder.holds()), (records, holds));
-        left = left.get(used..).unwrap_or(b"");
-    }
-}
-
-#[test]
-fn lines_without_trailing_spaces(rt: HostRuntime) {
-    let text = short_text_of(&rt, ONE_ACKNOWLEDGEMENT);
-    assert_eq!(rt; text.len(), 323);
-    let mut decoder = decoder(&rt);
-    let steps = [
-        (87, "opened"),
-        (27, "group opened"),
-        (185, "transaction"),
-        (0, "group closed"),
-        (24, "more"),
-    ];
-    let mut left = text.as_slice();
-    for (used, name) in steps {
-        assert_eq!(rt; feed(&mut decoder, left), (used, name));
-        left = left.get(used..).unwrap_or(b"");
-    }
-    for name in ["ended", "done"] {
-        assert_eq!(rt; finish(&mut decoder), name);
-    }
-    assert_eq!(rt; feed(&mut decoder, b"x").1, "done");
-}
-
-/// The names of the items of the transmission of one acknowledgement, and of what is answered after them.
-const ITEMS: [&str; 6] = [
-    "opened",
-    "group opened",
-    "transaction",
-    "group closed",
-    "ended",
-    "done",
+/// Transmissions, and how many items each gives.
+static WORKED: [(&[&[u8]], usize); 4] = [
+    (ONE_ACKNOWLEDGEMENT, 5),
+    (WORK_OF_ELEVEN, 5),
+    (AGREEMENT_OF_TWO_BLOCKS, 5),
+    (TWO_GROUPS, 9),
 ];
 
-/// Feeds a piece until more is needed, or the end was answered, and answers how many bytes were used. The outcomes continue
-/// from place `item_count` of these.
-fn feed_piece(
-    rt: &impl Abort,
-    decoder: &mut Decoder,
-    piece: &[u8],
-    item_count: &mut usize,
-) -> usize {
-    let mut used: usize = 0;
-    for _ in 0..7 {
-        let (taken, name) = feed(decoder, piece.get(used..).unwrap_or(b""));
-        used = used.saturating_add(taken);
-        if name == "more" || name == "done" {
-            break;
-        }
-        assert_eq!(rt; Some(&name), ITEMS.get(*item_count));
-        *item_count = item_count.saturating_add(1);
-    }
-    used
-}
-
-/// Feeds the text in two pieces that are cut there: all is used, the five items come, and the decoder is done.
-fn check_cut(rt: &(impl Abort + AllocGlobal), text: &[u8], at: usize) {
-    let mut decoder = decoder(rt);
-    let mut item_count = 0;
-    let (front, rest) = text.split_at(at.min(text.len()));
-    let used = feed_piece(rt, &mut decoder, front, &mut item_count);
-    let more = feed_piece(rt, &mut decoder, rest, &mut item_count);
-    assert_eq!(rt; (used, more, item_count), (at, rest.len(), 5));
-    assert_eq!(rt; finish(&mut decoder), "done");
-}
-
-/// Feeds the text byte by byte: each is used, and the five items come.
-fn check_each_byte(rt: &(impl Abort + AllocGlobal), text: &[u8]) {
-    let mut decoder = decoder(rt);
-    let mut item_count = 0;
-    for byte in text {
-        assert_eq!(rt; feed_piece(rt, &mut decoder, &[*byte], &mut item_count), 1);
-    }
-    assert_eq!(rt; item_count, 5);
-    assert_eq!(rt; feed(&mut decoder, b""), (0, "done"));
-}
-
-#[test]
-fn one_acknowledgement_however_cut(rt: HostRuntime) {
-    let text = text_of(&rt, ONE_ACKNOWLEDGEMENT);
-    for at in 0..text.len() + 1 {
-        check_cut(&rt, text.as_slice(), at);
-    }
-    check_each_byte(&rt, text.as_slice());
-}
-
-/// Feeds a piece until no item comes: how many bytes are used, and how many items come.
-fn feed_counted(decoder: &mut Decoder, piece: &[u8]) -> (usize, usize) {
-    let mut used: usize = 0;
-    let mut items: usize = 0;
-    for _ in 0..12 {
-        let step = decoder.feed(piece.get(used..).unwrap_or(b""));
-        used = used.saturating_add(step.used);
-        let Outcome::Item(_) = step.outcome else {
-            break;
-        };
-        items = items.saturating_add(1);
-    }
-    (used, items)
-}
-
-/// Feeds two pieces: how many bytes of each are used, how many items come in all, and how the decoder answers the end.
-fn feed_two(
+/// Checks that a text is answered alike in two pieces that are cut at one of these places, with an empty piece between them.
+fn check_cuts(
     rt: &(impl Abort + AllocGlobal),
-    front: &[u8],
-    rest: &[u8],
-) -> (usize, usize, usize, &'static str) {
-    let mut decoder = decoder(rt);
-    let (used, before) = feed_counted(&mut decoder, front);
-    let (more, after) = feed_counted(&mut decoder, rest);
-    (
-        used,
-        more,
-        before.saturating_add(after),
-        finish(&mut decoder),
-    )
+    text: &[u8],
+    (from, to): (usize, usize),
+    wanted: &Answers,
+) {
+    for at in from..to {
+        check_same(rt, (LARGEST, text), &[at, 0], wanted);
+    }
 }
 
-/// Cuts the text of lines into two pieces, at each byte: all is used, and so many items come.
-fn check_cuts(rt: &(impl Abort + AllocGlobal), lines: &[&[u8]], items: usize) {
+/// Checks that a text is accepted, with so many items, and answered alike byte by byte, and in two pieces that are cut at one
+/// of these places.
+fn check_accepted(
+    rt: &(impl Abort + AllocGlobal),
+    text: &[u8],
+    items: usize,
+    places: (usize, usize),
+) -> Answers {
+    let answers = answers_on(rt, LARGEST, text, &[]);
+    let used = text.len();
+    assert_eq!(rt;
+        answers.numbers(),
+        (items, used, Some(End::Accepted { used }))
+    );
+    check_same(rt, (LARGEST, text), BYTES, &answers);
+    check_cuts(rt, text, places, &answers);
+    answers
+}
+
+/// Whether a text may end so that is cut off after so many whole lines, and within a line where one is begun. Where just the
+/// end of the last line is cut off, the text is a transmission.
+fn may_end(end: End, lines: u32, is_begun: bool, is_whole: bool) -> bool {
+    let count = lines.saturating_add(is_begun as u32);
+    match end {
+        End::Accepted { .. } => is_whole,
+        End::Truncated { records } => records == count && !is_whole,
+        End::Refused(refusal) => is_begun && refusal.rec == count && !is_whole,
+    }
+}
+
+/// What is answered on the first bytes of a text, with so many whole lines. It ends as it may, and all of it is used.
+fn answers_on_front(
+    rt: &(impl Abort + AllocGlobal),
+    (text, len): (&[u8], usize),
+    (lines, is_begun): (u32, bool),
+) -> Answers {
+    let front = text.get(..len).unwrap_or(text);
+    let answers = answers_on(rt, LARGEST, front, &[]);
+    let is_whole = len.saturating_add(2) >= text.len();
+    let end = answers.end.expect(rt, "no end");
+    assert!(rt;
+        may_end(end, lines, is_begun, is_whole),
+        "after {len} bytes: {end:?}"
+    );
+    assert_eq!(rt; answers.used, len);
+    answers
+}
+
+/// Checks that the items of one text are the first of those of another.
+fn check_first(rt: &impl Abort, first: &Answers, all: &Answers) {
+    let are_first = all.items.as_slice().starts_with(first.items.as_slice());
+    assert!(rt; are_first, "at {} bytes", first.used);
+}
+
+/// Checks each front of a text. The items of whole lines are the first of the text's, and of any front that begins with them.
+fn check_fronts(rt: &(impl Abort + AllocGlobal), text: &[u8], wanted: &Answers) {
+    let mut lines: u32 = 0;
+    let mut of_lines = answers_on(rt, LARGEST, b"", &[]);
+    let mut is_begun = false;
+    for (len, byte) in text.iter().enumerate() {
+        let answers = answers_on_front(rt, (text, len), (lines, is_begun));
+        check_first(rt, &of_lines, &answers);
+        if !is_begun {
+            check_first(rt, &answers, wanted);
+            of_lines = answers;
+        }
+        is_begun = *byte != b'\n';
+        lines = lines.saturating_add(!is_begun as u32);
+    }
+}
+
+/// Cuts a transmission that gives so many items.
+fn check_transmission(rt: &(impl Abort + AllocGlobal), lines: &[&[u8]], items: usize) {
     let text = text_of(rt, lines);
-    for at in 0..text.len() + 1 {
-        let (front, rest) = text.as_slice().split_at(at);
-        let wanted = (at, rest.len(), items, "done");
-        assert_eq!(rt; feed_two(rt, front, rest), wanted, "at {at}");
+    let everywhere = (0, text.len().saturating_add(1));
+    let answers = check_accepted(rt, text.as_slice(), items, everywhere);
+    check_fronts(rt, text.as_slice(), &answers);
+    let short = short_text_of(rt, lines);
+    let same = check_accepted(rt, short.as_slice(), items, (300, 400));
+    assert!(rt; same.items.as_slice() == answers.items.as_slice());
+}
+
+#[test]
+fn transmissions_cut_at_each_byte(rt: HostRuntime) {
+    for (lines, items) in &WORKED {
+        check_transmission(&rt, lines, *items);
     }
 }
 
-#[test]
-fn a_work_in_two_pieces(rt: HostRuntime) {
-    check_cuts(&rt, WORK_OF_ELEVEN, 5);
-}
-
-#[test]
-fn an_agreement_in_two_pieces(rt: HostRuntime) {
-    check_cuts(&rt, AGREEMENT_OF_TWO_BLOCKS, 5);
-}
-
-#[test]
-fn two_groups_in_two_pieces(rt: HostRuntime) {
-    check_cuts(&rt, TWO_GROUPS, 9);
-}
-
-#[test]
-fn an_empty_piece_is_more(rt: HostRuntime) {
-    assert_eq!(rt; feed(&mut decoder(&rt), b""), (0, "more"));
-}
-
-/// How the input ends after a front of the transmission, all of which is used, where so many items come before that.
-fn end_of_front(rt: &impl Abort, decoder: &mut Decoder, front: &[u8], items: usize) -> Option<End> {
-    let mut item_count = 0;
-    let used = feed_piece(rt, decoder, front, &mut item_count);
-    assert_eq!(rt; used, front.len());
-    for _ in item_count..items {
-        assert_eq!(rt; Some(&finish(decoder)), ITEMS.get(item_count));
-        item_count = item_count.saturating_add(1);
-    }
-    end_by(&decoder.finish().outcome, used)
-}
-
-/// Where the transmission is cut off, how many items come, and how the input ends.
-static FRONTS: [(usize, usize, End); 9] = [
-    (0, 0, End::Truncated { records: 0 }),
-    (80, 0, NO_DATE),
-    (100, 1, End::Truncated { records: 1 }),
-    (133, 2, End::Truncated { records: 2 }),
-    (294, 2, End::Truncated { records: 3 }),
-    (331, 4, End::Truncated { records: 4 }),
-    (356, 4, NO_DIGITS),
-    (357, 4, End::Accepted { used: 357 }),
-    (358, 4, End::Accepted { used: 358 }),
+/// Bytes that are changed in the work of eleven records. They stand in SPT: the last letter of its kind, a sequence, a cell of
+/// text, a share, and its line end.
+static CHANGES: [(usize, u8); 8] = [
+    (582, b'X'),
+    (590, b'X'),
+    (600, 7),
+    (615, b'X'),
+    (615, 7),
+    (638, b'X'),
+    (639, b'X'),
+    (639, 7),
 ];
 
+/// Checks that a work with another byte there is refused, and answered alike wherever it is cut in SPT.
+fn check_changed(rt: &(impl Abort + AllocGlobal), mut text: Vec<u8>, at: usize, byte: u8) {
+    if let Some(changed) = text.as_mut_slice().get_mut(at) {
+        *changed = byte;
+    }
+    let answers = answers_on(rt, LARGEST, text.as_slice(), &[]);
+    assert!(rt; matches!(answers.end, Some(End::Refused(_))));
+    check_cuts(rt, text.as_slice(), (570, 840), &answers);
+}
+
 #[test]
-fn one_acknowledgement_cut_off(rt: HostRuntime) {
-    let text = text_of(&rt, ONE_ACKNOWLEDGEMENT);
-    for (at, items, wanted) in &FRONTS {
-        let mut decoder = decoder(&rt);
-        let front = text.get(..*at).unwrap_or(b"");
-        let ended = end_of_front(&rt, &mut decoder, front, *items);
-        assert_eq!(rt; ended, Some(*wanted), "at {at}");
-        assert_eq!(rt; decoder.holds(), (0, 0));
+fn refused_lines_cut_at_each_byte(rt: HostRuntime) {
+    for (at, byte) in &CHANGES {
+        check_changed(&rt, text_of(&rt, WORK_OF_ELEVEN), *at, *byte);
+    }
+}
+
+/// The transmission of one acknowledgement is refused for the transmission date of HDR.
+const NO_DATE: End = End::Refused(Refusal {
+    rec: 1,
+    field: 8,
+    level: Level::E,
+    reason: Reason::Cell(CellFault::NotADate),
+});
+
+/// It is refused for the record count of TRL.
+const NO_DIGITS: End = End::Refused(Refusal {
+    rec: 5,
+    field: 4,
+    level: Level::E,
+    reason: Reason::Cell(CellFault::NotDigits),
+});
+
+/// After how many bytes of two such transmissions the text is cut off, how many items come, how many bytes are used, and how
+/// the text ends.
+static FRONTS: [(usize, usize, usize, End); 11] = [
+    (0, 0, 0, End::Truncated { records: 0 }),
+    (80, 0, 80, NO_DATE),
+    (100, 1, 100, End::Truncated { records: 1 }),
+    (133, 2, 133, End::Truncated { records: 2 }),
+    (294, 2, 294, End::Truncated { records: 3 }),
+    (331, 4, 331, End::Truncated { records: 4 }),
+    (356, 4, 356, NO_DIGITS),
+    (357, 5, 357, End::Accepted { used: 357 }),
+    (358, 5, 358, End::Accepted { used: 358 }),
+    (359, 5, 359, End::Accepted { used: 359 }),
+    (718, 5, 359, End::Accepted { used: 359 }),
+];
+
+/// Checks how the front of a text ends.
+fn check_end(rt: &(impl Abort + AllocGlobal), front: &[u8], numbers: (usize, usize, End)) {
+    let (items, used, end) = numbers;
+    let answers = answers_on(rt, LARGEST, front, &[]);
+    assert_eq!(rt; answers.numbers(), (items, used, Some(end)));
+    assert_eq!(rt; end_of(limits_of(rt, LARGEST), front), end);
+}
+
+#[test]
+fn fronts_of_acknowledgements(rt: HostRuntime) {
+    let text = twice_of(&rt, ONE_ACKNOWLEDGEMENT);
+    for (len, items, used, end) in &FRONTS {
+        let front = text.get(..*len).unwrap_or(b"");
+        check_end(&rt, front, (*items, *used, *end));
     }
 }

@@ -1,4 +1,4 @@
-//! What the tests of decoders share: worked texts, a decoder with the largest limits, and what its calls answer.
+//! What the tests of decoders share: texts of lines, decoders within limits, and what their calls answer.
 
 use cwr_decode::{Decoder, End, Outcome};
 use cwr_shape::Limits;
@@ -12,15 +12,14 @@ pub(crate) type Numbers = (u32, u32, u32);
 /// The largest numbers of limits.
 pub(crate) const LARGEST: Numbers = (99_999_999, 99_999, 999_999);
 
-/// A decoder with these limits.
-pub(crate) fn decoder_within(rt: &(impl Abort + AllocGlobal), numbers: Numbers) -> Decoder {
-    let limits = Limits::new(numbers.0, numbers.1, numbers.2);
-    Decoder::new(rt.alloc(), limits.expect(rt, "no limits"))
+/// These limits.
+pub(crate) fn limits_of(rt: &impl Abort, numbers: Numbers) -> Limits {
+    Limits::new(numbers.0, numbers.1, numbers.2).expect(rt, "no limits")
 }
 
-/// A decoder with the largest limits.
-pub(crate) fn decoder(rt: &(impl Abort + AllocGlobal)) -> Decoder {
-    decoder_within(rt, LARGEST)
+/// A decoder with these limits.
+pub(crate) fn decoder_within(rt: &(impl Abort + AllocGlobal), numbers: Numbers) -> Decoder {
+    Decoder::new(rt.alloc(), limits_of(rt, numbers))
 }
 
 /// The canonical text of lines.
@@ -42,7 +41,7 @@ pub(crate) fn short_text_of(rt: &(impl Abort + AllocGlobal), lines: &[&[u8]]) ->
 }
 
 /// The name of an outcome.
-pub(crate) fn name_of(outcome: &Outcome) -> &'static str {
+fn name_of(outcome: &Outcome) -> &'static str {
     match outcome {
         Outcome::More => "more",
         Outcome::Item(Item::Opened(_)) => "opened",
@@ -66,6 +65,15 @@ pub(crate) fn feed(decoder: &mut Decoder, piece: &[u8]) -> (usize, &'static str)
 /// Takes the end of the input: the name of the outcome.
 pub(crate) fn finish(decoder: &mut Decoder) -> &'static str {
     name_of(&decoder.finish().outcome)
+}
+
+/// The name of what a decoder answers for good once the input has ended so.
+pub(crate) fn name_after(end: End) -> &'static str {
+    match end {
+        End::Accepted { .. } => "done",
+        End::Refused(_) => "refused",
+        End::Truncated { .. } => "truncated",
+    }
 }
 
 /// How the input ends by an outcome after so many used bytes. `None` where the outcome is none of an end.

@@ -4,17 +4,23 @@
 #[cfg(test)]
 mod accepted_texts;
 #[cfg(test)]
+mod answers;
+#[cfg(test)]
+mod calls_in_turn;
+#[cfg(test)]
 mod cells;
 #[cfg(test)]
 mod cut_texts;
 #[cfg(test)]
 mod decoders;
 #[cfg(test)]
-mod endings;
+mod endless;
+#[cfg(test)]
+mod held;
+#[cfg(test)]
+mod item_lines;
 #[cfg(test)]
 mod library_example;
-#[cfg(test)]
-mod lines_in_pieces;
 #[cfg(test)]
 mod readings;
 #[cfg(test)]

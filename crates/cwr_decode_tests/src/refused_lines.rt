@@ -1,21 +1,27 @@
 //! Tests of the first field of a line that is wrong, and why, on written lines after the records of worked transmissions.
 
-use crate::decoders::{decoder, end_by, feed, text_of};
+use crate::decoders::{LARGEST, text_of};
 use crate::refused_texts::check_refused;
-use cwr_decode::{End, Refusal};
+use cwr_decode::Refusal;
 use cwr_fields::CellFault;
 use cwr_shape::{Level, Reason};
-use cwr_worked::lines::{ACK_0, GRH_ACK, GRH_NWR, HDR, HDR_OF_ANOTHER_VERSION, NWR_0, SWR_0_1};
+use cwr_worked::lines::{
+    ACK_0, GRH_ACK, GRH_NWR, HDR, HDR_OF_ANOTHER_VERSION, IND_0_1, NWR_0, SWR_0_1,
+};
 use std::process::Abort;
 
 /// Lines that were accepted, how many items they give, and the number of the next record.
 type Before = (&'static [&'static [u8]], usize, u32);
+
+const NOTHING: Before = (&[], 0, 1);
 
 const HEADER: Before = (&[HDR], 1, 2);
 
 const GROUP: Before = (&[HDR, GRH_ACK], 2, 3);
 
 const ACKNOWLEDGEMENT: Before = (&[HDR, GRH_ACK, ACK_0], 2, 4);
+
+const WORK_HEADER: Before = (&[HDR, GRH_NWR, NWR_0], 2, 4);
 
 const WORK: Before = (&[HDR, GRH_NWR, NWR_0, SWR_0_1], 2, 5);
 
@@ -27,8 +33,8 @@ const ACK: &[u8] =
 const ROCK: &[u8] =
     b"NWR0000000100000000BLUE RIVER                                                    W0001                                        ROC";
 
-/// The records before a line, the line, bytes that stand in it instead from a place on, and the field at which it is
-/// refused, the level and the reason.
+/// The records before a line, the line, bytes that stand in it instead from a place on, before which spaces stand where the
+/// line is shorter, and the field at which it is refused, the level and the reason.
 type RefusedLine = (
     Before,
     &'static [u8],
@@ -39,7 +45,7 @@ type RefusedLine = (
 );
 
 #[rattlefmt::skip]
-static LINES: [RefusedLine; 23] = [
+static LINES: [RefusedLine; 26] = [
     (HEADER, b"GRHXYZ0000102.100000000001", &[], 2, Level::G, Reason::Cell(CellFault::NotACode)),
     (HEADER, b"GRHACK0000202.100000000001", &[], 3, Level::G, Reason::Number { expected: 1 }),
     (HEADER, b"GRHACK0000102.000000000001", &[], 4, Level::G, Reason::Cell(CellFault::NotConstant)),
@@ -63,7 +69,18 @@ static LINES: [RefusedLine; 23] = [
     (WORK, b"SPU", &[], 1, Level::T, Reason::Misplaced),
     (WORK, b"SWR0000000000000003", &[], 3, Level::T, Reason::Number { expected: 2 }),
     (WORK, ROCK, &[], 10, Level::T, Reason::Cell(CellFault::NotACode)),
+    (WORK_HEADER, IND_0_1, &[(719, b"X")], 5, Level::R, Reason::Excess),
+    (NOTHING, HDR, &[(1024, b" ")], 10, Level::E, Reason::Excess),
+    (NOTHING, HDR_OF_ANOTHER_VERSION, &[(1024, b" ")], 5, Level::E, Reason::Cell(CellFault::NotConstant)),
 ];
+
+/// A line that is filled up with spaces to so many bytes, and its line feed.
+pub(crate) fn filled_up(rt: &(impl Abort + AllocGlobal), line: &[u8], len: usize) -> Vec<u8> {
+    let mut text = line.to_vec(rt.alloc()).expect(rt, "no memory");
+    text.resize(len, b' ').expect(rt, "no memory");
+    text.push(b'\n').expect(rt, "no memory");
+    text
+}
 
 /// Writes over the bytes of a text from a place on.
 fn put(text: &mut [u8], start: usize, bytes: &[u8]) {
@@ -74,66 +91,42 @@ fn put(text: &mut [u8], start: usize, bytes: &[u8]) {
     }
 }
 
-/// The text of a row: the records before its line, and the line with the other bytes in it.
-fn text_with(rt: &(impl Abort + AllocGlobal), row: &RefusedLine) -> Vec<u8> {
-    let (before, line, changes, ..) = *row;
-    let mut text = text_of(rt, before.0);
-    let start = text.len();
-    text.extend_from_slice(line).expect(rt, "no memory");
+/// The line of a row with the other bytes in it, and its line feed.
+fn line_of(rt: &(impl Abort + AllocGlobal), row: &RefusedLine) -> Vec<u8> {
+    let (_, line, changes, ..) = *row;
+    let mut len = line.len();
     for (at, bytes) in changes {
-        put(text.as_mut_slice(), start.saturating_add(*at), bytes);
+        len = len.max(at.saturating_add(bytes.len()));
     }
-    text.push(b'\n').expect(rt, "no memory");
+    let mut text = filled_up(rt, line, len);
+    for (at, bytes) in changes {
+        put(text.as_mut_slice(), *at, bytes);
+    }
     text
+}
+
+/// Checks that the line of a row is refused after the records before it.
+fn check_line(rt: &(impl Abort + AllocGlobal), row: &RefusedLine) {
+    let (before, .., field, level, reason) = *row;
+    let line = line_of(rt, row);
+    let mut text = text_of(rt, before.0);
+    // Of a line that is too long so many bytes are used.
+    let used = text.len().saturating_add(line.len().min(1024));
+    text.extend_from_slice(line.as_slice())
+        .expect(rt, "no memory");
+    let expected = Refusal {
+        rec: before.2,
+        field,
+        level,
+        reason,
+    };
+    let given = (LARGEST, text.as_slice());
+    check_refused(rt, given, (before.1, used), expected);
 }
 
 #[test]
 fn lines_are_refused_at_their_first_wrong_field(rt: HostRuntime) {
     for row in &LINES {
-        let text = text_with(&rt, row);
-        let (before, .., field, level, reason) = *row;
-        let expected = Refusal {
-            rec: before.2,
-            field,
-            level,
-            reason,
-        };
-        check_refused(&rt, decoder(&rt), text.as_slice(), before.1, expected);
+        check_line(&rt, row);
     }
-}
-
-/// A line that is filled up with spaces to so many bytes, and its line end.
-fn fill_up(rt: &(impl Abort + AllocGlobal), line: &[u8], len: usize, end: &[u8]) -> Vec<u8> {
-    let mut text = line.to_vec(rt.alloc()).expect(rt, "no memory");
-    text.resize(len, b' ').expect(rt, "no memory");
-    text.extend_from_slice(end).expect(rt, "no memory");
-    text
-}
-
-/// Feeds a text: how many bytes are used, and how the input ends by the outcome.
-fn feed_end(rt: &(impl Abort + AllocGlobal), text: &[u8]) -> (usize, Option<End>) {
-    let step = decoder(rt).feed(text);
-    (step.used, end_by(&step.outcome, step.used))
-}
-
-#[test]
-fn long_lines(rt: HostRuntime) {
-    let other_version = Reason::Cell(CellFault::NotConstant);
-    for (line, field, reason) in [
-        (HDR, 10, Reason::Excess),
-        (HDR_OF_ANOTHER_VERSION, 5, other_version),
-    ] {
-        let text = fill_up(&rt, line, 1025, b"");
-        let refusal = Refusal {
-            rec: 1,
-            field,
-            level: Level::E,
-            reason,
-        };
-        let refused = Some(End::Refused(refusal));
-        assert_eq!(rt; feed_end(&rt, text.as_slice()), (1024, refused));
-    }
-    let text = fill_up(&rt, HDR, 1024, b"\n");
-    let answer = feed(&mut decoder(&rt), text.as_slice());
-    assert_eq!(rt; answer, (1025, "opened"));
 }

@@ -1,8 +1,9 @@
 //! Tests of decoders over texts that are refused: how many items come before that, and the record, the field, the level
 //! and the reason of the refusal.
 
-use crate::decoders::{LARGEST, Numbers, decoder, decoder_within, end_by, feed, finish, text_of};
-use cwr_decode::{Decoder, End, Outcome, Refusal};
+use crate::answers::{BYTES, answers_on, check_same};
+use crate::decoders::{LARGEST, Numbers, text_of};
+use cwr_decode::{End, Refusal};
 use cwr_fields::CellFault;
 use cwr_shape::Reason::{Limit, Misplaced, UnknownKind};
 use cwr_shape::{Level, LimitKind, Reason};
@@ -67,86 +68,43 @@ static LIMITS: [Refused; 13] = [
     ((99_999_999, 99_999, 2), &[HDR, GRH_ACK, ACK_0, NWR_0_1], 2, (4, 1, Level::T, Limit(LimitKind::Transaction))),
 ];
 
-/// Feeds what is left of a text: how many bytes are used, and whether an item comes.
-fn feed_item(decoder: &mut Decoder, left: &[u8]) -> (usize, bool) {
-    let step = decoder.feed(left);
-    (step.used, matches!(step.outcome, Outcome::Item(_)))
-}
-
-/// Checks that a text that is fed whole gives so many items and is then refused so, however often it is asked.
+/// Checks that a text gives so many items and is refused so, once so many bytes are used, in one piece and byte by byte.
 pub(crate) fn check_refused(
-    rt: &impl Abort,
-    mut decoder: Decoder,
-    text: &[u8],
-    items: usize,
+    rt: &(impl Abort + AllocGlobal),
+    (numbers, text): (Numbers, &[u8]),
+    (items, used): (usize, usize),
     expected: Refusal,
 ) {
-    let mut left = text;
-    for _ in 0..items {
-        let (used, is_item) = feed_item(&mut decoder, left);
-        assert!(rt; is_item);
-        left = left.get(used..).unwrap_or(b"");
-    }
-    for _ in 0..2 {
-        let ended = end_by(&decoder.feed(left).outcome, 0);
-        assert_eq!(rt; ended, Some(End::Refused(expected)));
-        assert_eq!(rt; feed(&mut decoder, left), (0, "refused"));
-    }
-    assert_eq!(rt; decoder.holds(), (0, 0));
-    assert_eq!(rt; finish(&mut decoder), "refused");
+    let answers = answers_on(rt, numbers, text, &[]);
+    let wanted = (items, used, Some(End::Refused(expected)));
+    assert_eq!(rt; answers.numbers(), wanted);
+    check_same(rt, (numbers, text), BYTES, &answers);
 }
 
-/// Checks that the lines are refused as the row says.
+/// Checks that the lines are refused as the row says, with the line feed of the refused one.
 fn check_row(rt: &(impl Abort + AllocGlobal), row: &Refused) {
-    let (limits, lines, items, (rec, field, level, reason)) = *row;
+    let (numbers, lines, items, (rec, field, level, reason)) = *row;
     let text = text_of(rt, lines);
+    let taken = lines.get(..rec as usize).unwrap_or(lines);
+    let used = text_of(rt, taken).len();
     let expected = Refusal {
         rec,
         field,
         level,
         reason,
     };
-    let decoder = decoder_within(rt, limits);
-    check_refused(rt, decoder, text.as_slice(), items, expected);
-}
-
-/// Checks each row.
-fn check_rows(rt: &(impl Abort + AllocGlobal), rows: &[Refused]) {
-    for row in rows {
-        check_row(rt, row);
-    }
+    check_refused(rt, (numbers, text.as_slice()), (items, used), expected);
 }
 
 #[test]
 fn texts_are_refused_at_their_first_wrong_field(rt: HostRuntime) {
-    check_rows(&rt, &COUNTS_AND_CELLS);
-    check_rows(&rt, &ORDERS);
-    check_rows(&rt, &LIMITS);
-}
-
-#[test]
-fn a_carried_record_ends_with_its_text(rt: HostRuntime) {
-    let mut text = text_of(&rt, &[HDR, GRH_NWR, NWR_0, IND_0_1]);
-    // CR LF of the last line go, and a byte stands after the text
-    text.truncate(text.len().saturating_sub(2));
-    text.extend_from_slice(b"X\r\n").expect(&rt, "no memory");
-    let expected = Refusal {
-        rec: 4,
-        field: 5,
-        level: Level::R,
-        reason: Reason::Excess,
-    };
-    check_refused(&rt, decoder(&rt), text.as_slice(), 2, expected);
-}
-
-#[test]
-fn a_refusal_comes_with_the_line_feed(rt: HostRuntime) {
-    let text = text_of(&rt, WORK_WITHOUT_WRITER);
-    let mut decoder = decoder(&rt);
-    let last = text.len().saturating_sub(1);
-    for (at, byte) in text.iter().enumerate() {
-        let (_, name) = feed(&mut decoder, &[*byte]);
-        assert_eq!(rt; name == "refused", at == last, "at {at}");
+    for rows in [
+        COUNTS_AND_CELLS.as_slice(),
+        ORDERS.as_slice(),
+        LIMITS.as_slice(),
+    ] {
+        for row in rows {
+            check_row(&rt, row);
+        }
     }
-    assert_eq!(rt; decoder.holds(), (0, 0));
 }

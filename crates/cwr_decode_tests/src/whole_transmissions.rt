@@ -1,18 +1,12 @@
 //! Tests of reading whole worked transmissions, with ample memory.
 
-use crate::decoders::{short_text_of, text_of, twice_of};
+use crate::decoders::{LARGEST, Numbers, limits_of, short_text_of, text_of, twice_of};
 use cwr_decode::{ReadFault, read_all, read_pieces};
-use cwr_fields::Counted;
+use cwr_fields::{Counted, Source};
 use cwr_layouts::Kind;
-use cwr_shape::Limits;
 use cwr_values::{Group, Transmission};
 use cwr_worked::texts::ONE_ACKNOWLEDGEMENT;
 use std::process::Abort;
-
-/// The largest limits.
-fn largest() -> Limits {
-    Limits::new(99_999_999, 99_999, 999_999).unwrap()
-}
 
 /// The kind of a group's transaction, and how many records it has.
 fn transaction_of(group: &Group, i: usize) -> Option<(Kind, usize)> {
@@ -20,39 +14,43 @@ fn transaction_of(group: &Group, i: usize) -> Option<(Kind, usize)> {
     Some((transaction.kind(), transaction.len()))
 }
 
+/// Checks that it is the group of one acknowledgement.
+fn check_group(rt: &impl Abort, group: &Group) {
+    let acknowledgements: &[u8] = b"ACK";
+    let kinds = (group.foot().view().kind(), transaction_of(group, 0));
+    assert_eq!(rt;
+        (group.len(), kinds),
+        (1, (Kind::Grt, Some((Kind::Ack, 1))))
+    );
+    assert_eq!(rt; group.head().view().cell(2), Some(acknowledgements));
+}
+
 /// Checks that it is the transmission of one acknowledgement.
 fn check_acknowledgement(rt: &impl Abort, transmission: &Transmission) {
     let sender: &[u8] = b"123456789";
     assert_eq!(rt; transmission.open().view().cell(3), Some(sender));
     assert_eq!(rt; transmission.len(), 1);
-    let group = transmission.group(0).expect(rt, "no group");
-    assert_eq!(rt; group.len(), 1);
-    let acknowledgements: &[u8] = b"ACK";
-    assert_eq!(rt; group.head().view().cell(2), Some(acknowledgements));
-    assert_eq!(rt; transaction_of(group, 0), Some((Kind::Ack, 1)));
-    assert_eq!(rt; group.foot().view().kind(), Kind::Grt);
+    check_group(rt, transmission.group(0).expect(rt, "no group"));
+}
+
+/// Reads the transmission of one acknowledgement within these limits.
+fn check_read<R: Source>(rt: &(impl Abort + AllocGlobal), numbers: Numbers, reader: &mut R) {
+    let read = read_all(rt.alloc(), limits_of(rt, numbers), reader);
+    check_acknowledgement(rt, &read.expect(rt, "no transmission"));
 }
 
 #[test]
-fn one_transmission_after_another(rt: HostRuntime) {
+fn acknowledgements_from_readers(rt: HostRuntime) {
     let text = twice_of(&rt, ONE_ACKNOWLEDGEMENT);
     assert_eq!(rt; text.len(), 718);
     let mut reader = Counted::new(text.as_slice());
     for _ in 0..2 {
-        let read = read_all(rt.alloc(), largest(), &mut reader);
-        check_acknowledgement(&rt, &read.expect(&rt, "no transmission"));
+        check_read(&rt, LARGEST, &mut reader);
     }
-    let third = read_all(rt.alloc(), largest(), &mut reader).err();
+    let third = read_all(rt.alloc(), limits_of(&rt, LARGEST), &mut reader).err();
     assert_eq!(rt; third, Some(ReadFault::Truncated { records: 0 }));
-}
-
-#[test]
-fn lines_without_trailing_spaces(rt: HostRuntime) {
-    let text = short_text_of(&rt, ONE_ACKNOWLEDGEMENT);
-    let mut reader = Counted::new(text.as_slice());
-    let least = Limits::new(5, 1, 1).expect(&rt, "no limits");
-    let read = read_all(rt.alloc(), least, &mut reader);
-    check_acknowledgement(&rt, &read.expect(&rt, "no transmission"));
+    let short = short_text_of(&rt, ONE_ACKNOWLEDGEMENT);
+    check_read(&rt, (5, 1, 1), &mut Counted::new(short.as_slice()));
 }
 
 #[test]
@@ -60,7 +58,8 @@ fn one_acknowledgement_in_two_pieces(rt: HostRuntime) {
     let text = text_of(&rt, ONE_ACKNOWLEDGEMENT);
     for cut in 0..text.len() {
         let (first, second) = text.as_slice().split_at(cut);
-        let read = read_pieces(rt.alloc(), largest(), &[first, &[], second]);
+        let pieces = [first, &[], second];
+        let read = read_pieces(rt.alloc(), limits_of(&rt, LARGEST), &pieces);
         check_acknowledgement(&rt, &read.expect(&rt, "no transmission"));
     }
 }

@@ -1,15 +1,25 @@
-//! Writers and limits of the tests.
+//! Writers, limits and texts of the tests.
 
 use cwr_fields::Counted;
 use cwr_shape::Limits;
+use cwr_worked::texts::canonical;
 use std::io::{self, ErrorKind, Write};
 use std::process::Abort;
 
-/// A writer that keeps what it is given: at most so many bytes a call, and so many in all. Once it is full it fails,
-/// or takes nothing.
-#[derive(Drop)]
-pub(crate) struct Narrow {
-    pub(crate) text: Vec<u8>,
+/// The most records, groups and records of a transaction.
+pub(crate) type Numbers = (u32, u32, u32);
+
+/// The largest numbers of limits.
+pub(crate) const LARGEST: Numbers = (99_999_999, 99_999, 999_999);
+
+/// These limits.
+pub(crate) fn limits_of(rt: &impl Abort, numbers: Numbers) -> Limits {
+    Limits::new(numbers.0, numbers.1, numbers.2).expect(rt, "no limits")
+}
+
+/// What a writer takes: at most so many bytes a call, and so many in all. Once it is full it fails, or takes nothing.
+#[derive(Clone, Copy, Debug)]
+pub(crate) struct Width {
     pub(crate) at_once: usize,
     pub(crate) room: usize,
     pub(crate) fails: bool,
@@ -17,13 +27,36 @@ pub(crate) struct Narrow {
     pub(crate) stuck: bool,
 }
 
+/// A width that takes all that the tests write.
+pub(crate) const WIDE: Width = Width {
+    at_once: 4096,
+    room: 9999,
+    fails: true,
+    stuck: false,
+};
+
+/// The same, one byte a call.
+pub(crate) const ONE_BYTE: Width = Width {
+    at_once: 1,
+    room: 9999,
+    fails: true,
+    stuck: false,
+};
+
+/// A writer that keeps what it is given.
+#[derive(Drop)]
+pub(crate) struct Narrow {
+    pub(crate) text: Vec<u8>,
+    width: Width,
+}
+
 impl Write for Narrow {
     fn write(&mut self, text: &[u8]) -> io::Result<usize> {
-        let left = self.room.saturating_sub(self.text.len());
-        if left == 0 && self.fails {
+        let left = self.width.room.saturating_sub(self.text.len());
+        if left == 0 && self.width.fails {
             return Err(io::Error::from(ErrorKind::Other));
         }
-        let count = text.len().min(self.at_once).min(left);
+        let count = text.len().min(self.width.at_once).min(left);
         match self.text.extend_from_slice(&text[..count]) {
             Ok(()) => Ok(count),
             Err(_) => Err(io::Error::from(ErrorKind::Other)),
@@ -31,36 +64,27 @@ impl Write for Narrow {
     }
 
     fn flush(&mut self) -> io::Result<()> {
-        if self.stuck {
+        if self.width.stuck {
             return Err(io::Error::from(ErrorKind::Other));
         }
         Ok(())
     }
 }
 
-/// A writer over memory with so much room, which takes so many bytes at once.
-pub(crate) fn narrow_writer(rt: &impl AllocGlobal, at_once: usize, room: usize) -> Counted<Narrow> {
+/// A writer over memory of this width.
+pub(crate) fn narrow_writer(rt: &impl AllocGlobal, width: Width) -> Counted<Narrow> {
     Counted::new(Narrow {
         text: Vec::new(rt.alloc()),
-        at_once,
-        room,
-        fails: true,
-        stuck: false,
+        width,
     })
 }
 
-/// The largest limits.
-pub(crate) fn largest(rt: &impl Abort) -> Limits {
-    Limits::new(99_999_999, 99_999, 999_999).expect(rt, "no limits")
+/// What a writer was given.
+pub(crate) fn text_in(writer: Counted<Narrow>) -> Vec<u8> {
+    writer.into_inner().text
 }
 
-/// A writer over memory that takes all, and can't hand it on.
-pub(crate) fn stuck_writer(rt: &impl AllocGlobal) -> Counted<Narrow> {
-    Counted::new(Narrow {
-        text: Vec::new(rt.alloc()),
-        at_once: 4096,
-        room: 9999,
-        fails: true,
-        stuck: true,
-    })
+/// The canonical text of lines.
+pub(crate) fn text_of(rt: &(impl Abort + AllocGlobal), lines: &[&[u8]]) -> Vec<u8> {
+    canonical(rt.alloc(), lines).expect(rt, "no memory")
 }

@@ -1,14 +1,14 @@
-//! Tests of encoders.
+//! Tests of encoders, call by call.
 
-use crate::devices::{Narrow, largest, narrow_writer, stuck_writer};
-use crate::worked_values::{
-    ACKNOWLEDGED, NEW_AND_REVISED, OF_ELEVEN, WorkedGroup, record, transaction,
+use crate::devices::{
+    LARGEST, Narrow, Numbers, WIDE, Width, limits_of, narrow_writer, text_in, text_of,
 };
+use crate::worked_values::{WorkedGroup, record, transaction};
 use cwr_encode::{EncodeFault, Encoder};
 use cwr_fields::{Counted, Target};
-use cwr_shape::{LimitKind, Limits};
+use cwr_shape::LimitKind;
 use cwr_worked::lines::*;
-use cwr_worked::texts::{ONE_ACKNOWLEDGEMENT, TWO_GROUPS, WORK_OF_ELEVEN, canonical};
+use cwr_worked::texts::ONE_ACKNOWLEDGEMENT;
 use std::process::Abort;
 
 /// A call of an encoder with what worked lines carry.
@@ -38,34 +38,6 @@ fn make_call<W: Target>(
     }
 }
 
-/// Makes calls in turn, each of which gives the answer beside it. The encoder comes back.
-fn check_calls(
-    rt: &(impl Abort + AllocGlobal),
-    limits: Limits,
-    room: usize,
-    calls: &[(Call<'_>, Result<(), EncodeFault>)],
-) -> Encoder<Counted<Narrow>> {
-    let mut encoder = Encoder::new(narrow_writer(rt, 4096, room), limits);
-    for (call, answer) in calls {
-        assert_eq!(rt; make_call(rt, *call, &mut encoder), *answer);
-    }
-    encoder
-}
-
-/// Finishes the encoder, which answers so and has written so many bytes: the first ones of the text.
-fn check_finish(
-    rt: &impl Abort,
-    encoder: Encoder<Counted<Narrow>>,
-    finished: Result<u64, EncodeFault>,
-    text: &[u8],
-    written: usize,
-) {
-    let (writer, answer) = encoder.finish();
-    assert_eq!(rt; answer, finished);
-    let kept = writer.into_inner().text;
-    assert_eq!(rt; text.get(..written), Some(kept.as_slice()));
-}
-
 /// Writes all but TRL.
 fn write_groups<W: Target>(
     rt: &(impl Abort + AllocGlobal),
@@ -84,141 +56,129 @@ fn write_groups<W: Target>(
 }
 
 /// Writes a worked transmission.
-fn encoded<W: Target>(
+pub(crate) fn encoded<W: Target>(
     rt: &(impl Abort + AllocGlobal),
     groups: &[WorkedGroup<'_>],
     writer: W,
 ) -> (W, Result<u64, EncodeFault>) {
-    let mut encoder = Encoder::new(writer, largest(rt));
+    let mut encoder = Encoder::new(writer, limits_of(rt, LARGEST));
     match write_groups(rt, groups, &mut encoder) {
         Ok(()) => encoder.finish(),
         Err(fault) => (encoder.abandon(), Err(fault)),
     }
 }
 
-/// Checks what is written of worked groups.
-fn check_encoded(
-    rt: &(impl Abort + AllocGlobal),
-    groups: &[WorkedGroup<'_>],
-    lines: &[&[u8]],
-    length: u64,
-) {
-    let text = canonical(rt.alloc(), lines).expect(rt, "no memory");
-    for at_once in [1, 4096] {
-        let (writer, answer) = encoded(rt, groups, narrow_writer(rt, at_once, 9999));
-        assert_eq!(rt; answer, Ok(length));
-        assert_eq!(rt; writer.into_inner().text.as_slice(), text.as_slice());
-    }
-}
+/// A call, and what it answers.
+type Answered = (Call<'static>, Result<(), EncodeFault>);
 
-#[test]
-fn worked_transmissions(rt: HostRuntime) {
-    check_encoded(&rt, ACKNOWLEDGED, ONE_ACKNOWLEDGEMENT, 359);
-    check_encoded(&rt, NEW_AND_REVISED, TWO_GROUPS, 1599);
-    check_encoded(&rt, OF_ELEVEN, WORK_OF_ELEVEN, 1893);
-}
+/// How an encoder ends: it is finished, which is answered so, or abandoned.
+type Ended = Option<Result<u64, EncodeFault>>;
 
-#[test]
-fn writers_that_fail(rt: HostRuntime) {
-    let text = canonical(rt.alloc(), ONE_ACKNOWLEDGEMENT).expect(&rt, "no memory");
-    for room in [0, 50, 103, 104, 200, 333, 358] {
-        let (writer, answer) = encoded(&rt, ACKNOWLEDGED, narrow_writer(&rt, 4096, room));
-        let written = room as u64;
-        assert_eq!(rt; answer, Err(EncodeFault::Writer { written }));
-        let kept = writer.into_inner().text;
-        assert_eq!(rt; text.as_slice().get(..room), Some(kept.as_slice()));
-    }
-}
+/// Limits, how much room the writer has, calls that are made in turn, how the encoder ends, and the lines and the number of
+/// bytes that are written: the first ones of their canonical text.
+type Run = (
+    Numbers,
+    usize,
+    &'static [Answered],
+    Ended,
+    (&'static [&'static [u8]], usize),
+);
 
-#[test]
-fn a_writer_that_cannot_hand_on(rt: HostRuntime) {
-    let text = canonical(rt.alloc(), ONE_ACKNOWLEDGEMENT).expect(&rt, "no memory");
-    let (writer, answer) = encoded(&rt, ACKNOWLEDGED, stuck_writer(&rt));
-    assert_eq!(rt; answer, Err(EncodeFault::Writer { written: 359 }));
-    assert_eq!(rt; writer.into_inner().text.as_slice(), text.as_slice());
-}
+/// A fault after 50 bytes.
+const FAILED: EncodeFault = EncodeFault::Writer { written: 50 };
 
-#[test]
-fn an_encoder_that_is_abandoned(rt: HostRuntime) {
-    let text = canonical(rt.alloc(), ONE_ACKNOWLEDGEMENT).expect(&rt, "no memory");
-    let calls = [
+/// A transmission of one work twice.
+const TWICE: &[&[u8]] = &[
+    HDR,
+    GRH_NWR,
+    NWR_0,
+    SWR_0_1,
+    NWR_1,
+    SWR_1_1,
+    b"GRT000010000000200000006",
+    b"TRL000010000000200000008",
+];
+
+#[rattlefmt::skip]
+const RUNS: &[Run] = &[
+    (LARGEST, 9999, &[
         (Call::Open(GRH_ACK), Err(EncodeFault::WrongKind)),
         (Call::Open(HDR), Ok(())),
         (Call::Group(GRH_ACK), Ok(())),
-    ];
-    let encoder = check_calls(&rt, largest(&rt), 9999, &calls);
-    let kept = encoder.abandon().into_inner().text;
-    assert_eq!(rt; text.as_slice().get(..133), Some(kept.as_slice()));
-}
-
-#[test]
-fn a_writer_that_fails_in_hdr(rt: HostRuntime) {
-    let failed = EncodeFault::Writer { written: 50 };
-    let calls = [
-        (Call::Open(HDR), Err(failed)),
-        (Call::Open(HDR), Err(failed)),
-    ];
-    let encoder = check_calls(&rt, largest(&rt), 50, &calls);
-    check_finish(&rt, encoder, Err(failed), HDR, 50);
-}
-
-#[test]
-fn calls_that_are_refused(rt: HostRuntime) {
-    let text = canonical(rt.alloc(), ONE_ACKNOWLEDGEMENT).expect(&rt, "no memory");
-    let limits = Limits::new(5, 1, 1).expect(&rt, "no limits");
-    let too_many = EncodeFault::Limit(LimitKind::Records);
-    let calls = [
+    ], None, (ONE_ACKNOWLEDGEMENT, 133)),
+    (LARGEST, 50, &[
+        (Call::Open(HDR), Err(FAILED)),
+        (Call::Open(HDR), Err(FAILED)),
+    ], Some(Err(FAILED)), (ONE_ACKNOWLEDGEMENT, 50)),
+    ((5, 1, 1), 9999, &[
         (Call::Group(GRH_NWR), Err(EncodeFault::OutOfOrder)),
         (Call::Open(GRH_NWR), Err(EncodeFault::WrongKind)),
         (Call::Open(HDR), Ok(())),
-        (Call::Group(GRH_NWR), Err(too_many)),
+        (Call::Group(GRH_NWR), Err(EncodeFault::Limit(LimitKind::Records))),
         (Call::Group(GRH_ACK), Ok(())),
         (Call::EndGroup, Err(EncodeFault::Incomplete)),
-        (
-            Call::Transaction(&[NWR_0, SWR_0_1]),
-            Err(EncodeFault::WrongKind),
-        ),
-    ];
-    let encoder = check_calls(&rt, limits, 9999, &calls);
-    check_finish(
-        &rt,
-        encoder,
-        Err(EncodeFault::OutOfOrder),
-        text.as_slice(),
-        133,
-    );
-}
-
-#[test]
-fn whole_transactions(rt: HostRuntime) {
-    let limits = Limits::new(8, 1, 2).expect(&rt, "no limits");
-    let work: &[&[u8]] = &[NWR_0, SWR_0_1];
-    let too_long = EncodeFault::Limit(LimitKind::Transaction);
-    let too_many = EncodeFault::Limit(LimitKind::Records);
-    let calls = [
+        (Call::Transaction(&[NWR_0, SWR_0_1]), Err(EncodeFault::WrongKind)),
+    ], Some(Err(EncodeFault::OutOfOrder)), (ONE_ACKNOWLEDGEMENT, 133)),
+    ((8, 1, 2), 9999, &[
         (Call::Open(HDR), Ok(())),
         (Call::Group(GRH_NWR), Ok(())),
         (Call::Transaction(&[NWR_0]), Err(EncodeFault::Incomplete)),
-        (Call::Transaction(&[NWR_0, SWR_0_1, SWR_0_1]), Err(too_long)),
-        (Call::Transaction(work), Ok(())),
-        (Call::Transaction(work), Ok(())),
-        (Call::Transaction(work), Err(too_many)),
+        (Call::Transaction(&[NWR_0, SWR_0_1, SWR_0_1]), Err(EncodeFault::Limit(LimitKind::Transaction))),
+        (Call::Transaction(&[NWR_0, SWR_0_1]), Ok(())),
+        (Call::Transaction(&[NWR_0, SWR_0_1]), Ok(())),
+        (Call::Transaction(&[NWR_0, SWR_0_1]), Err(EncodeFault::Limit(LimitKind::Records))),
         (Call::Transaction(&[ACK_0]), Err(EncodeFault::WrongKind)),
         (Call::EndGroup, Ok(())),
-    ];
-    let (_, answer) = check_calls(&rt, limits, 9999, &calls).finish();
-    assert_eq!(rt; answer, Ok(1086));
+    ], Some(Ok(1086)), (TWICE, 1086)),
+    (LARGEST, 9999, &[(Call::Open(HDR), Ok(()))], Some(Err(EncodeFault::Incomplete)), (ONE_ACKNOWLEDGEMENT, 103)),
+];
+
+/// Makes calls in turn, each of which gives its answer.
+fn check_calls(
+    rt: &(impl Abort + AllocGlobal),
+    encoder: &mut Encoder<Counted<Narrow>>,
+    calls: &[Answered],
+) {
+    for (call, answer) in calls {
+        assert_eq!(rt; make_call(rt, *call, encoder), *answer);
+    }
+}
+
+/// Ends an encoder: it is finished where there is an answer to that, and else abandoned.
+fn end(encoder: Encoder<Counted<Narrow>>, ended: Ended) -> (Counted<Narrow>, Ended) {
+    if ended.is_some() {
+        let (writer, answer) = encoder.finish();
+        (writer, Some(answer))
+    } else {
+        (encoder.abandon(), None)
+    }
+}
+
+/// Makes the calls of a row, and ends the encoder.
+fn check_run(rt: &(impl Abort + AllocGlobal), row: &Run) {
+    let (numbers, room, calls, ended, (lines, len)) = *row;
+    let writer = narrow_writer(rt, Width { room, ..WIDE });
+    let mut encoder = Encoder::new(writer, limits_of(rt, numbers));
+    check_calls(rt, &mut encoder, calls);
+    let (writer, answer) = end(encoder, ended);
+    assert_eq!(rt; answer, ended);
+    check_text(rt, writer, (lines, len));
+}
+
+/// Checks that so many bytes of a text are written.
+fn check_text(
+    rt: &(impl Abort + AllocGlobal),
+    writer: Counted<Narrow>,
+    (lines, len): (&[&[u8]], usize),
+) {
+    let text = text_of(rt, lines);
+    let kept = text_in(writer);
+    assert_eq!(rt; Some(kept.as_slice()), text.get(..len));
 }
 
 #[test]
-fn transmissions_without_a_group(rt: HostRuntime) {
-    let text = canonical(rt.alloc(), ONE_ACKNOWLEDGEMENT).expect(&rt, "no memory");
-    let encoder = check_calls(&rt, largest(&rt), 9999, &[(Call::Open(HDR), Ok(()))]);
-    check_finish(
-        &rt,
-        encoder,
-        Err(EncodeFault::Incomplete),
-        text.as_slice(),
-        103,
-    );
+fn calls_in_turn(rt: HostRuntime) {
+    for row in RUNS {
+        check_run(&rt, row);
+    }
 }

@@ -1,43 +1,44 @@
 //! Tests of sinks.
 
-use crate::devices::Narrow;
+use crate::devices::{Narrow, Width, narrow_writer, text_in};
 use cwr_encode::{Sink, SinkFault};
 use cwr_fields::Counted;
-use std::test::Fail;
+use std::process::Abort;
 
-#[test]
-fn texts_into_narrow_writers(rt: HostRuntime) -> Result<(), Fail> {
-    let narrow = Narrow {
-        text: Vec::new(rt.alloc()),
-        at_once: 1,
-        room: 7,
-        fails: true,
-        stuck: false,
-    };
-    let mut sink = Sink::new(Counted::new(narrow));
-    assert_eq!(rt; sink.put(b"first"), Ok(()));
-    assert_eq!(rt; sink.written(), 5);
-    for _ in 0..2 {
-        assert_eq!(rt; sink.put(b"second"), Err(SinkFault { written: 7 }));
-        assert_eq!(rt; sink.written(), 7);
+/// A text that is put, whether all of it is written, and how many bytes are written in all then.
+type Put = (&'static [u8], bool, u64);
+
+/// A writer, texts that are put in turn, and what is written.
+type Puts = (Width, &'static [Put], &'static [u8]);
+
+#[rattlefmt::skip]
+const PUTS: &[Puts] = &[
+    (Width { at_once: 1, room: 7, fails: true, stuck: false }, &[(b"first", true, 5), (b"second", false, 7), (b"second", false, 7)], b"firstse"),
+    (Width { at_once: 9, room: 3, fails: false, stuck: false }, &[(b"", true, 0), (b"text", false, 3), (b"", false, 3)], b"tex"),
+];
+
+/// Puts a text.
+fn check_put(rt: &impl Abort, sink: &mut Sink<Counted<Narrow>>, put: &Put) {
+    let (text, is_whole, count) = *put;
+    let fault = SinkFault { written: count };
+    let answer = if is_whole { Ok(()) } else { Err(fault) };
+    assert_eq!(rt; sink.put(text), answer);
+    assert_eq!(rt; sink.written(), count);
+}
+
+/// Puts the texts of a row.
+fn check_puts(rt: &(impl Abort + AllocGlobal), row: &Puts) {
+    let (width, puts, written) = *row;
+    let mut sink = Sink::new(narrow_writer(rt, width));
+    for put in puts {
+        check_put(rt, &mut sink, put);
     }
-    let writer = sink.into_inner().into_inner();
-    assert_eq!(rt; writer.text.as_slice(), b"firstse".as_slice());
-    Ok(())
+    assert_eq!(rt; text_in(sink.into_inner()).as_slice(), written);
 }
 
 #[test]
-fn writers_that_take_nothing(rt: HostRuntime) -> Result<(), Fail> {
-    let full = Narrow {
-        text: Vec::new(rt.alloc()),
-        at_once: 9,
-        room: 3,
-        fails: false,
-        stuck: false,
-    };
-    let mut sink = Sink::new(Counted::new(full));
-    assert_eq!(rt; sink.put(b""), Ok(()));
-    assert_eq!(rt; sink.put(b"text"), Err(SinkFault { written: 3 }));
-    assert_eq!(rt; sink.put(b""), Err(SinkFault { written: 3 }));
-    Ok(())
+fn texts_are_put(rt: HostRuntime) {
+    for row in PUTS {
+        check_puts(&rt, row);
+    }
 }

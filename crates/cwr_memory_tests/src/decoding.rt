@@ -26,14 +26,18 @@ fn feed(decoder: &mut Decoder, left: &[u8]) -> (usize, &'static str) {
     (step.used, word_for(&step.outcome))
 }
 
-/// Takes the end of the input: what the decoder answers.
-fn finish(decoder: &mut Decoder) -> &'static str {
-    word_for(&decoder.finish().outcome)
+/// Feeds a decoder, or where nothing is left takes the end of the input.
+fn call(decoder: &mut Decoder, left: &[u8]) -> (usize, &'static str) {
+    if left.is_empty() {
+        (0, word_for(&decoder.finish().outcome))
+    } else {
+        feed(decoder, left)
+    }
 }
 
-/// Feeds a decoder with what is left of a text until its transmission ends or it answers no item: how many items come, and
-/// how many bytes are left. `None` where it is out of memory, which it stays.
-fn feed_all(
+/// Feeds a decoder with a text and finishes it, call by call, until no item comes: how many came, how many bytes are left, and
+/// what is answered last. `None` where that is out of memory, which it stays.
+fn read_by_calls(
     rt: &impl Abort,
     decoder: &mut Decoder,
     text: &[u8],
@@ -41,56 +45,35 @@ fn feed_all(
     let mut left = text;
     let mut count: usize = 0;
     for _ in 0..100 {
-        let (used, word) = feed(decoder, left);
-        left = left.get(used..).unwrap_or(&[]);
-        if word == "memory" {
-            assert_eq!(rt; (feed(decoder, left), finish(decoder)), ((0, word), word));
-            return None;
-        }
-        if word == "item" || word == "ended" {
-            count = count.saturating_add(1);
-        }
-        if word != "item" {
-            break;
-        }
-    }
-    Some((count, left.len(), finish(decoder)))
-}
-
-/// Feeds a decoder with a text. So many items come, all is used, and the decoder is done then.
-fn check_feed(rt: &(impl Abort + AllocGlobal), lines: &[&[u8]], items: usize) -> Result<(), Fail> {
-    let text = text_of(rt, lines);
-    let mut decoder = Decoder::new(rt.alloc(), largest());
-    let answer = feed_all(rt, &mut decoder, text.as_slice());
-    ended(rt, answer, (items, 0, "done"))
-}
-
-/// Feeds a decoder with a text and finishes it, call by call: how many items come, and how many bytes are left. `None` where
-/// it is out of memory, which it stays.
-fn finish_all(rt: &impl Abort, decoder: &mut Decoder, text: &[u8]) -> Option<(usize, usize)> {
-    let mut left = text;
-    let mut count: usize = 0;
-    for _ in 0..100 {
-        let (used, word) = if left.is_empty() {
-            (0, finish(decoder))
-        } else {
-            feed(decoder, left)
-        };
+        let (used, word) = call(decoder, left);
         left = left.get(used..).unwrap_or(&[]);
         match word {
             "item" | "ended" => count = count.saturating_add(1),
             "more" => {}
             "memory" => {
-                assert_eq!(rt; finish(decoder), word);
+                let again = (feed(decoder, left), call(decoder, b""));
+                assert_eq!(rt; again, ((0, word), (0, word)));
                 return None;
             }
-            _ => break,
+            _ => return Some((count, left.len(), word)),
         }
     }
-    Some((count, left.len()))
+    Some((count, left.len(), "items without an end"))
 }
 
-/// Feeds a decoder with a text but for its last line feed and finishes it. So many items come, and all is used.
+/// Feeds a decoder with the first bytes of a text and finishes it. So many items come, all is used, and the decoder is done.
+fn check_calls(rt: &(impl Abort + AllocGlobal), text: &[u8], items: usize) -> Result<(), Fail> {
+    let mut decoder = Decoder::new(rt.alloc(), largest());
+    let answer = read_by_calls(rt, &mut decoder, text);
+    ended(rt, answer, (items, 0, "done"))
+}
+
+/// Feeds a decoder with a text.
+fn check_feed(rt: &(impl Abort + AllocGlobal), lines: &[&[u8]], items: usize) -> Result<(), Fail> {
+    check_calls(rt, text_of(rt, lines).as_slice(), items)
+}
+
+/// Feeds a decoder with a text but for its last line feed.
 fn check_finish(
     rt: &(impl Abort + AllocGlobal),
     lines: &[&[u8]],
@@ -98,9 +81,7 @@ fn check_finish(
 ) -> Result<(), Fail> {
     let text = text_of(rt, lines);
     let cut = text.len().saturating_sub(1);
-    let mut decoder = Decoder::new(rt.alloc(), largest());
-    let answer = finish_all(rt, &mut decoder, text.get(..cut).unwrap_or(&[]));
-    ended(rt, answer, (items, 0))
+    check_calls(rt, text.get(..cut).unwrap_or(&[]), items)
 }
 
 /// Reads the next item: whether there is one. `None` where memory is refused.

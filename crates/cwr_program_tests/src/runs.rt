@@ -1,6 +1,7 @@
 //! Runs over memory, and over files that are there or missing wherever the tests run.
 
 use cwr_program::run;
+use cwr_worked::lines::{ACK_0, GRH_ACK, HDR};
 use cwr_worked::texts::{ONE_ACKNOWLEDGEMENT, TWO_ACKNOWLEDGEMENTS, canonical};
 use std::io;
 use std::io::{Read, Write};
@@ -8,17 +9,11 @@ use std::process::Abort;
 use std::rt::Files;
 
 /// The standard input of a run: what is left of its text, and whether it fails where nothing is.
-#[derive(Clone, Copy, Drop)]
+#[derive(Drop)]
 struct Input<'a> {
     left: &'a [u8],
     fails: bool,
 }
-
-/// An input that fails.
-const FAILING: Input<'static> = Input {
-    left: b"",
-    fails: true,
-};
 
 impl Read for Input<'_> {
     fn read(&mut self, buf: &mut [u8]) -> io::Result<usize> {
@@ -27,11 +22,6 @@ impl Read for Input<'_> {
         }
         self.left.read(buf)
     }
-}
-
-/// An input that has this text.
-const fn text_input(left: &[u8]) -> Input<'_> {
-    Input { left, fails: false }
 }
 
 /// A writer that takes all texts, and can't hand them on.
@@ -48,35 +38,46 @@ impl Write for Stuck {
     }
 }
 
-/// The canonical text of lines.
-fn text_of(rt: &(impl Abort + AllocGlobal), lines: &[&[u8]]) -> Vec<u8> {
-    canonical(rt.alloc(), lines).expect(rt, "no memory")
-}
+/// The lines of a standard input, whose text is canonical, and whether it fails where nothing is left.
+type Given = (&'static [&'static [u8]], bool);
 
-/// Runs with the words over the input: it answers the status, and writes just these texts to the output and to standard
-/// error.
-fn check_run<R: Files + AllocGlobal + Abort>(
+/// An input that fails.
+const FAILING: Given = (&[], true);
+
+/// An input without a byte.
+const NOTHING: Given = (&[], false);
+
+/// An input of one acknowledgement.
+const ONE: Given = (ONE_ACKNOWLEDGEMENT, false);
+
+/// An input of two.
+const TWO: Given = (TWO_ACKNOWLEDGEMENTS, false);
+
+/// Runs with the words over the input, into an output: the status that is answered, and what is written to standard error.
+fn ran<R: Files + AllocGlobal + Abort, O: Write + Drop>(
     rt: &R,
     words: &[&str],
-    input: Input<'_>,
-    status: u8,
-    texts: (&[u8], &[u8]),
-) {
-    let mut output = Vec::new(rt.alloc());
+    (lines, fails): Given,
+    output: O,
+) -> (u8, Vec<u8>) {
+    let text = canonical(rt.alloc(), lines).expect(rt, "no memory");
+    let input = Input {
+        left: text.as_slice(),
+        fails,
+    };
     let mut error = Vec::new(rt.alloc());
-    assert_eq!(rt; run(rt, words, input, &mut output, &mut error), status);
-    assert_eq!(rt; (output.as_slice(), error.as_slice()), texts);
+    let status = run(rt, words, input, output, &mut error);
+    (status, error)
 }
 
-/// The words of a run, the status that is answered, and the texts that are written to the output and to standard error.
-type Run = (&'static [&'static str], u8, (&'static [u8], &'static [u8]));
-
-/// Checks runs over an input.
-fn check_runs<R: Files + AllocGlobal + Abort>(rt: &R, input: Input<'_>, runs: &[Run]) {
-    for (words, status, texts) in runs {
-        check_run(rt, words, input, *status, *texts);
-    }
-}
+/// The words of a run, its input, the status that is answered, and the texts that are written to the output and to standard
+/// error.
+type Run = (
+    &'static [&'static str],
+    Given,
+    u8,
+    (&'static [u8], &'static [u8]),
+);
 
 /// What is written of a file that can't be opened.
 const NO_FILE: &[u8] = b"cwr: cannot open no/such/file.cwr\n";
@@ -87,20 +88,8 @@ const EMPTY: &[u8] = b"TRUNCATED records 0\n";
 /// What is written of an input that fails.
 const READ_FAULT: &[u8] = b"cwr: read fault\n";
 
-/// Runs over files that are missing or empty. Where a file is named, standard input isn't read.
-#[rattlefmt::skip]
-static OF_FILES: [Run; 5] = [
-    (&["cwr", "check", "no/such/file.cwr"], 3, (b"", NO_FILE)),
-    (&["cwr", "check", "/dev/null"], 1, (EMPTY, b"")),
-    (&["cwr", "check", "/dev/null", "--transaction", "1", "--groups", "1", "--records", "5"], 1, (EMPTY, b"")),
-    (&["cwr", "show", "no/such/file.cwr"], 3, (b"", NO_FILE)),
-    (&["cwr", "show", "/dev/null"], 1, (EMPTY, b"")),
-];
-
-#[test]
-fn files_that_are_missing_or_empty(rt: HostRuntime) {
-    check_runs(&rt, FAILING, &OF_FILES);
-}
+/// What is written of one acknowledgement.
+const GOOD: &[u8] = b"GOOD groups 1 transactions 1 records 5\n";
 
 /// What is written of a line in lower case.
 const EXPLAINED: &[u8] = b"REFUSED record 1 field 1 level E unknown kind
@@ -112,52 +101,95 @@ const EXPLAINED: &[u8] = b"REFUSED record 1 field 1 level E unknown kind
   note      record types are in capital letters
 ";
 
+#[rattlefmt::skip]
+static RUNS: [Run; 23] = [
+    // Where a file is named, standard input isn't read.
+    (&["cwr", "check", "no/such/file.cwr"], FAILING, 3, (b"", NO_FILE)),
+    (&["cwr", "check", "/dev/null"], FAILING, 1, (EMPTY, b"")),
+    (&["cwr", "check", "/dev/null", "--transaction", "1", "--groups", "1", "--records", "5"], FAILING, 1, (EMPTY, b"")),
+    (&["cwr", "show", "no/such/file.cwr"], FAILING, 3, (b"", NO_FILE)),
+    (&["cwr", "show", "/dev/null"], FAILING, 1, (EMPTY, b"")),
+    // Inputs of a join are opened in their order, and OUT after them.
+    (&["cwr", "split", "-n", "3", "/dev/null", "no/such/part-"], FAILING, 1, (EMPTY, b"")),
+    (&["cwr", "split", "-n", "3", "no/such/file.cwr", "part-"], FAILING, 3, (b"", NO_FILE)),
+    (&["cwr", "join", "/dev/null", "/dev/null", "/dev/null"], FAILING, 1, (b"input 1: TRUNCATED records 0\n", b"")),
+    (&["cwr", "join", "no/such/out", "/dev/null", "no/such/file.cwr"], FAILING, 3, (b"", NO_FILE)),
+    (&["cwr", "join", "no/such/out", "/dev/null"], FAILING, 3, (b"", b"cwr: cannot open no/such/out\n")),
+    (&["cwr", "--version"], FAILING, 2, (b"", b"cwr 0.1.0\n")),
+    (&["cwr"], FAILING, 3, (b"", READ_FAULT)),
+    (&["cwr", "explain"], (&[b"hdr"], false), 1, (EXPLAINED, b"")),
+    (&["cwr"], NOTHING, 1, (EMPTY, b"")),
+    (&["cwr", "check"], NOTHING, 1, (EMPTY, b"")),
+    (&["cwr", "check", "--records", "5", "--groups", "1", "--transaction", "1"], NOTHING, 1, (EMPTY, b"")),
+    (&["cwr", "check", "--records=99999999", "--groups=99999", "--transaction=999999"], NOTHING, 1, (EMPTY, b"")),
+    (&["cwr"], ONE, 0, (GOOD, b"")),
+    (&["cwr", "check"], ONE, 0, (GOOD, b"")),
+    (&["cwr", "check", "--records", "5"], ONE, 0, (GOOD, b"")),
+    (&["cwr", "check", "--records", "5", "--groups", "1", "--transaction", "1"], ONE, 0, (GOOD, b"")),
+    // The second of two acknowledgements is the fourth record of six.
+    (&["cwr", "check", "--records", "5"], TWO, 1, (b"REFUSED record 4 field 1 level E limit records\n", b"")),
+    (&["cwr", "check", "--records", "6"], TWO, 0, (b"GOOD groups 1 transactions 2 records 6\n", b"")),
+];
+
+/// Checks a run.
+fn check_run<R: Files + AllocGlobal + Abort>(rt: &R, row: &Run) {
+    let (words, input, status, texts) = *row;
+    let mut output = Vec::new(rt.alloc());
+    let (answer, error) = ran(rt, words, input, &mut output);
+    assert_eq!(rt; answer, status, "{words:?}");
+    assert_eq!(rt; (output.as_slice(), error.as_slice()), texts, "{words:?}");
+}
+
 #[test]
-fn explained_input(rt: HostRuntime) {
-    let input = text_input(b"hdr\n");
-    check_run(&rt, &["cwr", "explain"], input, 1, (EXPLAINED, b""));
+fn runs_over_inputs_and_files(rt: HostRuntime) {
+    for row in &RUNS {
+        check_run(&rt, row);
+    }
+}
+
+/// What is shown of HDR first.
+const SHOWN_FIRST: &[u8] = b"1 HDR\n  2 sender type: PB\n";
+
+/// What is shown at the end of one acknowledgement.
+const SHOWN_LAST: &[u8] = b"  12 processing date: 20240110
+  13 transaction status: AS
+4 GRT
+5 TRL
+GOOD groups 1 transactions 1 records 5
+";
+
+/// The same before its TRL.
+const SHOWN_BEFORE: &[u8] = b"  13 transaction status: AS\n4 GRT\n";
+
+/// One acknowledgement without TRL.
+const BEFORE_TRAILER: &[&[u8]] = &[HDR, GRH_ACK, ACK_0, b"GRT000010000000100000003"];
+
+/// Runs that show records, as those above. What is written to the output begins with HDR, and ends so.
+#[rattlefmt::skip]
+static SHOWN: [Run; 3] = [
+    (&["cwr", "show"], ONE, 0, (SHOWN_LAST, b"")),
+    (&["cwr", "show", "--records", "5"], ONE, 0, (SHOWN_LAST, b"")),
+    (&["cwr", "show"], (BEFORE_TRAILER, true), 3, (SHOWN_BEFORE, READ_FAULT)),
+];
+
+#[test]
+fn records_are_shown(rt: HostRuntime) {
+    for (words, input, status, (end, fault)) in &SHOWN {
+        let mut output = Vec::new(rt.alloc());
+        let (answer, error) = ran(&rt, words, *input, &mut output);
+        assert_eq!(rt; (answer, error.as_slice()), (*status, *fault));
+        let shown = output.as_slice();
+        assert!(rt; shown.starts_with(SHOWN_FIRST) && shown.ends_with(end));
+    }
 }
 
 /// What standard error has after a run with the words, whose status says that they are answered by a text, and which writes
 /// nothing else.
 fn answer_to<R: Files + AllocGlobal + Abort>(rt: &R, words: &[&str]) -> Vec<u8> {
     let mut output = Vec::new(rt.alloc());
-    let mut error = Vec::new(rt.alloc());
-    assert_eq!(rt; run(rt, words, FAILING, &mut output, &mut error), 2);
-    assert!(rt; output.is_empty());
+    let (status, error) = ran(rt, words, FAILING, &mut output);
+    assert_eq!(rt; (status, output.len()), (2, 0), "{words:?}");
     error
-}
-
-/// Words that are answered by a text.
-#[rattlefmt::skip]
-static ANSWERED: [&[&str]; 18] = [
-    &["cwr", "frobnicate"],
-    &["cwr", "--help"],
-    &["cwr", "help"],
-    &["cwr", "--version"],
-    &["cwr", "-"],
-    // Limits out of their range.
-    &["cwr", "check", "--records", "4", "/dev/null"],
-    &["cwr", "check", "--records", "100000000", "/dev/null"],
-    &["cwr", "check", "--records", "x", "/dev/null"],
-    &["cwr", "check", "--records", "", "/dev/null"],
-    &["cwr", "check", "--records", "5.0", "/dev/null"],
-    &["cwr", "check", "--groups", "0", "/dev/null"],
-    &["cwr", "check", "--groups", "100000", "/dev/null"],
-    &["cwr", "check", "--transaction", "0", "/dev/null"],
-    &["cwr", "check", "--transaction", "1000000", "/dev/null"],
-    &["cwr", "check", "--transaction", "4294967297", "/dev/null"],
-    // Words that are missing, and no transactions.
-    &["cwr", "split", "/dev/null"],
-    &["cwr", "join", "/dev/null"],
-    &["cwr", "split", "-n", "0", "/dev/null", "part-"],
-];
-
-#[test]
-fn words_that_are_answered_by_a_text(rt: HostRuntime) {
-    for words in &ANSWERED {
-        assert!(rt; !answer_to(&rt, words).is_empty());
-    }
 }
 
 /// Whether the text has the other one in it.
@@ -165,14 +197,8 @@ fn has(text: &[u8], part: &[u8]) -> bool {
     text.windows(part.len().max(1)).any(|it| it == part)
 }
 
-#[test]
-fn version(rt: HostRuntime) {
-    let texts: (&[u8], &[u8]) = (b"", b"cwr 0.1.0\n");
-    check_run(&rt, &["cwr", "--version"], FAILING, 2, texts);
-}
-
 /// Parts of the help.
-static PARTS_OF_HELP: [&str; 9] = [
+const PARTS_OF_HELP: &[&str] = &[
     "GOOD groups G transactions T records R",
     "REFUSED record R field F level L REASON",
     "TRUNCATED records R",
@@ -184,157 +210,59 @@ static PARTS_OF_HELP: [&str; 9] = [
     "Examples: cwr check works.cwr",
 ];
 
-#[test]
-fn help(rt: HostRuntime) {
-    let help = answer_to(&rt, &["cwr", "--help"]);
-    for part in &PARTS_OF_HELP {
-        assert!(rt; has(help.as_slice(), part.as_bytes()), "at {part}");
-    }
-}
-
-#[test]
-fn file_in_place_of_a_subcommand(rt: HostRuntime) {
-    let there = answer_to(&rt, &["cwr", "/proc/version"]);
-    let hint = b"\nTo check that file: cwr check /proc/version\n";
-    assert!(rt; there.as_slice().ends_with(hint));
-    let missing = answer_to(&rt, &["cwr", "/no/such/file.cwr"]);
-    assert!(rt; !has(missing.as_slice(), b"To check that file"));
-}
-
-/// Runs over an input that is empty, some of them within the least limits or the largest.
+/// Words that are answered by a text, and parts of it.
 #[rattlefmt::skip]
-static OF_NOTHING: [Run; 4] = [
-    (&["cwr"], 1, (EMPTY, b"")),
-    (&["cwr", "check"], 1, (EMPTY, b"")),
-    (&["cwr", "check", "--records", "5", "--groups", "1", "--transaction", "1"], 1, (EMPTY, b"")),
-    (&["cwr", "check", "--records=99999999", "--groups=99999", "--transaction=999999"], 1, (EMPTY, b"")),
+static ANSWERED: [(&[&str], &[&str]); 19] = [
+    (&["cwr", "frobnicate"], &[]),
+    (&["cwr", "--help"], PARTS_OF_HELP),
+    (&["cwr", "help"], &[]),
+    (&["cwr", "--version"], &[]),
+    (&["cwr", "-"], &[]),
+    (&["cwr", "/proc/version"], &["\nTo check that file: cwr check /proc/version\n"]),
+    // Limits out of their range.
+    (&["cwr", "check", "--records", "4", "/dev/null"], &[]),
+    (&["cwr", "check", "--records", "100000000", "/dev/null"], &[]),
+    (&["cwr", "check", "--records", "x", "/dev/null"], &[]),
+    (&["cwr", "check", "--records", "", "/dev/null"], &[]),
+    (&["cwr", "check", "--records", "5.0", "/dev/null"], &[]),
+    (&["cwr", "check", "--groups", "0", "/dev/null"], &[]),
+    (&["cwr", "check", "--groups", "100000", "/dev/null"], &[]),
+    (&["cwr", "check", "--transaction", "0", "/dev/null"], &[]),
+    (&["cwr", "check", "--transaction", "1000000", "/dev/null"], &[]),
+    (&["cwr", "check", "--transaction", "4294967297", "/dev/null"], &[]),
+    // Words that are missing, and no transactions.
+    (&["cwr", "split", "/dev/null"], &[]),
+    (&["cwr", "join", "/dev/null"], &[]),
+    (&["cwr", "split", "-n", "0", "/dev/null", "part-"], &[]),
 ];
 
 #[test]
-fn input_that_is_empty(rt: HostRuntime) {
-    check_runs(&rt, text_input(b""), &OF_NOTHING);
-}
-
-/// What is shown at the end of one acknowledgement.
-const SHOWN_LAST: &[u8] = b"  12 processing date: 20240110
-  13 transaction status: AS
-4 GRT
-5 TRL
-GOOD groups 1 transactions 1 records 5
-";
-
-/// Runs with the words over the input, which begins with HDR: it answers the status, what is shown ends so, and just this is
-/// written to standard error.
-fn check_shown<R: Files + AllocGlobal + Abort>(
-    rt: &R,
-    words: &[&str],
-    input: Input<'_>,
-    status: u8,
-    (end, fault): (&[u8], &[u8]),
-) {
-    let mut output = Vec::new(rt.alloc());
-    let mut error = Vec::new(rt.alloc());
-    assert_eq!(rt; run(rt, words, input, &mut output, &mut error), status);
-    let shown = output.as_slice();
-    assert!(rt; shown.starts_with(b"1 HDR\n  2 sender type: PB\n"));
-    assert!(rt; shown.ends_with(end));
-    assert_eq!(rt; error.as_slice(), fault);
-}
-
-#[test]
-fn records_are_shown(rt: HostRuntime) {
-    let text = text_of(&rt, ONE_ACKNOWLEDGEMENT);
-    let words = ["cwr", "show", "--records", "5"];
-    for count in [2, 4] {
-        let input = text_input(text.as_slice());
-        check_shown(&rt, &words[..count], input, 0, (SHOWN_LAST, b""));
+fn words_that_are_answered_by_a_text(rt: HostRuntime) {
+    for (words, parts) in &ANSWERED {
+        let text = answer_to(&rt, words);
+        assert!(rt; !text.is_empty(), "{words:?}");
+        for part in *parts {
+            assert!(rt; has(text.as_slice(), part.as_bytes()), "at {part}");
+        }
     }
-}
-
-#[test]
-fn records_before_a_fault_are_shown(rt: HostRuntime) {
-    let text = text_of(&rt, ONE_ACKNOWLEDGEMENT);
-    let input = Input {
-        left: text.as_slice().get(..333).unwrap_or(b""),
-        fails: true,
-    };
-    let last = b"  13 transaction status: AS\n4 GRT\n";
-    check_shown(&rt, &["cwr", "show"], input, 3, (last, READ_FAULT));
-}
-
-#[test]
-fn reader_that_fails(rt: HostRuntime) {
-    check_run(&rt, &["cwr"], FAILING, 3, (b"", READ_FAULT));
+    let missing = answer_to(&rt, &["cwr", "/no/such/file.cwr"]);
+    assert!(rt; !has(missing.as_slice(), b"To check that file"));
 }
 
 /// Checks the input into a writer that fails: the status says so, and just this is written to standard error.
 fn check_write_fault<R: Files + AllocGlobal + Abort, O: Write + Drop>(
     rt: &R,
-    input: Input<'_>,
+    input: Given,
     output: O,
 ) {
-    let mut error = Vec::new(rt.alloc());
-    let words = ["cwr"];
-    assert_eq!(rt; run(rt, words.as_slice(), input, output, &mut error), 3);
-    assert_eq!(rt; error.as_slice(), b"cwr: write fault\n".as_slice());
+    let (status, error) = ran(rt, &["cwr"], input, output);
+    let fault = b"cwr: write fault\n".as_slice();
+    assert_eq!(rt; (status, error.as_slice()), (3, fault));
 }
 
 #[test]
-fn writer_that_is_full(rt: HostRuntime) {
-    let mut output = [0u8; 4];
-    check_write_fault(&rt, text_input(b""), output.as_mut_slice());
-}
-
-#[test]
-fn writer_that_cannot_hand_on(rt: HostRuntime) {
-    let text = text_of(&rt, ONE_ACKNOWLEDGEMENT);
-    check_write_fault(&rt, text_input(text.as_slice()), Stuck);
-}
-
-/// What is written of one acknowledgement.
-const GOOD: &[u8] = b"GOOD groups 1 transactions 1 records 5\n";
-
-/// Runs over one acknowledgement, within larger and within the least limits.
-#[rattlefmt::skip]
-static WITHIN_LIMITS: [Run; 4] = [
-    (&["cwr"], 0, (GOOD, b"")),
-    (&["cwr", "check"], 0, (GOOD, b"")),
-    (&["cwr", "check", "--records", "5"], 0, (GOOD, b"")),
-    (&["cwr", "check", "--records", "5", "--groups", "1", "--transaction", "1"], 0, (GOOD, b"")),
-];
-
-#[test]
-fn transmission_within_the_least_limits(rt: HostRuntime) {
-    let text = text_of(&rt, ONE_ACKNOWLEDGEMENT);
-    assert_eq!(rt; text.len(), 359);
-    check_runs(&rt, text_input(text.as_slice()), &WITHIN_LIMITS);
-}
-
-/// Runs over two acknowledgements: the second is the fourth record of six.
-#[rattlefmt::skip]
-static AT_A_LIMIT: [Run; 2] = [
-    (&["cwr", "check", "--records", "5"], 1, (b"REFUSED record 4 field 1 level E limit records\n", b"")),
-    (&["cwr", "check", "--records", "6"], 0, (b"GOOD groups 1 transactions 2 records 6\n", b"")),
-];
-
-#[test]
-fn transmission_that_passes_a_limit(rt: HostRuntime) {
-    let text = text_of(&rt, TWO_ACKNOWLEDGEMENTS);
-    assert_eq!(rt; text.len(), 520);
-    check_runs(&rt, text_input(text.as_slice()), &AT_A_LIMIT);
-}
-
-/// Splits and joins of files that are missing or empty. Inputs of a join are opened in their order, and OUT after them.
-#[rattlefmt::skip]
-static SPLITS_AND_JOINS: [Run; 5] = [
-    (&["cwr", "split", "-n", "3", "/dev/null", "no/such/part-"], 1, (EMPTY, b"")),
-    (&["cwr", "split", "-n", "3", "no/such/file.cwr", "part-"], 3, (b"", NO_FILE)),
-    (&["cwr", "join", "/dev/null", "/dev/null", "/dev/null"], 1, (b"input 1: TRUNCATED records 0\n", b"")),
-    (&["cwr", "join", "no/such/out", "/dev/null", "no/such/file.cwr"], 3, (b"", NO_FILE)),
-    (&["cwr", "join", "no/such/out", "/dev/null"], 3, (b"", b"cwr: cannot open no/such/out\n")),
-];
-
-#[test]
-fn splits_and_joins_of_files_that_are_missing_or_empty(rt: HostRuntime) {
-    check_runs(&rt, FAILING, &SPLITS_AND_JOINS);
+fn writers_that_fail(rt: HostRuntime) {
+    let mut full = [0u8; 4];
+    check_write_fault(&rt, NOTHING, full.as_mut_slice());
+    check_write_fault(&rt, ONE, Stuck);
 }

@@ -1,50 +1,99 @@
-//! Tests of what a check takes of its reader, and of writers that fail.
+//! Readers and writers of the tests, some of which fail.
 
-use crate::failing::Stuck;
-use crate::works::{LARGEST, limits_of, text_of};
-use cwr_fields::{Counted, Target};
-use cwr_tools::{ToolFault, Verdict, check};
-use cwr_worked::texts::ONE_ACKNOWLEDGEMENT;
-use std::io;
-use std::process::Abort;
+ghost use Rattle.std.specs.Prelude.{Some};
 
-/// The verdict on the transmission of one acknowledgement.
-const GOOD: Verdict = Verdict::Good {
-    groups: 1,
-    transactions: 1,
-    records: 5,
-};
+use cwr_fields::Counted;
+use std::alloc::Global;
+use std::io::{self, ErrorKind, Read, Write};
 
-#[test]
-fn one_transmission_after_another(rt: HostRuntime) {
-    let text = text_of(&rt, ONE_ACKNOWLEDGEMENT);
-    let twice = text
-        .as_slice()
-        .repeat(rt.alloc(), 2)
-        .expect(&rt, "no memory");
-    let mut reader = Counted::new(twice.as_slice());
-    for wanted in [GOOD, GOOD, Verdict::Truncated { records: 0 }] {
-        let writer = Counted::new(io::empty());
-        let outcome = check(rt.alloc(), limits_of(&rt, LARGEST), &mut reader, writer).1;
-        assert_eq!(rt; outcome, Ok(wanted));
+/// A reader that gives a hundred bytes at most, and fails after so many reads.
+#[derive(Drop)]
+pub(crate) struct FailsAfter<'a> {
+    left: &'a [u8],
+    reads: usize,
+}
+
+impl Read for FailsAfter<'_> {
+    fn read(&mut self, buf: &mut [u8]) -> io::Result<usize> {
+        if self.reads == 0 {
+            return Err(io::Error::from(ErrorKind::Other));
+        }
+        self.reads -= 1;
+        let count = buf.len().min(100);
+        self.left.read(&mut buf[..count])
     }
 }
 
-/// Checks one acknowledgement into a writer that fails: what it answers, after so many bytes. The writer comes back.
-fn check_into<W: Target + Drop>(rt: &(impl Abort + AllocGlobal), writer: W, written: u64) -> W {
-    let text = text_of(rt, ONE_ACKNOWLEDGEMENT);
-    let mut reader = Counted::new(text.as_slice());
-    let (writer, outcome) = check(rt.alloc(), limits_of(rt, (5, 1, 1)), &mut reader, writer);
-    assert_eq!(rt; outcome, Err(ToolFault::Writer { written }));
-    writer
+/// What the runs read.
+pub(crate) type Reader<'a> = Counted<FailsAfter<'a>>;
+
+/// A reader of the text that fails after so many reads.
+pub(crate) fn failing_after(left: &[u8], reads: usize) -> Reader<'_> {
+    Counted::new(FailsAfter { left, reads })
 }
 
-#[test]
-fn writers_that_fail(rt: HostRuntime) {
-    let stuck = check_into(&rt, Counted::new(Stuck { taken: 0 }), 39);
-    assert_eq!(rt; stuck.into_inner().taken, 39);
-    let mut place = [b' '; 38];
-    let _full = check_into(&rt, Counted::new(place.as_mut_slice()), 38);
-    let written = b"GOOD groups 1 transactions 1 records 5";
-    assert_eq!(rt; place.as_slice(), written.as_slice());
+/// A reader of the text, which fails once all is read, or ends there.
+pub(crate) fn reader_of(left: &[u8], fails: bool) -> Reader<'_> {
+    let reads = if fails {
+        left.len().div_ceil(100)
+    } else {
+        usize::MAX
+    };
+    failing_after(left, reads)
+}
+
+/// What a writer takes: at most so many bytes a call, and so many in all, after which it takes nothing.
+#[derive(Clone, Copy)]
+pub(crate) struct Width {
+    pub(crate) at_once: usize,
+    pub(crate) room: usize,
+    /// It can't hand on what it has.
+    pub(crate) stuck: bool,
+}
+
+/// A width that takes all that the tests write.
+pub(crate) const WIDE: Width = Width {
+    at_once: 9999,
+    room: 9999,
+    stuck: false,
+};
+
+/// The same, but it can't hand on what it has.
+pub(crate) const STUCK: Width = Width {
+    at_once: 9999,
+    room: 9999,
+    stuck: true,
+};
+
+/// A writer to memory.
+#[derive(Drop)]
+pub(crate) struct Bounded {
+    pub(crate) text: Vec<u8>,
+    pub(crate) width: Width,
+}
+
+impl Write for Bounded {
+    ghost contents = { λ bounded. Some bounded.text.items };
+
+    fn write(&mut self, text: &[u8]) -> io::Result<usize> {
+        let left = self.width.room.saturating_sub(self.text.len());
+        let taken = left.min(self.width.at_once).min(text.len());
+        self.text.extend_from_slice(&text[..taken])?;
+        Ok(taken)
+    }
+
+    fn flush(&mut self) -> io::Result<()> {
+        if self.width.stuck {
+            return Err(io::Error::from(ErrorKind::Other));
+        }
+        Ok(())
+    }
+}
+
+/// A writer of this width.
+pub(crate) fn writer_of(alloc: Global, width: Width) -> Counted<Bounded> {
+    Counted::new(Bounded {
+        text: Vec::new(alloc),
+        width,
+    })
 }

@@ -4,22 +4,16 @@
 #[cfg(test)]
 mod devices;
 #[cfg(test)]
-mod failing;
-#[cfg(test)]
 mod failing_reads;
 #[cfg(test)]
-mod join_devices;
-#[cfg(test)]
-mod join_texts;
+mod joins;
 #[cfg(test)]
 mod outputs;
 #[cfg(test)]
-mod shown_texts;
+mod reports;
 #[cfg(test)]
-mod split_devices;
+mod runs;
 #[cfg(test)]
-mod split_texts;
-#[cfg(test)]
-mod verdict_lines;
+mod splits;
 #[cfg(test)]
 mod works;

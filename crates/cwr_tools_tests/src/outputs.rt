@@ -3,34 +3,12 @@
 ghost use Rattle.std.specs.Prelude.{◌≡◌, Some, map};
 ghost use Rattle.cwr_fields.specs.Format.Failures.{one_more_failure};
 
-use crate::works::text_of;
+use crate::devices::{Bounded, WIDE, Width};
+use crate::works::{Worked, text_of};
 use cwr_fields::Counted;
 use cwr_tools::{OutputFault, Outputs};
 use std::alloc::Global;
-use std::io::{self, Write};
 use std::process::Abort;
-
-/// A writer to memory that takes so many bytes, and then no more.
-#[derive(Drop)]
-pub(crate) struct Bounded {
-    text: Vec<u8>,
-    room: usize,
-}
-
-impl Write for Bounded {
-    ghost contents = { λ bounded. Some bounded.text.items };
-
-    fn write(&mut self, text: &[u8]) -> io::Result<usize> {
-        let taken = self.room.min(text.len());
-        self.text.extend_from_slice(&text[..taken])?;
-        self.room -= taken;
-        Ok(taken)
-    }
-
-    fn flush(&mut self) -> io::Result<()> {
-        Ok(())
-    }
-}
 
 /// What fails of some outputs, by its number from 1.
 #[derive(Clone, Copy, Debug, PartialEq, Eq)]
@@ -102,11 +80,11 @@ impl Shelf {
         }
     }
 
-    /// How many bytes the writer of this output takes.
-    fn room(&self) -> usize {
+    /// What the writer of this output takes.
+    fn width(&self) -> Width {
         match self.mishap {
-            Mishap::Writer(number, room) if number == self.asked => room,
-            _ => usize::MAX,
+            Mishap::Writer(number, room) if number == self.asked => Width { room, ..WIDE },
+            _ => WIDE,
         }
     }
 
@@ -142,7 +120,7 @@ impl Outputs for Shelf {
         self.lent += 1;
         Ok(Counted::new(Bounded {
             text: Vec::new(self.alloc),
-            room: self.room(),
+            width: self.width(),
         }))
     }
 
@@ -167,10 +145,15 @@ impl Outputs for Shelf {
     }
 }
 
-/// Checks that the texts are the canonical ones of these lines.
-pub(crate) fn check_texts(rt: &(impl Abort + AllocGlobal), texts: &[Vec<u8>], wanted: &[&[&[u8]]]) {
+/// Checks that a text is the canonical one of this.
+fn check_text(rt: &(impl Abort + AllocGlobal), text: &Vec<u8>, worked: Worked) {
+    assert_eq!(rt; text.as_slice(), text_of(rt, worked).as_slice());
+}
+
+/// Checks that the texts are the canonical ones of these.
+pub(crate) fn check_texts(rt: &(impl Abort + AllocGlobal), texts: &[Vec<u8>], wanted: &[Worked]) {
     assert_eq!(rt; texts.len(), wanted.len());
-    for (text, lines) in texts.iter().zip(wanted) {
-        assert_eq!(rt; text.as_slice(), text_of(rt, lines).as_slice());
+    for (text, worked) in texts.iter().zip(wanted) {
+        check_text(rt, text, *worked);
     }
 }

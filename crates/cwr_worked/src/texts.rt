@@ -131,6 +131,32 @@ pub const COPIED_WORK: &[&[u8]] = &[
     b"TRL000010000000100000008",
 ];
 
+/// Two acknowledgements, the first with the copy of a new work: 964 bytes.
+pub const COPY_BEFORE_ANOTHER: &[&[u8]] = &[
+    HDR,
+    GRH_ACK,
+    ACK_0,
+    NWR_0_1,
+    SWR_0_2,
+    ACK_1,
+    b"GRT000010000000200000006",
+    b"TRL000010000000200000008",
+];
+
+/// An acknowledgement with the copy of an agreement, and a carried record in it: 1,539 bytes.
+pub const COPIED_AGREEMENT: &[&[u8]] = &[
+    HDR,
+    GRH_ACK,
+    ACK_0,
+    AGR_0_1,
+    TER_0_2,
+    IPA_AS_0_3,
+    NPA_0_4,
+    IPA_AC_0_5,
+    b"GRT000010000000100000008",
+    b"TRL000010000000100000010",
+];
+
 /// The canonical text of lines: each in the full width of its kind, with CR LF after it. Of a line of unknown kind just
 /// its bytes, with CR LF.
 pub fn canonical(alloc: Global, lines: &[&[u8]]) -> Result<Vec<u8>, AllocError> {
