@@ -10,8 +10,8 @@ use cwr_explain::explain;
 use cwr_fields::{Counted, Target};
 use cwr_shape::Limits;
 use cwr_tools::{
-    JoinFault, JoinReport, ToolFault, Verdict, check, join, put_join_outcome, put_split_outcome,
-    show, split,
+    JoinFault, JoinReport, ToolFault, Verdict, check, join, json, put_join_outcome,
+    put_split_outcome, put_verdict_line, show, split,
 };
 use std::alloc::Global;
 use std::fs::File;
@@ -75,6 +75,27 @@ pub(crate) fn show_input<'a, I: Read + Drop, O: Write + Drop>(
 {
     let lines = lines_to(alloc, output)?;
     ending(show(alloc, limits, &mut Counted::new(input), lines).1)
+}
+
+/// Writes the data of a transmission to the output, with its numbers if they are asked for, and the line of the verdict to standard
+/// error.
+pub(crate) fn export_input<'a, I: Read + Drop, O: Write + Drop, E: Write + Drop>(
+    alloc: Global,
+    limits: Limits,
+    numbers: bool,
+    input: I,
+    output: O,
+    error: E,
+) -> Result<Status, Fault<'a>>
+    ensures { EndsOnInput limits (I.remaining input) result }
+{
+    let lines = lines_to(alloc, output)?;
+    let outcome = json(alloc, limits, numbers, &mut Counted::new(input), lines).1;
+    if let Ok(verdict) = &outcome {
+        // What standard error doesn't take is lost.
+        let _ = put_verdict_line(verdict, &mut Sink::new(Counted::new(error)));
+    }
+    ending(outcome)
 }
 
 /// Checks a transmission, whose input has that name, and writes the lines and what explains them to the output.

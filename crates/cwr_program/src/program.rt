@@ -5,7 +5,8 @@ ghost use Rattle.clap.specs.Values.{kind_of};
 ghost use Rattle.cwr_program.specs.Format.Endings.{EndsOnInput, IsOfInput};
 
 use crate::commands::{
-    Status, check_input, explain_input, join_files, open_input, show_input, split_file,
+    Status, check_input, explain_input, export_input, join_files, open_input, show_input,
+    split_file,
 };
 use crate::faults::Fault;
 use clap::error::ErrorKind;
@@ -24,12 +25,12 @@ pub fn run<R: Files + AllocGlobal, S: AsStr, I: Read + Drop, O: Write + Drop, E:
     words: &[S],
     input: I,
     output: O,
-    error: E,
+    mut error: E,
 ) -> u8
     ensures { result ≤ 3 }
 {
     let status = match task_of(rt.alloc(), words) {
-        Ok(task) => match perform(rt, task, input, output) {
+        Ok(task) => match perform(rt, task, input, output, &mut error) {
             Ok(status) => status,
             Err(fault) => report(error, fault),
         },
@@ -96,11 +97,12 @@ fn report<E: Write + Drop>(mut error: E, fault: Fault<'_>) -> Status
 }
 
 /// Does what is asked for.
-fn perform<'a, R: Files + AllocGlobal, I: Read + Drop, O: Write + Drop>(
+fn perform<'a, R: Files + AllocGlobal, I: Read + Drop, O: Write + Drop, E: Write + Drop>(
     rt: &R,
     task: Task<'a>,
     input: I,
     output: O,
+    error: E,
 ) -> Result<Status, Fault<'a>>
     ensures { IsOfInput task.entry.work → EndsOnInput task.entry.limits (I.remaining input) result }
 {
@@ -113,6 +115,17 @@ fn perform<'a, R: Files + AllocGlobal, I: Read + Drop, O: Write + Drop>(
         Work::Explain(None) => explain_input(rt.alloc(), limits, STANDARD_INPUT, input, output),
         Work::Explain(Some(name)) => {
             explain_input(rt.alloc(), limits, name, open_input(rt, name)?, output)
+        }
+        Work::Json {
+            file: None,
+            numbers,
+        } => export_input(rt.alloc(), limits, numbers, input, output, error),
+        Work::Json {
+            file: Some(name),
+            numbers,
+        } => {
+            let file = open_input(rt, name)?;
+            export_input(rt.alloc(), limits, numbers, file, output, error)
         }
         Work::Split {
             transactions,

@@ -1,18 +1,21 @@
 -- The lines of items are those of all but the last, and then those of the last.
-use Rattle.std.proofs.Common.{◌≡◌, ℕ, ◌+◌, ◌<◌, List, [], ◌∷◌, ◌++◌, length, take, refl, sym, ap, ap₂, ◌∙◌, arith, append_assoc, append-nil}
-use Rattle.std.specs.List.{enumerate_from, flat_map}
+use Rattle.std.proofs.Common.{◌≡◌, ℕ, ◌+◌, ◌<◌, Bool, true, false, cond, List, [], ◌∷◌, ◌++◌, length, take, Option, Some, refl, sym, ap, ap₂, ◌∙◌, arith, append_assoc, append-nil}
+use Rattle.std.specs.Prelude.{count_by}
+use Rattle.std.specs.List.{after_last, enumerate_from, flat_map}
 use Rattle.std.proofs.Math.Seq.{take-append_seam}
 use Rattle.std.proofs.lemmas.Grind.{flat_map-append}
 use Rattle.std.proofs.lemmas.List.{take-append-le}
 use Rattle.cwr_layouts.specs.Format.Records.{RecordValue}
 use Rattle.cwr_values.specs.declared.items.Item.{Item}
-use Rattle.cwr_judge.specs.Format.Items.{item_records, records_in}
+use Rattle.cwr_judge.specs.Format.Items.{is_transaction, item_records, opens_group, records_in}
+use Rattle.cwr_json.specs.declared.notes.Notes.{Notes}
+use Rattle.cwr_json.specs.Format.Forms.{data_lines, item_line, notes_if}
 use Rattle.cwr_tools.specs.declared.item_lines.Report.{Report}
 use Rattle.cwr_tools.specs.declared.item_lines.Report.TheVariants as reports
 use Rattle.cwr_tools.specs.declared.totals.Totals.{Totals}
 use Rattle.cwr_tools.specs.Format.Texts.{check_lines, finding_lines, finding_lines_in, record_lines, numbered_records, show_lines}
 use Rattle.cwr_tools.specs.Format.FindingNotes.{explained_findings, explained_in, explained_lines}
-use Rattle.cwr_tools.specs.Steps.Reports.{lines_at, lines_in}
+use Rattle.cwr_tools.specs.Steps.Reports.{lines_at, lines_in, notes_at}
 use Rattle.cwr_tools.proofs.CountedTotals.{IsCount}
 
 -- ---- records
@@ -60,14 +63,33 @@ explained_lines-snoc : (given : List Item) (item : Item) → explained_lines (gi
 unfolding explained_lines
 explained_lines-snoc given item = lines_from-snoc explained_findings given item
 
+-- ---- data
+
+abbrev data_line : Bool → List Item → Item → List ℕ
+data_line noted before item = item_line (notes_if noted before item) item
+
+data_lines-snoc : (noted : Bool) (given : List Item) (item : Item) → data_lines noted (given ++ item ∷ []) ≡ data_lines noted given ++ data_line noted given item
+unfolding data_lines
+data_lines-snoc noted given item = lines_from-snoc (data_line noted) given item
+
+-- the notes are those that are counted
+counted_notes : (noted : Bool) (c : Totals) (given : List Item) (item : Item) → IsCount c given → notes_if noted given item ≡ notes_at noted c item
+counted_notes false c given item k = refl
+counted_notes true c given item k =
+    let opened : ℕ = cond (opens_group item) 1 0 in
+    let at : ℕ → ℕ → ℕ → Notes = λ groups in_group records. record { group = groups + opened; transaction = in_group; line = records + 1 } in
+    ap (λ (n : ℕ). Some (at n (count_by is_transaction (after_last opens_group given)) (length (records_in given)))) (sym k.groups)
+    ∙ ap₂ (λ (n m : ℕ). Some (at c.groups n m)) (sym k.in_group) (sym k.records)
+
 -- ---- all of them
 
 -- no items have no lines
 pub lines_none : (report : Report) → (lines_in report).lines [] ≡ []
-unfolding check_lines explained_lines show_lines
+unfolding check_lines data_lines explained_lines show_lines
 lines_none reports.Findings = refl
 lines_none reports.Explained = refl
 lines_none reports.Records = refl
+lines_none (reports.Data noted) = refl
 
 pub lines_more : (report : Report) (c : Totals) (given : List Item) (item : Item) → IsCount c given
     → (lines_in report).lines (given ++ item ∷ []) ≡ (lines_in report).lines given ++ lines_at report c item
@@ -79,6 +101,7 @@ lines_more reports.Explained c given item k =
     explained_lines-snoc given item
     ∙ ap₂ (λ (group sequence : ℕ). explained_lines given ++ explained_in group sequence (length (records_in given) + 1) item) (sym k.groups) (sym k.in_group)
     ∙ ap (λ (n : ℕ). explained_lines given ++ explained_in c.groups c.in_group (n + 1) item) (sym k.records)
+lines_more (reports.Data noted) c given item k = data_lines-snoc noted given item ∙ ap (λ (n : Option Notes). data_lines noted given ++ item_line n item) (counted_notes noted c given item k)
 lines_more reports.Records c given item k =
     ap (numbered_records 1) (flat_map-append item_records given (item ∷ []) ∙ ap (λ (l : List RecordValue). records_in given ++ l) (append-nil (item_records item)))
     ∙ numbered_records-append 1 (records_in given) (item_records item)

@@ -13,7 +13,6 @@ use Rattle.cwr_levels.specs.Steps.Putting.{PutsText}
 use Rattle.cwr_tools.specs.declared.verdicts.Verdict.{Verdict}
 use Rattle.cwr_tools.specs.declared.verdicts.ToolFault.{ToolFault}
 use Rattle.cwr_tools.specs.declared.verdicts.ToolFault.TheVariants.{Writer}
-use Rattle.cwr_tools.specs.Format.Texts.{verdict_line}
 use Rattle.cwr_tools.specs.Format.Reports.{ItemLines}
 use Rattle.cwr_tools.specs.Steps.Reports.{HasPut, PutsReport, Reports}
 use Rattle.cwr_tools.proofs.ReportsOn.{nothing}
@@ -27,13 +26,13 @@ before_verdict contents failures text line old mid new result h p =
 
 -- it was put
 pub verdict_put : {W : Type 0} (of : ItemLines) (limits : Limits) (before after : Option (List ℕ)) (contents : W → Option (List ℕ)) (failures : W → ℕ) (verdict : Verdict) (u : Unit {0}) (old mid new : Sink W)
-    → PutsReport of nothing limits before after contents failures (Ok verdict) old mid → PutsText contents failures (verdict_line verdict) (Ok u) mid new
-    → PutsReport of verdict_line limits before after contents failures (Ok verdict) old new
+    → PutsReport of nothing limits before after contents failures (Ok verdict) old mid → PutsText contents failures (of.last verdict) (Ok u) mid new
+    → PutsReport of of.last limits before after contents failures (Ok verdict) old new
 verdict_put of limits before after contents failures verdict u old mid new h p = (
   h.0,
   h.1,
   record {
-    written = before_verdict contents failures (of.lines h.0) (verdict_line verdict) old mid new (Ok u) h.2 p;
+    written = before_verdict contents failures (of.lines h.0) (of.last verdict) old mid new (Ok u) h.2 p;
     unfailed = p.failed;
     quiet = p.failures_counted h.2.unfailed ∙ h.2.quiet;
   },
@@ -41,15 +40,15 @@ verdict_put of limits before after contents failures verdict u old mid new h p =
 
 -- the writer failed in it
 pub verdict_cut : {W : Type 0} (of : ItemLines) (limits : Limits) (before after : Option (List ℕ)) (contents : W → Option (List ℕ)) (failures : W → ℕ) (verdict : Verdict) (fault : SinkFault) (reported : ToolFault) (old mid new : Sink W) → reported ≡ Writer fault.written
-    → PutsReport of nothing limits before after contents failures (Ok verdict) old mid → PutsText contents failures (verdict_line verdict) (Err fault) mid new
-    → PutsReport of verdict_line limits before after contents failures (Err reported) old new
+    → PutsReport of nothing limits before after contents failures (Ok verdict) old mid → PutsText contents failures (of.last verdict) (Err fault) mid new
+    → PutsReport of of.last limits before after contents failures (Err reported) old new
 verdict_cut of limits before after contents failures verdict fault reported old mid new e h p =
-    subst (λ (f : ToolFault). PutsReport of verdict_line limits before after contents failures (Err f) old new) (sym e) (
+    subst (λ (f : ToolFault). PutsReport of of.last limits before after contents failures (Err f) old new) (sym e) (
       h.0,
-      of.lines h.0 ++ verdict_line verdict,
+      of.lines h.0 ++ of.last verdict,
       inr (verdict, h.1, refl),
       record {
-        written = before_verdict contents failures (of.lines h.0) (verdict_line verdict) old mid new (Err fault) h.2 p;
+        written = before_verdict contents failures (of.lines h.0) (of.last verdict) old mid new (Err fault) h.2 p;
         counted = p.fault;
         failed = p.failures_counted h.2.unfailed ∙ ap one_more_failure h.2.quiet;
       },
@@ -75,19 +74,19 @@ front {W = W} contents text writer new first sink n same kept h counted =
 
 -- all was handed on
 pub reports_flushed : {W : Type 0} (of : ItemLines) (limits : Limits) (before after : Option (List ℕ)) (contents : W → Option (List ℕ)) (failures : W → ℕ) (verdict : Verdict) (writer mid new : W) (first sink : Sink W) → writer_of first ≡ writer → mid ≡ writer_of sink
-    → Keeps (contents mid) (contents new) → PutsReport of verdict_line limits before after contents failures (Ok verdict) first sink → Reports of limits before after contents writer new (Ok verdict)
+    → Keeps (contents mid) (contents new) → PutsReport of of.last limits before after contents failures (Ok verdict) first sink → Reports of limits before after contents writer new (Ok verdict)
 reports_flushed {W = W} of limits before after contents failures verdict writer mid new first sink same out kept h = (
   h.0,
   h.1,
-  appended contents failures (of.lines h.0 ++ verdict_line verdict) writer new first sink same (subst (λ (w : W). Keeps (contents w) (contents new)) out kept) h.2,
+  appended contents failures (of.lines h.0 ++ of.last verdict) writer new first sink same (subst (λ (w : W). Keeps (contents w) (contents new)) out kept) h.2,
 )
 
 -- the writer couldn't hand it on
 pub reports_stuck : {W : Type 0} (of : ItemLines) (limits : Limits) (before after : Option (List ℕ)) (contents : W → Option (List ℕ)) (failures : W → ℕ) (verdict : Verdict) (writer mid new : W) (first sink : Sink W) (n : ℕ) → writer_of first ≡ writer → mid ≡ writer_of sink
-    → n ≡ written_of sink → Keeps (contents mid) (contents new) → PutsReport of verdict_line limits before after contents failures (Ok verdict) first sink → Reports of limits before after contents writer new (Err (Writer n))
+    → n ≡ written_of sink → Keeps (contents mid) (contents new) → PutsReport of of.last limits before after contents failures (Ok verdict) first sink → Reports of limits before after contents writer new (Err (Writer n))
 reports_stuck {W = W} of limits before after contents failures verdict writer mid new first sink n same out counted kept h = (
   h.0,
-  of.lines h.0 ++ verdict_line verdict,
+  of.lines h.0 ++ of.last verdict,
   inr (verdict, h.1, refl),
-  front contents (of.lines h.0 ++ verdict_line verdict) writer new first sink n same (subst (λ (w : W). Keeps (contents w) (contents new)) out kept) h.2.written counted,
+  front contents (of.lines h.0 ++ of.last verdict) writer new first sink n same (subst (λ (w : W). Keeps (contents w) (contents new)) out kept) h.2.written counted,
 )

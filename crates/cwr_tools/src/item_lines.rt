@@ -9,7 +9,7 @@ ghost use Rattle.cwr_levels.specs.Format.ReportLines.{finding_line};
 ghost use Rattle.cwr_tools.specs.Format.Texts.{finding_lines_in, numbered_records, record_lines};
 ghost use Rattle.cwr_tools.specs.Format.FindingNotes.{explained_in};
 ghost use Rattle.cwr_tools.specs.Format.Reports.{ItemLines, has_findings};
-ghost use Rattle.cwr_tools.specs.Steps.Reports.{PutsLines, lines_at, lines_in};
+ghost use Rattle.cwr_tools.specs.Steps.Reports.{PutsLines, lines_at, lines_in, notes_at};
 
 use crate::finding_notes::put_all_explained;
 use crate::record_lines::RecordLines;
@@ -17,6 +17,7 @@ use crate::totals::Totals;
 use crate::verdicts::ToolFault;
 use cwr_encode::{Sink, SinkFault};
 use cwr_fields::Target;
+use cwr_json::{Notes, RecordText, put_data};
 use cwr_layouts::{Kind, RecordRef};
 use cwr_levels::{Finding, finding_line, findings};
 use cwr_values::{Item, Transaction};
@@ -31,6 +32,11 @@ pub(crate) enum Report {
     Explained,
     /// Each record with its cells.
     Records,
+    /// The data of each item.
+    Data {
+        /// With its notes.
+        noted: bool,
+    },
 }
 
 /// Puts the lines of a record, which has that number.
@@ -180,13 +186,32 @@ fn put_explained_findings<W: Target>(
     }
 }
 
-/// Puts the lines of an item that comes after items with these numbers. Those of a record are made in the buffer.
+/// The notes of an item that comes after items with these numbers.
+fn notes_at(noted: bool, counts: &Totals, item: &Item) -> Option<Notes>
+    ensures { result ≡ notes_at noted counts.now item.now }
+{
+    if !noted {
+        return None;
+    }
+    let opened: u64 = match item {
+        Item::GroupOpened(_) => 1,
+        Item::Opened(_) | Item::Transaction(_) | Item::GroupClosed(_) | Item::Ended => 0,
+    };
+    Some(Notes {
+        group: u64::from(counts.groups) + opened,
+        transaction: u64::from(counts.in_group),
+        line: u64::from(counts.records) + 1,
+    })
+}
+
+/// Puts the lines of an item that comes after items with these numbers. Those of a record, and data, are made in the buffers.
 pub(crate) fn put_item<W: Target>(
     report: Report,
     alloc: Global,
     counts: &Totals,
     item: &Item,
     lines: &mut RecordLines,
+    text: &mut RecordText,
     sink: &mut Sink<W>,
 ) -> Result<(), ToolFault>
     requires unfailed { has_failed sink.old ≡ false }
@@ -201,6 +226,12 @@ pub(crate) fn put_item<W: Target>(
         }
         Report::Records => {
             match put_records(u64::from(counts.records) + 1, item, lines, sink) {
+                Ok(()) => Ok(()),
+                Err(fault) => Err(writer_fault(fault)),
+            }
+        }
+        Report::Data { noted } => {
+            match put_data(notes_at(noted, counts, item), item, text, sink) {
                 Ok(()) => Ok(()),
                 Err(fault) => Err(writer_fault(fault)),
             }

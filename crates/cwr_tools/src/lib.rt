@@ -1,4 +1,4 @@
-//! Whole runs over CWR 2.1 transmissions: check, show, split and join.
+//! Whole runs over CWR 2.1 transmissions: check, show, JSON, split and join.
 #![tactic(auto)]
 
 mod checking;
@@ -6,6 +6,7 @@ mod finding_notes;
 mod item_lines;
 mod joined;
 mod joining;
+mod json_lines;
 pub mod laws;
 mod note_lines;
 mod outcomes;
@@ -22,9 +23,11 @@ mod verdicts;
 
 pub use checking::{check, check_explained};
 pub use joining::join;
+pub use json_lines::json;
 pub use note_lines::level_words;
 pub use outcomes::{put_join_outcome, put_split_outcome};
 pub use outputs::{OutputFault, Outputs};
+pub use reporting::put_verdict_line;
 pub use showing::show;
 pub use splitting::split;
 pub use verdicts::{JoinFault, JoinReport, SplitReport, ToolFault, Verdict};

@@ -1,4 +1,4 @@
-//! Whole runs over a text: the lines of its items, and the line of the verdict.
+//! Whole runs over a text: the lines of its items, and what stands for the verdict.
 
 ghost use Rattle.std.specs.Prelude.{◌≡◌, ◌≤◌, [], true, false, length, None, IfOk, OnOk, IsSomeAnd};
 ghost use Rattle.cwr_decode.specs.Steps.Decoding.{final_answer, has_ended, limits_of};
@@ -20,6 +20,7 @@ use crate::verdicts::{ToolFault, Verdict};
 use cwr_decode::{LastRead, ReadFault, Reading};
 use cwr_encode::{Sink, SinkFault};
 use cwr_fields::{Source, Target};
+use cwr_json::RecordText;
 use cwr_levels::{good_line, refusal_line, truncated_line};
 use cwr_shape::Limits;
 use std::alloc::Global;
@@ -53,7 +54,9 @@ fn begin_reading<'a, R: Source>(
 {
     match report {
         Report::Explained => Reading::holding_last(alloc, limits, reader),
-        Report::Findings | Report::Records => Reading::new(alloc, limits, reader),
+        Report::Findings | Report::Records | Report::Data { .. } => Reading::new(
+            alloc, limits, reader,
+        ),
     }
 }
 
@@ -76,10 +79,11 @@ fn put_items<R: Source, W: Target>(
     let mut reading = begin_reading(report, alloc, limits, reader);
     let mut counts = Totals::new();
     let mut lines = RecordLines::new();
+    let mut text = RecordText::new();
     'items: loop {
         match reading.next_item() {
             Ok(Some(item)) => {
-                put_item(report, alloc, &counts, &item, &mut lines, sink)?;
+                put_item(report, alloc, &counts, &item, &mut lines, &mut text, sink)?;
                 counts.count(&item);
             }
             Ok(None) => {
@@ -95,7 +99,7 @@ fn put_items<R: Source, W: Target>(
 }
 
 /// Puts the line that says how a text ended.
-fn put_verdict<W: Target>(verdict: &Verdict, sink: &mut Sink<W>) -> Result<(), SinkFault>
+pub fn put_verdict_line<W: Target>(verdict: &Verdict, sink: &mut Sink<W>) -> Result<(), SinkFault>
     ensures { PutsText W.contents W.failures (verdict_line verdict.now) result sink.old sink.new }
 {
     match verdict {
@@ -109,7 +113,24 @@ fn put_verdict<W: Target>(verdict: &Verdict, sink: &mut Sink<W>) -> Result<(), S
     }
 }
 
-/// Reads a transmission, and puts the lines of its items and the line of the verdict. Then `last` gets what was read last, of a
+/// Puts what stands for the verdict after the lines of items.
+fn put_verdict<W: Target>(
+    report: Report,
+    verdict: &Verdict,
+    sink: &mut Sink<W>,
+) -> Result<(), SinkFault>
+    requires { has_failed sink.old ≡ false }
+    ensures { PutsText W.contents W.failures ((lines_in report).last verdict.now) result sink.old sink.new }
+{
+    match report {
+        Report::Findings => put_verdict_line(verdict, sink),
+        Report::Explained => put_verdict_line(verdict, sink),
+        Report::Records => put_verdict_line(verdict, sink),
+        Report::Data { .. } => Ok(()),
+    }
+}
+
+/// Reads a transmission, and puts the lines of its items and what stands for the verdict. Then `last` gets what was read last, of a
 /// report that explains.
 fn put_report<R: Source, W: Target>(
     report: Report,
@@ -121,18 +142,18 @@ fn put_report<R: Source, W: Target>(
 ) -> Result<Verdict, ToolFault>
     requires unfailed { has_failed sink.old ≡ false }
     requires empty { HasWritten W.contents (W.contents (writer_of sink.old)) [] sink.old }
-    ensures puts { PutsReport (lines_in report) verdict_line limits (R.remaining reader.old) (R.remaining reader.new) W.contents W.failures result sink.old sink.new }
+    ensures puts { PutsReport (lines_in report) (lines_in report).last limits (R.remaining reader.old) (R.remaining reader.new) W.contents W.failures result sink.old sink.new }
     ensures failures { CountsReaderFault result (R.failures reader.old) (R.failures reader.new) }
     ensures last { report ≡ Report.Explained → IfOk result (λ verdict. IsSomeAnd last.new (IsReadLast limits (R.remaining reader.old) (R.remaining reader.new) verdict)) }
 {
     let verdict = put_items(report, alloc, limits, reader, last, sink)?;
-    match put_verdict(&verdict, sink) {
+    match put_verdict(report, &verdict, sink) {
         Ok(()) => Ok(verdict),
         Err(fault) => Err(writer_fault(fault)),
     }
 }
 
-/// Reads a transmission, and writes the lines of its items and the line of the verdict, which it has the writer hand on.
+/// Reads a transmission, and writes the lines of its items and what stands for the verdict, which it has the writer hand on.
 /// The writer comes back, and `last` gets what was read last, of a report that explains.
 pub(crate) fn write_report<R: Source, W: Target>(
     report: Report,

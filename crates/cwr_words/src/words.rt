@@ -5,10 +5,10 @@ ghost use Rattle.std.specs.Str.{bytes_eq};
 ghost use Rattle.std.specs.Str.Parse.{digits_value, without_leading_plus};
 ghost use Rattle.clap.specs.Words.{found_of, has_subcommand, one_text};
 ghost use Rattle.cwr_shape.specs.Format.Ranges.{limit_values};
-ghost use Rattle.cwr_words.specs.Format.Words.{IsAskedBy, IsJoinOf, IsSplitOf, IsWorkOf};
+ghost use Rattle.cwr_words.specs.Format.Words.{IsAskedBy, IsExportOf, IsJoinOf, IsSplitOf, IsWorkOf};
 
 use clap::error::ErrorKind;
-use clap::{Arg, ArgMatches, Command, Error, value_parser};
+use clap::{Arg, ArgAction, ArgMatches, Command, Error, value_parser};
 use cwr_shape::Limits;
 use std::alloc::{AllocError, Global};
 use std::convert::AsStr;
@@ -23,6 +23,13 @@ pub enum Work<'a> {
     Show(Option<&'a str>),
     /// It is checked, and what is found is explained.
     Explain(Option<&'a str>),
+    /// Its data is written as JSON.
+    Json {
+        /// The name of the transmission's file, or none for that on standard input.
+        file: Option<&'a str>,
+        /// With the numbers of groups, transactions and lines.
+        numbers: bool,
+    },
     /// A transmission is cut into parts.
     Split {
         /// The transactions of a part; the last may have fewer.
@@ -59,6 +66,9 @@ const SHOW: &str = "show";
 /// The name of the subcommand that explains.
 const EXPLAIN: &str = "explain";
 
+/// The name of the subcommand that writes JSON.
+const JSON: &str = "json";
+
 /// The name of the subcommand that splits.
 const SPLIT: &str = "split";
 
@@ -70,6 +80,9 @@ const FILE: &str = "FILE";
 
 /// The id of the number of transactions of a part.
 const NUMBER: &str = "N";
+
+/// The id of the flag that adds numbers.
+const NUMBERS: &str = "numbers";
 
 /// The id of what the names of the parts' files begin with.
 const PREFIX: &str = "PREFIX";
@@ -111,6 +124,20 @@ fn over_one<'a>(alloc: Global, name: &'a str, about: &'a str) -> Result<Command<
     let file = Arg::new(alloc, FILE).help("The transmission; without it standard input is read");
     let command = Command::new(alloc, name).about(about);
     with_limits(alloc, command)?.arg(file)
+}
+
+/// The subcommand that writes JSON.
+fn exporting<'a>(alloc: Global) -> Result<Command<'a>, AllocError> {
+    let numbers = Arg::new(alloc, NUMBERS)
+        .long(NUMBERS)
+        .action(ArgAction::SetTrue)
+        .help("Adds the notes _group, _transaction and _line to each line");
+    over_one(
+        alloc,
+        JSON,
+        "Writes the data of a transmission as lines of JSON, and its verdict to standard error",
+    )?
+    .arg(numbers)
 }
 
 /// The subcommand that splits.
@@ -162,6 +189,8 @@ The last line on standard output:
   input I: LIMIT records, groups or transaction
                                              the result would pass that limit with input I
 
+`cwr json` writes it to standard error, and the lines of JSON alone to standard output.
+
 Before it `cwr check` writes a line for each finding in a transaction, and `cwr show` each record with its cells:
   FINDING group G transaction T record S field F level L rule V
 
@@ -194,6 +223,7 @@ fn command<'a>(alloc: Global) -> Result<Command<'a>, AllocError> {
             EXPLAIN,
             "Judges a transmission, and explains what is wrong with it",
         )?)?
+        .subcommand(exporting(alloc)?)?
         .subcommand(splitting(alloc)?)?
         .subcommand(joining(alloc)?)
 }
@@ -234,6 +264,16 @@ fn work_over<'a>(name: &str, given: &ArgMatches<'a>) -> Work<'a>
     }
 }
 
+/// The work of an export.
+fn export_in<'a>(given: &ArgMatches<'a>) -> Work<'a>
+    ensures { IsExportOf (found_of given.now) result }
+{
+    Work::Json {
+        file: given.get_str(FILE),
+        numbers: given.get_flag(NUMBERS),
+    }
+}
+
 /// The work of a split. `None` where a word is missing or out of its range.
 fn split_in<'a>(given: &ArgMatches<'a>) -> Option<Work<'a>>
     ensures { IfSome result (λ work. IsSplitOf (found_of given.now) work) }
@@ -269,6 +309,8 @@ fn work_in<'a>(
 {
     if name == SPLIT {
         Ok(split_in(given))
+    } else if name == JSON {
+        Ok(Some(export_in(given)))
     } else if name == JOIN {
         join_in(alloc, given)
     } else {

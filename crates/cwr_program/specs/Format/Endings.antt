@@ -11,7 +11,7 @@ use Rattle.cwr_tools.specs.declared.verdicts.ToolFault.TheVariants as tool_fault
 use Rattle.cwr_program.specs.declared.commands.Status.{Status}
 use Rattle.cwr_program.specs.declared.commands.Status.TheVariants as statuses
 use Rattle.cwr_words.specs.declared.words.Work.{Work}
-use Rattle.cwr_words.specs.declared.words.Work.TheVariants.{Check, Show, Explain}
+use Rattle.cwr_words.specs.declared.words.Work.TheVariants.{Check, Show, Explain, Json}
 use Rattle.cwr_program.specs.declared.faults.Fault.{Fault}
 use Rattle.cwr_program.specs.declared.faults.Fault.TheVariants as faults
 
@@ -55,4 +55,5 @@ abbrev pub IsOfInput : Work → Type 0
 IsOfInput (Check None) = Unit {0}
 IsOfInput (Show None) = Unit {0}
 IsOfInput (Explain None) = Unit {0}
+IsOfInput (Json None numbers) = Unit {0}
 IsOfInput work = ⊥

@@ -1,5 +1,5 @@
 -- The lines of a report: those of each item, and the verdict's.
-use Rattle.std.specs.Prelude.{◌≡◌, ℕ, ◌+◌, Bool, false, nat_lt, length, List, ◌++◌, drop, Option, Some, IfSome, Result, Err}
+use Rattle.std.specs.Prelude.{◌≡◌, ℕ, ◌+◌, Bool, false, nat_lt, length, List, [], ◌++◌, drop, Option, Some, IfSome, Result, Err}
 use Rattle.std.specs.Io.KnownBytes.{Appends}
 use Rattle.cwr_fields.specs.Format.Failures.{one_more_failure}
 use Rattle.cwr_shape.specs.declared.limits.Limits.{Limits}
@@ -9,6 +9,7 @@ use Rattle.cwr_values.specs.Format.Values.{TransmissionValue, IsTransmission, Fi
 use Rattle.cwr_values.specs.Format.Rows.{canonical_text}
 use Rattle.cwr_judge.specs.Format.Ends.{IsAccepted}
 use Rattle.cwr_judge.specs.Format.Items.{value_items}
+use Rattle.cwr_json.specs.Format.Forms.{data_lines}
 use Rattle.cwr_levels.specs.Format.Findings.{findings}
 use Rattle.cwr_tools.specs.declared.verdicts.Verdict.{Verdict}
 use Rattle.cwr_tools.specs.declared.verdicts.ToolFault.{ToolFault}
@@ -16,9 +17,10 @@ use Rattle.cwr_tools.specs.declared.verdicts.ToolFault.TheVariants.{Reader, Writ
 use Rattle.cwr_tools.specs.Format.Texts.{check_lines, good_verdict, show_lines, verdict_line}
 use Rattle.cwr_tools.specs.Format.FindingNotes.{explained_lines}
 
--- the lines of items, in order, and for which items they take memory
+-- the lines of items, in order, what stands after them for the verdict, and for which items they take memory
 pub record ItemLines : Type 0 where
   pub lines : List Item → List ℕ
+  pub last : Verdict → List ℕ
   pub take_memory : Item → Bool
 
 -- the item is a transaction that has findings
@@ -28,19 +30,23 @@ has_findings item = false
 
 -- the findings in each transaction
 abbrev pub lines_of_findings : ItemLines
-lines_of_findings = record { lines = check_lines; take_memory = has_findings }
+lines_of_findings = record { lines = check_lines; last = verdict_line; take_memory = has_findings }
 
 -- the same, and lines under each finding
 abbrev pub lines_of_explained : ItemLines
-lines_of_explained = record { lines = explained_lines; take_memory = has_findings }
+lines_of_explained = record { lines = explained_lines; last = verdict_line; take_memory = has_findings }
 
 -- the records with their cells
 abbrev pub lines_of_records : ItemLines
-lines_of_records = record { lines = show_lines; take_memory = λ item. false }
+lines_of_records = record { lines = show_lines; last = verdict_line; take_memory = λ item. false }
+
+-- the data of each item, with notes or without, and nothing for the verdict
+abbrev pub lines_of_data : Bool → ItemLines
+lines_of_data noted = record { lines = data_lines noted; last = λ verdict. []; take_memory = λ item. false }
 
 -- the text on items and the verdict
 abbrev pub text_on : ItemLines → List Item → Verdict → List ℕ
-text_on of given verdict = of.lines given ++ verdict_line verdict
+text_on of given verdict = of.lines given ++ of.last verdict
 
 -- the reader's failures count one more where its fault is reported, and else they stay
 abbrev pub CountsReaderFault : Result Verdict ToolFault → ℕ → ℕ → Type 0

@@ -1,10 +1,12 @@
 -- What a run over a text has written, step by step.
-use Rattle.std.specs.Prelude.{◌≡◌, ◌⊎◌, ℕ, ◌+◌, Bool, true, false, List, [], ◌∷◌, ◌++◌, Option, Result, Ok, Err}
+use Rattle.std.specs.Prelude.{◌≡◌, ◌⊎◌, ℕ, ◌+◌, Bool, true, false, List, [], ◌∷◌, ◌++◌, if◌then◌else◌, Option, Some, None, Result, Ok, Err}
 use Rattle.std.specs.Io.KnownBytes.{Appends}
 use Rattle.cwr_fields.specs.Format.Failures.{one_more_failure}
 use Rattle.cwr_shape.specs.declared.limits.Limits.{Limits}
 use Rattle.cwr_values.specs.declared.items.Item.{Item}
-use Rattle.cwr_judge.specs.Format.Items.{item_records}
+use Rattle.cwr_judge.specs.Format.Items.{item_records, opens_group}
+use Rattle.cwr_json.specs.declared.notes.Notes.{Notes}
+use Rattle.cwr_json.specs.Format.Forms.{item_line}
 use Rattle.cwr_decode.specs.declared.readings.ReadFault.TheVariants as read_faults
 use Rattle.cwr_decode.specs.Steps.Machines.{Standing}
 use Rattle.cwr_decode.specs.Steps.Runs.{HasRead}
@@ -20,7 +22,7 @@ use Rattle.cwr_tools.specs.declared.item_lines.Report.TheVariants as reports
 use Rattle.cwr_tools.specs.Format.Texts.{finding_lines_in, numbered_records}
 use Rattle.cwr_tools.specs.Format.FindingNotes.{explained_in}
 use Rattle.cwr_tools.specs.Steps.Verdicts.{StopsAfter, IsRightVerdict}
-use Rattle.cwr_tools.specs.Format.Reports.{ItemLines, lines_of_findings, lines_of_explained, lines_of_records, text_on}
+use Rattle.cwr_tools.specs.Format.Reports.{ItemLines, lines_of_findings, lines_of_data, lines_of_explained, lines_of_records, text_on}
 
 -- ---- what a whole run has written
 
@@ -57,12 +59,19 @@ abbrev pub lines_in : Report → ItemLines
 lines_in reports.Findings = lines_of_findings
 lines_in reports.Explained = lines_of_explained
 lines_in reports.Records = lines_of_records
+lines_in (reports.Data noted) = lines_of_data noted
+
+-- the notes of an item that comes after items with these numbers
+abbrev pub notes_at : Bool → Totals → Item → Option Notes
+notes_at false counts item = None
+notes_at true counts item = Some (record { group = counts.groups + (if opens_group item then 1 else 0); transaction = counts.in_group; line = counts.records + 1 })
 
 -- the lines of one item more, after items with these numbers
 abbrev pub lines_at : Report → Totals → Item → List ℕ
 lines_at reports.Findings counts item = finding_lines_in counts.groups counts.in_group item
 lines_at reports.Explained counts item = explained_in counts.groups counts.in_group (counts.records + 1) item
 lines_at reports.Records counts item = numbered_records (counts.records + 1) (item_records item)
+lines_at (reports.Data noted) counts item = item_line (notes_at noted counts item) item
 
 -- The lines of an item are put, or the writer fails in them. Where memory for them is refused none of them is put.
 abbrev pub PutsLines : {W : Type 0} → (W → Option (List ℕ)) → (W → ℕ) → Bool → List ℕ → Result (Unit {0}) ToolFault → Sink W → Sink W → Type 0

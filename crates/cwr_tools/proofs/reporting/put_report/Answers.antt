@@ -2,6 +2,9 @@ use Rattle.cwr_tools.specs.Steps.Reports.{lines_in}
 use Rattle.cwr_tools.proofs.ReportsWhole.{verdict_cut, verdict_put}
 use Rattle.cwr_tools.proofs.reporting.put_report.Goals as goal
 
+pub put_verdict-requires : goal.put_verdict-requires
+put_verdict-requires g c = c.in_ok-verdict.ensures.puts.2.unfailed
+
 pub returns-in-Ok-clause-puts : goal.returns-in-Ok-clause-puts
 returns-in-Ok-clause-puts g c =
     verdict_put (lines_in c.args.report) c.args.limits _ _ g.W.Target.contents g.W.Target.failures c.in_ok-verdict.verdict tt c.args.sink.now c.put_items.new.sink c.put_verdict.new.sink c.in_ok-verdict.ensures.puts c.in-Ok.ensures

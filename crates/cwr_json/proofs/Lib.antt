@@ -1,0 +1,9 @@
+pub mod FieldsShown
+pub mod GoodKeys
+pub mod LowBytes
+pub mod MembersOfFields
+pub mod OneItem
+pub mod OwnData
+pub mod PrintedItems
+pub mod PrintedRecords
+pub mod Spelled

@@ -1,0 +1,94 @@
+-- The text of a record's data, cell by cell.
+use Rattle.std.specs.Prelude.{◌≡◌, ℕ, zero, suc, Bool, false, nat_lt, List, [], ◌∷◌, ◌++◌, codes, decimal, Option, Some, None, if◌then◌else◌}
+use Rattle.std.specs.List.{enumerate_from, flat_map, list_any, zip}
+use Rattle.json.specs.Print.{escape}
+use Rattle.cwr_fields.specs.Format.Bytes.{is_spaces, trimmed}
+use Rattle.cwr_layouts.specs.declared.kinds.Kind.{Kind}
+use Rattle.cwr_layouts.specs.Format.Kinds.{letters}
+use Rattle.cwr_layouts.specs.Format.Layouts.{FieldLayout}
+use Rattle.cwr_layouts.specs.Format.Records.{RecordValue, carried_fields}
+use Rattle.cwr_layouts.specs.Format.Carried.{carried_at, record_cell}
+use Rattle.cwr_values.specs.declared.items.Item.{Item}
+use Rattle.cwr_values.specs.declared.items.Item.TheVariants.{Opened, GroupOpened, Transaction, GroupClosed, Ended}
+use Rattle.cwr_judge.specs.Format.Items.{item_records}
+use Rattle.cwr_json.specs.declared.notes.Notes.{Notes}
+use Rattle.cwr_json.specs.Format.Forms.{key_of, character}
+
+-- a byte as it stands between quotes
+abbrev pub spelled_byte : ℕ → List ℕ
+spelled_byte b = escape (character b)
+
+-- bytes as they stand between quotes
+abbrev pub spelled : List ℕ → List ℕ
+spelled text = flat_map spelled_byte text
+
+-- no byte is a control byte below the space
+abbrev pub has_low : List ℕ → Bool
+has_low text = list_any (λ b. nat_lt b 32) text
+
+abbrev pub NoLow : List ℕ → Type 0
+NoLow text = has_low text ≡ false
+
+-- a cell as a member after others, unless it is blank
+abbrev pub member_text : FieldLayout → List ℕ → List ℕ
+member_text f cell = if is_spaces cell then [] else codes ",\"" ++ key_of f.name ++ codes "\":\"" ++ spelled (trimmed cell) ++ codes "\""
+
+-- the cells beside their fields
+abbrev pub members_beside : List FieldLayout → List (List ℕ) → List ℕ
+members_beside fields cells = flat_map (λ p. member_text p.0 p.1) (zip fields cells)
+
+-- the cells of a record
+unfoldable pub member_texts : RecordValue → List ℕ
+member_texts r = members_beside (carried_fields r.kind) r.cells
+
+-- the kind of a record, as the first member
+abbrev pub head_text : Kind → List ℕ
+head_text kind = codes "{\"record_type\":\"" ++ letters kind ++ codes "\""
+
+-- a record
+abbrev pub record_text : RecordValue → List ℕ
+record_text r = head_text r.kind ++ member_texts r ++ codes "}"
+
+-- the member of a field, where the record carries one
+abbrev pub member_of : Option FieldLayout → Option (List ℕ) → List ℕ
+member_of (Some f) (Some cell) = member_text f cell
+member_of f cell = []
+
+abbrev pub field_member : RecordValue → ℕ → List ℕ
+field_member r j = member_of (carried_at r.kind j) (record_cell r j)
+
+-- ---- an item
+
+-- a note by its key, and a comma
+abbrev pub note_text : List ℕ → ℕ → List ℕ
+note_text key n = key ++ decimal n ++ codes ","
+
+-- the notes that say where it stands among groups and transactions
+abbrev pub group_notes_text : Notes → Item → List ℕ
+group_notes_text n (Opened r) = []
+group_notes_text n (GroupOpened r) = note_text (codes "\"_group\":") n.group
+group_notes_text n (Transaction t) = note_text (codes "\"_group\":") n.group ++ note_text (codes "\"_transaction\":") n.transaction
+group_notes_text n (GroupClosed r) = note_text (codes "\"_group\":") n.group
+group_notes_text n Ended = []
+
+-- its notes, if it has any
+abbrev pub notes_text : Option Notes → Item → List ℕ
+notes_text None item = []
+notes_text (Some n) item = group_notes_text n item ++ note_text (codes "\"_line\":") n.line
+
+-- what stands before its records
+abbrev pub opening_text : Option Notes → Item → List ℕ
+opening_text notes item = codes "{" ++ notes_text notes item ++ codes "\"records\":["
+
+-- a record after others in its item, so many
+abbrev pub placed_text : ℕ → RecordValue → List ℕ
+placed_text zero r = record_text r
+placed_text (suc before) r = codes "," ++ record_text r
+
+-- records, of which so many stand before
+abbrev pub placed_texts : ℕ → List RecordValue → List ℕ
+placed_texts before rs = flat_map (λ p. placed_text p.0 p.1) (enumerate_from before rs)
+
+-- the line of an item
+abbrev pub item_text : Option Notes → Item → List ℕ
+item_text notes item = (opening_text notes item ++ placed_texts 0 (item_records item)) ++ codes "]}\n"

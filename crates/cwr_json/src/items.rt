@@ -1,0 +1,156 @@
+//! The lines of items, put to a sink.
+
+ghost use Rattle.std.specs.Prelude.{◌≡◌, [], ◌∷◌, ◌++◌, codes, IfErr, false};
+ghost use Rattle.cwr_encode.specs.Steps.Sinks.{Puts, has_failed, written_of};
+ghost use Rattle.cwr_judge.specs.Format.Items.{item_records};
+ghost use Rattle.cwr_values.specs.Format.Rows.{trailer};
+ghost use Rattle.cwr_json.specs.Format.Forms.{item_line};
+ghost use Rattle.cwr_json.specs.Steps.FormTexts.{opening_text, placed_text, placed_texts};
+
+use crate::notes::Notes;
+use crate::records::RecordText;
+use cwr_encode::{Sink, SinkFault};
+use cwr_fields::Target;
+use cwr_layouts::RecordRef;
+use cwr_values::{Item, Transaction};
+
+/// Puts the text that was made.
+fn put_text<W: Target>(text: &RecordText, sink: &mut Sink<W>) -> Result<(), SinkFault>
+    requires { has_failed sink.old ≡ false }
+    ensures puts { Puts W.contents W.failures text.now result sink.old sink.new }
+    ensures fault { IfErr result (λ f. f.written ≡ written_of sink.new) }
+{
+    sink.put(text.as_slice())
+}
+
+/// Puts TRL, which carries nothing.
+fn put_trailer<W: Target>(text: &mut RecordText, sink: &mut Sink<W>) -> Result<(), SinkFault>
+    requires { has_failed sink.old ≡ false }
+    ensures puts { Puts W.contents W.failures (placed_texts 0 (trailer ∷ [])) result sink.old sink.new }
+    ensures fault { IfErr result (λ f. f.written ≡ written_of sink.new) }
+{
+    text.set_trailer();
+    put_text(text, sink)
+}
+
+/// Puts a record that has so many before it in its item.
+fn put_placed<W: Target>(
+    before: u64,
+    shown: &RecordRef<'_>,
+    text: &mut RecordText,
+    sink: &mut Sink<W>,
+) -> Result<(), SinkFault>
+    requires { has_failed sink.old ≡ false }
+    ensures puts { Puts W.contents W.failures (placed_text before shown.now) result sink.old sink.new }
+    ensures fault { IfErr result (λ f. f.written ≡ written_of sink.new) }
+{
+    text.set_placed(before, shown);
+    put_text(text, sink)
+}
+
+/// Puts the records of a transaction.
+fn put_records<W: Target>(
+    transaction: &Transaction,
+    text: &mut RecordText,
+    sink: &mut Sink<W>,
+) -> Result<(), SinkFault>
+    requires unfailed { has_failed sink.old ≡ false }
+    ensures puts { Puts W.contents W.failures (placed_texts 0 transaction.now) result sink.old sink.new }
+    ensures fault { IfErr result (λ f. f.written ≡ written_of sink.new) }
+{
+    let count = transaction.len();
+    let mut i: usize = 0;
+    while let Some(shown) = transaction.record(i) {
+        put_placed(i as u64, &shown, text, sink)?;
+        prove!(i < count);
+        i += 1;
+    }
+    Ok(())
+}
+
+/// Puts the record of an item that is one record.
+fn put_alone<W: Target>(
+    shown: &RecordRef<'_>,
+    text: &mut RecordText,
+    sink: &mut Sink<W>,
+) -> Result<(), SinkFault>
+    requires { has_failed sink.old ≡ false }
+    ensures puts { Puts W.contents W.failures (placed_texts 0 (shown.now ∷ [])) result sink.old sink.new }
+    ensures fault { IfErr result (λ f. f.written ≡ written_of sink.new) }
+{
+    text.set_placed(0, shown);
+    put_text(text, sink)
+}
+
+/// Puts the records of an item.
+fn put_all<W: Target>(
+    item: &Item,
+    text: &mut RecordText,
+    sink: &mut Sink<W>,
+) -> Result<(), SinkFault>
+    requires unfailed { has_failed sink.old ≡ false }
+    ensures puts { Puts W.contents W.failures (placed_texts 0 (item_records item.now)) result sink.old sink.new }
+    ensures fault { IfErr result (λ f. f.written ≡ written_of sink.new) }
+{
+    match item {
+        Item::Opened(record) => put_alone(&record.view(), text, sink),
+        Item::GroupOpened(record) => put_alone(&record.view(), text, sink),
+        Item::GroupClosed(record) => put_alone(&record.view(), text, sink),
+        Item::Transaction(transaction) => put_records(transaction, text, sink),
+        Item::Ended => put_trailer(text, sink),
+    }
+}
+
+/// Puts what stands before the records of an item.
+fn put_opening<W: Target>(
+    notes: Option<Notes>,
+    item: &Item,
+    text: &mut RecordText,
+    sink: &mut Sink<W>,
+) -> Result<(), SinkFault>
+    requires unfailed { has_failed sink.old ≡ false }
+    ensures puts { Puts W.contents W.failures (opening_text notes item.now) result sink.old sink.new }
+    ensures fault { IfErr result (λ f. f.written ≡ written_of sink.new) }
+{
+    text.set_opening(notes, item);
+    put_text(text, sink)
+}
+
+/// Puts what stands before the end of an item's line.
+fn put_begun<W: Target>(
+    notes: Option<Notes>,
+    item: &Item,
+    text: &mut RecordText,
+    sink: &mut Sink<W>,
+) -> Result<(), SinkFault>
+    requires unfailed { has_failed sink.old ≡ false }
+    ensures puts { Puts W.contents W.failures (opening_text notes item.now ++ placed_texts 0 (item_records item.now)) result sink.old sink.new }
+    ensures fault { IfErr result (λ f. f.written ≡ written_of sink.new) }
+{
+    put_opening(notes, item, text, sink)?;
+    put_all(item, text, sink)
+}
+
+/// Puts the end of an item's line.
+fn put_end<W: Target>(sink: &mut Sink<W>) -> Result<(), SinkFault>
+    requires { has_failed sink.old ≡ false }
+    ensures puts { Puts W.contents W.failures (codes "]}\n") result sink.old sink.new }
+    ensures fault { IfErr result (λ f. f.written ≡ written_of sink.new) }
+{
+    sink.put(b"]}\n")
+}
+
+/// Puts the data of an item as one line, with its notes if there are any. Texts are made in the buffer.
+pub fn put_data<W: Target>(
+    notes: Option<Notes>,
+    item: &Item,
+    text: &mut RecordText,
+    sink: &mut Sink<W>,
+) -> Result<(), SinkFault>
+    requires unfailed { has_failed sink.old ≡ false }
+    ensures puts { Puts W.contents W.failures (item_line notes item.now) result sink.old sink.new }
+    ensures fault { IfErr result (λ f. f.written ≡ written_of sink.new) }
+{
+    put_begun(notes, item, text, sink)?;
+    put_end(sink)
+}

@@ -1,0 +1,12 @@
+//! The JSON form of CWR 2.1 transmissions: a line for each item.
+#![tactic(auto)]
+
+mod items;
+pub mod laws;
+mod notes;
+mod records;
+mod spelling;
+
+pub use items::put_data;
+pub use notes::Notes;
+pub use records::RecordText;
