@@ -6,6 +6,7 @@ use crate::next_symbols::coming;
 use crate::openings::opening_of;
 use crate::texts::{add_beginning, add_cell, add_label};
 use crate::trailing::Trailing;
+use crate::wrong_numbers::WrongNumber;
 use cwr_decode::{LastRead, Refusal};
 use cwr_fields::{CellFault, first_control};
 use cwr_layouts::{CutLine, Field, Kind, LONGEST_LINE, field, is_carried, width};
@@ -23,6 +24,8 @@ pub(crate) struct Refused<'a> {
     pub refusal: &'a Refusal,
     /// The line.
     pub line: LineAtEnd<'a>,
+    /// The line before it, where all of that is still held.
+    pub before: Option<&'a [u8]>,
     /// Its kind.
     pub kind: Option<Kind>,
     /// Whether it has more than 1,024 bytes.
@@ -180,6 +183,17 @@ fn add_coming(alloc: Global, text: &mut String, stage: Stage) -> Result<(), Allo
     Ok(())
 }
 
+/// The number that digits write.
+fn number_in(digits: &[u8]) -> u64 {
+    let mut number: u64 = 0;
+    for digit in digits {
+        number = number
+            .saturating_mul(10)
+            .saturating_add(u64::from(digit.saturating_sub(b'0')));
+    }
+    number
+}
+
 /// Adds a number in the width of its field.
 fn add_number(text: &mut String, width: usize, number: u64) -> Result<(), AllocError> {
     match width {
@@ -239,9 +253,29 @@ impl Refused<'_> {
         if let (Some(kind), Some(place)) = (self.kind, self.refused_field()) {
             add_number(text, place.width, number)?;
             let rule = number_rule(kind, self.refusal.field);
-            write!(text, ": {rule}")?;
+            write!(text, ": {rule}; write it only if no record is missing")?;
         }
         text.push('\n')
+    }
+
+    /// Adds what a wrong number points to.
+    fn add_points(&self, text: &mut String, cut: &CutLine<'_>) -> Result<(), AllocError> {
+        let Reason::Number { expected } = self.refusal.reason else {
+            return Ok(());
+        };
+        let field = self.refusal.field;
+        match (self.kind, cut.cell(field)) {
+            (Some(kind), Some(cell)) => WrongNumber {
+                kind,
+                field,
+                found: number_in(cell),
+                expected,
+                line: self.line.bytes,
+                before: self.before,
+            }
+            .add(text),
+            _ => Ok(()),
+        }
     }
 
     /// Adds where the line may end.
@@ -318,6 +352,7 @@ impl Refused<'_> {
         self.add_where(text)?;
         self.add_field(text)?;
         self.add_found(text, &cut)?;
+        self.add_points(text, &cut)?;
         self.add_expected(alloc, text, limits, stage, &cut)?;
         self.add_level(text)?;
         self.add_opening(text)?;

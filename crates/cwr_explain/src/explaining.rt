@@ -7,7 +7,7 @@ ghost use Rattle.cwr_explain.specs.Format.Explained.{AddsWords, IsAnswerTo, Read
 ghost use Rattle.cwr_explain.specs.Steps.Explained.{Explains};
 
 use crate::causes::{Refused, add_trailing, add_truncated, kind_of};
-use crate::lines_at_end::line_at_end;
+use crate::lines_at_end::{line_at_end, line_before};
 use crate::trailing::{Trailing, read_trailing};
 use cwr_decode::{LastRead, Refusal};
 use cwr_encode::Sink;
@@ -74,6 +74,7 @@ fn add_refused(
         name,
         refusal,
         line,
+        before: line_before(&last.bytes),
         kind: kind_of(line.bytes),
         is_too_long,
     };

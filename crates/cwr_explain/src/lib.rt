@@ -10,6 +10,7 @@ mod next_symbols;
 mod openings;
 mod texts;
 mod trailing;
+mod wrong_numbers;
 
 pub use explaining::explain;
 pub use lines_at_end::{LineAtEnd, line_at_end};

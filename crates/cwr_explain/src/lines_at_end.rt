@@ -64,6 +64,19 @@ pub fn line_at_end(last: &LastBytes) -> LineAtEnd<'_>
     }
 }
 
+/// The line before the one with which the bytes end, without its line feed. `None` where not all of it is still held, or there is
+/// none.
+pub(crate) fn line_before(last: &LastBytes) -> Option<&[u8]> {
+    let held = last.as_slice();
+    let (text, _) = without_feed(held);
+    let front = &text[..memrchr(LF, text)?];
+    match memrchr(LF, front) {
+        Some(at) => Some(&front[at..][1..]),
+        None if last.read() == held.len() as u64 => Some(front),
+        None => None,
+    }
+}
+
 /// An open line of these bytes, or where they have a line feed or are too many, of their front. How that ended is answered too.
 fn line_of(bytes: &[u8]) -> (LineBuf, LineEnd)
     ensures ended { result.1 ≡ result.0.ended }

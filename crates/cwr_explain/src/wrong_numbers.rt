@@ -1,0 +1,205 @@
+//! What a wrong number points to: records that are missing or stand twice, or a count that wasn't changed.
+
+use crate::texts::add_label;
+use cwr_layouts::Kind;
+use std::alloc::AllocError;
+use std::fmt::Write;
+
+/// The bytes of a line before which its sequences end.
+const AFTER_SEQUENCES: usize = 19;
+
+/// A number that isn't the one that belongs there.
+#[derive(Clone, Copy, Debug)]
+pub(crate) struct WrongNumber<'a> {
+    /// The kind of its record.
+    pub kind: Kind,
+    /// Its field, from 1.
+    pub field: u8,
+    /// The number that stands there.
+    pub found: u64,
+    /// The number that belongs there.
+    pub expected: u64,
+    /// Its line.
+    pub line: &'a [u8],
+    /// The line before, where its bytes are still held.
+    pub before: Option<&'a [u8]>,
+}
+
+/// What is numbered, as one and as several.
+#[derive(Clone, Copy, Debug)]
+struct Numbered {
+    one: &'static str,
+    several: &'static str,
+    /// What its number is called.
+    number: &'static str,
+}
+
+const RECORD: Numbered = Numbered {
+    one: "record",
+    several: "records",
+    number: "sequence",
+};
+
+const TRANSACTION: Numbered = Numbered {
+    one: "transaction",
+    several: "transactions",
+    number: "sequence",
+};
+
+const GROUP: Numbered = Numbered {
+    one: "group",
+    several: "groups",
+    number: "ID",
+};
+
+/// Whether the record is the header of a transaction.
+fn is_header(kind: Kind) -> bool {
+    matches!(kind, Kind::Agr | Kind::Nwr | Kind::Rev | Kind::Ack)
+}
+
+/// Adds which ones are missing between the one before and this one.
+fn add_missing(
+    text: &mut String,
+    what: Numbered,
+    found: u64,
+    expected: u64,
+) -> Result<(), AllocError> {
+    let Numbered {
+        one,
+        several,
+        number,
+    } = what;
+    let last = found.saturating_sub(1);
+    if let Some(before) = expected.checked_sub(1) {
+        write!(text, "{several} {before} and {found} stand beside each other: ")?;
+    }
+    if last == expected {
+        write!(text, "the {one} with {number} {expected} is missing before this line")
+    } else {
+        write!(
+            text,
+            "the {several} with {number} {expected} to {last} are missing before this line"
+        )
+    }
+}
+
+/// Adds that the number was used before.
+fn add_used(
+    text: &mut String,
+    what: Numbered,
+    found: u64,
+    expected: u64,
+) -> Result<(), AllocError> {
+    let Numbered { one, several, .. } = what;
+    let back = expected.saturating_sub(found);
+    if back == 1 {
+        write!(
+            text,
+            "this {one} has the number of the one before: it stands twice, or two files were put together"
+        )
+    } else {
+        write!(
+            text,
+            "{back} {several} before, this number was used: {several} stand twice or elsewhere, or two files were put together"
+        )
+    }
+}
+
+impl WrongNumber<'_> {
+    /// Adds what a number points to that is one more with each of what it numbers.
+    fn add_in_order(&self, text: &mut String, what: Numbered) -> Result<(), AllocError> {
+        if self.found > self.expected {
+            add_missing(text, what, self.found, self.expected)
+        } else {
+            add_used(text, what, self.found, self.expected)
+        }
+    }
+
+    /// Adds whether the line is the one before but for its sequences, where that is known.
+    fn add_comparison(&self, text: &mut String) -> Result<(), AllocError> {
+        let Some(before) = self.before else {
+            return Ok(());
+        };
+        let from = AFTER_SEQUENCES.min(self.line.len()).min(before.len());
+        let same = self.line[from..] == before[from..] && self.line[..3.min(from)] == before[..3.min(from)];
+        text.push_str(if same {
+            "; but for the numbers both lines are the same"
+        } else {
+            "; the two lines aren't the same"
+        })
+    }
+
+    /// Adds what the sequence of a record points to.
+    fn add_record(&self, text: &mut String) -> Result<(), AllocError> {
+        if is_header(self.kind) && self.expected == 0 {
+            return text.push_str("the header of a transaction is its first record, which has sequence 0");
+        }
+        self.add_in_order(text, RECORD)?;
+        if self.found.saturating_add(1) == self.expected {
+            self.add_comparison(text)?;
+        }
+        Ok(())
+    }
+
+    /// Adds what the sequence of a transaction points to.
+    fn add_transaction(&self, text: &mut String) -> Result<(), AllocError> {
+        let (found, expected) = (self.found, self.expected);
+        if is_header(self.kind) {
+            return self.add_in_order(text, TRANSACTION);
+        }
+        write!(
+            text,
+            "the header of this transaction has sequence {expected}, and the record {found}: it belongs to another one, or a header is missing before it"
+        )
+    }
+
+    /// Adds what a count points to.
+    fn add_count(
+        &self,
+        text: &mut String,
+        whole: &str,
+        several: &str,
+    ) -> Result<(), AllocError> {
+        let (found, expected) = (self.found, self.expected);
+        write!(text, "the {whole} has {expected} {several} and says {found}: ")?;
+        if found > expected {
+            let missing = found.saturating_sub(expected);
+            write!(
+                text,
+                "{missing} missing, or the count wasn't changed when some were taken out"
+            )
+        } else {
+            let more = expected.saturating_sub(found);
+            write!(
+                text,
+                "{more} too many, or the count wasn't changed when some were put in"
+            )
+        }
+    }
+
+    /// Adds what the number points to.
+    fn add_meaning(&self, text: &mut String) -> Result<(), AllocError> {
+        let (found, expected) = (self.found, self.expected);
+        match (self.kind, self.field) {
+            (Kind::Grh, _) => self.add_in_order(text, GROUP),
+            (Kind::Grt, 2) => write!(
+                text,
+                "the group's GRH has ID {expected}, and its GRT {found}: a GRT and a GRH are missing between, or one was put in the other's place"
+            ),
+            (Kind::Grt, 3) => self.add_count(text, "group", "transactions"),
+            (Kind::Grt, _) => self.add_count(text, "group", "records"),
+            (Kind::Trl, 2) => self.add_count(text, "file", "groups"),
+            (Kind::Trl, 3) => self.add_count(text, "file", "transactions"),
+            (Kind::Trl, _) => self.add_count(text, "file", "records"),
+            (_, 2) => self.add_transaction(text),
+            _ => self.add_record(text),
+        }
+    }
+
+    /// Adds the line that says what the number points to.
+    pub(crate) fn add(&self, text: &mut String) -> Result<(), AllocError> {
+        add_label(text, "points to")?;
+        self.add_meaning(text)?;
+        text.push('\n')
+    }
+}
