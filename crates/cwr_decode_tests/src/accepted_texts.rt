@@ -1,7 +1,7 @@
 //! Tests of decoders over worked transmissions that are fed whole: the items, the kinds of each transaction's records, and
 //! the used bytes.
 
-use crate::decoders::{LARGEST, Numbers, decoder_within, feed, text_of};
+use crate::decoders::{LARGEST, Numbers, check_equal, decoder_within, feed, text_of};
 use cwr_decode::{Decoder, Outcome};
 use cwr_layouts::Kind::{
     self, Ack, Agr, Alt, Ari, Com, Ind, Ipa, Msg, Npa, Nwr, Opu, Orn, Owr, Per, Pwr, Rec, Rev, Spt,
@@ -160,15 +160,15 @@ fn check_accepted(
     transactions: &[&[Kind]],
 ) {
     let text = text_of(rt, lines);
-    assert_eq!(rt; text.len(), bytes);
     let mut decoder = decoder_within(rt, limits);
     let answer = feed_whole(rt, &mut decoder, text.as_slice(), transactions);
-    assert_eq!(rt; answer, (bytes, transactions.len()));
-    let records = decoder.records() as usize;
-    assert_eq!(rt;
-        (records, feed(&mut decoder, b"")),
-        (lines.len(), (0, "done"))
+    check_equal(
+        rt,
+        (text.len(), answer),
+        (bytes, (bytes, transactions.len())),
     );
+    let done = (decoder.records() as usize, feed(&mut decoder, b""));
+    check_equal(rt, done, (lines.len(), (0, "done")));
 }
 
 /// Transmissions of works, acknowledgements and agreements.
