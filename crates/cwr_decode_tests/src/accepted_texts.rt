@@ -1,7 +1,7 @@
 //! Tests of decoders over worked transmissions that are fed whole: the items, the kinds of each transaction's records, and
 //! the used bytes.
 
-use crate::decoders::{LARGEST, Numbers, decoder_within, feed, text_of};
+use crate::decoders::{LARGEST, Numbers, check_equal, decoder_within, feed, text_of};
 use cwr_decode::{Decoder, Outcome};
 use cwr_layouts::Kind::{
     self, Ack, Agr, Alt, Ari, Com, Ind, Ipa, Msg, Npa, Nwr, Opu, Orn, Owr, Per, Pwr, Rec, Rev, Spt,
@@ -112,41 +112,6 @@ const BARE_COPY: &[&[u8]] = &[
     b"TRL000010000000100000007",
 ];
 
-/// Limits, the lines of a transmission within them, the length of its canonical text, and the kinds of the records of each
-/// transaction.
-type Accepted = (
-    Numbers,
-    &'static [&'static [u8]],
-    usize,
-    &'static [&'static [Kind]],
-);
-
-#[rattlefmt::skip]
-static ACCEPTED: [Accepted; 13] = [
-    (LARGEST, MESSAGE, 546, &[&[Ack, Msg]]),
-    (LARGEST, WORK_OF_ELEVEN, 1893, &[&[Nwr, Spu, Spt, Opu, Swr, Swt, Pwr, Owr, Alt, Per, Rec]]),
-    (LARGEST, WORK_OF_ELEVEN_REORDERED, 1893, &[&[Nwr, Spu, Spt, Opu, Swr, Swt, Pwr, Owr, Rec, Per, Alt]]),
-    (LARGEST, TWO_GROUPS, 1599, &[&[Nwr, Swr], &[Rev, Swr], &[Rev, Swr]]),
-    (LARGEST, VERSIONED_WORK, 1621, &[&[Nwr, Swr, Ver, Orn, Com]]),
-    ((11, 99_999, 999_999), AGREEMENT_OF_TWO_BLOCKS, 993, &[&[Agr, Ter, Ipa, Ipa, Ter, Ipa, Ipa]]),
-    ((8, 99_999, 999_999), AGREEMENT, 657, &[&[Agr, Ter, Ipa, Ipa]]),
-    ((9, 99_999, 999_999), AGREEMENT_OF_THREE, 812, &[&[Agr, Ter, Ipa, Ipa, Ipa]]),
-    ((5, 1, 1), ONE_ACKNOWLEDGEMENT, 359, &[&[Ack]]),
-    ((8, 1, 4), CARRIED_RECORDS, 2084, &[&[Nwr, Ind, Swr, Ari]]),
-    (LARGEST, CARRIED_AMONG_PUBLISHERS, 1608, &[&[Nwr, Spu, Ind, Spt, Swr]]),
-    (LARGEST, CARRIED_AMONG_PARTIES, 2099, &[&[Agr, Npa, Ter, Ipa, Npa, Ipa]]),
-    ((99_999_999, 99_999, 3), CARRIED_BEFORE_WRITER, 1363, &[&[Nwr, Ind, Swr]]),
-];
-
-/// The same of acknowledgements with copies.
-#[rattlefmt::skip]
-static COPIES: [Accepted; 4] = [
-    (LARGEST, COPIED_WORK, 990, &[&[Ack, Msg, Nwr, Swr]]),
-    (LARGEST, COPY_BEFORE_ANOTHER, 964, &[&[Ack, Nwr, Swr], &[Ack]]),
-    (LARGEST, COPIED_AGREEMENT, 1539, &[&[Ack, Agr, Ter, Ipa, Npa, Ipa]]),
-    ((7, 1, 3), BARE_COPY, 803, &[&[Ack, Nwr, Swr]]),
-];
-
 /// Checks that the transaction has records of just these kinds, and is complete.
 fn check_kinds(rt: &impl Abort, transaction: &Transaction, kinds: &[Kind]) {
     assert_eq!(rt; transaction.len(), kinds.len());
@@ -185,27 +150,62 @@ fn feed_whole(
     (used, count)
 }
 
-/// Checks that the text is handed out as the row says, and that the decoder is done then.
-fn check_accepted(rt: &(impl Abort + AllocGlobal), row: &Accepted) {
-    let (limits, lines, bytes, transactions) = *row;
+/// Checks that the canonical text of lines, of so many bytes, is handed out within the limits in transactions of these kinds,
+/// and that the decoder is done then.
+fn check_accepted(
+    rt: &(impl Abort + AllocGlobal),
+    limits: Numbers,
+    lines: &[&[u8]],
+    bytes: usize,
+    transactions: &[&[Kind]],
+) {
     let text = text_of(rt, lines);
-    assert_eq!(rt; text.len(), bytes);
     let mut decoder = decoder_within(rt, limits);
     let answer = feed_whole(rt, &mut decoder, text.as_slice(), transactions);
-    assert_eq!(rt; answer, (bytes, transactions.len()));
-    assert_eq!(rt; decoder.records() as usize, lines.len());
-    assert_eq!(rt; feed(&mut decoder, b""), (0, "done"));
+    check_equal(
+        rt,
+        (text.len(), answer),
+        (bytes, (bytes, transactions.len())),
+    );
+    let done = (decoder.records() as usize, feed(&mut decoder, b""));
+    check_equal(rt, done, (lines.len(), (0, "done")));
 }
 
-/// Checks each row.
-fn check_rows(rt: &(impl Abort + AllocGlobal), rows: &[Accepted]) {
-    for row in rows {
-        check_accepted(rt, row);
-    }
+/// Transmissions of works, acknowledgements and agreements.
+#[rattlefmt::skip]
+fn check_plain(rt: &(impl Abort + AllocGlobal)) {
+    check_accepted(rt, LARGEST, MESSAGE, 546, &[&[Ack, Msg]]);
+    check_accepted(rt, LARGEST, WORK_OF_ELEVEN, 1893, &[&[Nwr, Spu, Spt, Opu, Swr, Swt, Pwr, Owr, Alt, Per, Rec]]);
+    check_accepted(rt, LARGEST, WORK_OF_ELEVEN_REORDERED, 1893, &[&[Nwr, Spu, Spt, Opu, Swr, Swt, Pwr, Owr, Rec, Per, Alt]]);
+    check_accepted(rt, LARGEST, TWO_GROUPS, 1599, &[&[Nwr, Swr], &[Rev, Swr], &[Rev, Swr]]);
+    check_accepted(rt, LARGEST, VERSIONED_WORK, 1621, &[&[Nwr, Swr, Ver, Orn, Com]]);
+    check_accepted(rt, (11, 99_999, 999_999), AGREEMENT_OF_TWO_BLOCKS, 993, &[&[Agr, Ter, Ipa, Ipa, Ter, Ipa, Ipa]]);
+    check_accepted(rt, (8, 99_999, 999_999), AGREEMENT, 657, &[&[Agr, Ter, Ipa, Ipa]]);
+    check_accepted(rt, (9, 99_999, 999_999), AGREEMENT_OF_THREE, 812, &[&[Agr, Ter, Ipa, Ipa, Ipa]]);
+    check_accepted(rt, (5, 1, 1), ONE_ACKNOWLEDGEMENT, 359, &[&[Ack]]);
+}
+
+/// Transmissions with carried records.
+#[rattlefmt::skip]
+fn check_carried(rt: &(impl Abort + AllocGlobal)) {
+    check_accepted(rt, (8, 1, 4), CARRIED_RECORDS, 2084, &[&[Nwr, Ind, Swr, Ari]]);
+    check_accepted(rt, LARGEST, CARRIED_AMONG_PUBLISHERS, 1608, &[&[Nwr, Spu, Ind, Spt, Swr]]);
+    check_accepted(rt, LARGEST, CARRIED_AMONG_PARTIES, 2099, &[&[Agr, Npa, Ter, Ipa, Npa, Ipa]]);
+    check_accepted(rt, (99_999_999, 99_999, 3), CARRIED_BEFORE_WRITER, 1363, &[&[Nwr, Ind, Swr]]);
+}
+
+/// Acknowledgements with copies.
+#[rattlefmt::skip]
+fn check_copies(rt: &(impl Abort + AllocGlobal)) {
+    check_accepted(rt, LARGEST, COPIED_WORK, 990, &[&[Ack, Msg, Nwr, Swr]]);
+    check_accepted(rt, LARGEST, COPY_BEFORE_ANOTHER, 964, &[&[Ack, Nwr, Swr], &[Ack]]);
+    check_accepted(rt, LARGEST, COPIED_AGREEMENT, 1539, &[&[Ack, Agr, Ter, Ipa, Npa, Ipa]]);
+    check_accepted(rt, (7, 1, 3), BARE_COPY, 803, &[&[Ack, Nwr, Swr]]);
 }
 
 #[test]
 fn transmissions_are_handed_out_by_items(rt: HostRuntime) {
-    check_rows(&rt, &ACCEPTED);
-    check_rows(&rt, &COPIES);
+    check_plain(&rt);
+    check_carried(&rt);
+    check_copies(&rt);
 }

@@ -1,6 +1,6 @@
 //! All that a decoder answers on a text, in one piece or in several.
 
-use crate::decoders::{Numbers, decoder_within, end_by, feed, finish, name_after};
+use crate::decoders::{Numbers, check_equal, decoder_within, end_by, feed, finish, name_after};
 use crate::item_lines::add_item;
 use cwr_decode::{Decoder, End, Outcome, Step};
 use std::process::Abort;

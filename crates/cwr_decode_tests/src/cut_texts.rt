@@ -8,14 +8,6 @@ use cwr_shape::{Level, Reason};
 use cwr_worked::texts::{AGREEMENT_OF_TWO_BLOCKS, ONE_ACKNOWLEDGEMENT, TWO_GROUPS, WORK_OF_ELEVEN};
 use std::process::Abort;
 
-/// Transmissions, and how many items each gives.
-static WORKED: [(&[&[u8]], usize); 4] = [
-    (ONE_ACKNOWLEDGEMENT, 5),
-    (WORK_OF_ELEVEN, 5),
-    (AGREEMENT_OF_TWO_BLOCKS, 5),
-    (TWO_GROUPS, 9),
-];
-
 /// Checks that a text is answered alike in two pieces that are cut at one of these places, with an empty piece between them.
 fn check_cuts(
     rt: &(impl Abort + AllocGlobal),
@@ -112,9 +104,10 @@ fn check_transmission(rt: &(impl Abort + AllocGlobal), lines: &[&[u8]], items: u
 
 #[test]
 fn transmissions_cut_at_each_byte(rt: HostRuntime) {
-    for (lines, items) in &WORKED {
-        check_transmission(&rt, lines, *items);
-    }
+    check_transmission(&rt, ONE_ACKNOWLEDGEMENT, 5);
+    check_transmission(&rt, WORK_OF_ELEVEN, 5);
+    check_transmission(&rt, AGREEMENT_OF_TWO_BLOCKS, 5);
+    check_transmission(&rt, TWO_GROUPS, 9);
 }
 
 /// Bytes that are changed in the work of eleven records. They stand in SPT: the last letter of its kind, a sequence, a cell of

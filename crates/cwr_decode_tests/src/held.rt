@@ -1,6 +1,6 @@
 //! Tests of what a decoder holds after each byte of worked transmissions.
 
-use crate::decoders::{LARGEST, decoder_within, feed, short_text_of, text_of};
+use crate::decoders::{LARGEST, check_equal, decoder_within, feed, short_text_of, text_of};
 use cwr_decode::{Decoder, Outcome};
 use cwr_values::Item;
 use cwr_worked::texts::{
@@ -36,11 +36,11 @@ fn feed_byte(decoder: &mut Decoder, byte: u8) -> (Option<usize>, (usize, usize))
 fn check_line(rt: &impl Abort, decoder: &mut Decoder, line: &[u8], open: usize) -> usize {
     let (len, holds) = feed_byte(decoder, b'\n');
     if len.is_some() {
-        assert_eq!(rt; (len, holds), (Some(open), (line.len(), 0)));
+        check_equal(rt, (len, holds), (Some(open), (line.len(), 0)));
         let _waited = feed(decoder, b"");
     }
     let open = open_after(line, open);
-    assert_eq!(rt; decoder.holds(), (0, open));
+    check_equal(rt, decoder.holds(), (0, open));
     open
 }
 

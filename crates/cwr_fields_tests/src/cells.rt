@@ -3,6 +3,8 @@
 use cwr_fields::{
     CellFault, CellType, DeviceFault, Word, first_control, fits, iswc_ok, trimmed, width_of,
 };
+use std::fmt::Display;
+use std::process::Abort;
 
 /// What is reported of the cell, or nothing where it isn't as wide as its type.
 fn fault_in(ty: CellType, cell: &[u8]) -> Option<Result<(), CellFault>> {
@@ -12,7 +14,7 @@ fn fault_in(ty: CellType, cell: &[u8]) -> Option<Result<(), CellFault>> {
     }
 }
 
-static CELLS: [(CellType, &[u8], Result<(), CellFault>); 17] = [
+const CELLS: &[(CellType, &[u8], Result<(), CellFault>)] = &[
     (CellType::OptDate, b"20230229", Err(CellFault::NotADate)),
     (CellType::OptDate, b"20240229", Ok(())),
     (CellType::OptDate, b"00000000", Ok(())),
@@ -38,38 +40,43 @@ static CELLS: [(CellType, &[u8], Result<(), CellFault>); 17] = [
 
 #[test]
 fn worked_cells(rt: HostRuntime) {
-    for (ty, cell, answer) in &CELLS {
+    for (ty, cell, answer) in CELLS {
         assert_eq!(rt; fault_in(*ty, cell), Some(*answer), "{ty:?}");
     }
 }
 
-static FAULTS: [(CellFault, &str); 8] = [
-    (CellFault::Blank, "cell blank"),
-    (CellFault::Control, "cell control"),
-    (CellFault::NotDigits, "cell not digits"),
-    (CellFault::NotADate, "cell not a date"),
-    (CellFault::NotATime, "cell not a time"),
-    (CellFault::OverShare, "cell over share"),
-    (CellFault::NotACode, "cell not a code"),
-    (CellFault::NotConstant, "cell not constant"),
+const FAULTS: &[(CellFault, &str)] = &[
+    (CellFault::Blank, "[        cell blank]"),
+    (CellFault::Control, "[      cell control]"),
+    (CellFault::NotDigits, "[   cell not digits]"),
+    (CellFault::NotADate, "[   cell not a date]"),
+    (CellFault::NotATime, "[   cell not a time]"),
+    (CellFault::OverShare, "[   cell over share]"),
+    (CellFault::NotACode, "[   cell not a code]"),
+    (CellFault::NotConstant, "[ cell not constant]"),
 ];
+
+/// Checks what is printed of a fault.
+fn check_text(rt: &(impl Abort + AllocGlobal), fault: impl Display + Copy, wanted: &str) {
+    let printed = format!(in rt.alloc(); "[{fault:>18}]").expect(rt, "no memory");
+    assert_eq!(rt; printed.as_str(), wanted);
+}
 
 #[test]
 fn faults_are_printed(rt: HostRuntime) {
-    for (fault, text) in &FAULTS {
-        let printed = format!(in rt.alloc(); "{fault}").expect(&rt, "no memory");
-        assert_eq!(rt; printed.as_str(), *text);
+    for (fault, text) in FAULTS {
+        check_text(&rt, *fault, text);
     }
-    let printed = format!(in rt.alloc(); "[{DeviceFault:>18}]").expect(&rt, "no memory");
-    assert_eq!(rt; printed.as_str(), "[ the device failed]");
+    check_text(&rt, DeviceFault, "[ the device failed]");
 }
 
 #[test]
 fn texts(rt: HostRuntime) {
-    assert_eq!(rt; trimmed(b"AB  "), b"AB".as_slice());
-    assert_eq!(rt; trimmed(b"   "), b"".as_slice());
-    assert_eq!(rt; first_control(&[65, 127]), Some(1));
-    assert_eq!(rt; first_control(&[128, 255]), None);
+    let spaced: [&[u8]; 2] = [trimmed(b"AB  "), trimmed(b"   ")];
+    let wanted: [&[u8]; 2] = [b"AB", b""];
+    assert_eq!(rt; spaced, wanted);
+    let controls = (first_control(&[65, 127]), first_control(&[128, 255]));
+    assert_eq!(rt; controls, (Some(1), None));
 }
 
 #[test]

@@ -31,6 +31,21 @@ fn reads_back<C: Cell + PartialEq>(table: Table, member: C, cell: &[u8]) -> bool
         && &written[..width] == cell
 }
 
+/// A cell is read as its member, which writes it back and prints its code.
+fn reads_row<C: Cell + Display + Debug + PartialEq, R: Abort + AllocGlobal>(
+    rt: &R,
+    table: Table,
+    member: C,
+    text: &str,
+)
+    requires least { 0 < C.WIDTH }
+    requires most { C.WIDTH ≤ 3 }
+{
+    assert!(rt; reads_back(table, member, text.as_bytes()), "{text}");
+    let printed = format!(in rt.alloc(); "{member}").expect(rt, "no memory");
+    assert_eq!(rt; printed.as_str(), text.trim_end());
+}
+
 /// Each cell is read as its member, which writes it back and prints its code. The other cell is none of the table.
 fn reads_table<C: Cell + Display + Debug + PartialEq, R: Abort + AllocGlobal>(
     rt: &R,
@@ -42,180 +57,259 @@ fn reads_table<C: Cell + Display + Debug + PartialEq, R: Abort + AllocGlobal>(
     requires most { C.WIDTH ≤ 3 }
 {
     for (member, text) in rows {
-        assert!(rt; reads_back(table, *member, text.as_bytes()), "{text}");
-        let printed = format!(in rt.alloc(); "{member}").expect(rt, "no memory");
-        assert_eq!(rt; printed.as_str(), text.trim_end());
+        reads_row(rt, table, *member, text);
     }
-    assert!(rt; !is_one(CellType::OptCode(table), other.as_bytes()));
-    assert!(rt; C::read(other.as_bytes()).is_none());
+    let is_none = C::read(other.as_bytes()).is_none();
+    assert!(rt; is_none && !is_one(CellType::OptCode(table), other.as_bytes()));
 }
 
 #[test]
 fn order(rt: HostRuntime) {
-    let rows = [(Role::Assignor, "AS"), (Role::Acquirer, "AC")];
-    reads_table(&rt, Table::Role, &rows, "SA");
-    let rows = [
-        (TransactionType::Agreement, "AGR"),
-        (TransactionType::NewWork, "NWR"),
-        (TransactionType::RevisedWork, "REV"),
-        (TransactionType::Acknowledgement, "ACK"),
-    ];
-    reads_table(&rt, Table::TransactionType, &rows, "ISW");
+    reads_table(
+        &rt,
+        Table::Role,
+        &[(Role::Assignor, "AS"), (Role::Acquirer, "AC")],
+        "SA",
+    );
+    reads_table(
+        &rt,
+        Table::TransactionType,
+        &[
+            (TransactionType::Agreement, "AGR"),
+            (TransactionType::NewWork, "NWR"),
+            (TransactionType::RevisedWork, "REV"),
+            (TransactionType::Acknowledgement, "ACK"),
+        ],
+        "ISW",
+    );
 }
 
 #[test]
 fn agreements(rt: HostRuntime) {
-    let rows = [
-        (AgreementType::OriginalSpecific, "OS"),
-        (AgreementType::OriginalGeneral, "OG"),
-        (AgreementType::SubpublishingSpecific, "PS"),
-        (AgreementType::SubpublishingGeneral, "PG"),
-    ];
-    reads_table(&rt, Table::AgreementType, &rows, "OO");
-    let rows = [
-        (PriorRoyaltyStatus::None, "N"),
-        (PriorRoyaltyStatus::FromDate, "D"),
-        (PriorRoyaltyStatus::All, "A"),
-    ];
-    reads_table(&rt, Table::Prior, &rows, "O");
-    let rows = [
-        (PostTermCollectionStatus::None, "N"),
-        (PostTermCollectionStatus::Open, "O"),
-        (PostTermCollectionStatus::UntilDate, "D"),
-    ];
-    reads_table(&rt, Table::PostTerm, &rows, "A");
-    let rows = [
-        (SalesManufactureClause::Sales, "S"),
-        (SalesManufactureClause::Manufacture, "M"),
-    ];
-    reads_table(&rt, Table::Sales, &rows, "N");
-    let rows = [
-        (InclusionExclusion::Included, "I"),
-        (InclusionExclusion::Excluded, "E"),
-    ];
-    reads_table(&rt, Table::Sign, &rows, "X");
+    reads_table(
+        &rt,
+        Table::AgreementType,
+        &[
+            (AgreementType::OriginalSpecific, "OS"),
+            (AgreementType::OriginalGeneral, "OG"),
+            (AgreementType::SubpublishingSpecific, "PS"),
+            (AgreementType::SubpublishingGeneral, "PG"),
+        ],
+        "OO",
+    );
+    reads_table(
+        &rt,
+        Table::Prior,
+        &[
+            (PriorRoyaltyStatus::None, "N"),
+            (PriorRoyaltyStatus::FromDate, "D"),
+            (PriorRoyaltyStatus::All, "A"),
+        ],
+        "O",
+    );
+    reads_table(
+        &rt,
+        Table::PostTerm,
+        &[
+            (PostTermCollectionStatus::None, "N"),
+            (PostTermCollectionStatus::Open, "O"),
+            (PostTermCollectionStatus::UntilDate, "D"),
+        ],
+        "A",
+    );
+    reads_table(
+        &rt,
+        Table::Sales,
+        &[
+            (SalesManufactureClause::Sales, "S"),
+            (SalesManufactureClause::Manufacture, "M"),
+        ],
+        "N",
+    );
+    reads_table(
+        &rt,
+        Table::Sign,
+        &[
+            (InclusionExclusion::Included, "I"),
+            (InclusionExclusion::Excluded, "E"),
+        ],
+        "X",
+    );
 }
 
 #[test]
 fn works(rt: HostRuntime) {
-    let rows = [
-        (DistributionCategory::Jazz, "JAZ"),
-        (DistributionCategory::Popular, "POP"),
-        (DistributionCategory::Serious, "SER"),
-        (DistributionCategory::Unclassified, "UNC"),
-    ];
-    reads_table(&rt, Table::Category, &rows, "JAX");
-    let rows = [
-        (VersionType::Original, "ORI"),
-        (VersionType::Modified, "MOD"),
-    ];
-    reads_table(&rt, Table::Version, &rows, "OR ");
-    let rows = [
-        (CompositeType::CompositeOfSamples, "COS"),
-        (CompositeType::Medley, "MED"),
-        (CompositeType::Potpourri, "POT"),
-        (CompositeType::Unspecified, "UCO"),
-    ];
-    reads_table(&rt, Table::Composite, &rows, "cos");
-    let rows = [
-        (ExcerptType::Movement, "MOV"),
-        (ExcerptType::Unspecified, "UEX"),
-    ];
-    reads_table(&rt, Table::Excerpt, &rows, "MOD");
+    reads_table(
+        &rt,
+        Table::Category,
+        &[
+            (DistributionCategory::Jazz, "JAZ"),
+            (DistributionCategory::Popular, "POP"),
+            (DistributionCategory::Serious, "SER"),
+            (DistributionCategory::Unclassified, "UNC"),
+        ],
+        "JAX",
+    );
+    reads_table(
+        &rt,
+        Table::Version,
+        &[
+            (VersionType::Original, "ORI"),
+            (VersionType::Modified, "MOD"),
+        ],
+        "OR ",
+    );
+    reads_table(
+        &rt,
+        Table::Composite,
+        &[
+            (CompositeType::CompositeOfSamples, "COS"),
+            (CompositeType::Medley, "MED"),
+            (CompositeType::Potpourri, "POT"),
+            (CompositeType::Unspecified, "UCO"),
+        ],
+        "cos",
+    );
+    reads_table(
+        &rt,
+        Table::Excerpt,
+        &[
+            (ExcerptType::Movement, "MOV"),
+            (ExcerptType::Unspecified, "UEX"),
+        ],
+        "MOD",
+    );
 }
 
 #[test]
 fn titles_and_recordings(rt: HostRuntime) {
-    let rows = [
-        (TitleType::Alternative, "AT"),
-        (TitleType::FirstLine, "TE"),
-        (TitleType::Formal, "FT"),
-        (TitleType::Incorrect, "IT"),
-        (TitleType::Original, "OT"),
-        (TitleType::OriginalTranslated, "TT"),
-        (TitleType::Part, "PT"),
-        (TitleType::Restricted, "RT"),
-        (TitleType::ExtraSearch, "ET"),
-        (TitleType::OriginalNational, "OL"),
-        (TitleType::AlternativeNational, "AL"),
-    ];
-    reads_table(&rt, Table::Title, &rows, "XX");
-    let rows = [
-        (RecordingFormat::Audio, "A"),
-        (RecordingFormat::Visual, "V"),
-    ];
-    reads_table(&rt, Table::Recording, &rows, "D");
-    let rows = [
-        (RecordingTechnique::Analogue, "A"),
-        (RecordingTechnique::Digital, "D"),
-        (RecordingTechnique::Unknown, "U"),
-    ];
-    reads_table(&rt, Table::Technique, &rows, "V");
+    reads_table(
+        &rt,
+        Table::Title,
+        &[
+            (TitleType::Alternative, "AT"),
+            (TitleType::FirstLine, "TE"),
+            (TitleType::Formal, "FT"),
+            (TitleType::Incorrect, "IT"),
+            (TitleType::Original, "OT"),
+            (TitleType::OriginalTranslated, "TT"),
+            (TitleType::Part, "PT"),
+            (TitleType::Restricted, "RT"),
+            (TitleType::ExtraSearch, "ET"),
+            (TitleType::OriginalNational, "OL"),
+            (TitleType::AlternativeNational, "AL"),
+        ],
+        "XX",
+    );
+    reads_table(
+        &rt,
+        Table::Recording,
+        &[
+            (RecordingFormat::Audio, "A"),
+            (RecordingFormat::Visual, "V"),
+        ],
+        "D",
+    );
+    reads_table(
+        &rt,
+        Table::Technique,
+        &[
+            (RecordingTechnique::Analogue, "A"),
+            (RecordingTechnique::Digital, "D"),
+            (RecordingTechnique::Unknown, "U"),
+        ],
+        "V",
+    );
 }
 
 #[test]
 fn parties(rt: HostRuntime) {
-    let rows = [
-        (PublisherType::OriginalPublisher, "E "),
-        (PublisherType::Acquirer, "AQ"),
-        (PublisherType::Administrator, "AM"),
-        (PublisherType::IncomeParticipant, "PA"),
-        (PublisherType::SubstitutedPublisher, "ES"),
-        (PublisherType::SubPublisher, "SE"),
-    ];
-    reads_table(&rt, Table::Publisher, &rows, " E");
-    let rows = [
-        (WriterDesignation::Author, "A "),
-        (WriterDesignation::Adaptor, "AD"),
-        (WriterDesignation::Arranger, "AR"),
-        (WriterDesignation::Composer, "C "),
-        (WriterDesignation::ComposerAuthor, "CA"),
-        (WriterDesignation::IncomeParticipant, "PA"),
-        (WriterDesignation::SubAuthor, "SA"),
-        (WriterDesignation::SubArranger, "SR"),
-        (WriterDesignation::Translator, "TR"),
-    ];
-    reads_table(&rt, Table::Designation, &rows, "AX");
+    reads_table(
+        &rt,
+        Table::Publisher,
+        &[
+            (PublisherType::OriginalPublisher, "E "),
+            (PublisherType::Acquirer, "AQ"),
+            (PublisherType::Administrator, "AM"),
+            (PublisherType::IncomeParticipant, "PA"),
+            (PublisherType::SubstitutedPublisher, "ES"),
+            (PublisherType::SubPublisher, "SE"),
+        ],
+        " E",
+    );
+    reads_table(
+        &rt,
+        Table::Designation,
+        &[
+            (WriterDesignation::Author, "A "),
+            (WriterDesignation::Adaptor, "AD"),
+            (WriterDesignation::Arranger, "AR"),
+            (WriterDesignation::Composer, "C "),
+            (WriterDesignation::ComposerAuthor, "CA"),
+            (WriterDesignation::IncomeParticipant, "PA"),
+            (WriterDesignation::SubAuthor, "SA"),
+            (WriterDesignation::SubArranger, "SR"),
+            (WriterDesignation::Translator, "TR"),
+        ],
+        "AX",
+    );
 }
 
 #[test]
 fn messages(rt: HostRuntime) {
-    let rows = [
-        (TransactionStatus::Conflict, "CO"),
-        (TransactionStatus::Duplicate, "DU"),
-        (TransactionStatus::TransactionAccepted, "RA"),
-        (TransactionStatus::RegistrationAccepted, "AS"),
-        (TransactionStatus::AcceptedWithChanges, "AC"),
-        (TransactionStatus::ReadyForPayment, "SR"),
-        (TransactionStatus::ChangedReadyForPayment, "CR"),
-        (TransactionStatus::Rejected, "RJ"),
-        (TransactionStatus::NoParticipation, "NP"),
-        (TransactionStatus::ClaimRejected, "RC"),
-    ];
-    reads_table(&rt, Table::Status, &rows, "OK");
-    let rows = [
-        (MessageLevel::EntireFile, "E"),
-        (MessageLevel::Group, "G"),
-        (MessageLevel::Transaction, "T"),
-        (MessageLevel::Record, "R"),
-        (MessageLevel::Field, "F"),
-    ];
-    reads_table(&rt, Table::Message, &rows, "D");
+    reads_table(
+        &rt,
+        Table::Status,
+        &[
+            (TransactionStatus::Conflict, "CO"),
+            (TransactionStatus::Duplicate, "DU"),
+            (TransactionStatus::TransactionAccepted, "RA"),
+            (TransactionStatus::RegistrationAccepted, "AS"),
+            (TransactionStatus::AcceptedWithChanges, "AC"),
+            (TransactionStatus::ReadyForPayment, "SR"),
+            (TransactionStatus::ChangedReadyForPayment, "CR"),
+            (TransactionStatus::Rejected, "RJ"),
+            (TransactionStatus::NoParticipation, "NP"),
+            (TransactionStatus::ClaimRejected, "RC"),
+        ],
+        "OK",
+    );
+    reads_table(
+        &rt,
+        Table::Message,
+        &[
+            (MessageLevel::EntireFile, "E"),
+            (MessageLevel::Group, "G"),
+            (MessageLevel::Transaction, "T"),
+            (MessageLevel::Record, "R"),
+            (MessageLevel::Field, "F"),
+        ],
+        "D",
+    );
 }
 
 #[test]
 fn sender_types(rt: HostRuntime) {
-    let mut rows = [
-        (SenderType::Publisher, "PB"),
-        (SenderType::Society, "SO"),
-        (SenderType::AdministrativeAgency, "AA"),
-        (SenderType::Writer, "WR"),
-    ];
-    reads_table(&rt, Table::Sender, &rows, "P1");
+    reads_table(
+        &rt,
+        Table::Sender,
+        &[
+            (SenderType::Publisher, "PB"),
+            (SenderType::Society, "SO"),
+            (SenderType::AdministrativeAgency, "AA"),
+            (SenderType::Writer, "WR"),
+        ],
+        "P1",
+    );
     for (number, text) in [(0, "00"), (42, "42")] {
-        let digits = Number::<2>::new(number).expect(&rt, "two digits");
-        rows[0] = (SenderType::Digits(digits), text);
-        reads_table(&rt, Table::Sender, &rows, "4");
+        check_digits(&rt, number, text);
     }
     assert_eq!(rt; Number::<2>::new(100), None);
+}
+
+/// A sender type of two digits is read.
+fn check_digits<R: Abort + AllocGlobal>(rt: &R, number: u64, text: &str) {
+    let digits = Number::<2>::new(number).expect(rt, "two digits");
+    let rows = [(SenderType::Digits(digits), text)];
+    reads_table(rt, Table::Sender, &rows, "4");
 }

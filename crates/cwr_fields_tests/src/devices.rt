@@ -21,10 +21,21 @@ fn reads_through(rt: HostRuntime) {
     check_read(&rt, &mut source, b"", 0);
 }
 
+/// Writes a text and hands it on: so both calls answer.
+fn check_write<T: Target>(
+    rt: &impl Abort,
+    target: &mut T,
+    text: &[u8],
+    answers: (Result<usize, DeviceFault>, Result<(), DeviceFault>),
+) {
+    let answered = (target.write(text), target.flush());
+    assert_eq!(rt; answered, answers);
+}
+
 #[test]
 fn writes_through(rt: HostRuntime) {
     let mut target = Counted::new(Vec::new(rt.alloc()));
-    assert_eq!(rt; (target.write(b"TRL"), target.flush()), (Ok(3), Ok(())));
+    check_write(&rt, &mut target, b"TRL", (Ok(3), Ok(())));
     assert_eq!(rt; target.into_inner().as_slice(), b"TRL".as_slice());
 }
 
@@ -71,8 +82,6 @@ fn readers_fail(rt: HostRuntime) {
 #[test]
 fn writers_fail(rt: HostRuntime) {
     let mut target = Counted::new(Broken { works: true });
-    for (text, answer) in [(b"A".as_slice(), Err(DeviceFault)), (b"", Ok(0))] {
-        assert_eq!(rt; target.write(text), answer);
-    }
-    assert_eq!(rt; target.flush(), Err(DeviceFault));
+    check_write(&rt, &mut target, b"A", (Err(DeviceFault), Err(DeviceFault)));
+    check_write(&rt, &mut target, b"", (Ok(0), Err(DeviceFault)));
 }

@@ -4,16 +4,19 @@ use cwr_fields::{
     CellType, SpelledPair, Table, Word, first_control, fits, is_plain, surely_fits, width_of,
 };
 
+/// Where the first control byte of a text is, and whether there is none.
+fn controls_in(text: &[u8]) -> (Option<usize>, bool) {
+    (first_control(text), is_plain(text))
+}
+
 #[test]
 fn control_bytes_at_each_place(rt: HostRuntime) {
-    let mut text = [b'A'; 130];
     for len in 0..131 {
-        assert_eq!(rt; first_control(&text[..len]), None);
-        assert!(rt; is_plain(&text[..len]));
+        let mut text = [b'A'; 130];
+        assert_eq!(rt; controls_in(&text[..len]), (None, true));
         for at in 0..len {
             text[at] = 31;
-            assert_eq!(rt; first_control(&text[..len]), Some(at));
-            assert!(rt; !is_plain(&text[..len]));
+            assert_eq!(rt; controls_in(&text[..len]), (Some(at), false));
             text[at] = b'A';
         }
     }
@@ -22,12 +25,10 @@ fn control_bytes_at_each_place(rt: HostRuntime) {
 #[test]
 fn bytes_beside_control_bytes(rt: HostRuntime) {
     for byte in [0, 31, 127] {
-        assert_eq!(rt; first_control(&[byte; 40]), Some(0));
-        assert!(rt; !is_plain(&[byte; 40]));
+        assert_eq!(rt; controls_in(&[byte; 40]), (Some(0), false));
     }
     for byte in [32, 126, 128, 255] {
-        assert_eq!(rt; first_control(&[byte; 40]), None);
-        assert!(rt; is_plain(&[byte; 40]));
+        assert_eq!(rt; controls_in(&[byte; 40]), (None, true));
     }
 }
 

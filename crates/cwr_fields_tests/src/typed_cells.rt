@@ -44,8 +44,13 @@ fn numbers(rt: HostRuntime) {
     check_cells::<Number<10>, _>(&rt, &[b"9999999999"], &[]);
     check_cells::<Number<1>, _>(&rt, &[b"0"], &[]);
     check_cells::<Number<5>, _>(&rt, &[b"00007"], &[b"1234", b"1234x", b"     "]);
-    assert_eq!(rt; made(99999), (Some(99999), Ok(99999)));
-    assert_eq!(rt; made(100000), (None, Err(OutOfRange)));
+}
+
+#[test]
+fn numbers_in_their_ranges(rt: HostRuntime) {
+    let most = (Some(99999), Ok(99999));
+    let more = (None, Err(OutOfRange));
+    assert_eq!(rt; [made(99999), made(100000)], [most, more]);
     assert_eq!(rt; Number::<11>::try_from(0), Err(OutOfRange));
 }
 
@@ -69,17 +74,23 @@ fn cells_of_numbers(rt: HostRuntime) {
 fn shares(rt: HostRuntime) {
     let good: [&[u8]; 3] = [b"     ", b"00000", b"10000"];
     check_cells::<Share, _>(&rt, &good, &[b"10001", b"1000 "]);
+}
+
+#[test]
+fn blank_shares(rt: HostRuntime) {
     let mut cell = [0; 5];
     Share::blank().write(&mut cell);
-    assert_eq!(rt; &cell, b"     ");
-    assert_ne!(rt; Share::read(b"00000"), Some(Share::blank()));
+    let is_zero = Share::read(b"00000") == Some(Share::blank());
+    assert_eq!(rt; (&cell, is_zero), (b"     ", false));
 }
 
 #[test]
 fn shares_of_numbers(rt: HostRuntime) {
-    let third = Share::try_from(3333).map(Share::hundredths);
-    assert_eq!(rt; third, Ok(Some(3333)));
-    assert_eq!(rt; Share::try_from(10001), Err(OutOfRange));
+    let shares = [
+        Share::try_from(3333).map(Share::hundredths),
+        Share::try_from(10001).map(Share::hundredths),
+    ];
+    assert_eq!(rt; shares, [Ok(Some(3333)), Err(OutOfRange)]);
 }
 
 #[test]
@@ -93,23 +104,26 @@ fn days(rt: HostRuntime) {
 
 #[test]
 fn days_that_are_none(rt: HostRuntime) {
-    assert_eq!(rt; DateCell::read(b"00000000"), Some(DateCell::Zeros));
-    assert_eq!(rt; DateCell::read(b"        "), Some(DateCell::Blank));
+    let days = [DateCell::read(b"00000000"), DateCell::read(b"        ")];
+    assert_eq!(rt; days, [Some(DateCell::Zeros), Some(DateCell::Blank)]);
 }
 
 #[test]
 fn days_from_numbers(rt: HostRuntime) {
     let leap = CivilDate::new(2024, 2, 29);
-    assert_eq!(rt; CivilDate::read(b"20240229"), leap);
-    assert_eq!(rt; leap.map(DateCell::from), DateCell::read(b"20240229"));
+    let read = (CivilDate::read(b"20240229"), DateCell::read(b"20240229"));
+    assert_eq!(rt; (leap, leap.map(DateCell::from)), read);
 }
 
 #[test]
 fn days_of_the_calendar(rt: HostRuntime) {
     let leap = CivilDate::new(2024, 2, 29);
     assert_eq!(rt; leap.map(Date::from), Some(date(2024, 2, 29)));
-    assert_eq!(rt; CivilDate::try_from(date(2024, 2, 29)).ok(), leap);
-    assert_eq!(rt; CivilDate::try_from(date(0, 12, 31)), Err(OutOfRange));
+    let days = (
+        CivilDate::try_from(date(2024, 2, 29)).ok(),
+        CivilDate::try_from(date(0, 12, 31)),
+    );
+    assert_eq!(rt; days, (leap, Err(OutOfRange)));
 }
 
 #[test]
@@ -125,11 +139,19 @@ fn times(rt: HostRuntime) {
 fn durations(rt: HostRuntime) {
     let good: [&[u8]; 3] = [b"995959", b"000000", b"      "];
     check_cells::<DurationCell, _>(&rt, &good, &[b"006000"]);
-    assert_eq!(rt; DurationCell::read(b"      "), Some(DurationCell::Blank));
+}
+
+#[test]
+fn playing_times(rt: HostRuntime) {
     let song = PlayingTime::new(0, 3, 25);
-    assert_eq!(rt; song.map(PlayingTime::total_seconds), Some(205));
-    assert_eq!(rt; song.map(Duration::from), Some(Duration::from_secs(205)));
-    assert_eq!(rt; song.map(DurationCell::from), DurationCell::read(b"000325"));
+    let seconds = (
+        song.map(PlayingTime::total_seconds),
+        song.map(Duration::from),
+    );
+    assert_eq!(rt; seconds, (Some(205), Some(Duration::from_secs(205))));
+    let cells = (song.map(DurationCell::from), Some(DurationCell::Blank));
+    let read = (DurationCell::read(b"000325"), DurationCell::read(b"      "));
+    assert_eq!(rt; cells, read);
 }
 
 #[test]
@@ -138,39 +160,43 @@ fn flags(rt: HostRuntime) {
     check_cells::<Flag, _>(&rt, &good, &[b"X", b""]);
 }
 
-/// Checks what is printed of a value.
-fn check_text(rt: &(impl Abort + AllocGlobal), printed: impl Display + Copy, wanted: &str) {
+/// Checks what is printed of a value, which there is.
+fn check_text(rt: &(impl Abort + AllocGlobal), value: Option<impl Display + Copy>, wanted: &str) {
+    let printed = value.expect(rt, "no value");
     let text = format!(in rt.alloc(); "{printed}").expect(rt, "no memory");
     assert_eq!(rt; text.as_str(), wanted);
 }
 
-/// A share of so many hundredths of a percent.
-fn share(rt: &impl Abort, hundredths: u64) -> Share {
-    Share::new(hundredths).expect(rt, "no share")
+/// Checks what is printed of a value in a place of three bytes.
+fn check_padded(rt: &(impl Abort + AllocGlobal), value: Option<impl Display + Copy>, wanted: &str) {
+    let printed = value.expect(rt, "no value");
+    let text = format!(in rt.alloc(); "[{printed:>3}]").expect(rt, "no memory");
+    assert_eq!(rt; text.as_str(), wanted);
+}
+
+/// Checks what is printed of a value with zeros in a place of three bytes.
+fn check_zeros(rt: &(impl Abort + AllocGlobal), value: Option<impl Display + Copy>, wanted: &str) {
+    let printed = value.expect(rt, "no value");
+    let text = format!(in rt.alloc(); "{printed:03}").expect(rt, "no memory");
+    assert_eq!(rt; text.as_str(), wanted);
 }
 
 #[test]
 fn numbers_and_shares_print(rt: HostRuntime) {
-    let seven = Number::<5>::new(7).expect(&rt, "no number");
-    check_text(&rt, seven, "7");
-    let padded = format!(in rt.alloc(); "{seven:03}").expect(&rt, "no memory");
-    assert_eq!(rt; padded.as_str(), "007");
-    for (hundredths, text) in [(3305, "33.05%"), (10000, "100.00%"), (5, "0.05%")] {
-        check_text(&rt, share(&rt, hundredths), text);
-    }
-    check_text(&rt, Share::blank(), "");
-    check_text(&rt, OutOfRange, "out of the range of the cell");
+    check_text(&rt, Number::<5>::new(7), "7");
+    check_zeros(&rt, Number::<5>::new(7), "007");
+    check_text(&rt, Share::new(3305), "33.05%");
+    check_text(&rt, Share::new(10000), "100.00%");
+    check_text(&rt, Share::new(5), "0.05%");
+    check_text(&rt, Some(Share::blank()), "");
+    check_text(&rt, Some(OutOfRange), "out of the range of the cell");
 }
 
 #[test]
 fn flags_and_times_print(rt: HostRuntime) {
-    check_text(&rt, Flag::Unknown, "U");
-    let padded = format!(in rt.alloc(); "[{:>3}]", Flag::Yes).expect(&rt, "no memory");
-    assert_eq!(rt; padded.as_str(), "[  Y]");
-    let day = CivilDate::new(987, 2, 3).expect(&rt, "no day");
-    check_text(&rt, day, "0987-02-03");
-    let clock = TimeOfDay::new(4, 5, 6).expect(&rt, "no time");
-    check_text(&rt, clock, "04:05:06");
-    let song = PlayingTime::new(12, 3, 25).expect(&rt, "no playing time");
-    check_text(&rt, song, "12:03:25");
+    check_text(&rt, Some(Flag::Unknown), "U");
+    check_padded(&rt, Some(Flag::Yes), "[  Y]");
+    check_text(&rt, CivilDate::new(987, 2, 3), "0987-02-03");
+    check_text(&rt, TimeOfDay::new(4, 5, 6), "04:05:06");
+    check_text(&rt, PlayingTime::new(12, 3, 25), "12:03:25");
 }

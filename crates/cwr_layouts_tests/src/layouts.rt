@@ -2,9 +2,10 @@
 
 use cwr_fields::{CellType, Table, Word};
 use cwr_layouts::{Kind, field, fields, width};
+use std::process::Abort;
 
 /// Texts, and the kinds whose letters they are.
-static LETTERS: [(&[u8], Option<Kind>); 7] = [
+const LETTERS: &[(&[u8], Option<Kind>)] = &[
     (b"NWR", Some(Kind::Nwr)),
     (b"MSG", Some(Kind::Msg)),
     (b"OPT", Some(Kind::Opt)),
@@ -16,13 +17,13 @@ static LETTERS: [(&[u8], Option<Kind>); 7] = [
 
 #[test]
 fn kinds_by_their_letters(rt: HostRuntime) {
-    for (text, kind) in &LETTERS {
+    for (text, kind) in LETTERS {
         assert_eq!(rt; Kind::of(text), *kind);
     }
 }
 
 /// How many bytes and how many fields each kind has.
-static WIDTHS: [(Kind, usize, u8); 40] = [
+const WIDTHS: &[(Kind, usize, u8)] = &[
     (Kind::Hdr, 101, 9),
     (Kind::Grh, 28, 6),
     (Kind::Grt, 37, 6),
@@ -65,32 +66,35 @@ static WIDTHS: [(Kind, usize, u8); 40] = [
     (Kind::Xrf, 719, 4),
 ];
 
+/// Checks the widths of a row.
+fn check_width(rt: &impl Abort, row: &(Kind, usize, u8)) {
+    let (kind, bytes, count) = *row;
+    assert_eq!(rt; (width(kind), fields(kind)), (bytes, count), "{kind:?}");
+}
+
 #[test]
 fn widths_and_counts(rt: HostRuntime) {
-    for (kind, bytes, count) in &WIDTHS {
-        assert_eq!(rt; (width(*kind), fields(*kind)), (*bytes, *count), "{kind:?}");
+    for row in WIDTHS {
+        check_width(&rt, row);
     }
 }
 
 /// A field: its kind and number, name, first byte, width, type, and whether its cells are computed.
-#[rattlefmt::skip]
-static FIELDS: [(Kind, u8, &str, usize, usize, CellType, bool); 3] = [
-    (Kind::Hdr, 5, "edi standard version", 59, 5, CellType::Constant(Word::Edi), false),
-    (Kind::Ack, 13, "transaction status", 157, 2, CellType::Code(Table::Status), false),
-    (Kind::Grt, 4, "record count", 16, 8, CellType::Number, true),
-];
+type Known = (Kind, u8, &'static str, (usize, usize), (CellType, bool));
 
+/// Checks a field.
+fn check_field(rt: &impl Abort, row: &Known) {
+    let (kind, j, name, place, ty) = *row;
+    let found = field(kind, j).expect(rt, "no field");
+    assert_eq!(rt; (found.start, found.width), place);
+    assert_eq!(rt; (found.name, (found.ty, found.derived)), (name, ty));
+}
+
+#[rattlefmt::skip]
 #[test]
 fn fields_by_their_numbers(rt: HostRuntime) {
-    for (kind, j, name, start, width, ty, derived) in &FIELDS {
-        let found = field(*kind, *j).expect(&rt, "no field");
-        assert_eq!(rt;
-            (found.name, found.start, found.width),
-            (*name, *start, *width)
-        );
-        assert_eq!(rt; (found.ty, found.derived), (*ty, *derived));
-    }
-    for j in [0, 14] {
-        assert!(rt; field(Kind::Ack, j).is_none());
-    }
+    check_field(&rt, &(Kind::Hdr, 5, "edi standard version", (59, 5), (CellType::Constant(Word::Edi), false)));
+    check_field(&rt, &(Kind::Ack, 13, "transaction status", (157, 2), (CellType::Code(Table::Status), false)));
+    check_field(&rt, &(Kind::Grt, 4, "record count", (16, 8), (CellType::Number, true)));
+    assert!(rt; field(Kind::Ack, 0).is_none() && field(Kind::Ack, 14).is_none());
 }

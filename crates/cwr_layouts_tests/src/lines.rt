@@ -2,7 +2,7 @@
 
 ghost use Rattle.std.specs.Prelude.{◌≢◌};
 
-use cwr_layouts::{Kind, LineBuf, LineEnd};
+use cwr_layouts::{CutLine, Kind, LineBuf, LineEnd};
 use std::process::Abort;
 
 /// Takes two pieces: how many bytes of the second are used, how the line ends, and how long it is. `None` where it ends in
@@ -46,40 +46,42 @@ fn line_of(text: &[u8]) -> LineBuf
     line
 }
 
+/// Cells by the numbers of their fields, or none where there is no such field.
+type Cells = &'static [(u8, Option<&'static [u8]>)];
+
+/// Checks cells of a line.
+fn check_cells(rt: &impl Abort, cut: &CutLine<'_>, cells: Cells) {
+    for (j, cell) in cells {
+        assert_eq!(rt; cut.cell(*j), *cell, "at {j}");
+    }
+}
+
 /// Checks the cells of a line of TRL, and whether its excess is bad.
-fn check_trailer(rt: &impl Abort, text: &[u8], cells: [&[u8]; 4], excess: bool) {
+fn check_trailer(rt: &impl Abort, text: &[u8], cells: Cells, excess: bool) {
     let line = line_of(text);
     let cut = line.cut();
     assert_eq!(rt; (cut.kind(), cut.excess()), (Some(Kind::Trl), excess));
-    let found = [cut.cell(1), cut.cell(2), cut.cell(3), cut.cell(4)];
-    assert_eq!(rt; found, cells.map(Some));
-    assert!(rt; cut.cell(0).is_none() && cut.cell(5).is_none());
+    check_cells(rt, &cut, cells);
 }
+
+#[rattlefmt::skip]
+const WHOLE: Cells = &[(0, None), (1, Some(b"TRL")), (2, Some(b"00001")), (3, Some(b"00000001")), (4, Some(b"00000005")), (5, None)];
+
+#[rattlefmt::skip]
+const SECOND: Cells = &[(0, None), (1, Some(b"TRL")), (2, Some(b"00002")), (3, Some(b"        ")), (4, Some(b"        ")), (5, None)];
+
+#[rattlefmt::skip]
+const THIRD: Cells = &[(0, None), (1, Some(b"TRL")), (2, Some(b"00003")), (3, Some(b"   9    ")), (4, Some(b"        ")), (5, None)];
 
 #[test]
 fn cells_and_excess_of_trailers(rt: HostRuntime) {
-    let cells: [&[u8]; 4] = [b"TRL", b"00001", b"00000001", b"00000005"];
-    let table: [(&[u8], bool); 4] = [
-        (b"TRL000010000000100000005\r\n", false),
-        (b"TRL000010000000100000005   ", false),
-        (b"TRL000010000000100000005X\n", true),
-        (b"TRL000010000000100000005\r\r\n", true),
-    ];
-    for (text, excess) in table {
-        check_trailer(&rt, text, cells, excess);
-    }
-}
-
-#[test]
-fn cells_of_short_trailers(rt: HostRuntime) {
-    let blank = b"        ";
-    let table: [(&[u8], [&[u8]; 4]); 2] = [
-        (b"TRL00002\r\nTRL", [b"TRL", b"00002", blank, blank]),
-        (b"TRL00003   9\n", [b"TRL", b"00003", b"   9    ", blank]),
-    ];
-    for (text, cells) in table {
-        check_trailer(&rt, text, cells, false);
-    }
+    check_trailer(&rt, b"TRL000010000000100000005\r\n", WHOLE, false);
+    check_trailer(&rt, b"TRL000010000000100000005   ", WHOLE, false);
+    check_trailer(&rt, b"TRL000010000000100000005X\n", WHOLE, true);
+    check_trailer(&rt, b"TRL000010000000100000005\r\r\n", WHOLE, true);
+    // Lines that are filled up.
+    check_trailer(&rt, b"TRL00002\r\nTRL", SECOND, false);
+    check_trailer(&rt, b"TRL00003   9\n", THIRD, false);
 }
 
 #[test]
@@ -109,13 +111,12 @@ fn lines_that_are_too_long(rt: HostRuntime) {
 #[test]
 fn cleared_lines_are_new(rt: HostRuntime) {
     let mut line = line_of(b"TRL000010000000100000005\r\n");
-    assert_eq!(rt; line.len(), 25);
+    let before = line.len();
     line.clear();
-    assert_eq!(rt; line.len(), 0);
+    let cleared = line.len();
     let taken = line.take(b"GRH");
-    assert_eq!(rt; taken.used, 3);
-    assert_eq!(rt; taken.ended, LineEnd::Open);
-    assert_eq!(rt; line.len(), 3);
+    assert_eq!(rt; (before, cleared, line.len()), (25, 0, 3));
+    assert_eq!(rt; (taken.used, taken.ended), (3, LineEnd::Open));
 }
 
 /// An acknowledgement in full width.
@@ -125,13 +126,17 @@ const ACK: [u8; 159] =
 /// The kind of a record, and its cells 13 and 2.
 type Found<'a> = (Kind, Option<&'a [u8]>, Option<&'a [u8]>);
 
+/// What is found in a line, if it is a record.
+fn found_in<'a>(cut: &CutLine<'a>) -> Option<Found<'a>> {
+    let found = cut.record()?;
+    Some((found.kind(), found.cell(13), found.cell(2)))
+}
+
 /// Checks the record of a text's first line, if it is one, and whether the line's excess is bad.
 fn check_record(rt: &impl Abort, text: &[u8], wanted: Option<Found<'_>>, excess: bool) {
     let line = line_of(text);
     let cut = line.cut();
-    let found = cut.record();
-    let found = found.map(|it| (it.kind(), it.cell(13), it.cell(2)));
-    assert_eq!(rt; (found, cut.excess()), (wanted, excess));
+    assert_eq!(rt; (found_in(&cut), cut.excess()), (wanted, excess));
 }
 
 #[test]

@@ -2,7 +2,7 @@
 
 use crate::devices::{Reader, STUCK, WIDE, Width, reader_of, writer_of};
 use crate::runs::{Tool, reported};
-use crate::works::{Given, LARGEST, Numbers, WITHOUT_NAME, Worked, text_given, text_of};
+use crate::works::{Given, Judged, LARGEST, Numbers, WITHOUT_NAME, Worked, text_given, text_of};
 use cwr_fields::Counted;
 use cwr_tools::{ToolFault, Verdict};
 use std::io;
@@ -15,17 +15,17 @@ type Checked = (Numbers, Worked, Given, &'static str);
 #[rattlefmt::skip]
 const WHOLE: &[Checked] = &[
     ((5, 1, 1), Worked::OneAcknowledgement, Given::Whole, "GOOD groups 1 transactions 1 records 5\n"),
-    (LARGEST, Worked::WorkOfEleven, Given::Whole, "GOOD groups 1 transactions 1 records 15\n"),
-    (LARGEST, Worked::WorkOfElevenReordered, Given::Whole, "GOOD groups 1 transactions 1 records 15\n"),
-    (LARGEST, Worked::TwoBlocks, Given::Whole, "GOOD groups 1 transactions 1 records 11\n"),
+    (LARGEST, Worked::Judged(Judged::WorkOfEleven), Given::Whole, "GOOD groups 1 transactions 1 records 15\n"),
+    (LARGEST, Worked::Judged(Judged::WorkOfElevenReordered), Given::Whole, "GOOD groups 1 transactions 1 records 15\n"),
+    (LARGEST, Worked::Judged(Judged::TwoBlocks), Given::Whole, "GOOD groups 1 transactions 1 records 11\n"),
     (LARGEST, Worked::TwoGroups, Given::Whole, "GOOD groups 2 transactions 3 records 12\n"),
-    (LARGEST, Worked::TwoFindings, Given::Whole, "FINDING group 1 transaction 0 record 0 field 7 level F rule V1\nFINDING group 2 transaction 1 record 0 field 1 level T rule V6\nGOOD groups 2 transactions 3 records 12\n"),
-    (LARGEST, Worked::FindingBeforeRefusal, Given::Whole, "REFUSED record 5 field 10 level T cell not a code\n"),
-    (LARGEST, Worked::WrongTrailer, Given::Whole, "REFUSED record 5 field 3 level E number expected 1\n"),
-    (LARGEST, Worked::WrongSequence, Given::Whole, "REFUSED record 7 field 3 level T number expected 4\n"),
-    (LARGEST, Worked::OneSide, Given::Whole, "REFUSED record 7 field 1 level T misplaced\n"),
-    ((99_999_999, 1, 999_999), Worked::SecondGroup, Given::Whole, "REFUSED record 5 field 1 level E limit groups\n"),
-    ((99_999_999, 99_999, 1), Worked::Message, Given::Whole, "REFUSED record 4 field 1 level T limit transaction\n"),
+    (LARGEST, Worked::Judged(Judged::TwoFindings), Given::Whole, "FINDING group 1 transaction 0 record 0 field 7 level F rule V1\nFINDING group 2 transaction 1 record 0 field 1 level T rule V6\nGOOD groups 2 transactions 3 records 12\n"),
+    (LARGEST, Worked::Judged(Judged::FindingBeforeRefusal), Given::Whole, "REFUSED record 5 field 10 level T cell not a code\n"),
+    (LARGEST, Worked::Judged(Judged::WrongTrailer), Given::Whole, "REFUSED record 5 field 3 level E number expected 1\n"),
+    (LARGEST, Worked::Judged(Judged::WrongSequence), Given::Whole, "REFUSED record 7 field 3 level T number expected 4\n"),
+    (LARGEST, Worked::Judged(Judged::OneSide), Given::Whole, "REFUSED record 7 field 1 level T misplaced\n"),
+    ((99_999_999, 1, 999_999), Worked::Judged(Judged::SecondGroup), Given::Whole, "REFUSED record 5 field 1 level E limit groups\n"),
+    ((99_999_999, 99_999, 1), Worked::Judged(Judged::Message), Given::Whole, "REFUSED record 4 field 1 level T limit transaction\n"),
 ];
 
 #[rattlefmt::skip]

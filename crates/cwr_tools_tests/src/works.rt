@@ -252,16 +252,8 @@ pub(crate) enum Worked {
     Both,
     Nameless,
     OtherVersion,
-    WorkOfEleven,
-    WorkOfElevenReordered,
-    TwoBlocks,
-    WrongTrailer,
-    WrongSequence,
-    OneSide,
-    SecondGroup,
-    Message,
-    TwoFindings,
-    FindingBeforeRefusal,
+    /// One that reports alone are tested on.
+    Judged(Judged),
 }
 
 /// The lines of a worked transmission.
@@ -277,16 +269,38 @@ pub(crate) fn lines_of(worked: Worked) -> &'static [&'static [u8]] {
         Worked::Both => BOTH,
         Worked::Nameless => NAMELESS,
         Worked::OtherVersion => &[HDR_OF_ANOTHER_VERSION],
-        Worked::WorkOfEleven => WORK_OF_ELEVEN,
-        Worked::WorkOfElevenReordered => WORK_OF_ELEVEN_REORDERED,
-        Worked::TwoBlocks => AGREEMENT_OF_TWO_BLOCKS,
-        Worked::WrongTrailer => WRONG_TRAILER,
-        Worked::WrongSequence => WRONG_SEQUENCE,
-        Worked::OneSide => ONE_SIDE,
-        Worked::SecondGroup => SECOND_GROUP,
-        Worked::Message => MESSAGE,
-        Worked::TwoFindings => TWO_FINDINGS,
-        Worked::FindingBeforeRefusal => FINDING_BEFORE_REFUSAL,
+        Worked::Judged(judged) => lines_judged(judged),
+    }
+}
+
+/// A worked transmission that reports alone are tested on, or the beginning of one.
+#[derive(Clone, Copy, Debug)]
+pub(crate) enum Judged {
+    WorkOfEleven,
+    WorkOfElevenReordered,
+    TwoBlocks,
+    WrongTrailer,
+    WrongSequence,
+    OneSide,
+    SecondGroup,
+    Message,
+    TwoFindings,
+    FindingBeforeRefusal,
+}
+
+/// Its lines.
+fn lines_judged(judged: Judged) -> &'static [&'static [u8]] {
+    match judged {
+        Judged::WorkOfEleven => WORK_OF_ELEVEN,
+        Judged::WorkOfElevenReordered => WORK_OF_ELEVEN_REORDERED,
+        Judged::TwoBlocks => AGREEMENT_OF_TWO_BLOCKS,
+        Judged::WrongTrailer => WRONG_TRAILER,
+        Judged::WrongSequence => WRONG_SEQUENCE,
+        Judged::OneSide => ONE_SIDE,
+        Judged::SecondGroup => SECOND_GROUP,
+        Judged::Message => MESSAGE,
+        Judged::TwoFindings => TWO_FINDINGS,
+        Judged::FindingBeforeRefusal => FINDING_BEFORE_REFUSAL,
     }
 }
 

@@ -29,33 +29,46 @@ fn begun_transmission(rt: &(impl Abort + AllocGlobal)) -> Transmission {
     Transmission::new(rt.alloc(), opening(rt)).expect(rt, "no transmission")
 }
 
+/// Adds a group.
+fn push_group(rt: &impl Abort, transmission: &mut Transmission, group: Group) {
+    assert_eq!(rt; fault_of(transmission.push(group)), Ok(()));
+}
+
+/// A group of two revised works.
+fn two_revisions(rt: &(impl Abort + AllocGlobal)) -> Group {
+    let mut works = group(rt, b"REV");
+    push_written(rt, &mut works, &revision(rt, b"RED HILL", b"W0002"));
+    push_written(rt, &mut works, &revision(rt, b"GREEN SEA", b"W0003"));
+    works
+}
+
 /// A group of one new work, and a group of two revised ones.
 fn two_groups(rt: &(impl Abort + AllocGlobal)) -> Transmission {
-    let mut new_works = group(rt, b"NWR");
-    push_written(rt, &mut new_works, &work(rt));
-    let mut revised_works = group(rt, b"REV");
-    push_written(rt, &mut revised_works, &revision(rt, b"RED HILL", b"W0002"));
-    push_written(
-        rt,
-        &mut revised_works,
-        &revision(rt, b"GREEN SEA", b"W0003"),
-    );
+    let mut works = group(rt, b"NWR");
+    push_written(rt, &mut works, &work(rt));
     let mut transmission = begun_transmission(rt);
-    assert_eq!(rt; fault_of(transmission.push(new_works)), Ok(()));
-    assert_eq!(rt; fault_of(transmission.push(revised_works)), Ok(()));
+    push_group(rt, &mut transmission, works);
+    push_group(rt, &mut transmission, two_revisions(rt));
     transmission
 }
 
-/// Adds a transaction, which is refused for that, and hands it back.
+/// Adds a transaction to an empty group of the type, which refuses it for that, stays empty, and hands it back.
 fn refused_by(
     rt: &(impl Abort + AllocGlobal),
-    group: &mut Group,
+    ty: &[u8],
     transaction: Transaction,
     fault: GroupFault,
 ) -> Transaction {
+    let mut group = group(rt, ty);
     let (found, given) = group.push(transaction).expect_err(rt, "not refused");
-    assert_eq!(rt; found, fault);
+    assert_eq!(rt; (found, group.len()), (fault, 0));
     given
+}
+
+/// A work of its header, to which its writer is added.
+fn completed(rt: &impl Abort, mut transaction: Transaction) -> Transaction {
+    assert_eq!(rt; push(&mut transaction, &writer(rt)), (Ok(()), 2, true));
+    transaction
 }
 
 /// How many transactions a group has, and how many records each of its first two.
@@ -67,46 +80,41 @@ fn lengths_of(group: &Group) -> (usize, Option<usize>, Option<usize>) {
     )
 }
 
-/// A work that was refused and handed back before its writer came.
-fn refused_before_writer(rt: &(impl Abort + AllocGlobal)) -> Transaction {
-    let begun = begun_with(rt, &work(rt));
-    let mut works = group(rt, b"NWR");
-    let mut transaction = refused_by(rt, &mut works, begun, GroupFault::Incomplete);
-    assert_eq!(rt;
-        (transaction.len(), lengths_of(&works)),
-        (1, (0, None, None))
-    );
-    assert_eq!(rt; push(&mut transaction, &writer(rt)), (Ok(()), 2, true));
-    transaction
-}
-
 #[test]
 fn transactions_into_groups(rt: HostRuntime) {
-    let transaction = refused_before_writer(&rt);
-    let mut acknowledgements = group(&rt, b"ACK");
-    let wrong = GroupFault::WrongKind;
-    let transaction = refused_by(&rt, &mut acknowledgements, transaction, wrong);
-    assert_eq!(rt; (transaction.len(), acknowledgements.len()), (2, 0));
+    let begun = begun_with(&rt, &work(&rt));
+    let begun = refused_by(&rt, b"NWR", begun, GroupFault::Incomplete);
+    let whole = refused_by(&rt, b"ACK", completed(&rt, begun), GroupFault::WrongKind);
     let mut works = group(&rt, b"NWR");
-    assert_eq!(rt; fault_of(works.push(transaction)), Ok(()));
+    assert_eq!(rt; fault_of(works.push(whole)), Ok(()));
     assert_eq!(rt; lengths_of(&works), (1, Some(2), None));
+}
+
+/// Adds a group without a transaction, which is refused and handed back.
+fn refused_empty(rt: &impl Abort, transmission: &mut Transmission, group: Group) -> Group {
+    let refused = transmission.push(group);
+    let (fault, given) = refused.expect_err(rt, "without transaction");
+    assert_eq!(rt; (fault, transmission.len()), (TransmissionFault::Empty, 0));
+    given
+}
+
+/// How many groups a transmission has, and how many transactions each of its first two.
+fn groups_of(transmission: &Transmission) -> (usize, Option<usize>, Option<usize>) {
+    (
+        transmission.len(),
+        transmission.group(0).map(Group::len),
+        transmission.group(1).map(Group::len),
+    )
 }
 
 #[test]
 fn groups_into_transmissions(rt: HostRuntime) {
     let mut transmission = begun_transmission(&rt);
-    let refused = transmission.push(group(&rt, b"NWR"));
-    let (fault, mut works) = refused.expect_err(&rt, "without transaction");
-    assert_eq!(rt; (fault, transmission.len()), (TransmissionFault::Empty, 0));
+    let mut works = refused_empty(&rt, &mut transmission, group(&rt, b"NWR"));
     push_written(&rt, &mut works, &work(&rt));
-    assert_eq!(rt; fault_of(transmission.push(works)), Ok(()));
-    let groups = (
-        transmission.len(),
-        transmission.group(0).map(Group::len),
-        transmission.group(1).map(Group::len),
-    );
-    assert_eq!(rt; groups, (1, Some(1), None));
-    assert_eq!(rt; transmission.open().view().kind(), Kind::Hdr);
+    push_group(&rt, &mut transmission, works);
+    let found = (groups_of(&transmission), transmission.open().view().kind());
+    assert_eq!(rt; found, ((1, Some(1), None), Kind::Hdr));
 }
 
 /// The kind of the record that is handed back.
@@ -116,12 +124,13 @@ fn kind_returned<T: Drop>(refused: Result<T, Record>) -> Option<Kind> {
 
 #[test]
 fn records_of_another_kind(rt: HostRuntime) {
-    let refused = kind_returned(Group::new(rt.alloc(), opening(&rt)));
-    assert_eq!(rt; refused, Some(Kind::Hdr));
-    let refused = kind_returned(Transmission::new(rt.alloc(), group_head(&rt, b"NWR")));
-    assert_eq!(rt; refused, Some(Kind::Grh));
-    let refused = kind_returned(group(&rt, b"NWR").set_foot(opening(&rt)));
-    assert_eq!(rt; refused, Some(Kind::Hdr));
+    let refused = [
+        kind_returned(Group::new(rt.alloc(), opening(&rt))),
+        kind_returned(Transmission::new(rt.alloc(), group_head(&rt, b"NWR"))),
+        kind_returned(group(&rt, b"NWR").set_foot(opening(&rt))),
+    ];
+    let kinds = [Kind::Hdr, Kind::Grh, Kind::Hdr];
+    assert_eq!(rt; refused, kinds.map(Some));
 }
 
 /// Checks the type of a group's head, and the currency of its foot.
@@ -141,26 +150,32 @@ fn feet(rt: HostRuntime) {
     check_ends(&rt, &works, b"NWR", b"EUR");
 }
 
+/// Checks whether a transmission is within limits of these numbers.
+fn check_fit(
+    rt: &impl Abort,
+    transmission: &Transmission,
+    (records, groups, longest): (u32, u32, u32),
+    wanted: Result<(), ValueFault>,
+) {
+    let limits = Limits::new(records, groups, longest).expect(rt, "no limits");
+    assert_eq!(rt; transmission.fits(limits), wanted);
+}
+
+/// The first transaction is too long.
+const LONG: ValueFault = ValueFault::Transaction {
+    group: 0,
+    transaction: 0,
+};
+
 #[test]
 fn limits(rt: HostRuntime) {
-    let least = Limits::new(5, 1, 1).expect(&rt, "no limits");
     let none = begun_transmission(&rt);
-    assert_eq!(rt; none.fits(least), Err(ValueFault::NoGroup));
+    check_fit(&rt, &none, (5, 1, 1), Err(ValueFault::NoGroup));
     let transmission = two_groups(&rt);
-    let first = ValueFault::Transaction {
-        group: 0,
-        transaction: 0,
-    };
-    let table = [
-        ((11, 2, 2), Err(ValueFault::Records)),
-        ((12, 1, 2), Err(ValueFault::Groups)),
-        ((12, 2, 1), Err(first)),
-        ((12, 2, 2), Ok(())),
-    ];
-    for ((records, groups, longest), wanted) in table {
-        let limits = Limits::new(records, groups, longest).expect(&rt, "no limits");
-        assert_eq!(rt; transmission.fits(limits), wanted);
-    }
+    check_fit(&rt, &transmission, (11, 2, 2), Err(ValueFault::Records));
+    check_fit(&rt, &transmission, (12, 1, 2), Err(ValueFault::Groups));
+    check_fit(&rt, &transmission, (12, 2, 1), Err(LONG));
+    check_fit(&rt, &transmission, (12, 2, 2), Ok(()));
 }
 
 /// Checks the text of a fault.
