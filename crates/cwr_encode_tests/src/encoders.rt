@@ -1,6 +1,5 @@
 //! Tests of encoders, call by call.
 
-use crate::checks::check_equal;
 use crate::devices::{
     LARGEST, Narrow, Numbers, WIDE, Width, limits_of, narrow_writer, text_in, text_of,
 };
@@ -141,7 +140,7 @@ fn check_calls(
     calls: &[Answered],
 ) {
     for (call, answer) in calls {
-        check_equal(rt, make_call(rt, *call, encoder), *answer);
+        assert_eq!(rt; make_call(rt, *call, encoder), *answer);
     }
 }
 
@@ -162,7 +161,7 @@ fn check_run(rt: &(impl Abort + AllocGlobal), row: &Run) {
     let mut encoder = Encoder::new(writer, limits_of(rt, numbers));
     check_calls(rt, &mut encoder, calls);
     let (writer, answer) = end(encoder, ended);
-    check_equal(rt, answer, ended);
+    assert_eq!(rt; answer, ended);
     check_text(rt, writer, (lines, len));
 }
 
@@ -174,7 +173,7 @@ fn check_text(
 ) {
     let text = text_of(rt, lines);
     let kept = text_in(writer);
-    check_equal(rt, Some(kept.as_slice()), text.get(..len));
+    assert_eq!(rt; Some(kept.as_slice()), text.get(..len));
 }
 
 #[test]

@@ -1,6 +1,5 @@
 //! Texts that are decoded, piece by piece and whole.
 
-use crate::checks::check_equal;
 use crate::works::{TWO_GROUPS_WITH_A_FINDING, ended, largest, text_of};
 use cwr_decode::{Decoder, Outcome, ReadFault, Reading, read_all};
 use cwr_fields::{Counted, Source};
@@ -53,7 +52,7 @@ fn read_by_calls(
             "more" => {}
             "memory" => {
                 let again = (feed(decoder, left), call(decoder, b""));
-                check_equal(rt, again, ((0, word), (0, word)));
+                assert_eq!(rt; again, ((0, word), (0, word)));
                 return None;
             }
             _ => return Some((count, left.len(), word)),
@@ -90,7 +89,7 @@ fn read_item<R: Source>(rt: &impl Abort, reading: &mut Reading<'_, R>) -> Option
     match reading.next_item() {
         Ok(item) => Some(item.is_some()),
         Err(fault) => {
-            check_equal(rt, fault, ReadFault::Memory);
+            assert_eq!(rt; fault, ReadFault::Memory);
             None
         }
     }
@@ -105,7 +104,7 @@ fn count_items<R: Source>(rt: &(impl Abort + AllocGlobal), reader: &mut R) -> Op
             Some(true) => count = count.saturating_add(1),
             Some(false) => break,
             None => {
-                check_equal(rt, read_item(rt, &mut reading), None);
+                assert_eq!(rt; read_item(rt, &mut reading), None);
                 return None;
             }
         }
@@ -118,7 +117,7 @@ fn count_groups<R: Source>(rt: &(impl Abort + AllocGlobal), reader: &mut R) -> O
     match read_all(rt.alloc(), largest(), reader) {
         Ok(transmission) => Some(transmission.len()),
         Err(fault) => {
-            check_equal(rt, fault, ReadFault::Memory);
+            assert_eq!(rt; fault, ReadFault::Memory);
             None
         }
     }

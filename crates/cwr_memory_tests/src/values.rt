@@ -1,6 +1,5 @@
 //! Transactions, groups and transmissions that are put together, and findings.
 
-use crate::checks::check_equal;
 use crate::works::{TWO_GROUPS_WITH_A_FINDING, ended, largest, text_of};
 use cwr_decode::{ReadFault, Reading};
 use cwr_fields::{Counted, Source};
@@ -22,7 +21,7 @@ fn copied(rt: &(impl Abort + AllocGlobal), transaction: &Transaction) -> Option<
     for i in 1..transaction.len() {
         let next = transaction.record(i).expect(rt, "no record");
         let pushed = with_memory(rt, copy.push(next), PushFault::Memory);
-        check_equal(rt, copy.len(), i.saturating_add(pushed.is_some() as usize));
+        assert_eq!(rt; copy.len(), i.saturating_add(pushed.is_some() as usize));
         pushed?;
     }
     Some(copy)
@@ -37,7 +36,7 @@ fn with_memory<T: Drop, F: PartialEq + Debug + Drop>(
     match answer {
         Ok(value) => Some(value),
         Err(fault) => {
-            check_equal(rt, fault, memory);
+            assert_eq!(rt; fault, memory);
             None
         }
     }
@@ -49,8 +48,8 @@ fn add_transaction(rt: &impl Abort, group: &mut Group, transaction: Transaction)
     match group.push(transaction) {
         Ok(()) => true,
         Err((fault, given)) => {
-            check_equal(rt, fault, GroupFault::Memory);
-            check_equal(rt, (group.len(), given.len()), (before, records));
+            assert_eq!(rt; fault, GroupFault::Memory);
+            assert_eq!(rt; (group.len(), given.len()), (before, records));
             false
         }
     }
@@ -62,12 +61,8 @@ fn add_group(rt: &impl Abort, transmission: &mut Transmission, group: Group) -> 
     match transmission.push(group) {
         Ok(()) => true,
         Err((fault, given)) => {
-            check_equal(rt, fault, TransmissionFault::Memory);
-            check_equal(
-                rt,
-                (transmission.len(), given.len()),
-                (before, transactions),
-            );
+            assert_eq!(rt; fault, TransmissionFault::Memory);
+            assert_eq!(rt; (transmission.len(), given.len()), (before, transactions));
             false
         }
     }

@@ -1,6 +1,5 @@
 //! Worked transmissions, as texts that take no memory.
 
-use crate::checks::check_equal;
 use arrayvec::ArrayVec;
 use cwr_shape::Limits;
 use cwr_worked::lines::*;
@@ -51,6 +50,6 @@ pub(crate) fn ended<T: PartialEq + Debug + Drop>(
     if answer.is_none() {
         return Err(Fail::new("memory was refused"));
     }
-    check_equal(rt, answer, Some(wanted));
+    assert_eq!(rt; answer, Some(wanted));
     Ok(())
 }

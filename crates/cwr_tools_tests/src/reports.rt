@@ -1,6 +1,5 @@
 //! Tests of what a check and a show write on a worked text, and of what they answer.
 
-use crate::checks::check_equal;
 use crate::devices::{Reader, STUCK, WIDE, Width, reader_of, writer_of};
 use crate::runs::{Tool, reported};
 use crate::works::{Given, Judged, LARGEST, Numbers, WITHOUT_NAME, Worked, text_given, text_of};
@@ -156,7 +155,7 @@ fn check_parts(rt: &(impl Abort + AllocGlobal), text: &[u8], parts: &[&str], roo
             .expect(rt, "no memory");
     }
     wanted.truncate(room);
-    check_equal(rt, text, wanted.as_slice());
+    assert_eq!(rt; text, wanted.as_slice());
 }
 
 /// Reports on a text within limits: these parts are written. The answer comes back.
@@ -199,7 +198,7 @@ fn check_row(rt: &(impl Abort + AllocGlobal), row: &Reported) {
     let text = text_given(rt, worked, what);
     let read = (text.as_slice(), fails);
     let answer = check_report(rt, (tool, (8, 1, 2)), read, width, parts);
-    check_equal(rt, answer, wanted);
+    assert_eq!(rt; answer, wanted);
 }
 
 #[test]
@@ -213,7 +212,7 @@ fn reports_over_devices(rt: HostRuntime) {
 fn check_next(rt: &(impl Abort + AllocGlobal), reader: &mut Reader<'_>, wanted: Verdict) {
     let writer = Counted::new(io::empty());
     let (_, answer) = reported(rt, Tool::Check, LARGEST, reader, writer);
-    check_equal(rt, answer, Ok(wanted));
+    assert_eq!(rt; answer, Ok(wanted));
 }
 
 #[test]
