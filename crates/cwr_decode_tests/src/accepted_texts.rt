@@ -1,7 +1,8 @@
 //! Tests of decoders over worked transmissions that are fed whole: the items, the kinds of each transaction's records, and
 //! the used bytes.
 
-use crate::decoders::{LARGEST, Numbers, check_equal, decoder_within, feed, text_of};
+use crate::checks::check_equal;
+use crate::decoders::{LARGEST, Numbers, decoder_within, feed, text_of};
 use cwr_decode::{Decoder, Outcome};
 use cwr_layouts::Kind::{
     self, Ack, Agr, Alt, Ari, Com, Ind, Ipa, Msg, Npa, Nwr, Opu, Orn, Owr, Per, Pwr, Rec, Rev, Spt,
@@ -114,11 +115,15 @@ const BARE_COPY: &[&[u8]] = &[
 
 /// Checks that the transaction has records of just these kinds, and is complete.
 fn check_kinds(rt: &impl Abort, transaction: &Transaction, kinds: &[Kind]) {
-    assert_eq!(rt; transaction.len(), kinds.len());
+    check_equal(rt, transaction.len(), kinds.len());
     assert!(rt; transaction.complete());
     for (i, kind) in kinds.iter().enumerate() {
         let record = transaction.record(i);
-        assert_eq!(rt; record.map(|record| record.kind()), Some(*kind), "at {i}");
+        check_equal(
+            rt,
+            (i, record.map(|record| record.kind())),
+            (i, Some(*kind)),
+        );
     }
 }
 

@@ -1,6 +1,7 @@
 //! All that a decoder answers on a text, in one piece or in several.
 
-use crate::decoders::{Numbers, check_equal, decoder_within, end_by, feed, finish, name_after};
+use crate::checks::check_equal;
+use crate::decoders::{Numbers, decoder_within, end_by, feed, finish, name_after};
 use crate::item_lines::add_item;
 use cwr_decode::{Decoder, End, Outcome, Step};
 use std::process::Abort;
@@ -67,9 +68,10 @@ fn add_piece(rt: &impl Abort, decoder: &mut Decoder, piece: Option<&[u8]>, answe
 fn check_ended(rt: &impl Abort, decoder: &mut Decoder, end: Option<End>) {
     let name = name_after(end.expect(rt, "no end"));
     let again = (feed(decoder, b""), feed(decoder, b"HDR"), finish(decoder));
-    assert_eq!(rt;
+    check_equal(
+        rt,
         (decoder.holds(), again),
-        ((0, 0), ((0, name), (0, name), name))
+        ((0, 0), ((0, name), (0, name), name)),
     );
 }
 

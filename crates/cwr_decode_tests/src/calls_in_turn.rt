@@ -1,5 +1,6 @@
 //! Tests of decoders over the transmission of one acknowledgement, call by call.
 
+use crate::checks::check_equal;
 use crate::decoders::{LARGEST, decoder_within, feed, finish, short_text_of, text_of};
 use crate::refused_lines::filled_up;
 use cwr_decode::Decoder;
@@ -54,14 +55,14 @@ fn check_call<'a>(
     };
     let used = used.unwrap_or(0);
     let state = (decoder.records(), decoder.holds());
-    assert_eq!(rt; (answer, state), ((used, name), (records, holds)));
+    check_equal(rt, (answer, state), ((used, name), (records, holds)));
     left.get(used..).unwrap_or(b"")
 }
 
 /// Makes calls over what is left of a text, one after the other.
 fn check_calls(rt: &(impl Abort + AllocGlobal), text: &[u8], calls: &[Called]) {
     let mut decoder = decoder_within(rt, LARGEST);
-    assert_eq!(rt; (decoder.records(), decoder.holds()), (0, (0, 0)));
+    check_equal(rt, (decoder.records(), decoder.holds()), (0, (0, 0)));
     let mut left = text;
     for called in calls {
         left = check_call(rt, &mut decoder, left, called);

@@ -2,6 +2,7 @@
 
 ghost use Rattle.std.specs.Prelude.{◌<◌, ◌≤◌};
 
+use crate::checks::check_equal;
 use crate::decoders::{LARGEST, decoder_within, feed, text_of};
 use cwr_decode::{Outcome, Step};
 use cwr_fields::{Cell, CivilDate, DateCell, Number, TimeOfDay, TransactionStatus, trimmed};
@@ -34,10 +35,10 @@ fn read_transaction(rt: &(impl Abort + AllocGlobal)) -> Transaction {
 /// Checks cells of a record, their trailing spaces left out.
 fn check_cells(rt: &impl Abort, record: &RecordRef<'_>, cells: &[(u8, Option<&[u8]>)]) {
     for (j, wanted) in cells {
-        assert_eq!(rt;
-            record.cell(*j).map(|cell| trimmed(cell)),
-            *wanted,
-            "at {j}"
+        check_equal(
+            rt,
+            (j, record.cell(*j).map(|cell| trimmed(cell))),
+            (j, *wanted),
         );
     }
 }
@@ -52,7 +53,7 @@ fn check_read<C: Cell + PartialEq + Debug + Drop>(
     requires least { 0 < C.WIDTH }
     requires most { C.WIDTH ≤ 10 }
 {
-    assert_eq!(rt; record.read::<C>(j), wanted, "at {j}");
+    check_equal(rt, (j, record.read::<C>(j)), (j, wanted));
 }
 
 /// Checks typed cells of the acknowledgement.
@@ -89,7 +90,7 @@ static CELLS: [(u8, Option<&[u8]>); 15] = [
 
 /// Checks the record of an acknowledgement.
 fn check_record(rt: &impl Abort, record: &RecordRef<'_>) {
-    assert_eq!(rt; record.kind(), Kind::Ack);
+    check_equal(rt, record.kind(), Kind::Ack);
     check_cells(rt, record, &CELLS);
     check_typed_cells(rt, record);
 }
@@ -97,9 +98,10 @@ fn check_record(rt: &impl Abort, record: &RecordRef<'_>) {
 #[test]
 fn the_cells_of_an_acknowledgement(rt: HostRuntime) {
     let transaction = read_transaction(&rt);
-    assert_eq!(rt;
+    check_equal(
+        &rt,
         (transaction.len(), transaction.record(1).is_none()),
-        (1, true)
+        (1, true),
     );
     check_record(&rt, &transaction.record(0).expect(&rt, "no record"));
 }

@@ -1,6 +1,7 @@
 //! Tests of decoders over worked transmissions that are cut into pieces, and cut off.
 
 use crate::answers::{Answers, BYTES, answers_on, check_same};
+use crate::checks::check_equal;
 use crate::decoders::{LARGEST, limits_of, short_text_of, text_of, twice_of};
 use cwr_decode::{End, Refusal, end_of};
 use cwr_fields::CellFault;
@@ -30,9 +31,10 @@ fn check_accepted(
 ) -> Answers {
     let answers = answers_on(rt, LARGEST, text, &[]);
     let used = text.len();
-    assert_eq!(rt;
+    check_equal(
+        rt,
         answers.numbers(),
-        (items, used, Some(End::Accepted { used }))
+        (items, used, Some(End::Accepted { used })),
     );
     check_same(rt, (LARGEST, text), BYTES, &answers);
     check_cuts(rt, text, places, &answers);
@@ -64,7 +66,7 @@ fn answers_on_front(
         may_end(end, lines, is_begun, is_whole),
         "after {len} bytes: {end:?}"
     );
-    assert_eq!(rt; answers.used, len);
+    check_equal(rt, answers.used, len);
     answers
 }
 
@@ -176,8 +178,8 @@ static FRONTS: [(usize, usize, usize, End); 11] = [
 fn check_end(rt: &(impl Abort + AllocGlobal), front: &[u8], numbers: (usize, usize, End)) {
     let (items, used, end) = numbers;
     let answers = answers_on(rt, LARGEST, front, &[]);
-    assert_eq!(rt; answers.numbers(), (items, used, Some(end)));
-    assert_eq!(rt; end_of(limits_of(rt, LARGEST), front), end);
+    check_equal(rt, answers.numbers(), (items, used, Some(end)));
+    check_equal(rt, end_of(limits_of(rt, LARGEST), front), end);
 }
 
 #[test]

@@ -4,7 +4,6 @@ use cwr_decode::{Decoder, End, Outcome};
 use cwr_shape::Limits;
 use cwr_values::Item;
 use cwr_worked::texts::{canonical, trimmed_text};
-use std::fmt::Debug;
 use std::process::Abort;
 
 /// The most records, groups and records of a transaction.
@@ -85,9 +84,4 @@ pub(crate) fn end_by(outcome: &Outcome, used: usize) -> Option<End> {
         Outcome::Item(Item::Ended) => Some(End::Accepted { used }),
         _ => None,
     }
-}
-
-/// Checks that what was found is what is wanted.
-pub(crate) fn check_equal<T: PartialEq + Debug + Drop>(rt: &impl Abort, found: T, wanted: T) {
-    assert_eq!(rt; found, wanted);
 }

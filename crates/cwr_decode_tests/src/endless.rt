@@ -2,6 +2,7 @@
 
 ghost use Rattle.std.specs.Prelude.{None};
 
+use crate::checks::check_equal;
 use crate::decoders::{LARGEST, Numbers, limits_of, text_of};
 use cwr_decode::{ReadFault, Reading, Refusal};
 use cwr_fields::{DeviceFault, Source};
@@ -98,8 +99,8 @@ fn check_endless(
         consumed: 0,
     };
     let answer = count_items(rt, numbers, &mut reader);
-    assert_eq!(rt; answer, (items, Some(ReadFault::Refused(refusal))));
-    assert_eq!(rt; reader.consumed, consumed);
+    check_equal(rt, answer, (items, Some(ReadFault::Refused(refusal))));
+    check_equal(rt, reader.consumed, consumed);
 }
 
 /// A refusal of a whole file at the first field.

@@ -1,6 +1,7 @@
 //! Tests of what a decoder holds after each byte of worked transmissions.
 
-use crate::decoders::{LARGEST, check_equal, decoder_within, feed, short_text_of, text_of};
+use crate::checks::check_equal;
+use crate::decoders::{LARGEST, decoder_within, feed, short_text_of, text_of};
 use cwr_decode::{Decoder, Outcome};
 use cwr_values::Item;
 use cwr_worked::texts::{
@@ -46,7 +47,7 @@ fn check_line(rt: &impl Abort, decoder: &mut Decoder, line: &[u8], open: usize) 
 
 /// Feeds a byte that isn't a line feed, of which no item comes.
 fn check_byte(rt: &impl Abort, decoder: &mut Decoder, byte: u8, holds: (usize, usize)) {
-    assert_eq!(rt; feed_byte(decoder, byte), (None, holds));
+    check_equal(rt, feed_byte(decoder, byte), (None, holds));
 }
 
 /// Checks what a decoder holds after each byte of a text: the line that is read, and the records of the open transaction.

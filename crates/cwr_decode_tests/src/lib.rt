@@ -10,6 +10,8 @@ mod calls_in_turn;
 #[cfg(test)]
 mod cells;
 #[cfg(test)]
+mod checks;
+#[cfg(test)]
 mod cut_texts;
 #[cfg(test)]
 mod decoders;

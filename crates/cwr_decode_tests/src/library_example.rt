@@ -1,5 +1,6 @@
 //! The example of the library that README shows.
 
+use crate::checks::check_equal;
 use crate::decoders::text_of;
 use cwr_decode::{ReadFault, Reading};
 use cwr_fields::Counted;
@@ -31,8 +32,8 @@ fn new_works<I: Read + Drop>(alloc: Global, input: I) -> Result<u32, ReadFault> 
 #[test]
 fn new_works_are_counted(rt: HostRuntime) {
     let text = text_of(&rt, TWO_GROUPS);
-    assert_eq!(rt; new_works(rt.alloc(), text.as_slice()), Ok(1));
+    check_equal(&rt, new_works(rt.alloc(), text.as_slice()), Ok(1));
     let header = text.as_slice().get(..103).unwrap_or(b"");
     let truncated = Err(ReadFault::Truncated { records: 1 });
-    assert_eq!(rt; new_works(rt.alloc(), header), truncated);
+    check_equal(&rt, new_works(rt.alloc(), header), truncated);
 }

@@ -3,6 +3,7 @@
 ghost use Rattle.std.specs.Prelude.{◌≡◌, ◌≤◌, Some, length};
 
 use crate::answers::answers_on;
+use crate::checks::check_equal;
 use crate::decoders::{LARGEST, limits_of, text_of, twice_of};
 use crate::item_lines::add_item;
 use cwr_decode::{ReadFault, Reading};
@@ -151,7 +152,7 @@ const NOTHING: &str =
 /// Checks what seven calls answer.
 fn check_words<R: Source>(rt: &(impl Abort + AllocGlobal), reader: &mut R, words: &str) {
     let called = read_items(rt, reader, 7);
-    assert_eq!(rt; called.words.as_str(), words);
+    check_equal(rt, called.words.as_str(), words);
 }
 
 /// Reads one transmission after another: so each is answered, and then so many bytes are left, and so many calls have failed.
@@ -164,7 +165,7 @@ fn check_reader(
     for words in answers {
         check_words(rt, &mut reader, words);
     }
-    assert_eq!(rt; (reader.left.len(), reader.failures), numbers);
+    check_equal(rt, (reader.left.len(), reader.failures), numbers);
 }
 
 #[test]
@@ -191,10 +192,10 @@ fn acknowledgements_one_after_another(rt: HostRuntime) {
 /// Reads a text by a reader whose call after so many others fails: these items come all the same.
 fn check_once(rt: &(impl Abort + AllocGlobal), text: &[u8], until: u8, wanted: &[u8]) {
     let called = read_items(rt, &mut failing_once(text, until), 12);
-    assert_eq!(rt;
-        (called.faults, called.items.as_slice()),
-        (1, wanted),
-        "call {until}"
+    check_equal(
+        rt,
+        (until, (called.faults, called.items.as_slice())),
+        (until, (1, wanted)),
     );
     assert!(rt;
         called.words.as_str().ends_with("ended, none, none, "),

@@ -2,6 +2,7 @@
 //! and the reason of the refusal.
 
 use crate::answers::{BYTES, answers_on, check_same};
+use crate::checks::check_equal;
 use crate::decoders::{LARGEST, Numbers, text_of};
 use cwr_decode::{End, Refusal};
 use cwr_fields::CellFault;
@@ -77,7 +78,7 @@ pub(crate) fn check_refused(
 ) {
     let answers = answers_on(rt, numbers, text, &[]);
     let wanted = (items, used, Some(End::Refused(expected)));
-    assert_eq!(rt; answers.numbers(), wanted);
+    check_equal(rt, answers.numbers(), wanted);
     check_same(rt, (numbers, text), BYTES, &answers);
 }
 

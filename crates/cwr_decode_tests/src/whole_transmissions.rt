@@ -1,5 +1,6 @@
 //! Tests of reading whole worked transmissions, with ample memory.
 
+use crate::checks::check_equal;
 use crate::decoders::{LARGEST, Numbers, limits_of, short_text_of, text_of, twice_of};
 use cwr_decode::{ReadFault, read_all, read_pieces};
 use cwr_fields::{Counted, Source};
@@ -18,18 +19,19 @@ fn transaction_of(group: &Group, i: usize) -> Option<(Kind, usize)> {
 fn check_group(rt: &impl Abort, group: &Group) {
     let acknowledgements: &[u8] = b"ACK";
     let kinds = (group.foot().view().kind(), transaction_of(group, 0));
-    assert_eq!(rt;
+    check_equal(
+        rt,
         (group.len(), kinds),
-        (1, (Kind::Grt, Some((Kind::Ack, 1))))
+        (1, (Kind::Grt, Some((Kind::Ack, 1)))),
     );
-    assert_eq!(rt; group.head().view().cell(2), Some(acknowledgements));
+    check_equal(rt, group.head().view().cell(2), Some(acknowledgements));
 }
 
 /// Checks that it is the transmission of one acknowledgement.
 fn check_acknowledgement(rt: &impl Abort, transmission: &Transmission) {
     let sender: &[u8] = b"123456789";
-    assert_eq!(rt; transmission.open().view().cell(3), Some(sender));
-    assert_eq!(rt; transmission.len(), 1);
+    check_equal(rt, transmission.open().view().cell(3), Some(sender));
+    check_equal(rt, transmission.len(), 1);
     check_group(rt, transmission.group(0).expect(rt, "no group"));
 }
 
@@ -42,13 +44,13 @@ fn check_read<R: Source>(rt: &(impl Abort + AllocGlobal), numbers: Numbers, read
 #[test]
 fn acknowledgements_from_readers(rt: HostRuntime) {
     let text = twice_of(&rt, ONE_ACKNOWLEDGEMENT);
-    assert_eq!(rt; text.len(), 718);
+    check_equal(&rt, text.len(), 718);
     let mut reader = Counted::new(text.as_slice());
     for _ in 0..2 {
         check_read(&rt, LARGEST, &mut reader);
     }
     let third = read_all(rt.alloc(), limits_of(&rt, LARGEST), &mut reader).err();
-    assert_eq!(rt; third, Some(ReadFault::Truncated { records: 0 }));
+    check_equal(&rt, third, Some(ReadFault::Truncated { records: 0 }));
     let short = short_text_of(&rt, ONE_ACKNOWLEDGEMENT);
     check_read(&rt, (5, 1, 1), &mut Counted::new(short.as_slice()));
 }

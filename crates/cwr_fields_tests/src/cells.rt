@@ -1,5 +1,6 @@
 //! What cells hold, texts and the check digit of work codes by example.
 
+use crate::checks::check_equal;
 use cwr_fields::{
     CellFault, CellType, DeviceFault, Word, first_control, fits, iswc_ok, trimmed, width_of,
 };
@@ -41,7 +42,7 @@ const CELLS: &[(CellType, &[u8], Result<(), CellFault>)] = &[
 #[test]
 fn worked_cells(rt: HostRuntime) {
     for (ty, cell, answer) in CELLS {
-        assert_eq!(rt; fault_in(*ty, cell), Some(*answer), "{ty:?}");
+        check_equal(&rt, (ty, fault_in(*ty, cell)), (ty, Some(*answer)));
     }
 }
 
@@ -59,7 +60,7 @@ const FAULTS: &[(CellFault, &str)] = &[
 /// Checks what is printed of a fault.
 fn check_text(rt: &(impl Abort + AllocGlobal), fault: impl Display + Copy, wanted: &str) {
     let printed = format!(in rt.alloc(); "[{fault:>18}]").expect(rt, "no memory");
-    assert_eq!(rt; printed.as_str(), wanted);
+    check_equal(rt, printed.as_str(), wanted);
 }
 
 #[test]
@@ -74,9 +75,9 @@ fn faults_are_printed(rt: HostRuntime) {
 fn texts(rt: HostRuntime) {
     let spaced: [&[u8]; 2] = [trimmed(b"AB  "), trimmed(b"   ")];
     let wanted: [&[u8]; 2] = [b"AB", b""];
-    assert_eq!(rt; spaced, wanted);
+    check_equal(&rt, spaced, wanted);
     let controls = (first_control(&[65, 127]), first_control(&[128, 255]));
-    assert_eq!(rt; controls, (Some(1), None));
+    check_equal(&rt, controls, (Some(1), None));
 }
 
 #[test]

@@ -2,6 +2,7 @@
 
 ghost use Rattle.std.specs.Prelude.{◌≤◌, ◌<◌};
 
+use crate::checks::check_equal;
 use cwr_fields::{
     AgreementType, Cell, CellType, CompositeType, DistributionCategory, ExcerptType,
     InclusionExclusion, MessageLevel, Number, PostTermCollectionStatus, PriorRoyaltyStatus,
@@ -43,7 +44,7 @@ fn reads_row<C: Cell + Display + Debug + PartialEq, R: Abort + AllocGlobal>(
 {
     assert!(rt; reads_back(table, member, text.as_bytes()), "{text}");
     let printed = format!(in rt.alloc(); "{member}").expect(rt, "no memory");
-    assert_eq!(rt; printed.as_str(), text.trim_end());
+    check_equal(rt, printed.as_str(), text.trim_end());
 }
 
 /// Each cell is read as its member, which writes it back and prints its code. The other cell is none of the table.
@@ -304,7 +305,7 @@ fn sender_types(rt: HostRuntime) {
     for (number, text) in [(0, "00"), (42, "42")] {
         check_digits(&rt, number, text);
     }
-    assert_eq!(rt; Number::<2>::new(100), None);
+    check_equal(&rt, Number::<2>::new(100), None);
 }
 
 /// A sender type of two digits is read.

@@ -1,5 +1,6 @@
 //! Devices by example.
 
+use crate::checks::check_equal;
 use cwr_fields::{Counted, DeviceFault, Source, Target};
 use std::io;
 use std::io::{ErrorKind, Read, Write};
@@ -8,7 +9,7 @@ use std::process::Abort;
 /// Checks the bytes that are there, and consumes so many.
 fn check_read<S: Source>(rt: &impl Abort, source: &mut S, wanted: &[u8], count: usize) {
     let bytes = source.fill().expect(rt, "no bytes");
-    assert_eq!(rt; bytes, wanted);
+    check_equal(rt, bytes, wanted);
     let count = count.min(bytes.len());
     source.consume(count);
 }
@@ -29,14 +30,14 @@ fn check_write<T: Target>(
     answers: (Result<usize, DeviceFault>, Result<(), DeviceFault>),
 ) {
     let answered = (target.write(text), target.flush());
-    assert_eq!(rt; answered, answers);
+    check_equal(rt, answered, answers);
 }
 
 #[test]
 fn writes_through(rt: HostRuntime) {
     let mut target = Counted::new(Vec::new(rt.alloc()));
     check_write(&rt, &mut target, b"TRL", (Ok(3), Ok(())));
-    assert_eq!(rt; target.into_inner().as_slice(), b"TRL".as_slice());
+    check_equal(&rt, target.into_inner().as_slice(), b"TRL".as_slice());
 }
 
 /// A device that fails at each other call, and takes nothing.
@@ -75,7 +76,7 @@ impl Write for Broken {
 fn readers_fail(rt: HostRuntime) {
     let mut source = Counted::new(Broken { works: false });
     check_read(&rt, &mut source, b"A", 1);
-    assert_eq!(rt; source.fill(), Err(DeviceFault));
+    check_equal(&rt, source.fill(), Err(DeviceFault));
     check_read(&rt, &mut source, b"A", 0);
 }
 

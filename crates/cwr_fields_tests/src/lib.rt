@@ -4,6 +4,8 @@
 #[cfg(test)]
 mod cells;
 #[cfg(test)]
+mod checks;
+#[cfg(test)]
 mod codes;
 #[cfg(test)]
 mod devices;

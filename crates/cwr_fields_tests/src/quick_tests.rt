@@ -1,5 +1,6 @@
 //! Searches that look at many bytes at a time, and quick tests of cells, by example.
 
+use crate::checks::check_equal;
 use cwr_fields::{
     CellType, SpelledPair, Table, Word, first_control, fits, is_plain, surely_fits, width_of,
 };
@@ -13,10 +14,10 @@ fn controls_in(text: &[u8]) -> (Option<usize>, bool) {
 fn control_bytes_at_each_place(rt: HostRuntime) {
     for len in 0..131 {
         let mut text = [b'A'; 130];
-        assert_eq!(rt; controls_in(&text[..len]), (None, true));
+        check_equal(&rt, controls_in(&text[..len]), (None, true));
         for at in 0..len {
             text[at] = 31;
-            assert_eq!(rt; controls_in(&text[..len]), (Some(at), false));
+            check_equal(&rt, controls_in(&text[..len]), (Some(at), false));
             text[at] = b'A';
         }
     }
@@ -25,10 +26,10 @@ fn control_bytes_at_each_place(rt: HostRuntime) {
 #[test]
 fn bytes_beside_control_bytes(rt: HostRuntime) {
     for byte in [0, 31, 127] {
-        assert_eq!(rt; controls_in(&[byte; 40]), (Some(0), false));
+        check_equal(&rt, controls_in(&[byte; 40]), (Some(0), false));
     }
     for byte in [32, 126, 128, 255] {
-        assert_eq!(rt; controls_in(&[byte; 40]), (None, true));
+        check_equal(&rt, controls_in(&[byte; 40]), (None, true));
     }
 }
 
@@ -93,10 +94,10 @@ static BAD: [(CellType, &[u8]); 22] = [
 #[test]
 fn quick_tests_of_each_type(rt: HostRuntime) {
     for (ty, cell) in &GOOD {
-        assert_eq!(rt; told_of(*ty, cell), Some((true, true)), "{ty:?}");
+        check_equal(&rt, (ty, told_of(*ty, cell)), (ty, Some((true, true))));
     }
     for (ty, cell) in &BAD {
-        assert_eq!(rt; told_of(*ty, cell), Some((false, false)), "{ty:?}");
+        check_equal(&rt, (ty, told_of(*ty, cell)), (ty, Some((false, false))));
     }
 }
 

@@ -2,6 +2,7 @@
 
 ghost use Rattle.std.specs.Prelude.{◌<◌, ◌≤◌};
 
+use crate::checks::check_equal;
 use cwr_fields::{
     Cell, CivilDate, DateCell, DurationCell, Flag, Number, OutOfRange, PlayingTime, Share,
     TimeOfDay,
@@ -50,8 +51,8 @@ fn numbers(rt: HostRuntime) {
 fn numbers_in_their_ranges(rt: HostRuntime) {
     let most = (Some(99999), Ok(99999));
     let more = (None, Err(OutOfRange));
-    assert_eq!(rt; [made(99999), made(100000)], [most, more]);
-    assert_eq!(rt; Number::<11>::try_from(0), Err(OutOfRange));
+    check_equal(&rt, [made(99999), made(100000)], [most, more]);
+    check_equal(&rt, Number::<11>::try_from(0), Err(OutOfRange));
 }
 
 /// The value of a number of five digits, made in two ways.
@@ -67,7 +68,7 @@ fn cells_of_numbers(rt: HostRuntime) {
     let seven = Number::<5>::new(7).expect(&rt, "no number");
     let mut cell = [0; 5];
     seven.write(&mut cell);
-    assert_eq!(rt; (&cell, u64::from(seven)), (b"00007", 7));
+    check_equal(&rt, (&cell, u64::from(seven)), (b"00007", 7));
 }
 
 #[test]
@@ -81,7 +82,7 @@ fn blank_shares(rt: HostRuntime) {
     let mut cell = [0; 5];
     Share::blank().write(&mut cell);
     let is_zero = Share::read(b"00000") == Some(Share::blank());
-    assert_eq!(rt; (&cell, is_zero), (b"     ", false));
+    check_equal(&rt, (&cell, is_zero), (b"     ", false));
 }
 
 #[test]
@@ -90,7 +91,7 @@ fn shares_of_numbers(rt: HostRuntime) {
         Share::try_from(3333).map(Share::hundredths),
         Share::try_from(10001).map(Share::hundredths),
     ];
-    assert_eq!(rt; shares, [Ok(Some(3333)), Err(OutOfRange)]);
+    check_equal(&rt, shares, [Ok(Some(3333)), Err(OutOfRange)]);
 }
 
 #[test]
@@ -105,25 +106,25 @@ fn days(rt: HostRuntime) {
 #[test]
 fn days_that_are_none(rt: HostRuntime) {
     let days = [DateCell::read(b"00000000"), DateCell::read(b"        ")];
-    assert_eq!(rt; days, [Some(DateCell::Zeros), Some(DateCell::Blank)]);
+    check_equal(&rt, days, [Some(DateCell::Zeros), Some(DateCell::Blank)]);
 }
 
 #[test]
 fn days_from_numbers(rt: HostRuntime) {
     let leap = CivilDate::new(2024, 2, 29);
     let read = (CivilDate::read(b"20240229"), DateCell::read(b"20240229"));
-    assert_eq!(rt; (leap, leap.map(DateCell::from)), read);
+    check_equal(&rt, (leap, leap.map(DateCell::from)), read);
 }
 
 #[test]
 fn days_of_the_calendar(rt: HostRuntime) {
     let leap = CivilDate::new(2024, 2, 29);
-    assert_eq!(rt; leap.map(Date::from), Some(date(2024, 2, 29)));
+    check_equal(&rt, leap.map(Date::from), Some(date(2024, 2, 29)));
     let days = (
         CivilDate::try_from(date(2024, 2, 29)).ok(),
         CivilDate::try_from(date(0, 12, 31)),
     );
-    assert_eq!(rt; days, (leap, Err(OutOfRange)));
+    check_equal(&rt, days, (leap, Err(OutOfRange)));
 }
 
 #[test]
@@ -132,7 +133,7 @@ fn times(rt: HostRuntime) {
     check_cells::<TimeOfDay, _>(&rt, &[b"235959"], &bad);
     let late = TimeOfDay::new(23, 59, 58);
     let clock = Some(time(23, 59, 58, 0));
-    assert_eq!(rt; late.map(jiff::civil::Time::from), clock);
+    check_equal(&rt, late.map(jiff::civil::Time::from), clock);
 }
 
 #[test]
@@ -148,10 +149,10 @@ fn playing_times(rt: HostRuntime) {
         song.map(PlayingTime::total_seconds),
         song.map(Duration::from),
     );
-    assert_eq!(rt; seconds, (Some(205), Some(Duration::from_secs(205))));
+    check_equal(&rt, seconds, (Some(205), Some(Duration::from_secs(205))));
     let cells = (song.map(DurationCell::from), Some(DurationCell::Blank));
     let read = (DurationCell::read(b"000325"), DurationCell::read(b"      "));
-    assert_eq!(rt; cells, read);
+    check_equal(&rt, cells, read);
 }
 
 #[test]
@@ -164,21 +165,21 @@ fn flags(rt: HostRuntime) {
 fn check_text(rt: &(impl Abort + AllocGlobal), value: Option<impl Display + Copy>, wanted: &str) {
     let printed = value.expect(rt, "no value");
     let text = format!(in rt.alloc(); "{printed}").expect(rt, "no memory");
-    assert_eq!(rt; text.as_str(), wanted);
+    check_equal(rt, text.as_str(), wanted);
 }
 
 /// Checks what is printed of a value in a place of three bytes.
 fn check_padded(rt: &(impl Abort + AllocGlobal), value: Option<impl Display + Copy>, wanted: &str) {
     let printed = value.expect(rt, "no value");
     let text = format!(in rt.alloc(); "[{printed:>3}]").expect(rt, "no memory");
-    assert_eq!(rt; text.as_str(), wanted);
+    check_equal(rt, text.as_str(), wanted);
 }
 
 /// Checks what is printed of a value with zeros in a place of three bytes.
 fn check_zeros(rt: &(impl Abort + AllocGlobal), value: Option<impl Display + Copy>, wanted: &str) {
     let printed = value.expect(rt, "no value");
     let text = format!(in rt.alloc(); "{printed:03}").expect(rt, "no memory");
-    assert_eq!(rt; text.as_str(), wanted);
+    check_equal(rt, text.as_str(), wanted);
 }
 
 #[test]

@@ -1,5 +1,6 @@
 //! Tests of kinds and layouts: that the calls answer as the written tables of CWR 2.1 have it.
 
+use crate::checks::check_equal;
 use cwr_fields::{CellType, Table, Word};
 use cwr_layouts::{Kind, field, fields, width};
 use std::process::Abort;
@@ -18,7 +19,7 @@ const LETTERS: &[(&[u8], Option<Kind>)] = &[
 #[test]
 fn kinds_by_their_letters(rt: HostRuntime) {
     for (text, kind) in LETTERS {
-        assert_eq!(rt; Kind::of(text), *kind);
+        check_equal(&rt, Kind::of(text), *kind);
     }
 }
 
@@ -69,7 +70,11 @@ const WIDTHS: &[(Kind, usize, u8)] = &[
 /// Checks the widths of a row.
 fn check_width(rt: &impl Abort, row: &(Kind, usize, u8)) {
     let (kind, bytes, count) = *row;
-    assert_eq!(rt; (width(kind), fields(kind)), (bytes, count), "{kind:?}");
+    check_equal(
+        rt,
+        (kind, (width(kind), fields(kind))),
+        (kind, (bytes, count)),
+    );
 }
 
 #[test]
@@ -86,8 +91,8 @@ type Known = (Kind, u8, &'static str, (usize, usize), (CellType, bool));
 fn check_field(rt: &impl Abort, row: &Known) {
     let (kind, j, name, place, ty) = *row;
     let found = field(kind, j).expect(rt, "no field");
-    assert_eq!(rt; (found.start, found.width), place);
-    assert_eq!(rt; (found.name, (found.ty, found.derived)), (name, ty));
+    check_equal(rt, (found.start, found.width), place);
+    check_equal(rt, (found.name, (found.ty, found.derived)), (name, ty));
 }
 
 #[rattlefmt::skip]

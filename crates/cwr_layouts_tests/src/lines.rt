@@ -2,6 +2,7 @@
 
 ghost use Rattle.std.specs.Prelude.{◌≢◌};
 
+use crate::checks::check_equal;
 use cwr_layouts::{CutLine, Kind, LineBuf, LineEnd};
 use std::process::Abort;
 
@@ -30,7 +31,7 @@ fn takes_by_pieces(rt: HostRuntime) {
         (b"A\r", b"\n", 1, LineEnd::Line, 2),
     ];
     for (first, second, used, ended, len) in table {
-        assert_eq!(rt; take_two(first, second), Some((used, ended, len)));
+        check_equal(&rt, take_two(first, second), Some((used, ended, len)));
     }
 }
 
@@ -52,7 +53,7 @@ type Cells = &'static [(u8, Option<&'static [u8]>)];
 /// Checks cells of a line.
 fn check_cells(rt: &impl Abort, cut: &CutLine<'_>, cells: Cells) {
     for (j, cell) in cells {
-        assert_eq!(rt; cut.cell(*j), *cell, "at {j}");
+        check_equal(rt, (j, cut.cell(*j)), (j, *cell));
     }
 }
 
@@ -60,7 +61,7 @@ fn check_cells(rt: &impl Abort, cut: &CutLine<'_>, cells: Cells) {
 fn check_trailer(rt: &impl Abort, text: &[u8], cells: Cells, excess: bool) {
     let line = line_of(text);
     let cut = line.cut();
-    assert_eq!(rt; (cut.kind(), cut.excess()), (Some(Kind::Trl), excess));
+    check_equal(rt, (cut.kind(), cut.excess()), (Some(Kind::Trl), excess));
     check_cells(rt, &cut, cells);
 }
 
@@ -91,7 +92,7 @@ fn unknown_kinds_have_no_cells(rt: HostRuntime) {
         let line = line_of(text);
         let cut = line.cut();
         let answer = (cut.kind(), cut.cell(1), cut.excess());
-        assert_eq!(rt; answer, (None, None, false));
+        check_equal(&rt, answer, (None, None, false));
     }
 }
 
@@ -101,10 +102,10 @@ fn lines_that_are_too_long(rt: HostRuntime) {
     text[..3].copy_from_slice(b"TRL");
     text[1023] = b'\r';
     let line = line_of(&text);
-    assert_eq!(rt; line.len(), 1024);
+    check_equal(&rt, line.len(), 1024);
     let cut = line.cut();
-    assert_eq!(rt; cut.kind(), Some(Kind::Trl));
-    assert_eq!(rt; cut.cell(2), Some(&b"     "[..]));
+    check_equal(&rt, cut.kind(), Some(Kind::Trl));
+    check_equal(&rt, cut.cell(2), Some(&b"     "[..]));
     assert!(rt; cut.excess());
 }
 
@@ -115,8 +116,8 @@ fn cleared_lines_are_new(rt: HostRuntime) {
     line.clear();
     let cleared = line.len();
     let taken = line.take(b"GRH");
-    assert_eq!(rt; (before, cleared, line.len()), (25, 0, 3));
-    assert_eq!(rt; (taken.used, taken.ended), (3, LineEnd::Open));
+    check_equal(&rt, (before, cleared, line.len()), (25, 0, 3));
+    check_equal(&rt, (taken.used, taken.ended), (3, LineEnd::Open));
 }
 
 /// An acknowledgement in full width.
@@ -136,7 +137,7 @@ fn found_in<'a>(cut: &CutLine<'a>) -> Option<Found<'a>> {
 fn check_record(rt: &impl Abort, text: &[u8], wanted: Option<Found<'_>>, excess: bool) {
     let line = line_of(text);
     let cut = line.cut();
-    assert_eq!(rt; (found_in(&cut), cut.excess()), (wanted, excess));
+    check_equal(rt, (found_in(&cut), cut.excess()), (wanted, excess));
 }
 
 #[test]
@@ -155,9 +156,10 @@ fn records_of_lines(rt: HostRuntime) {
 #[test]
 fn sequences_of_lines_inside_transactions(rt: HostRuntime) {
     let line = line_of(b"SPT0000000100000002P1\r\n");
-    assert_eq!(rt;
+    check_equal(
+        &rt,
         line.cut().sequences(),
-        Some(b"0000000100000002".as_slice())
+        Some(b"0000000100000002".as_slice()),
     );
     let texts: [&[u8]; 3] = [
         b"TRL000010000000100000005\n",

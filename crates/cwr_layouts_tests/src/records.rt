@@ -5,6 +5,7 @@ ghost use Rattle.cwr_fields.specs.declared.cell_types.CellType.TheVariants.{Cons
 ghost use Rattle.cwr_fields.specs.declared.cell_types.Word.TheVariants.{Edi};
 ghost use Rattle.cwr_fields.specs.Format.Codes.{word_text};
 
+use crate::checks::check_equal;
 use cwr_fields::{
     Cell, CellFault, CellType, CivilDate, DateCell, Flag, Number, TimeOfDay, TransactionStatus,
     TransactionType, Word,
@@ -55,7 +56,7 @@ type Set<'a> = (u8, &'a [u8], Result<(), SetFault>);
 /// Sets texts in a draft, each of which gives the answer beside it.
 fn check_sets(rt: &impl Abort, draft: &mut Draft, texts: &[Set<'_>]) {
     for (j, text, answer) in texts {
-        assert_eq!(rt; draft.set(*j, text), *answer, "at {j}");
+        check_equal(rt, (j, draft.set(*j, text)), (j, *answer));
     }
 }
 
@@ -70,7 +71,7 @@ fn record_with(rt: &impl Abort, kind: Kind, texts: &[Set<'_>]) -> Record {
 fn check_cells(rt: &impl Abort, record: &Record, cells: &[(u8, Option<&[u8]>)]) {
     let view = record.view();
     for (j, cell) in cells {
-        assert_eq!(rt; view.cell(*j), *cell, "at {j}");
+        check_equal(rt, (j, view.cell(*j)), (j, *cell));
     }
 }
 
@@ -118,7 +119,7 @@ fn blank_at(field: u8) -> Option<DraftFault> {
 fn refuses_texts(rt: HostRuntime) {
     let mut draft = Draft::blank(Kind::Ack);
     check_sets(&rt, &mut draft, &REFUSED);
-    assert_eq!(rt; fault_of(&draft), blank_at(6));
+    check_equal(&rt, fault_of(&draft), blank_at(6));
 }
 
 /// The required cells of an acknowledgement, and the next one after each.
@@ -133,8 +134,8 @@ static REQUIRED: [(u8, &[u8], Option<u8>); 4] = [
 fn required_cells_one_after_the_other(rt: HostRuntime) {
     let mut draft = Draft::blank(Kind::Ack);
     for (j, text, next) in &REQUIRED {
-        assert_eq!(rt; draft.set(*j, text), Ok(()));
-        assert_eq!(rt; fault_of(&draft), next.and_then(blank_at));
+        check_equal(&rt, draft.set(*j, text), Ok(()));
+        check_equal(&rt, fault_of(&draft), next.and_then(blank_at));
     }
 }
 
@@ -172,10 +173,10 @@ static CELLS: [(u8, Option<&[u8]>); 15] = [
 #[test]
 fn shows_cells(rt: HostRuntime) {
     let record = record_with(&rt, Kind::Ack, &ACKNOWLEDGEMENT);
-    assert_eq!(rt; record.view().kind(), Kind::Ack);
+    check_equal(&rt, record.view().kind(), Kind::Ack);
     check_cells(&rt, &record, &CELLS);
     let copy = record.view().to_record();
-    assert_eq!(rt; copy.view().kind(), Kind::Ack);
+    check_equal(&rt, copy.view().kind(), Kind::Ack);
     check_cells(&rt, &copy, &[(8, Some(b"NWR"))]);
 }
 
@@ -191,10 +192,10 @@ fn is_read<C: Cell + Drop>(record: &Record, j: u8) -> bool
 fn reads_typed_cells(rt: HostRuntime) {
     let record = record_with(&rt, Kind::Ack, &ACKNOWLEDGEMENT);
     let view = record.view();
-    assert_eq!(rt; view.read::<DateCell>(4), Some(DateCell::Blank));
-    assert_eq!(rt; view.read::<Number<5>>(6).map(u64::from), Some(1));
+    check_equal(&rt, view.read::<DateCell>(4), Some(DateCell::Blank));
+    check_equal(&rt, view.read::<Number<5>>(6).map(u64::from), Some(1));
     let accepted = Some(TransactionStatus::RegistrationAccepted);
-    assert_eq!(rt; view.read::<TransactionStatus>(13), accepted);
+    check_equal(&rt, view.read::<TransactionStatus>(13), accepted);
 }
 
 #[test]
@@ -229,14 +230,14 @@ fn constants_stand(rt: HostRuntime) {
     check_cells(&rt, &group, &[(4, Some(b"02.10"))]);
     let header = record_with(&rt, Kind::Hdr, &HEADER);
     for (j, is_version) in [(5, true), (4, false), (1, false), (10, false)] {
-        assert_eq!(rt; is_read::<EdiVersion>(&header, j), is_version, "at {j}");
+        check_equal(&rt, (j, is_read::<EdiVersion>(&header, j)), (j, is_version));
     }
 }
 
 /// Checks the text of a fault.
 fn check_text(rt: &(impl Abort + AllocGlobal), fault: impl Display + Copy, wanted: &str) {
     let text = format!(in rt.alloc(); "{fault}").expect(rt, "no memory");
-    assert_eq!(rt; text.as_str(), wanted);
+    check_equal(rt, text.as_str(), wanted);
 }
 
 static FAULTS: [(SetFault, &str); 5] = [
@@ -259,7 +260,7 @@ fn faults_are_printed(rt: HostRuntime) {
 #[test]
 fn trailers_are_records(rt: HostRuntime) {
     let record = record_with(&rt, Kind::Grt, &[]);
-    assert_eq!(rt; record.view().kind(), Kind::Grt);
+    check_equal(&rt, record.view().kind(), Kind::Grt);
     check_cells(&rt, &record, &[(4, None), (5, Some(b"   "))]);
     assert!(rt; Draft::blank(Kind::Trl).done().is_ok());
 }
@@ -275,13 +276,13 @@ fn copy_of(source: &Record) -> Result<Record, AllocError>
 fn check_shown(rt: &(impl Abort + AllocGlobal), value: &impl Debug) {
     let text = format!(in rt.alloc(); "{value:?}").expect(rt, "no memory");
     let shown = r#"Grt {"currency": "E\"R", "total monetary value": "          "}"#;
-    assert_eq!(rt; text.as_str(), shown);
+    check_equal(rt, text.as_str(), shown);
 }
 
 #[test]
 fn shown_to_programmers(rt: HostRuntime) {
     let mut draft = Draft::blank(Kind::Grt);
-    assert_eq!(rt; draft.set(5, b"E\"R"), Ok(()));
+    check_equal(&rt, draft.set(5, b"E\"R"), Ok(()));
     check_shown(&rt, &draft);
     let record = draft.done().expect(&rt, "unfit");
     check_shown(&rt, &record);

@@ -3,7 +3,8 @@
 ghost use Rattle.std.specs.Prelude.{◌≢◌};
 ghost use Rattle.cwr_layouts.specs.declared.lines.LineEnd.TheVariants.{Open};
 
-use cwr_layouts::{Draft, LineBuf, LineEnd, Record, fields};
+use crate::checks::check_equal;
+use cwr_layouts::{Draft, LineBuf, LineEnd, Record, RecordRef, fields};
 use cwr_levels::{Finding, Rule, findings};
 use cwr_shape::Level;
 use cwr_values::Transaction;
@@ -18,6 +19,20 @@ pub(crate) type Expected = (usize, u8, Level, Rule);
 /// The worked lines of a transaction, the edits in them, and the findings.
 pub(crate) type Case = (&'static [&'static [u8]], Edits, &'static [Expected]);
 
+/// Sets a text in a draft.
+fn set(rt: &impl Abort, draft: &mut Draft, j: u8, text: &[u8]) {
+    check_equal(rt, draft.set(j, text), Ok(()));
+}
+
+/// Sets the cells of a record in a draft of its kind.
+fn set_cells(rt: &impl Abort, draft: &mut Draft, shown: &RecordRef<'_>) {
+    for before in 0..fields(shown.kind()) {
+        if let Some(text) = shown.cell(before + 1) {
+            set(rt, draft, before + 1, text);
+        }
+    }
+}
+
 /// The record of a line that ended, with the edits in the record of this sequence.
 fn edited(rt: &impl Abort, buffer: &LineBuf, sequence: usize, edits: Edits) -> Record
     requires { buffer.now.ended ≢ Open }
@@ -25,14 +40,10 @@ fn edited(rt: &impl Abort, buffer: &LineBuf, sequence: usize, edits: Edits) -> R
     let cut = buffer.cut();
     let shown = cut.record().expect(rt, "no record");
     let mut draft = Draft::blank(shown.kind());
-    for before in 0..fields(shown.kind()) {
-        if let Some(text) = shown.cell(before + 1) {
-            assert_eq!(rt; draft.set(before + 1, text), Ok(()));
-        }
-    }
+    set_cells(rt, &mut draft, &shown);
     for (at, j, text) in edits {
         if *at == sequence {
-            assert_eq!(rt; draft.set(*j, text), Ok(()));
+            set(rt, &mut draft, *j, text);
         }
     }
     draft.done().expect(rt, "no record")
@@ -61,25 +72,36 @@ fn transaction(
     let mut transaction = begun.expect(rt, "no transaction");
     for line in others {
         let next = record(rt, line, transaction.len(), edits);
-        assert_eq!(rt; transaction.push(next.view()), Ok(()));
+        check_equal(rt, transaction.push(next.view()), Ok(()));
     }
     transaction
 }
 
+/// Checks that there are just these findings.
+fn check_found(rt: &impl Abort, found: &[Finding], expected: &[Expected]) {
+    check_equal(rt, found.len(), expected.len());
+    for (shown, wanted) in found.iter().zip(expected.iter()) {
+        let Finding {
+            rec,
+            field,
+            rule,
+            level,
+        } = *shown;
+        check_equal(rt, (rec, field, level, rule), *wanted);
+    }
+}
+
+/// Checks the findings of a case.
+fn check_case(rt: &(impl Abort + AllocGlobal), case: &Case) {
+    let (lines, edits, expected) = *case;
+    let answer = findings(rt.alloc(), &transaction(rt, lines, edits));
+    let found = answer.expect(rt, "no memory");
+    check_found(rt, found.as_slice(), expected);
+}
+
 /// Checks the findings of each case.
 pub(crate) fn check_findings(rt: &(impl Abort + AllocGlobal), cases: &'static [Case]) {
-    for (lines, edits, expected) in cases {
-        let answer = findings(rt.alloc(), &transaction(rt, lines, edits));
-        let found = answer.expect(rt, "no memory");
-        assert_eq!(rt; found.len(), expected.len());
-        for (shown, wanted) in found.iter().zip(expected.iter()) {
-            let Finding {
-                rec,
-                field,
-                rule,
-                level,
-            } = *shown;
-            assert_eq!(rt; (rec, field, level, rule), *wanted);
-        }
+    for case in cases {
+        check_case(rt, case);
     }
 }

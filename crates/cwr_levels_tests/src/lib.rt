@@ -4,6 +4,8 @@
 #[cfg(test)]
 mod agreements;
 #[cfg(test)]
+mod checks;
+#[cfg(test)]
 mod edited_records;
 #[cfg(test)]
 mod works;

@@ -1,5 +1,6 @@
 //! Tests of groups and transmissions, on the worked transactions.
 
+use crate::checks::check_equal;
 use crate::worked_records::{
     begun_with, group_head, opening, push, record_with, revision, short_work, work, writer,
 };
@@ -21,7 +22,7 @@ fn fault_of<F, T: Drop>(pushed: Result<(), (F, T)>) -> Result<(), F> {
 
 /// Adds a work of the header and one writer.
 fn push_written(rt: &(impl Abort + AllocGlobal), group: &mut Group, header: &Record) {
-    assert_eq!(rt; fault_of(group.push(short_work(rt, header))), Ok(()));
+    check_equal(rt, fault_of(group.push(short_work(rt, header))), Ok(()));
 }
 
 /// A transmission without a group.
@@ -31,7 +32,7 @@ fn begun_transmission(rt: &(impl Abort + AllocGlobal)) -> Transmission {
 
 /// Adds a group.
 fn push_group(rt: &impl Abort, transmission: &mut Transmission, group: Group) {
-    assert_eq!(rt; fault_of(transmission.push(group)), Ok(()));
+    check_equal(rt, fault_of(transmission.push(group)), Ok(()));
 }
 
 /// A group of two revised works.
@@ -61,13 +62,13 @@ fn refused_by(
 ) -> Transaction {
     let mut group = group(rt, ty);
     let (found, given) = group.push(transaction).expect_err(rt, "not refused");
-    assert_eq!(rt; (found, group.len()), (fault, 0));
+    check_equal(rt, (found, group.len()), (fault, 0));
     given
 }
 
 /// A work of its header, to which its writer is added.
 fn completed(rt: &impl Abort, mut transaction: Transaction) -> Transaction {
-    assert_eq!(rt; push(&mut transaction, &writer(rt)), (Ok(()), 2, true));
+    check_equal(rt, push(&mut transaction, &writer(rt)), (Ok(()), 2, true));
     transaction
 }
 
@@ -86,15 +87,19 @@ fn transactions_into_groups(rt: HostRuntime) {
     let begun = refused_by(&rt, b"NWR", begun, GroupFault::Incomplete);
     let whole = refused_by(&rt, b"ACK", completed(&rt, begun), GroupFault::WrongKind);
     let mut works = group(&rt, b"NWR");
-    assert_eq!(rt; fault_of(works.push(whole)), Ok(()));
-    assert_eq!(rt; lengths_of(&works), (1, Some(2), None));
+    check_equal(&rt, fault_of(works.push(whole)), Ok(()));
+    check_equal(&rt, lengths_of(&works), (1, Some(2), None));
 }
 
 /// Adds a group without a transaction, which is refused and handed back.
 fn refused_empty(rt: &impl Abort, transmission: &mut Transmission, group: Group) -> Group {
     let refused = transmission.push(group);
     let (fault, given) = refused.expect_err(rt, "without transaction");
-    assert_eq!(rt; (fault, transmission.len()), (TransmissionFault::Empty, 0));
+    check_equal(
+        rt,
+        (fault, transmission.len()),
+        (TransmissionFault::Empty, 0),
+    );
     given
 }
 
@@ -114,7 +119,7 @@ fn groups_into_transmissions(rt: HostRuntime) {
     push_written(&rt, &mut works, &work(&rt));
     push_group(&rt, &mut transmission, works);
     let found = (groups_of(&transmission), transmission.open().view().kind());
-    assert_eq!(rt; found, ((1, Some(1), None), Kind::Hdr));
+    check_equal(&rt, found, ((1, Some(1), None), Kind::Hdr));
 }
 
 /// The kind of the record that is handed back.
@@ -130,15 +135,15 @@ fn records_of_another_kind(rt: HostRuntime) {
         kind_returned(group(&rt, b"NWR").set_foot(opening(&rt))),
     ];
     let kinds = [Kind::Hdr, Kind::Grh, Kind::Hdr];
-    assert_eq!(rt; refused, kinds.map(Some));
+    check_equal(&rt, refused, kinds.map(Some));
 }
 
 /// Checks the type of a group's head, and the currency of its foot.
 fn check_ends(rt: &impl Abort, group: &Group, ty: &[u8], currency: &[u8]) {
     let foot = group.foot().view();
-    assert_eq!(rt; foot.kind(), Kind::Grt);
+    check_equal(rt, foot.kind(), Kind::Grt);
     let cells = (group.head().view().cell(2), foot.cell(5));
-    assert_eq!(rt; cells, (Some(ty), Some(currency)));
+    check_equal(rt, cells, (Some(ty), Some(currency)));
 }
 
 #[test]
@@ -158,7 +163,7 @@ fn check_fit(
     wanted: Result<(), ValueFault>,
 ) {
     let limits = Limits::new(records, groups, longest).expect(rt, "no limits");
-    assert_eq!(rt; transmission.fits(limits), wanted);
+    check_equal(rt, transmission.fits(limits), wanted);
 }
 
 /// The first transaction is too long.
@@ -181,7 +186,7 @@ fn limits(rt: HostRuntime) {
 /// Checks the text of a fault.
 fn check_text(rt: &(impl Abort + AllocGlobal), fault: impl Display + Copy, wanted: &str) {
     let text = format!(in rt.alloc(); "{fault}").expect(rt, "no memory");
-    assert_eq!(rt; text.as_str(), wanted);
+    check_equal(rt, text.as_str(), wanted);
 }
 
 #[test]

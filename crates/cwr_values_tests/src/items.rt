@@ -1,5 +1,6 @@
 //! Tests of items.
 
+use crate::checks::check_equal;
 use crate::worked_records::{short_work, work};
 use cwr_values::Item;
 use std::process::Abort;
@@ -11,7 +12,7 @@ fn shown(rt: &(impl Abort + AllocGlobal), item: &Item) -> String {
 
 #[test]
 fn items_are_shown(rt: HostRuntime) {
-    assert_eq!(rt; shown(&rt, &Item::Ended).as_str(), "Ended");
+    check_equal(&rt, shown(&rt, &Item::Ended).as_str(), "Ended");
     let text = shown(&rt, &Item::Transaction(short_work(&rt, &work(&rt))));
     let begin = "Transaction(Transaction { ty: NewWork, ";
     assert!(rt; text.as_str().starts_with(begin));

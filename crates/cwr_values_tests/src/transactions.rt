@@ -1,5 +1,6 @@
 //! Tests of transactions, on the worked orders of records.
 
+use crate::checks::check_equal;
 use crate::worked_records::{begun_with, publisher, push, record_with, short_work, work, writer};
 use cwr_layouts::{Kind, Record};
 use cwr_values::{PushFault, Transaction};
@@ -8,7 +9,7 @@ use std::process::Abort;
 #[test]
 fn transactions_that_begin_with_a_writer(rt: HostRuntime) {
     let refused = Transaction::new(rt.alloc(), writer(&rt).view()).err();
-    assert_eq!(rt; refused, Some(PushFault::Misplaced));
+    check_equal(&rt, refused, Some(PushFault::Misplaced));
 }
 
 #[test]
@@ -16,14 +17,14 @@ fn works(rt: HostRuntime) {
     assert!(rt; !begun_with(&rt, &work(&rt)).complete());
     let mut transaction = short_work(&rt, &work(&rt));
     let misplaced = push(&mut transaction, &publisher(&rt));
-    assert_eq!(rt; misplaced, (Err(PushFault::Misplaced), 2, true));
+    check_equal(&rt, misplaced, (Err(PushFault::Misplaced), 2, true));
     check_work(&rt, &transaction);
 }
 
 /// Checks the records of a work of its header and one writer.
 fn check_work(rt: &impl Abort, transaction: &Transaction) {
-    assert_eq!(rt; transaction.kind(), Kind::Nwr);
-    assert_eq!(rt; width_of(transaction, 0, 4), Some(60));
+    check_equal(rt, transaction.kind(), Kind::Nwr);
+    check_equal(rt, width_of(transaction, 0, 4), Some(60));
     assert!(rt; transaction.record(2).is_none());
 }
 
@@ -39,7 +40,7 @@ fn faults_are_printed(rt: HostRuntime) {
         (PushFault::Memory, "out of memory"),
     ] {
         let printed = format!(in rt.alloc(); "{fault}").expect(&rt, "no memory");
-        assert_eq!(rt; printed.as_str(), text);
+        check_equal(&rt, printed.as_str(), text);
     }
 }
 
@@ -53,7 +54,7 @@ fn begun_agreement(rt: &(impl Abort + AllocGlobal)) -> Transaction {
     let cells: [(u8, &[u8]); 3] = [(4, b"A0000000000001"), (6, b"OS"), (15, b"00001")];
     let mut transaction = begun_with(rt, &record_with(rt, Kind::Agr, &cells));
     let territory = record_with(rt, Kind::Ter, &[(4, b"I"), (5, b"2136")]);
-    assert_eq!(rt; push(&mut transaction, &territory), (Ok(()), 2, false));
+    check_equal(rt, push(&mut transaction, &territory), (Ok(()), 2, false));
     transaction
 }
 
@@ -63,6 +64,6 @@ fn agreements(rt: HostRuntime) {
     let roles: [(&[u8], usize, bool); 3] = [(b"AS", 3, false), (b"AS", 4, false), (b"AC", 5, true)];
     for (role, len, complete) in roles {
         let pushed = push(&mut transaction, &party(&rt, role));
-        assert_eq!(rt; pushed, (Ok(()), len, complete));
+        check_equal(&rt, pushed, (Ok(()), len, complete));
     }
 }

@@ -1,5 +1,6 @@
 //! The records of the worked transactions.
 
+use crate::checks::check_equal;
 use cwr_layouts::{Draft, Kind, Record};
 use cwr_values::{PushFault, Transaction};
 use std::process::Abort;
@@ -8,7 +9,7 @@ use std::process::Abort;
 pub(crate) fn record_with(rt: &impl Abort, kind: Kind, cells: &[(u8, &[u8])]) -> Record {
     let mut draft = Draft::blank(kind);
     for (j, text) in cells {
-        assert_eq!(rt; draft.set(*j, text), Ok(()));
+        check_equal(rt, draft.set(*j, text), Ok(()));
     }
     draft.done().expect(rt, "no record")
 }
@@ -97,6 +98,6 @@ pub(crate) fn push(
 pub(crate) fn short_work(rt: &(impl Abort + AllocGlobal), header: &Record) -> Transaction {
     let mut transaction = begun_with(rt, header);
     let pushed = push(&mut transaction, &writer(rt));
-    assert_eq!(rt; pushed, (Ok(()), 2, true));
+    check_equal(rt, pushed, (Ok(()), 2, true));
     transaction
 }
