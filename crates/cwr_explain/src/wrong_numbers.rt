@@ -71,10 +71,16 @@ fn add_missing(
     } = what;
     let last = found.saturating_sub(1);
     if let Some(before) = expected.checked_sub(1) {
-        write!(text, "{several} {before} and {found} stand beside each other: ")?;
+        write!(
+            text,
+            "{several} {before} and {found} stand beside each other: "
+        )?;
     }
     if last == expected {
-        write!(text, "the {one} with {number} {expected} is missing before this line")
+        write!(
+            text,
+            "the {one} with {number} {expected} is missing before this line"
+        )
     } else {
         write!(
             text,
@@ -121,7 +127,8 @@ impl WrongNumber<'_> {
             return Ok(());
         };
         let from = AFTER_SEQUENCES.min(self.line.len()).min(before.len());
-        let same = self.line[from..] == before[from..] && self.line[..3.min(from)] == before[..3.min(from)];
+        let same = self.line[from..] == before[from..]
+            && self.line[..3.min(from)] == before[..3.min(from)];
         text.push_str(if same {
             "; but for the numbers both lines are the same"
         } else {
@@ -132,7 +139,9 @@ impl WrongNumber<'_> {
     /// Adds what the sequence of a record points to.
     fn add_record(&self, text: &mut String) -> Result<(), AllocError> {
         if is_header(self.kind) && self.expected == 0 {
-            return text.push_str("the header of a transaction is its first record, which has sequence 0");
+            return text.push_str(
+                "the header of a transaction is its first record, which has sequence 0",
+            );
         }
         self.add_in_order(text, RECORD)?;
         if self.found.saturating_add(1) == self.expected {
@@ -154,14 +163,12 @@ impl WrongNumber<'_> {
     }
 
     /// Adds what a count points to.
-    fn add_count(
-        &self,
-        text: &mut String,
-        whole: &str,
-        several: &str,
-    ) -> Result<(), AllocError> {
+    fn add_count(&self, text: &mut String, whole: &str, several: &str) -> Result<(), AllocError> {
         let (found, expected) = (self.found, self.expected);
-        write!(text, "the {whole} has {expected} {several} and says {found}: ")?;
+        write!(
+            text,
+            "the {whole} has {expected} {several} and says {found}: "
+        )?;
         if found > expected {
             let missing = found.saturating_sub(expected);
             write!(
