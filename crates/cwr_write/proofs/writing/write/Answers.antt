@@ -1,0 +1,8 @@
+use Rattle.std.proofs.Common.{◌∙◌}
+use Rattle.cwr_write.proofs.TakenLines.{written_whole}
+use Rattle.cwr_write.proofs.writing.write.Goals as goal
+
+pub returns-in-Ok-clause-written : goal.returns-in-Ok-clause-written
+returns-in-Ok-clause-written g c =
+    written_whole c.args.limits g.W.Target.contents g.W.Target.failures c.args.writer c.finish.result.0 c.in-Ok.ensures.takes.0 c.new-encoder.result c.take_lines.new.encoder c.finish.result.1
+    c.new-encoder.ensures.represents c.in-Ok.ensures.takes.1 (c.in-Ok.ensures.limits ∙ c.new-encoder.ensures.limits) c.finish.ensures.written
