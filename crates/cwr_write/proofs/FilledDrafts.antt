@@ -1,11 +1,10 @@
 -- A draft that members fill has their cells, with each member more.
-use Rattle.std.proofs.Common.{◌≡◌, ℕ, zero, suc, ◌+◌, ◌-◌, ◌<◌, Bool, true, false, not, cond, ◌&&◌, List, [], ◌∷◌, ◌++◌, length, map, take, get_or, Option, Some, None, refl, sym, ap, ap₂, subst, ◌∙◌, arith, true≢false, get_or-set_same, get_or-set_other}
+use Rattle.std.proofs.Common.{◌≡◌, ℕ, zero, suc, ◌-◌, ◌<◌, Bool, true, false, not, cond, ◌&&◌, List, [], ◌∷◌, ◌++◌, length, map, take, get_or, Option, Some, None, refl, sym, ap, ap₂, subst, ◌∙◌, arith, true≢false, get_or-set_same, get_or-set_other}
 use Rattle.std.proofs.Math.ListN.{set}
 use Rattle.std.specs.Prelude.{◌≤◌, ◌||◌, option_map, unwrap_or, slice_get, slice_set, IsSomeAnd, Result, Ok, Err, IfOk}
 use Rattle.std.specs.List.{AllZip, list_all, list_any}
 use Rattle.std.specs.Str.{bytes_eq}
 use Rattle.std.proofs.lemmas.Bool.{and_parts, not-true, or_parts, or_from, or_left, or_right}
-use Rattle.std.proofs.lemmas.Slice.Eq.{bytes_eq-Decides}
 use Rattle.json.specs.Json.{Json, string, Members, no_members, member}
 use Rattle.json.specs.Strict.{keys}
 use Rattle.cwr_fields.specs.Format.Bytes.{filled}
@@ -16,7 +15,7 @@ use Rattle.cwr_layouts.specs.Format.Layouts.{FieldLayout, layout, field_at, reco
 use Rattle.cwr_layouts.specs.Format.Records.{RecordValue, IsRecord, blank_cell, blank_record, carried_fields}
 use Rattle.cwr_layouts.specs.Format.Carried.{Sets, carried_at, carried_before, set_cell}
 use Rattle.cwr_layouts.proofs.CarriedCells.{carried_count, carried_field-at, open_some}
-use Rattle.cwr_json.specs.Format.Forms.{IsCellFrom, IsDataOf, are_distinct, characters, first_of, is_known, key_of, kind_key, told}
+use Rattle.cwr_json.specs.Format.Forms.{IsCellFrom, IsDataOf, are_distinct, characters, first_of, is_known, key_of, kind_key}
 use Rattle.cwr_json.proofs.GoodKeys.{keys_of, is_known_of, good_keys}
 use Rattle.cwr_json.proofs.OwnData.{apart, bytes_same, same_bytes}
 use Rattle.cwr_write.specs.Steps.Filling.{IsFilled, names_field, with_last}

@@ -1,12 +1,12 @@
 -- A key is that of a name, byte by byte.
-use Rattle.std.proofs.Common.{◌≡◌, ℕ, ◌<◌, ◌≤◌, Bool, true, false, List, [], ◌∷◌, suc, length, map, get_or, Option, Some, None, refl, sym, ap, ◌∙◌, arith, true≢false}
+use Rattle.std.proofs.Common.{◌≡◌, ℕ, ◌<◌, ◌≤◌, Bool, true, false, List, [], ◌∷◌, suc, length, get_or, Option, Some, None, refl, sym, ap, ◌∙◌, arith}
 use Rattle.std.specs.Prelude.{option_map, unwrap_or}
 use Rattle.std.specs.Str.{bytes_eq}
 use Rattle.std.proofs.lemmas.Grind.{same_number_lists}
 use Rattle.std.proofs.lemmas.List.{get_or-map}
 use Rattle.cwr_layouts.specs.declared.kinds.Kind.{Kind}
 use Rattle.cwr_layouts.specs.declared.layouts.Field.{Field}
-use Rattle.cwr_layouts.specs.Format.Layouts.{FieldLayout, field_at, field_placed}
+use Rattle.cwr_layouts.specs.Format.Layouts.{FieldLayout, field_placed}
 use Rattle.cwr_layouts.specs.Steps.Views.{field_view}
 use Rattle.cwr_layouts.proofs.FieldStarts.{field_at-placed}
 use Rattle.cwr_json.specs.Format.Forms.{key_byte, key_of}

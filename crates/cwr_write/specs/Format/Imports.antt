@@ -1,5 +1,5 @@
 -- What a run writes from lines of JSON.
-use Rattle.std.specs.Prelude.{◌≡◌, ℕ, List, Option, Some, Result, Ok, Err}
+use Rattle.std.specs.Prelude.{◌≡◌, ℕ, List, Option, Result, Err}
 use Rattle.cwr_fields.specs.Format.Failures.{one_more_failure}
 use Rattle.cwr_shape.specs.Format.Ranges.{LimitValues}
 use Rattle.cwr_values.specs.Format.Values.{TransmissionValue, IsTransmission, FitsIn}

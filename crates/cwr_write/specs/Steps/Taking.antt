@@ -1,18 +1,16 @@
 -- What taking a line does to an encoder.
-use Rattle.std.specs.Prelude.{◌≡◌, ℕ, false, List, [], ◌∷◌, Option, Result, Ok, Err, flat_map}
+use Rattle.std.specs.Prelude.{◌≡◌, ℕ, false, List, [], ◌∷◌, Option, Result, Ok, Err}
 use Rattle.cwr_fields.specs.Format.Failures.{one_more_failure}
 use Rattle.cwr_layouts.specs.Format.Records.{RecordValue}
 use Rattle.cwr_values.specs.declared.items.Item.{Item}
 use Rattle.cwr_values.specs.declared.items.Item.TheVariants.{Opened, GroupOpened, Transaction, GroupClosed, Ended}
-use Rattle.cwr_judge.specs.Format.Items.{item_records}
 use Rattle.cwr_encode.specs.declared.encoders.Encoder.{Encoder}
 use Rattle.cwr_encode.specs.declared.encoders.EncodeFault.{EncodeFault}
 use Rattle.cwr_encode.specs.declared.encoders.EncodeFault.TheVariants as encode_faults
-use Rattle.cwr_encode.specs.Steps.Encoders.{Encodes, RepresentsMore, encoder_limits, is_stopped, target_of}
+use Rattle.cwr_encode.specs.Steps.Encoders.{RepresentsMore, is_stopped, target_of}
 use Rattle.cwr_write.specs.declared.items.ItemFault.{ItemFault}
 use Rattle.cwr_write.specs.declared.items.ItemFault.TheVariants as item_faults
 use Rattle.cwr_write.specs.declared.writing.Reached.{Reached}
-use Rattle.cwr_write.specs.declared.writing.Reached.TheVariants as reached_to
 use Rattle.cwr_write.specs.declared.writing.WriteFault.{WriteFault}
 use Rattle.cwr_write.specs.declared.writing.WriteFault.TheVariants as write_faults
 

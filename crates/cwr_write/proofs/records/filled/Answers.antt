@@ -1,4 +1,4 @@
-use Rattle.std.proofs.Common.{◌≡◌, ◌+◌, ◌≤◌, ℕ, List, [], Bool, cond, length, take, sym, ap, subst, ◌∙◌, arith}
+use Rattle.std.proofs.Common.{◌≤◌, cond, length, take, sym, ap, subst, ◌∙◌, arith}
 use Rattle.json.specs.Json.{Members, no_members}
 use Rattle.json.specs.Value.{members_view, value_view}
 use Rattle.cwr_layouts.specs.declared.kinds.Kind.{Kind}

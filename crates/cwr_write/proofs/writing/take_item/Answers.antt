@@ -1,4 +1,4 @@
-use Rattle.std.proofs.Common.{refl, subst}
+use Rattle.std.proofs.Common.{refl}
 use Rattle.cwr_write.proofs.TakenLines.{adds_nothing}
 use Rattle.cwr_write.proofs.writing.take_item.Goals as goal
 

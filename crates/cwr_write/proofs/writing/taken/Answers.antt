@@ -1,4 +1,3 @@
-use Rattle.std.proofs.Common.{refl}
 use Rattle.cwr_write.proofs.TakenLines.{taken_fault}
 use Rattle.cwr_write.proofs.writing.taken.Goals as goal
 

@@ -1,7 +1,6 @@
 use Rattle.std.proofs.Common.{◌≡◌, ◌<◌, ℕ, List, Bool, false, length, get_or, sym, ap, subst, ◌∙◌, arith}
-use Rattle.json.specs.Json.{Json, string}
+use Rattle.json.specs.Json.{Json}
 use Rattle.json.specs.Value.{value_view}
-use Rattle.cwr_json.specs.Format.Forms.{characters}
 use Rattle.std.proofs.Math.ListN.{set}
 use Rattle.std.proofs.Common.{true}
 use Rattle.cwr_write.specs.Steps.Filling.{IsFilled, names_field, with_last}
