@@ -1,5 +1,5 @@
 -- What taking lines does to an encoder.
-use Rattle.std.proofs.Common.{◌≡◌, ℕ, false, List, [], ◌++◌, Option, refl, sym, ap, subst, ◌∙◌, append_assoc, append-nil}
+use Rattle.std.proofs.Common.{◌≡◌, ℕ, Bool, false, List, [], ◌++◌, Option, refl, sym, ap, subst, ◌∙◌, append_assoc, append-nil}
 use Rattle.std.specs.Prelude.{Result, Ok, Err, IfOk}
 use Rattle.cwr_layouts.specs.Format.Records.{RecordValue}
 use Rattle.cwr_values.specs.declared.items.Item.{Item}
@@ -11,14 +11,16 @@ use Rattle.cwr_encode.specs.Steps.Encoders.{AddsRecords, Encodes, RepresentsMore
 use Rattle.cwr_shape.specs.Format.Ranges.{LimitValues}
 use Rattle.cwr_values.specs.Format.Values.{FitsIn}
 use Rattle.cwr_encode.specs.Steps.Finishing.{FinishesWriting}
+use Rattle.cwr_write.specs.declared.lines.ReadFault.{ReadFault}
+use Rattle.cwr_write.specs.declared.lines.ReadFault.TheVariants as read_faults
 use Rattle.cwr_write.specs.declared.writing.Written.{Written}
 use Rattle.cwr_write.specs.declared.writing.WriteFault.{WriteFault}
 use Rattle.cwr_write.specs.declared.writing.WriteFault.TheVariants as write_faults
 use Rattle.cwr_fields.specs.Format.Failures.{one_more_failure}
-use Rattle.cwr_write.specs.Format.Imports.{WritesWhole}
+use Rattle.cwr_write.specs.Format.Imports.{CountsReaderFault, WritesWhole}
 use Rattle.cwr_write.specs.declared.items.ItemFault.{ItemFault}
 use Rattle.cwr_write.specs.declared.items.ItemFault.TheVariants as item_faults
-use Rattle.cwr_write.specs.Steps.Taking.{given_records, IsFaultOf, IsNoWriter, IsOther, IsOwn, IsRunFaultOf, TakesLine, TakesLines}
+use Rattle.cwr_write.specs.Steps.Taking.{given_records, IsFaultOf, IsNoWriter, CountsReading, IsOther, IsOwn, IsOwnRun, IsRunFaultOf, IsUnreadFault, NoReader, TakesLine, TakesLines}
 
 -- TRL, and what is refused, is given to no encoder
 pub adds_nothing : {W : Type 0} (contents : W → Option (List ℕ)) (failures : W → ℕ) (item : Item) (e : Encoder W) (answer : Result (Unit {0}) EncodeFault) → is_stopped e ≡ false → item ≡ Ended → IsNoWriter answer
@@ -70,8 +72,47 @@ stops_other contents failures write_faults.Reader old new other same = same
 stops_other contents failures (write_faults.Writer written) old new other same = absurd other
 stops_other contents failures write_faults.Memory old new other same = same
 
+own_other : (fault : WriteFault) → IsOwnRun fault → IsOther fault
+own_other (write_faults.Refused r) own = tt
+own_other (write_faults.Early lines) own = tt
+own_other write_faults.Reader own = absurd own
+own_other (write_faults.Writer written) own = absurd own
+own_other write_faults.Memory own = tt
+
+-- where a line can't be read
+pub stops_unread : {W : Type 0} (contents : W → Option (List ℕ)) (failures : W → ℕ) (fault : ReadFault) (told : WriteFault) (old new : Encoder W) → IsUnreadFault fault told → failures (target_of new) ≡ failures (target_of old) → TakesLines contents failures (Err told) old new
+stops_unread {W = W} contents failures read_faults.Reader told old new t same = subst (λ (f : WriteFault). TakesLines contents failures (Err f) old new) (sym t) same
+stops_unread contents failures read_faults.Memory told old new t same = stops_other contents failures told old new (own_other told t) same
+stops_unread contents failures read_faults.TooLong told old new t same = stops_other contents failures told old new (own_other told t) same
+
+reads_own : (fault : WriteFault) (old new : ℕ) → IsOwnRun fault → new ≡ old → CountsReaderFault {A = ℕ} (Err fault) old new
+reads_own (write_faults.Refused r) old new own same = same
+reads_own (write_faults.Early lines) old new own same = same
+reads_own write_faults.Reader old new own same = absurd own
+reads_own (write_faults.Writer written) old new own same = absurd own
+reads_own write_faults.Memory old new own same = same
+
+pub reads_unread : (fault : ReadFault) (told : WriteFault) (old mid new : ℕ) → CountsReading {A = Bool} (Err fault) mid new → IsUnreadFault fault told → mid ≡ old → CountsReaderFault {A = ℕ} (Err told) old new
+reads_unread read_faults.Reader told old mid new h t same = subst (λ (f : WriteFault). CountsReaderFault {A = ℕ} (Err f) old new) (sym t) (h ∙ ap one_more_failure same)
+reads_unread read_faults.Memory told old mid new h t same = reads_own told old new t (h ∙ same)
+reads_unread read_faults.TooLong told old mid new h t same = reads_own told old new t (h ∙ same)
+
+-- a fault of an item isn't the reader's
+pub reads_stopped : (fault : ItemFault) (told : WriteFault) (old new : ℕ) → IsRunFaultOf fault told → new ≡ old → CountsReaderFault {A = ℕ} (Err told) old new
+reads_stopped (item_faults.Line f) told old new t same = reads_own told old new t same
+reads_stopped item_faults.Memory told old new t same = reads_own told old new t same
+reads_stopped (item_faults.Writer written) told old new t same = subst (λ (f : WriteFault). CountsReaderFault {A = ℕ} (Err f) old new) (sym t) same
+
 pub stops_at : {W : Type 0} (contents : W → Option (List ℕ)) (failures : W → ℕ) (fault : ItemFault) (told : WriteFault) (old mid new : Encoder W) → TakesLine contents failures (Err fault) mid new → IsRunFaultOf fault told
     → failures (target_of mid) ≡ failures (target_of old) → TakesLines contents failures (Err told) old new
-stops_at {W = W} contents failures (item_faults.Line f) told old mid new h t same = stops_other contents failures told old new t (ap (λ (e : Encoder W). failures (target_of e)) h ∙ same)
-stops_at {W = W} contents failures item_faults.Memory told old mid new h t same = stops_other contents failures told old new t (ap (λ (e : Encoder W). failures (target_of e)) h ∙ same)
+stops_at {W = W} contents failures (item_faults.Line f) told old mid new h t same = stops_other contents failures told old new (own_other told t) (ap (λ (e : Encoder W). failures (target_of e)) h ∙ same)
+stops_at {W = W} contents failures item_faults.Memory told old mid new h t same = stops_other contents failures told old new (own_other told t) (ap (λ (e : Encoder W). failures (target_of e)) h ∙ same)
 stops_at {W = W} contents failures (item_faults.Writer written) told old mid new h t same = subst (λ (f : WriteFault). TakesLines contents failures (Err f) old new) (sym t) (h ∙ ap one_more_failure same)
+
+pub reads_none : {A : Type 0} (answer : Result A WriteFault) (old new : ℕ) → NoReader answer → new ≡ old → CountsReaderFault answer old new
+reads_none {A = A} (Ok x) old new none same = same
+reads_none {A = A} (Err (write_faults.Refused r)) old new none same = same
+reads_none {A = A} (Err (write_faults.Early lines)) old new none same = same
+reads_none {A = A} (Err write_faults.Reader) old new none same = absurd none
+reads_none {A = A} (Err (write_faults.Writer written)) old new none same = same
+reads_none {A = A} (Err write_faults.Memory) old new none same = same

@@ -1,6 +1,7 @@
 //! Lines of an input.
 
 ghost use Rattle.std.specs.Prelude.{◌<◌, length, IfSome};
+ghost use Rattle.cwr_write.specs.Steps.Taking.{CountsReading, IsUnfailed};
 
 use cwr_fields::Source;
 use std::alloc::Global;
@@ -24,7 +25,9 @@ fn line_feed(piece: &[u8]) -> Option<usize>
 }
 
 /// Adds bytes to a line, which may have so many.
-fn add(line: &mut Vec<u8>, bytes: &[u8], most: usize) -> Result<(), ReadFault> {
+fn add(line: &mut Vec<u8>, bytes: &[u8], most: usize) -> Result<(), ReadFault>
+    ensures { IsUnfailed result }
+{
     if bytes.len() > most.saturating_sub(line.len()) {
         return Err(ReadFault::TooLong);
     }
@@ -39,7 +42,9 @@ fn take_piece<R: Source>(
     reader: &mut R,
     line: &mut Vec<u8>,
     most: usize,
-) -> Result<Option<bool>, ReadFault> {
+) -> Result<Option<bool>, ReadFault>
+    ensures { CountsReading result (R.failures reader.old) (R.failures reader.new) }
+{
     let piece = match reader.fill() {
         Ok(piece) => piece,
         Err(_) => return Err(ReadFault::Reader),
@@ -67,7 +72,9 @@ pub(crate) fn next_line<R: Source>(
     reader: &mut R,
     line: &mut Vec<u8>,
     most: usize,
-) -> Result<bool, ReadFault> {
+) -> Result<bool, ReadFault>
+    ensures { CountsReading result (R.failures reader.old) (R.failures reader.new) }
+{
     line.clear();
     for _ in 0..u64::MAX {
         match take_piece(reader, line, most)? {

@@ -3,8 +3,8 @@
 ghost use Rattle.std.specs.Prelude.{◌≡◌, IfOk, OnOk, ℕ, List, [], Option, false};
 ghost use Rattle.cwr_encode.specs.Steps.Encoders.{AddsRecords, Encodes, encoder_limits, is_stopped, target_of};
 ghost use Rattle.cwr_encode.specs.Steps.Finishing.{FinishesWriting};
-ghost use Rattle.cwr_write.specs.Format.Imports.{CountsWriterFault, WritesWhole};
-ghost use Rattle.cwr_write.specs.Steps.Taking.{IsNoWriter, IsOther, IsRunFaultOf, TakesLine, TakesLines, given_records};
+ghost use Rattle.cwr_write.specs.Format.Imports.{CountsReaderFault, CountsWriterFault, WritesWhole};
+ghost use Rattle.cwr_write.specs.Steps.Taking.{IsNoWriter, NoReader, IsRunFaultOf, IsUnreadFault, TakesLine, TakesLines, given_records};
 
 use crate::items::{ItemFault, encode_fault, item_in, write_item};
 use crate::lines::{ReadFault, is_blank, next_line};
@@ -170,7 +170,7 @@ fn fault_at(line: u64, fault: ItemFault) -> WriteFault
 
 /// The fault of a run that can't read that line.
 fn unread_at(line: u64, fault: ReadFault) -> WriteFault
-    ensures { IsOther result }
+    ensures { IsUnreadFault fault result }
 {
     match fault {
         ReadFault::Reader => WriteFault::Reader,
@@ -191,6 +191,7 @@ fn take_lines<R: Source, W: Target>(
 ) -> Result<u64, WriteFault>
     requires { is_stopped encoder.old ≡ false }
     ensures takes { TakesLines W.contents W.failures result encoder.old encoder.new }
+    ensures reads { CountsReaderFault result (R.failures reader.old) (R.failures reader.new) }
     ensures limits { encoder_limits encoder.new ≡ encoder_limits encoder.old }
 {
     let mut line: Vec<u8> = Vec::new(alloc);
@@ -217,7 +218,7 @@ fn take_lines<R: Source, W: Target>(
             Err(fault) => return Err(fault_at(number, fault)),
         }
     }
-    Err(WriteFault::Reader)
+    Err(WriteFault::Early { lines: u64::MAX })
 }
 
 /// Reads lines of JSON, each the data of an item, and writes the transmission that they are. A line may have `most` bytes. The
@@ -234,6 +235,7 @@ pub fn write<R: Source, W: Target>(
 ) -> (W, Result<Written, WriteFault>)
     ensures written { IfOk result.1 (λ w. WritesWhole limits W.contents writer result.0 w.bytes) }
     ensures failures { CountsWriterFault result.1 (W.failures writer) (W.failures result.0) }
+    ensures reads { CountsReaderFault result.1 (R.failures reader.old) (R.failures reader.new) }
 {
     let mut encoder = Encoder::new(writer, limits);
     match take_lines(alloc, most, reader, &mut encoder) {
@@ -247,6 +249,7 @@ fn finish<W: Target>(encoder: Encoder<W>, lines: u64) -> (W, Result<Written, Wri
     requires { is_stopped encoder ≡ false }
     ensures written { IfOk result.1 (λ w. FinishesWriting W.contents W.failures encoder result.0 (Ok w.bytes)) }
     ensures failures { CountsWriterFault result.1 (W.failures (target_of encoder)) (W.failures result.0) }
+    ensures unread { NoReader result.1 }
 {
     let (writer, answer) = encoder.finish();
     match answer {

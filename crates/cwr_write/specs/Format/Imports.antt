@@ -6,7 +6,7 @@ use Rattle.cwr_values.specs.Format.Values.{TransmissionValue, IsTransmission, Fi
 use Rattle.cwr_values.specs.Format.Rows.{canonical_text}
 use Rattle.cwr_encode.specs.Format.Finishing.{HasAll}
 use Rattle.cwr_write.specs.declared.writing.WriteFault.{WriteFault}
-use Rattle.cwr_write.specs.declared.writing.WriteFault.TheVariants.{Writer}
+use Rattle.cwr_write.specs.declared.writing.WriteFault.TheVariants.{Reader, Writer}
 
 -- after what the writer had, the canonical text of a transmission within the limits is written, in so many bytes
 abbrev pub WritesWhole : {W : Type 0} → LimitValues → (W → Option (List ℕ)) → W → W → ℕ → Type 0
@@ -16,3 +16,8 @@ WritesWhole limits contents old new n = (v : TransmissionValue) × IsTransmissio
 abbrev pub CountsWriterFault : {A : Type 0} → Result A WriteFault → ℕ → ℕ → Type 0
 CountsWriterFault (Err (Writer written)) old new = new ≡ one_more_failure old
 CountsWriterFault result old new = new ≡ old
+
+-- and so do the reader's
+abbrev pub CountsReaderFault : {A : Type 0} → Result A WriteFault → ℕ → ℕ → Type 0
+CountsReaderFault (Err Reader) old new = new ≡ one_more_failure old
+CountsReaderFault result old new = new ≡ old

@@ -11,6 +11,8 @@ use Rattle.cwr_encode.specs.Steps.Encoders.{RepresentsMore, is_stopped, target_o
 use Rattle.cwr_write.specs.declared.items.ItemFault.{ItemFault}
 use Rattle.cwr_write.specs.declared.items.ItemFault.TheVariants as item_faults
 use Rattle.cwr_write.specs.declared.writing.Reached.{Reached}
+use Rattle.cwr_write.specs.declared.lines.ReadFault.{ReadFault}
+use Rattle.cwr_write.specs.declared.lines.ReadFault.TheVariants as read_faults
 use Rattle.cwr_write.specs.declared.writing.WriteFault.{WriteFault}
 use Rattle.cwr_write.specs.declared.writing.WriteFault.TheVariants as write_faults
 
@@ -56,7 +58,33 @@ abbrev pub IsOther : WriteFault → Type 0
 IsOther (write_faults.Writer written) = ⊥
 IsOther fault = Unit {0}
 
+-- nor that the reader did
+abbrev pub IsOwnRun : WriteFault → Type 0
+IsOwnRun (write_faults.Writer written) = ⊥
+IsOwnRun write_faults.Reader = ⊥
+IsOwnRun fault = Unit {0}
+
 -- the fault of a run that stops with that of an item
 abbrev pub IsRunFaultOf : ItemFault → WriteFault → Type 0
 IsRunFaultOf (item_faults.Writer written) fault = fault ≡ write_faults.Writer written
-IsRunFaultOf own fault = IsOther fault
+IsRunFaultOf own fault = IsOwnRun fault
+
+-- a reader's failures count one more where its fault is answered, and else they stay
+abbrev pub CountsReading : {A : Type 0} → Result A ReadFault → ℕ → ℕ → Type 0
+CountsReading (Err read_faults.Reader) old new = new ≡ one_more_failure old
+CountsReading result old new = new ≡ old
+
+-- the answer isn't that the reader failed
+abbrev pub IsUnfailed : {A : Type 0} → Result A ReadFault → Type 0
+IsUnfailed (Err read_faults.Reader) = ⊥
+IsUnfailed result = Unit {0}
+
+-- what is told where a line can't be read
+abbrev pub IsUnreadFault : ReadFault → WriteFault → Type 0
+IsUnreadFault read_faults.Reader told = told ≡ write_faults.Reader
+IsUnreadFault fault told = IsOwnRun told
+
+-- the answer isn't that the reader failed
+abbrev pub NoReader : {A : Type 0} → Result A WriteFault → Type 0
+NoReader (Err write_faults.Reader) = ⊥
+NoReader answer = Unit {0}

@@ -9,4 +9,5 @@ invariant-loop-before g l = record {
   added : (added : List RecordValue) × RepresentsMore g.W.Target.contents added l.initial.encoder l.encoder;
   counts : g.W.Target.failures (target_of l.encoder) ≡ g.W.Target.failures (target_of l.initial.encoder);
   limits : encoder_limits l.encoder ≡ encoder_limits l.initial.encoder;
+  reads : g.R.Source.failures l.reader ≡ g.R.Source.failures l.initial.reader;
 }
