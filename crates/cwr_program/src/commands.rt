@@ -1,7 +1,7 @@
 //! What each subcommand does, between its files and its lines.
 
 ghost use Rattle.std.specs.Prelude.{◌≡◌, ◌<◌, length, IfErr};
-ghost use Rattle.cwr_program.specs.Format.Endings.{EndsAs, EndsAfterFault, EndsOnInput};
+ghost use Rattle.cwr_program.specs.Format.Endings.{EndsAs, EndsAfterFault, EndsOnInput, ImportEndsAs};
 
 use crate::faults::Fault;
 use crate::new_files::{NewFile, NumberedFiles, with_buffer};
@@ -13,6 +13,7 @@ use cwr_tools::{
     JoinFault, JoinReport, ToolFault, Verdict, check, join, json, put_join_outcome,
     put_split_outcome, put_verdict_line, show, split,
 };
+use cwr_write::{WriteFault, Written, put_write_outcome, write};
 use std::alloc::Global;
 use std::fs::File;
 use std::io;
@@ -96,6 +97,67 @@ pub(crate) fn export_input<'a, I: Read + Drop, O: Write + Drop, E: Write + Drop>
         let _ = put_verdict_line(verdict, &mut Sink::new(Counted::new(error)));
     }
     ending(outcome)
+}
+
+/// What the end of an import means for the program.
+fn import_ending<'a>(outcome: Result<Written, WriteFault>) -> Result<Status, Fault<'a>>
+    ensures { ImportEndsAs outcome result }
+{
+    match outcome {
+        Ok(_) => Ok(Status::Good),
+        Err(WriteFault::Refused(_) | WriteFault::Early { .. }) => Ok(Status::Refused),
+        Err(WriteFault::Reader) => Err(Fault::Read),
+        Err(WriteFault::Writer { .. }) => Err(Fault::Write),
+        Err(WriteFault::Memory) => Err(Fault::Memory),
+    }
+}
+
+/// Writes to standard error how an import ended.
+fn tell_import<E: Write + Drop>(outcome: &Result<Written, WriteFault>, error: E) {
+    // What standard error doesn't take is lost.
+    let _ = put_write_outcome(outcome, &mut Sink::new(Counted::new(error)));
+}
+
+/// Writes the transmission that lines of JSON are, each of at most so many bytes, to the output.
+pub(crate) fn import_input<'a, I: Read + Drop, O: Write + Drop, E: Write + Drop>(
+    alloc: Global,
+    limits: Limits,
+    most: usize,
+    input: I,
+    output: O,
+    error: E,
+) -> Result<Status, Fault<'a>> {
+    let writer = lines_to(alloc, output)?;
+    let outcome = write(alloc, limits, most, &mut Counted::new(input), writer).1;
+    tell_import(&outcome, error);
+    import_ending(outcome)
+}
+
+/// Writes the transmission that lines of JSON are to a file, which gets its name where that is whole.
+pub(crate) fn import_file<'a, R: Files + AllocGlobal, I: Read + Drop, E: Write + Drop>(
+    rt: &R,
+    limits: Limits,
+    most: usize,
+    input: I,
+    out: &'a str,
+    error: E,
+) -> Result<Status, Fault<'a>> {
+    let alloc = rt.alloc();
+    let (made, file) = create_output(rt, alloc, out)?;
+    let outcome = match with_buffer(alloc, file) {
+        Ok(writer) => write(alloc, limits, most, &mut Counted::new(input), writer).1,
+        Err(_) => {
+            made.discard(rt);
+            return Err(Fault::Memory);
+        }
+    };
+    if outcome.is_ok() {
+        made.keep(rt).map_err(|_| Fault::Output)?;
+    } else {
+        made.discard(rt);
+    }
+    tell_import(&outcome, error);
+    import_ending(outcome)
 }
 
 /// Checks a transmission, whose input has that name, and writes the lines and what explains them to the output.

@@ -5,11 +5,12 @@ ghost use Rattle.clap.specs.Values.{kind_of};
 ghost use Rattle.cwr_program.specs.Format.Endings.{EndsOnInput, IsOfInput};
 
 use crate::commands::{
-    Status, check_input, explain_input, export_input, join_files, open_input, show_input,
-    split_file,
+    Status, check_input, explain_input, export_input, import_file, import_input, join_files,
+    open_input, show_input, split_file,
 };
 use crate::faults::Fault;
 use clap::error::ErrorKind;
+use cwr_shape::Limits;
 use cwr_words::{Task, Work, task_of};
 use std::convert::AsStr;
 use std::io;
@@ -96,6 +97,22 @@ fn report<E: Write + Drop>(mut error: E, fault: Fault<'_>) -> Status
     Status::Fault
 }
 
+/// Writes the transmission that the input's lines are, to the file of that name or to the output.
+fn import<'a, R: Files + AllocGlobal, I: Read + Drop, O: Write + Drop, E: Write + Drop>(
+    rt: &R,
+    limits: Limits,
+    line: u32,
+    input: I,
+    out: Option<&'a str>,
+    output: O,
+    error: E,
+) -> Result<Status, Fault<'a>> {
+    match out {
+        Some(name) => import_file(rt, limits, line as usize, input, name, error),
+        None => import_input(rt.alloc(), limits, line as usize, input, output, error),
+    }
+}
+
 /// Does what is asked for.
 fn perform<'a, R: Files + AllocGlobal, I: Read + Drop, O: Write + Drop, E: Write + Drop>(
     rt: &R,
@@ -126,6 +143,19 @@ fn perform<'a, R: Files + AllocGlobal, I: Read + Drop, O: Write + Drop, E: Write
         } => {
             let file = open_input(rt, name)?;
             export_input(rt.alloc(), limits, numbers, file, output, error)
+        }
+        Work::Write {
+            file: None,
+            out,
+            line,
+        } => import(rt, limits, line, input, out, output, error),
+        Work::Write {
+            file: Some(name),
+            out,
+            line,
+        } => {
+            let file = open_input(rt, name)?;
+            import(rt, limits, line, file, out, output, error)
         }
         Work::Split {
             transactions,

@@ -5,7 +5,7 @@ ghost use Rattle.std.specs.Str.{bytes_eq};
 ghost use Rattle.std.specs.Str.Parse.{digits_value, without_leading_plus};
 ghost use Rattle.clap.specs.Words.{found_of, has_subcommand, one_text};
 ghost use Rattle.cwr_shape.specs.Format.Ranges.{limit_values};
-ghost use Rattle.cwr_words.specs.Format.Words.{IsAskedBy, IsExportOf, IsJoinOf, IsSplitOf, IsWorkOf};
+ghost use Rattle.cwr_words.specs.Format.Words.{IsAskedBy, IsExportOf, IsImportOf, IsJoinOf, IsSplitOf, IsWorkOf};
 
 use clap::error::ErrorKind;
 use clap::{Arg, ArgAction, ArgMatches, Command, Error, value_parser};
@@ -29,6 +29,15 @@ pub enum Work<'a> {
         file: Option<&'a str>,
         /// With the numbers of groups, transactions and lines.
         numbers: bool,
+    },
+    /// A transmission is written from lines of JSON.
+    Write {
+        /// The name of the file of lines, or none for those on standard input.
+        file: Option<&'a str>,
+        /// The name of the file that is written, or none for standard output.
+        out: Option<&'a str>,
+        /// The most bytes of a line.
+        line: u32,
     },
     /// A transmission is cut into parts.
     Split {
@@ -69,6 +78,9 @@ const EXPLAIN: &str = "explain";
 /// The name of the subcommand that writes JSON.
 const JSON: &str = "json";
 
+/// The name of the subcommand that reads JSON.
+const WRITE: &str = "write";
+
 /// The name of the subcommand that splits.
 const SPLIT: &str = "split";
 
@@ -83,6 +95,9 @@ const NUMBER: &str = "N";
 
 /// The id of the flag that adds numbers.
 const NUMBERS: &str = "numbers";
+
+/// The id of the most bytes of a line.
+const LINE: &str = "line";
 
 /// The id of what the names of the parts' files begin with.
 const PREFIX: &str = "PREFIX";
@@ -140,6 +155,23 @@ fn exporting<'a>(alloc: Global) -> Result<Command<'a>, AllocError> {
     .arg(numbers)
 }
 
+/// The subcommand that reads JSON.
+fn importing<'a>(alloc: Global) -> Result<Command<'a>, AllocError> {
+    let file = Arg::new(alloc, FILE).help("The lines; without it standard input is read");
+    let out = Arg::new(alloc, OUT)
+        .short('o')
+        .value_name(OUT)
+        .help("The file that is written; without it standard output is");
+    let line = limit(alloc, LINE, 1, 1_000_000_000, "64000000");
+    let command = Command::new(alloc, WRITE).about(
+        "Writes the transmission that lines of JSON are, and to standard error how that ended",
+    );
+    with_limits(alloc, command)?
+        .arg(line.help("The most bytes of a line, 1 to 1000000000"))?
+        .arg(out)?
+        .arg(file)
+}
+
 /// The subcommand that splits.
 fn splitting<'a>(alloc: Global) -> Result<Command<'a>, AllocError> {
     let number = Arg::new(alloc, NUMBER)
@@ -191,6 +223,11 @@ The last line on standard output:
 
 `cwr json` writes it to standard error, and the lines of JSON alone to standard output.
 
+`cwr write` writes to standard error:
+  WRITTEN lines L bytes B                    the transmission is written
+  REFUSED line L ...                         that line isn't taken, and why
+  REFUSED the input ends before the trailer  no line is TRL's
+
 Before it `cwr check` writes a line for each finding in a transaction, and `cwr show` each record with its cells:
   FINDING group G transaction T record S field F level L rule V
 
@@ -224,6 +261,7 @@ fn command<'a>(alloc: Global) -> Result<Command<'a>, AllocError> {
             "Judges a transmission, and explains what is wrong with it",
         )?)?
         .subcommand(exporting(alloc)?)?
+        .subcommand(importing(alloc)?)?
         .subcommand(splitting(alloc)?)?
         .subcommand(joining(alloc)?)
 }
@@ -274,6 +312,17 @@ fn export_in<'a>(given: &ArgMatches<'a>) -> Work<'a>
     }
 }
 
+/// The work of an import. `None` where the bound on lines is missing or out of its range.
+fn import_in<'a>(given: &ArgMatches<'a>) -> Option<Work<'a>>
+    ensures { IfSome result (λ work. IsImportOf (found_of given.now) work) }
+{
+    Some(Work::Write {
+        file: given.get_str(FILE),
+        out: given.get_str(OUT),
+        line: given.get_one::<u32>(LINE)?,
+    })
+}
+
 /// The work of a split. `None` where a word is missing or out of its range.
 fn split_in<'a>(given: &ArgMatches<'a>) -> Option<Work<'a>>
     ensures { IfSome result (λ work. IsSplitOf (found_of given.now) work) }
@@ -311,6 +360,8 @@ fn work_in<'a>(
         Ok(split_in(given))
     } else if name == JSON {
         Ok(Some(export_in(given)))
+    } else if name == WRITE {
+        Ok(import_in(given))
     } else if name == JOIN {
         join_in(alloc, given)
     } else {

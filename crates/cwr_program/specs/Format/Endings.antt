@@ -8,6 +8,9 @@ use Rattle.cwr_tools.specs.declared.verdicts.Verdict.{Verdict}
 use Rattle.cwr_tools.specs.declared.verdicts.Verdict.TheVariants.{Good, Refused, Truncated}
 use Rattle.cwr_tools.specs.declared.verdicts.ToolFault.{ToolFault}
 use Rattle.cwr_tools.specs.declared.verdicts.ToolFault.TheVariants as tool_faults
+use Rattle.cwr_write.specs.declared.writing.Written.{Written}
+use Rattle.cwr_write.specs.declared.writing.WriteFault.{WriteFault}
+use Rattle.cwr_write.specs.declared.writing.WriteFault.TheVariants as write_faults
 use Rattle.cwr_program.specs.declared.commands.Status.{Status}
 use Rattle.cwr_program.specs.declared.commands.Status.TheVariants as statuses
 use Rattle.cwr_words.specs.declared.words.Work.{Work}
@@ -50,7 +53,16 @@ EndsOn limits text (Err fault) = ⊥
 abbrev pub EndsOnInput : Limits → Option (List ℕ) → Result Status Fault → Type 0
 EndsOnInput limits input ending = IfSome input (λ text. EndsOn limits text ending)
 
--- the work reads standard input
+-- an import that is written ends the run well, and one that is refused otherwise; the fault of a device or of memory is reported
+abbrev pub ImportEndsAs : Result Written WriteFault → Result Status Fault → Type 0
+ImportEndsAs (Ok written) ending = ending ≡ Ok statuses.Good
+ImportEndsAs (Err (write_faults.Refused refusal)) ending = ending ≡ Ok statuses.Refused
+ImportEndsAs (Err (write_faults.Early lines)) ending = ending ≡ Ok statuses.Refused
+ImportEndsAs (Err write_faults.Reader) ending = ending ≡ Err faults.Read
+ImportEndsAs (Err (write_faults.Writer written)) ending = ending ≡ Err faults.Write
+ImportEndsAs (Err write_faults.Memory) ending = ending ≡ Err faults.Memory
+
+-- the work checks what is on standard input
 abbrev pub IsOfInput : Work → Type 0
 IsOfInput (Check None) = Unit {0}
 IsOfInput (Show None) = Unit {0}

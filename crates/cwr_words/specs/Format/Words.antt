@@ -9,7 +9,7 @@ use Rattle.clap.specs.Words.{one_text, first_value, matched_of, raw_values, rows
 use Rattle.cwr_shape.specs.declared.limits.Limits.{Limits}
 use Rattle.cwr_words.specs.declared.words.Task.{Task}
 use Rattle.cwr_words.specs.declared.words.Work.{Work}
-use Rattle.cwr_words.specs.declared.words.Work.TheVariants.{Check, Show, Explain, Json, Split, Join}
+use Rattle.cwr_words.specs.declared.words.Work.TheVariants.{Check, Show, Explain, Json, Write, Split, Join}
 
 -- a split into parts of so many transactions as N says, of the file FILE to files whose names begin with PREFIX
 abbrev pub IsSplitOf : Found → Work → Type 0
@@ -17,6 +17,7 @@ IsSplitOf found (Check file) = ⊥
 IsSplitOf found (Show file) = ⊥
 IsSplitOf found (Explain file) = ⊥
 IsSplitOf found (Json file numbers) = ⊥
+IsSplitOf found (Write file out line) = ⊥
 IsSplitOf found (Split transactions file prefix) =
     ((text : List ℕ) → one_text found (codes "N") ≡ Some text → non_zero_u32_get transactions ≡ digits_value 10 (without_leading_plus text))
     × (first_value found (codes "FILE") ≡ Some file.now) × (first_value found (codes "PREFIX") ≡ Some prefix.now)
@@ -31,18 +32,26 @@ abbrev pub IsExportOf : Found → Work → Type 0
 IsExportOf found (Json file numbers) = (option_map (λ f. f.now) file ≡ first_value found (codes "FILE")) × IsFlagOf found (codes "numbers") numbers
 IsExportOf found work = ⊥
 
+-- a transmission from the lines of the file FILE to the file OUT, where lines may have so many bytes as that option says
+abbrev pub IsImportOf : Found → Work → Type 0
+IsImportOf found (Write file out line) =
+    (option_map (λ f. f.now) file ≡ first_value found (codes "FILE")) × (option_map (λ f. f.now) out ≡ first_value found (codes "OUT"))
+    × ((text : List ℕ) → one_text found (codes "line") ≡ Some text → line ≡ digits_value 10 (without_leading_plus text))
+IsImportOf found work = ⊥
+
 -- a join of the files FILE, in their order, to the file OUT
 abbrev pub IsJoinOf : Found → Work → Type 0
 IsJoinOf found (Join out files) = (first_value found (codes "OUT") ≡ Some out.now) × (option_map raw_values (matched_of found (codes "FILE")) ≡ Some (map (λ name. name.now) files.items))
 IsJoinOf found work = ⊥
 
 -- Work of the subcommand of that name: one transmission is checked, shown, explained or written as JSON, that of the first file that FILE names, if
--- it names one; one is split, or some are joined.
+-- it names one; one is written from lines of JSON, one is split, or some are joined.
 abbrev pub IsWorkOf : List ℕ → Found → Work → Type 0
 IsWorkOf name found (Check file) = (bytes_eq name (codes "show") ≡ false) × (bytes_eq name (codes "explain") ≡ false) × (option_map (λ f. f.now) file ≡ first_value found (codes "FILE"))
 IsWorkOf name found (Show file) = (bytes_eq name (codes "show") ≡ true) × (option_map (λ f. f.now) file ≡ first_value found (codes "FILE"))
 IsWorkOf name found (Explain file) = (bytes_eq name (codes "explain") ≡ true) × (option_map (λ f. f.now) file ≡ first_value found (codes "FILE"))
 IsWorkOf name found (Json file numbers) = (bytes_eq name (codes "json") ≡ true) × IsExportOf found (Json file numbers)
+IsWorkOf name found (Write file out line) = (bytes_eq name (codes "write") ≡ true) × IsImportOf found (Write file out line)
 IsWorkOf name found (Split transactions file prefix) = (bytes_eq name (codes "split") ≡ true) × IsSplitOf found (Split transactions file prefix)
 IsWorkOf name found (Join out files) = (bytes_eq name (codes "join") ≡ true) × IsJoinOf found (Join out files)
 

@@ -1,0 +1,5 @@
+pub mod CharactersRead
+pub mod FilledDrafts
+pub mod KeysOfNames
+pub mod TakenLines
+pub mod ToldMembers

@@ -1,0 +1,36 @@
+use Rattle.std.proofs.Common.{◌≤◌, cond, length, take, sym, ap, subst, ◌∙◌, arith}
+use Rattle.json.specs.Json.{Members, no_members}
+use Rattle.json.specs.Value.{members_view, value_view}
+use Rattle.cwr_layouts.specs.declared.kinds.Kind.{Kind}
+use Rattle.cwr_json.specs.Format.Forms.{says, told}
+use Rattle.cwr_write.specs.Steps.Filling.{IsFilled, with_last}
+use Rattle.cwr_write.proofs.ToldMembers.{member_in, told_all, told_more, told_none}
+use Rattle.cwr_write.proofs.records.filled.Goals as goal
+
+pub loop-member-init : goal.loop-member-init
+loop-member-init c = record {
+  filled = subst (λ (k : Kind). IsFilled k (told no_members) c.new-filling.result.draft c.new-filling.result.seen) (sym c.new-filling.ensures.kind)
+      (subst (λ (ms : Members). IsFilled c.args.kind ms c.new-filling.result.draft c.new-filling.result.seen) (sym told_none) c.new-filling.ensures.filled);
+  kind_is = c.new-filling.ensures.kind;
+}
+
+pub loop-member-preserved : goal.loop-member-preserved
+loop-member-preserved c =
+    let m = c.member-item.result in
+    let p = member_in _ _ c.loop-member.member-index m c.deref-member-items.ensures.value c.loop-member-test.true c.member-item.is in
+    let before : Members = told (members_view (take c.loop-member.member-index c.args.members.now.items)) in
+    let after : Members = cond (says m.0.now (value_view m.1)) (with_last before m.0.now (value_view m.1)) before in
+    let met : IsFilled c.loop-member.filling.kind after c.meet.new.self.draft c.meet.new.self.seen = c.in_ok-meet.ensures.ok before c.loop-member.invariant.filled in
+    record {
+      filled = subst (λ (ms : Members). IsFilled c.meet.new.self.kind ms c.meet.new.self.draft c.meet.new.self.seen) (sym (told_more c.args.members.now.items c.loop-member.member-index m p.0 p.1))
+          (subst (λ (k : Kind). IsFilled k after c.meet.new.self.draft c.meet.new.self.seen) (sym c.in_ok-meet.ensures.kind) met);
+      kind_is = c.in_ok-meet.ensures.kind ∙ c.loop-member.invariant.kind_is;
+    }
+
+pub returns : goal.returns
+returns c =
+    let all : length c.args.members.now.items ≤ c.loop-member.member-index = omega (arith, c.loop-member-test.false, ap length c.deref-member-items.ensures.value) in (
+      c.loop-member.filling.seen,
+      subst (λ (k : Kind). IsFilled k (told (members_view c.args.members.now.items)) c.loop-member.filling.draft c.loop-member.filling.seen) c.loop-member.invariant.kind_is
+          (subst (λ (ms : Members). IsFilled c.loop-member.filling.kind ms c.loop-member.filling.draft c.loop-member.filling.seen) (told_all c.args.members.now.items c.loop-member.member-index all) c.loop-member.invariant.filled),
+    )

@@ -1,0 +1,266 @@
+//! From the members of an object to a record.
+
+ghost use Rattle.std.specs.Prelude.{◌≡◌, ◌&&◌, ℕ, ◌<◌, ◌≤◌, List, Bool, if◌then◌else◌, length, take, Some, IfOk, IfSome, OnOk};
+ghost use Rattle.std.specs.Str.{bytes_eq};
+ghost use Rattle.json.specs.Json.{Members, no_members, string};
+ghost use Rattle.json.specs.Value.{members_view, value_view};
+ghost use Rattle.cwr_layouts.specs.Format.Kinds.{letters};
+ghost use Rattle.cwr_layouts.specs.Format.Records.{IsRecord};
+ghost use Rattle.cwr_layouts.specs.Format.Carried.{Sets};
+ghost use Rattle.cwr_json.specs.Format.Forms.{IsDataOf, IsRecordData, character, characters, first_of, is_note, kind_key, says, told};
+ghost use Rattle.cwr_write.specs.Steps.Filling.{IsFilled, with_last};
+
+use crate::keys::field_of_key;
+use crate::refusals::{Key, LineFault, Why, text_key};
+use arrayvec::ArrayVec;
+use cwr_layouts::{Draft, DraftFault, Kind, Record, SetFault, field};
+use json::Value;
+
+/// The members of an object.
+pub(crate) type MemberList<'a> = Vec<(&'a str, Value<'a>)>;
+
+/// Whether a key is that of a note.
+fn is_note(key: &[u8]) -> bool
+    ensures { result ≡ is_note key.now }
+{
+    match key {
+        [] => false,
+        [first, ..] => *first == b'_',
+    }
+}
+
+/// Whether a member says something: its value isn't null, and it is no note.
+pub(crate) fn says(key: &str, value: &Value<'_>) -> bool
+    ensures { result ≡ says key.now (value_view value.now) }
+{
+    !value.is_null() && !is_note(key.as_bytes())
+}
+
+/// Whether a member names the kind of its record.
+fn names_kind(key: &str, value: &Value<'_>) -> bool
+    ensures { result ≡ (says key.now (value_view value.now) && bytes_eq key.now kind_key) }
+{
+    says(key, value) && key == "record_type"
+}
+
+/// The kind that a value names.
+fn kind_of(value: &Value<'_>) -> Result<Kind, Why>
+    ensures { IfOk result (λ kind. value_view value.now ≡ string (letters kind)) }
+{
+    let Some(text) = value.as_str() else {
+        return Err(Why::NotText);
+    };
+    match Kind::of(text.as_bytes()) {
+        Some(kind) => Ok(kind),
+        None => Err(Why::UnknownKind),
+    }
+}
+
+/// The kind that the first member which names one has.
+fn kind_in(members: &MemberList<'_>) -> Result<Kind, Why>
+    ensures { IfOk result (λ kind. first_of kind_key (told (members_view members.now.items)) ≡ Some (string (letters kind))) }
+{
+    for member in members {
+        if names_kind(member.0, &member.1) {
+            return kind_of(&member.1);
+        }
+    }
+    Err(Why::Missing)
+}
+
+/// The most bytes of a cell.
+const WIDEST_CELL: usize = 700;
+
+/// The bytes of a cell.
+type Cell = ArrayVec<u8, WIDEST_CELL>;
+
+/// The byte that the first character stands for, and how many bytes that has. It is `None` where no character up to U+00FF comes.
+fn first_byte(text: &[u8]) -> Option<(u8, usize)>
+    ensures { IfSome result (λ p. (0 < p.1) × (p.1 ≤ length text.now) × (character p.0 ≡ take p.1 text.now)) }
+{
+    let first = *text.first()?;
+    if first < 128 {
+        return Some((first, 1));
+    }
+    let second = *text.get(1)?;
+    if (first == 194 || first == 195) && second >= 128 && second < 192 {
+        Some(((first - 192) * 64 + (second - 128), 2))
+    } else {
+        None
+    }
+}
+
+/// The bytes that characters up to U+00FF stand for. It is `None` for a text that has others, or that is wider than any cell.
+fn bytes_of(text: &[u8]) -> Option<Cell>
+    ensures { IfSome result (λ cell. characters cell.items ≡ text.now) }
+{
+    let mut cell = Cell::new();
+    let mut i: usize = 0;
+    while i < text.len() {
+        let (byte, count) = first_byte(&text[i..])?;
+        let Ok(()) = cell.try_push(byte) else {
+            return None;
+        };
+        i += count;
+    }
+    Some(cell)
+}
+
+/// Sets a cell of a draft to the bytes that characters stand for.
+fn set_characters(draft: &mut Draft, j: u8, text: &[u8]) -> Result<(), Why>
+    ensures { OnOk result ((cell : List ℕ) × (characters cell ≡ text.now) × Sets j cell draft.old draft.new) }
+{
+    if text.iter().any(|b| *b > 195) {
+        return Err(Why::NotAByte);
+    }
+    let Some(cell) = bytes_of(text) else {
+        return Err(Why::TooWide);
+    };
+    match draft.set(j, cell.as_slice()) {
+        Ok(()) => Ok(()),
+        Err(SetFault::NoSuchField) => Err(Why::UnknownKey),
+        Err(SetFault::Derived) => Err(Why::Computed),
+        Err(SetFault::TooWide) => Err(Why::TooWide),
+        Err(SetFault::Cell(fault)) => Err(Why::Cell(fault)),
+    }
+}
+
+/// Whether field `j` is computed.
+fn is_computed(kind: Kind, j: u8) -> bool {
+    match field(kind, j) {
+        Some(place) => place.derived,
+        None => false,
+    }
+}
+
+/// Sets a cell of a draft to a value.
+fn set_value(draft: &mut Draft, kind: Kind, j: u8, value: &Value<'_>) -> Result<(), Why>
+    ensures { OnOk result ((cell : List ℕ) × (value_view value.now ≡ string (characters cell)) × Sets j cell draft.old draft.new) }
+{
+    if is_computed(kind, j) {
+        return Err(Why::Computed);
+    }
+    match value.as_str() {
+        Some(text) => set_characters(draft, j, text.as_bytes()),
+        None => Err(Why::NotText),
+    }
+}
+
+/// A draft that members fill.
+#[derive(Drop)]
+struct Filling {
+    draft: Draft,
+    kind: Kind,
+    /// The fields whose keys came, by their numbers.
+    seen: [bool; 256],
+    /// The field whose key came last.
+    last: u8,
+}
+
+impl Filling {
+    /// Nothing came.
+    fn new(kind: Kind) -> Filling
+        ensures filled { IsFilled kind no_members result.draft result.seen }
+        ensures kind { result.kind ≡ kind }
+    {
+        Filling {
+            draft: Draft::blank(kind),
+            kind,
+            seen: [false; 256],
+            last: 0,
+        }
+    }
+
+    /// Takes a member that says something.
+    fn take(&mut self, key: &str, value: &Value<'_>) -> Result<(), (Key, Why)>
+        ensures ok { OnOk result ((ms : Members) → IsFilled self.old.kind ms self.old.draft self.old.seen
+            → IsFilled self.old.kind (with_last ms key.now (value_view value.now)) self.new.draft self.new.seen) }
+        ensures kind { self.new.kind ≡ self.old.kind }
+    {
+        let Some(j) = field_of_key(self.kind, key, self.last) else {
+            return Err((text_key(key), Why::UnknownKey));
+        };
+        self.last = j;
+        if self.seen[usize::from(j)] {
+            return Err((Key::Field(j), Why::Repeated));
+        }
+        self.seen[usize::from(j)] = true;
+        if j == 1 {
+            return Ok(());
+        }
+        match set_value(&mut self.draft, self.kind, j, value) {
+            Ok(()) => Ok(()),
+            Err(why) => Err((Key::Field(j), why)),
+        }
+    }
+
+    /// Takes a member, if it says something.
+    fn meet(&mut self, key: &str, value: &Value<'_>) -> Result<(), (Key, Why)>
+        ensures ok { OnOk result ((ms : Members) → IsFilled self.old.kind ms self.old.draft self.old.seen
+            → IsFilled self.old.kind (if says key.now (value_view value.now) then with_last ms key.now (value_view value.now) else ms) self.new.draft self.new.seen) }
+        ensures kind { self.new.kind ≡ self.old.kind }
+    {
+        if says(key, value) {
+            self.take(key, value)
+        } else {
+            Ok(())
+        }
+    }
+}
+
+/// The draft that members fill.
+fn filled(kind: Kind, members: &MemberList<'_>) -> Result<Draft, (Key, Why)>
+    ensures { IfOk result (λ draft. (seen : List Bool) × IsFilled kind (told (members_view members.now.items)) draft seen) }
+{
+    let mut filling = Filling::new(kind);
+    for member in members {
+        filling.meet(member.0, &member.1)?;
+    }
+    Ok(filling.draft)
+}
+
+/// The record of a draft.
+fn done(draft: &Draft) -> Result<Record, (Key, Why)>
+    ensures { IfOk result (λ r. (r ≡ draft.now) × IsRecord draft.now) }
+{
+    match draft.done() {
+        Ok(record) => Ok(record),
+        Err(DraftFault { field, fault }) => Err((Key::Field(field), Why::Cell(fault))),
+    }
+}
+
+/// The record of that kind that members are.
+fn record_in(kind: Kind, members: &MemberList<'_>) -> Result<Record, (Key, Why)>
+    requires { first_of kind_key (told (members_view members.now.items)) ≡ Some (string (letters kind)) }
+    ensures { IfOk result (λ r. IsDataOf (told (members_view members.now.items)) r) }
+{
+    let draft = filled(kind, members)?;
+    done(&draft)
+}
+
+/// The record that a value is, the one of that number in its line.
+pub(crate) fn record_of(number: u32, value: &Value<'_>) -> Result<Record, LineFault>
+    ensures { IfOk result (λ r. IsRecordData (value_view value.now) r) }
+{
+    let Value::Object(members) = value else {
+        return Err(of_record(number, None, Key::None, Why::NotAnObject));
+    };
+    let kind = match kind_in(members) {
+        Ok(kind) => kind,
+        Err(why) => return Err(of_record(number, None, Key::Field(1), why)),
+    };
+    match record_in(kind, members) {
+        Ok(record) => Ok(record),
+        Err((key, why)) => Err(of_record(number, Some(kind), key, why)),
+    }
+}
+
+/// A fault of the record of that number.
+pub(crate) fn of_record(number: u32, kind: Option<Kind>, key: Key, why: Why) -> LineFault {
+    LineFault {
+        record: number,
+        kind,
+        key,
+        why,
+    }
+}

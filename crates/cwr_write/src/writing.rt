@@ -1,0 +1,260 @@
+//! From lines of JSON to a transmission.
+
+ghost use Rattle.std.specs.Prelude.{◌≡◌, IfOk, OnOk, ℕ, List, [], Option, false};
+ghost use Rattle.cwr_encode.specs.Steps.Encoders.{AddsRecords, Encodes, encoder_limits, is_stopped, target_of};
+ghost use Rattle.cwr_encode.specs.Steps.Finishing.{FinishesWriting};
+ghost use Rattle.cwr_write.specs.Format.Imports.{CountsReaderFault, CountsWriterFault, WritesWhole};
+ghost use Rattle.cwr_write.specs.Steps.Taking.{IsNoWriter, NoReader, IsRunFaultOf, IsUnreadFault, TakesLine, TakesLines, given_records};
+
+use crate::items::{ItemFault, encode_fault, item_in, write_item};
+use crate::lines::{ReadFault, is_blank, next_line};
+use crate::refusals::{Refusal, Why, of_line};
+use cwr_encode::{EncodeFault, Encoder, Sink, SinkFault};
+use cwr_fields::{Source, Target};
+use cwr_shape::Limits;
+use cwr_values::Item;
+use itoa::Buffer;
+use json::{Scratch, Value};
+use std::alloc::Global;
+
+/// A transmission that was written.
+#[derive(Clone, Copy, Debug, PartialEq, Eq)]
+pub struct Written {
+    /// How many bytes it has.
+    pub bytes: u64,
+    /// How many lines were read.
+    pub lines: u64,
+}
+
+/// Why no transmission was written: what the lines are, or a device or memory.
+#[derive(Clone, Debug, Drop)]
+pub enum WriteFault {
+    /// A line isn't taken.
+    Refused(Refusal),
+    /// The input ends before the line of TRL.
+    Early {
+        /// How many lines it has.
+        lines: u64,
+    },
+    /// The reader failed.
+    Reader,
+    /// The writer failed.
+    Writer {
+        /// How many bytes were written.
+        written: u64,
+    },
+    /// Memory was refused.
+    Memory,
+}
+
+/// Puts the line that says how a write ended: `WRITTEN` with its numbers, or what isn't taken and why. Where a device or memory
+/// failed it puts nothing.
+pub fn put_write_outcome<W: Target>(
+    outcome: &Result<Written, WriteFault>,
+    sink: &mut Sink<W>,
+) -> Result<(), SinkFault> {
+    match outcome {
+        Ok(written) => {
+            sink.put(b"WRITTEN lines ")?;
+            sink.put(Buffer::new().format(written.lines).as_bytes())?;
+            sink.put(b" bytes ")?;
+            sink.put(Buffer::new().format(written.bytes).as_bytes())?;
+            sink.put(b"\n")
+        }
+        Err(WriteFault::Refused(refusal)) => refusal.put(sink),
+        Err(WriteFault::Early { .. }) => sink.put(b"REFUSED the input ends before the trailer\n"),
+        Err(WriteFault::Reader | WriteFault::Writer { .. } | WriteFault::Memory) => Ok(()),
+    }
+}
+
+/// How far the lines have come.
+#[derive(Clone, Copy, Debug, PartialEq, Eq)]
+enum Reached {
+    /// No line, or one that isn't the last.
+    Begun,
+    /// HDR alone.
+    Opening,
+    /// GRT.
+    GroupFoot,
+    /// TRL.
+    End,
+}
+
+/// How far the lines have come with the item.
+fn reached_with(item: &Item) -> Reached {
+    match item {
+        Item::Opened(_) => Reached::Opening,
+        Item::GroupOpened(_) | Item::Transaction(_) => Reached::Begun,
+        Item::GroupClosed(_) => Reached::GroupFoot,
+        Item::Ended => Reached::End,
+    }
+}
+
+/// Judges the line of TRL, which comes after a group.
+fn judge_end(reached: Reached) -> Result<(), EncodeFault>
+    ensures { IsNoWriter result }
+{
+    match reached {
+        Reached::GroupFoot => Ok(()),
+        Reached::Opening => Err(EncodeFault::Incomplete),
+        Reached::Begun | Reached::End => Err(EncodeFault::OutOfOrder),
+    }
+}
+
+/// Takes an item: writes it, unless it is TRL or comes after that.
+fn take_item<W: Target>(
+    item: &Item,
+    reached: Reached,
+    encoder: &mut Encoder<W>,
+) -> Result<(), EncodeFault>
+    requires { is_stopped encoder.old ≡ false }
+    ensures adds { AddsRecords W.contents W.failures (given_records item.now) result encoder.old encoder.new }
+    ensures limits { encoder_limits encoder.new ≡ encoder_limits encoder.old }
+{
+    match (item, reached) {
+        (_, Reached::End) => Err(EncodeFault::OutOfOrder),
+        (Item::Ended, _) => judge_end(reached),
+        _ => write_item(item, encoder),
+    }
+}
+
+/// Takes an item. The answer is how far the lines have come with it.
+fn taken<W: Target>(
+    item: &Item,
+    reached: Reached,
+    encoder: &mut Encoder<W>,
+) -> Result<Reached, ItemFault>
+    requires { is_stopped encoder.old ≡ false }
+    ensures takes { TakesLine W.contents W.failures result encoder.old encoder.new }
+    ensures limits { encoder_limits encoder.new ≡ encoder_limits encoder.old }
+{
+    match take_item(item, reached, encoder) {
+        Ok(()) => Ok(reached_with(item)),
+        Err(fault) => Err(encode_fault(fault)),
+    }
+}
+
+/// Takes one line.
+fn take_line<W: Target>(
+    alloc: Global,
+    line: &[u8],
+    scratch: &mut Scratch,
+    reached: Reached,
+    encoder: &mut Encoder<W>,
+) -> Result<Reached, ItemFault>
+    requires { is_stopped encoder.old ≡ false }
+    ensures takes { TakesLine W.contents W.failures result encoder.old encoder.new }
+    ensures limits { encoder_limits encoder.new ≡ encoder_limits encoder.old }
+{
+    let value = match Value::from_slice(alloc, line, scratch) {
+        Ok(value) => value,
+        Err(json::Error::OutOfMemory) => return Err(ItemFault::Memory),
+        Err(_) => return Err(ItemFault::Line(of_line(Why::NotJson))),
+    };
+    match item_in(alloc, &value) {
+        Ok(item) => taken(&item, reached, encoder),
+        Err(fault) => Err(fault),
+    }
+}
+
+/// The fault of a run at that line.
+fn fault_at(line: u64, fault: ItemFault) -> WriteFault
+    ensures { IsRunFaultOf fault result }
+{
+    match fault {
+        ItemFault::Line(fault) => WriteFault::Refused(Refusal { line, fault }),
+        ItemFault::Memory => WriteFault::Memory,
+        ItemFault::Writer { written } => WriteFault::Writer { written },
+    }
+}
+
+/// The fault of a run that can't read that line.
+fn unread_at(line: u64, fault: ReadFault) -> WriteFault
+    ensures { IsUnreadFault fault result }
+{
+    match fault {
+        ReadFault::Reader => WriteFault::Reader,
+        ReadFault::Memory => WriteFault::Memory,
+        ReadFault::TooLong => WriteFault::Refused(Refusal {
+            line,
+            fault: of_line(Why::TooLong),
+        }),
+    }
+}
+
+/// Takes all lines, up to TRL's and what follows that. The answer is how many there are.
+fn take_lines<R: Source, W: Target>(
+    alloc: Global,
+    most: usize,
+    reader: &mut R,
+    encoder: &mut Encoder<W>,
+) -> Result<u64, WriteFault>
+    requires { is_stopped encoder.old ≡ false }
+    ensures takes { TakesLines W.contents W.failures result encoder.old encoder.new }
+    ensures reads { CountsReaderFault result (R.failures reader.old) (R.failures reader.new) }
+    ensures limits { encoder_limits encoder.new ≡ encoder_limits encoder.old }
+{
+    let mut line: Vec<u8> = Vec::new(alloc);
+    let mut scratch: Scratch = Scratch::new(alloc);
+    let mut reached = Reached::Begun;
+    for before in 0..u64::MAX {
+        let number = before + 1;
+        match next_line(reader, &mut line, most) {
+            Ok(true) => {}
+            Ok(false) => {
+                return if reached == Reached::End {
+                    Ok(before)
+                } else {
+                    Err(WriteFault::Early { lines: before })
+                };
+            }
+            Err(fault) => return Err(unread_at(number, fault)),
+        }
+        if is_blank(line.as_slice()) {
+            continue;
+        }
+        match take_line(alloc, line.as_slice(), &mut scratch, reached, encoder) {
+            Ok(next) => reached = next,
+            Err(fault) => return Err(fault_at(number, fault)),
+        }
+    }
+    Err(WriteFault::Early { lines: u64::MAX })
+}
+
+/// Reads lines of JSON, each the data of an item, and writes the transmission that they are. A line may have `most` bytes. The
+/// writer comes back.
+///
+/// Where a line isn't taken, `WriteFault::Refused` says which, and why; the items of the lines before were written, and no TRL.
+/// It holds one line and one item, whatever the input.
+pub fn write<R: Source, W: Target>(
+    alloc: Global,
+    limits: Limits,
+    most: usize,
+    reader: &mut R,
+    writer: W,
+) -> (W, Result<Written, WriteFault>)
+    ensures written { IfOk result.1 (λ w. WritesWhole limits W.contents writer result.0 w.bytes) }
+    ensures failures { CountsWriterFault result.1 (W.failures writer) (W.failures result.0) }
+    ensures reads { CountsReaderFault result.1 (R.failures reader.old) (R.failures reader.new) }
+{
+    let mut encoder = Encoder::new(writer, limits);
+    match take_lines(alloc, most, reader, &mut encoder) {
+        Ok(lines) => finish(encoder, lines),
+        Err(fault) => (encoder.abandon(), Err(fault)),
+    }
+}
+
+/// Ends a transmission of so many lines.
+fn finish<W: Target>(encoder: Encoder<W>, lines: u64) -> (W, Result<Written, WriteFault>)
+    requires { is_stopped encoder ≡ false }
+    ensures written { IfOk result.1 (λ w. FinishesWriting W.contents W.failures encoder result.0 (Ok w.bytes)) }
+    ensures failures { CountsWriterFault result.1 (W.failures (target_of encoder)) (W.failures result.0) }
+    ensures unread { NoReader result.1 }
+{
+    let (writer, answer) = encoder.finish();
+    match answer {
+        Ok(bytes) => (writer, Ok(Written { bytes, lines })),
+        Err(EncodeFault::Writer { written }) => (writer, Err(WriteFault::Writer { written })),
+        Err(_) => (writer, Err(WriteFault::Early { lines })),
+    }
+}
