@@ -1,5 +1,6 @@
 //! Tests of encoders, call by call.
 
+use crate::checks::check_equal;
 use crate::devices::{
     LARGEST, Narrow, Numbers, WIDE, Width, limits_of, narrow_writer, text_in, text_of,
 };
@@ -140,7 +141,7 @@ fn check_calls(
     calls: &[Answered],
 ) {
     for (call, answer) in calls {
-        assert_eq!(rt; make_call(rt, *call, encoder), *answer);
+        check_equal(rt, make_call(rt, *call, encoder), *answer);
     }
 }
 
@@ -161,7 +162,7 @@ fn check_run(rt: &(impl Abort + AllocGlobal), row: &Run) {
     let mut encoder = Encoder::new(writer, limits_of(rt, numbers));
     check_calls(rt, &mut encoder, calls);
     let (writer, answer) = end(encoder, ended);
-    assert_eq!(rt; answer, ended);
+    check_equal(rt, answer, ended);
     check_text(rt, writer, (lines, len));
 }
 
@@ -173,7 +174,7 @@ fn check_text(
 ) {
     let text = text_of(rt, lines);
     let kept = text_in(writer);
-    assert_eq!(rt; Some(kept.as_slice()), text.get(..len));
+    check_equal(rt, Some(kept.as_slice()), text.get(..len));
 }
 
 #[test]

@@ -1,5 +1,6 @@
 //! Tests of sinks.
 
+use crate::checks::check_equal;
 use crate::devices::{Narrow, Width, narrow_writer, text_in};
 use cwr_encode::{Sink, SinkFault};
 use cwr_fields::Counted;
@@ -22,8 +23,8 @@ fn check_put(rt: &impl Abort, sink: &mut Sink<Counted<Narrow>>, put: &Put) {
     let (text, is_whole, count) = *put;
     let fault = SinkFault { written: count };
     let answer = if is_whole { Ok(()) } else { Err(fault) };
-    assert_eq!(rt; sink.put(text), answer);
-    assert_eq!(rt; sink.written(), count);
+    check_equal(rt, sink.put(text), answer);
+    check_equal(rt, sink.written(), count);
 }
 
 /// Puts the texts of a row.
@@ -33,7 +34,7 @@ fn check_puts(rt: &(impl Abort + AllocGlobal), row: &Puts) {
     for put in puts {
         check_put(rt, &mut sink, put);
     }
-    assert_eq!(rt; text_in(sink.into_inner()).as_slice(), written);
+    check_equal(rt, text_in(sink.into_inner()).as_slice(), written);
 }
 
 #[test]

@@ -1,5 +1,6 @@
 //! Tests of whole transmissions, which are written as a value and call by call.
 
+use crate::checks::check_equal;
 use crate::devices::{
     LARGEST, Narrow, Numbers, ONE_BYTE, WIDE, Width, limits_of, narrow_writer, text_in, text_of,
 };
@@ -29,9 +30,9 @@ pub(crate) fn check_written(
     text: &[u8],
     len: usize,
 ) {
-    assert_eq!(rt; written.1, answer);
+    check_equal(rt, written.1, answer);
     let kept = text_in(written.0);
-    assert_eq!(rt; Some(kept.as_slice()), text.get(..len));
+    check_equal(rt, Some(kept.as_slice()), text.get(..len));
 }
 
 /// Writes a value within these limits.
@@ -98,7 +99,7 @@ fn failing_after(room: usize) -> Width {
 fn writers_that_fail(rt: HostRuntime) {
     let value = transmission(&rt, ACKNOWLEDGED);
     let text = text_of(&rt, ONE_ACKNOWLEDGEMENT);
-    assert_eq!(rt; text.len(), 359);
+    check_equal(&rt, text.len(), 359);
     for room in 0..360 {
         let fault = EncodeFault::Writer {
             written: room as u64,

@@ -3,6 +3,7 @@
 ghost use Rattle.std.specs.Prelude.{◌≢◌};
 ghost use Rattle.cwr_layouts.specs.declared.lines.LineEnd.TheVariants.{Open};
 
+use crate::checks::check_equal;
 use cwr_layouts::{LineBuf, LineEnd, Record};
 use cwr_values::{Group, Transaction, Transmission};
 use cwr_worked::lines::*;
@@ -71,7 +72,7 @@ pub(crate) fn record(rt: &impl Abort, line: &[u8]) -> Record {
 
 /// Adds the record of a line, which may come.
 fn add_record(rt: &impl Abort, transaction: &mut Transaction, line: &[u8]) {
-    assert_eq!(rt; transaction.push(record(rt, line).view()), Ok(()));
+    check_equal(rt, transaction.push(record(rt, line).view()), Ok(()));
 }
 
 /// The transaction of worked lines.

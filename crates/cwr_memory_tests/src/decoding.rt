@@ -1,5 +1,6 @@
 //! Texts that are decoded, piece by piece and whole.
 
+use crate::checks::check_equal;
 use crate::works::{TWO_GROUPS_WITH_A_FINDING, ended, largest, text_of};
 use cwr_decode::{Decoder, Outcome, ReadFault, Reading, read_all};
 use cwr_fields::{Counted, Source};
@@ -52,7 +53,7 @@ fn read_by_calls(
             "more" => {}
             "memory" => {
                 let again = (feed(decoder, left), call(decoder, b""));
-                assert_eq!(rt; again, ((0, word), (0, word)));
+                check_equal(rt, again, ((0, word), (0, word)));
                 return None;
             }
             _ => return Some((count, left.len(), word)),
@@ -89,7 +90,7 @@ fn read_item<R: Source>(rt: &impl Abort, reading: &mut Reading<'_, R>) -> Option
     match reading.next_item() {
         Ok(item) => Some(item.is_some()),
         Err(fault) => {
-            assert_eq!(rt; fault, ReadFault::Memory);
+            check_equal(rt, fault, ReadFault::Memory);
             None
         }
     }
@@ -104,7 +105,7 @@ fn count_items<R: Source>(rt: &(impl Abort + AllocGlobal), reader: &mut R) -> Op
             Some(true) => count = count.saturating_add(1),
             Some(false) => break,
             None => {
-                assert_eq!(rt; read_item(rt, &mut reading), None);
+                check_equal(rt, read_item(rt, &mut reading), None);
                 return None;
             }
         }
@@ -117,7 +118,7 @@ fn count_groups<R: Source>(rt: &(impl Abort + AllocGlobal), reader: &mut R) -> O
     match read_all(rt.alloc(), largest(), reader) {
         Ok(transmission) => Some(transmission.len()),
         Err(fault) => {
-            assert_eq!(rt; fault, ReadFault::Memory);
+            check_equal(rt, fault, ReadFault::Memory);
             None
         }
     }

@@ -1,5 +1,6 @@
 //! Transactions, groups and transmissions that are put together, and findings.
 
+use crate::checks::check_equal;
 use crate::works::{TWO_GROUPS_WITH_A_FINDING, ended, largest, text_of};
 use cwr_decode::{ReadFault, Reading};
 use cwr_fields::{Counted, Source};
@@ -21,7 +22,7 @@ fn copied(rt: &(impl Abort + AllocGlobal), transaction: &Transaction) -> Option<
     for i in 1..transaction.len() {
         let next = transaction.record(i).expect(rt, "no record");
         let pushed = with_memory(rt, copy.push(next), PushFault::Memory);
-        assert_eq!(rt; copy.len(), i.saturating_add(pushed.is_some() as usize));
+        check_equal(rt, copy.len(), i.saturating_add(pushed.is_some() as usize));
         pushed?;
     }
     Some(copy)
@@ -36,7 +37,7 @@ fn with_memory<T: Drop, F: PartialEq + Debug + Drop>(
     match answer {
         Ok(value) => Some(value),
         Err(fault) => {
-            assert_eq!(rt; fault, memory);
+            check_equal(rt, fault, memory);
             None
         }
     }
@@ -48,8 +49,8 @@ fn add_transaction(rt: &impl Abort, group: &mut Group, transaction: Transaction)
     match group.push(transaction) {
         Ok(()) => true,
         Err((fault, given)) => {
-            assert_eq!(rt; fault, GroupFault::Memory);
-            assert_eq!(rt; (group.len(), given.len()), (before, records));
+            check_equal(rt, fault, GroupFault::Memory);
+            check_equal(rt, (group.len(), given.len()), (before, records));
             false
         }
     }
@@ -61,8 +62,12 @@ fn add_group(rt: &impl Abort, transmission: &mut Transmission, group: Group) -> 
     match transmission.push(group) {
         Ok(()) => true,
         Err((fault, given)) => {
-            assert_eq!(rt; fault, TransmissionFault::Memory);
-            assert_eq!(rt; (transmission.len(), given.len()), (before, transactions));
+            check_equal(rt, fault, TransmissionFault::Memory);
+            check_equal(
+                rt,
+                (transmission.len(), given.len()),
+                (before, transactions),
+            );
             false
         }
     }

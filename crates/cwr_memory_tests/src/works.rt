@@ -1,5 +1,6 @@
 //! Worked transmissions, as texts that take no memory.
 
+use crate::checks::check_equal;
 use arrayvec::ArrayVec;
 use cwr_shape::Limits;
 use cwr_worked::lines::*;
@@ -50,6 +51,6 @@ pub(crate) fn ended<T: PartialEq + Debug + Drop>(
     if answer.is_none() {
         return Err(Fail::new("memory was refused"));
     }
-    assert_eq!(rt; answer, Some(wanted));
+    check_equal(rt, answer, Some(wanted));
     Ok(())
 }

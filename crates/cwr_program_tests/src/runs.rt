@@ -1,5 +1,6 @@
 //! Runs over memory, and over files that are there or missing wherever the tests run.
 
+use crate::checks::check_equal;
 use cwr_program::run;
 use cwr_worked::lines::{ACK_0, GRH_ACK, HDR};
 use cwr_worked::texts::{ONE_ACKNOWLEDGEMENT, TWO_ACKNOWLEDGEMENTS, canonical};
@@ -136,8 +137,12 @@ fn check_run<R: Files + AllocGlobal + Abort>(rt: &R, row: &Run) {
     let (words, input, status, texts) = *row;
     let mut output = Vec::new(rt.alloc());
     let (answer, error) = ran(rt, words, input, &mut output);
-    assert_eq!(rt; answer, status, "{words:?}");
-    assert_eq!(rt; (output.as_slice(), error.as_slice()), texts, "{words:?}");
+    check_equal(rt, (words, answer), (words, status));
+    check_equal(
+        rt,
+        (words, (output.as_slice(), error.as_slice())),
+        (words, texts),
+    );
 }
 
 #[test]
@@ -177,7 +182,7 @@ fn records_are_shown(rt: HostRuntime) {
     for (words, input, status, (end, fault)) in &SHOWN {
         let mut output = Vec::new(rt.alloc());
         let (answer, error) = ran(&rt, words, *input, &mut output);
-        assert_eq!(rt; (answer, error.as_slice()), (*status, *fault));
+        check_equal(&rt, (answer, error.as_slice()), (*status, *fault));
         let shown = output.as_slice();
         assert!(rt; shown.starts_with(SHOWN_FIRST) && shown.ends_with(end));
     }
@@ -188,7 +193,7 @@ fn records_are_shown(rt: HostRuntime) {
 fn answer_to<R: Files + AllocGlobal + Abort>(rt: &R, words: &[&str]) -> Vec<u8> {
     let mut output = Vec::new(rt.alloc());
     let (status, error) = ran(rt, words, FAILING, &mut output);
-    assert_eq!(rt; (status, output.len()), (2, 0), "{words:?}");
+    check_equal(rt, (words, (status, output.len())), (words, (2, 0)));
     error
 }
 
@@ -257,7 +262,7 @@ fn check_write_fault<R: Files + AllocGlobal + Abort, O: Write + Drop>(
 ) {
     let (status, error) = ran(rt, &["cwr"], input, output);
     let fault = b"cwr: write fault\n".as_slice();
-    assert_eq!(rt; (status, error.as_slice()), (3, fault));
+    check_equal(rt, (status, error.as_slice()), (3, fault));
 }
 
 #[test]

@@ -1,5 +1,6 @@
 //! What the program's words ask for. The limits are those of this profile.
 
+use crate::checks::check_equal;
 use cwr_shape::Limits;
 use cwr_words::task_of;
 use std::process::Abort;
@@ -40,9 +41,9 @@ static ASKED: [(&[&str], &str, Numbers); 14] = [
 fn work_that_is_asked_for(rt: HostRuntime) {
     for (words, wanted, numbers) in &ASKED {
         let (work, limits) = asked(&rt, words).expect(&rt, "no task");
-        assert_eq!(rt; work.as_str(), *wanted);
+        check_equal(&rt, work.as_str(), *wanted);
         let wanted = Limits::new(numbers.0, numbers.1, numbers.2);
-        assert_eq!(rt; Ok(limits), wanted);
+        check_equal(&rt, Ok(limits), wanted);
     }
 }
 

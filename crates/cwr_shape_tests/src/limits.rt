@@ -1,5 +1,6 @@
 //! Tests of limits, and of what their faults and the bars of records print.
 
+use crate::checks::check_equal;
 use cwr_shape::{Bar, LimitKind, Limits, LimitsFault};
 use std::fmt::Display;
 use std::process::Abort;
@@ -25,17 +26,17 @@ static REFUSED: [(Numbers, LimitsFault); 6] = [
 #[test]
 fn limits_in_their_ranges(rt: HostRuntime) {
     for (numbers, fault) in &REFUSED {
-        assert_eq!(rt; numbers_of(*numbers), Err(*fault));
+        check_equal(&rt, numbers_of(*numbers), Err(*fault));
     }
     for numbers in [(5, 1, 1), (99_999_999, 99_999, 999_999)] {
-        assert_eq!(rt; numbers_of(numbers), Ok(numbers));
+        check_equal(&rt, numbers_of(numbers), Ok(numbers));
     }
 }
 
 /// Checks the text that is printed.
 fn check_text(rt: &(impl Abort + AllocGlobal), printed: impl Display + Copy, wanted: &str) {
     let text = format!(in rt.alloc(); "{printed}").expect(rt, "no memory");
-    assert_eq!(rt; text.as_str(), wanted);
+    check_equal(rt, text.as_str(), wanted);
 }
 
 static BARS: [(Bar, &str); 4] = [

@@ -1,5 +1,6 @@
 //! Tests of stages, on the orders of records of this profile.
 
+use crate::checks::check_equal;
 use cwr_fields::{Role, TransactionType};
 use cwr_layouts::Kind;
 use cwr_shape::Symbol::{Grh, Ipa, Plain};
@@ -30,7 +31,11 @@ fn check_steps(
 ) {
     for (count, step) in steps {
         let reached = stage_inside(ty, symbols.get(..*count).unwrap_or(symbols));
-        assert_eq!(rt; reached, Some(Stage::Within(ty, *step)), "after {count}");
+        check_equal(
+            rt,
+            (count, reached),
+            (count, Some(Stage::Within(ty, *step))),
+        );
     }
 }
 
@@ -64,7 +69,7 @@ fn whole_acknowledgements(rt: HostRuntime) {
         (&[whole[0], whole[1], whole[5]], None),
     ];
     for (symbols, stage) in lists {
-        assert_eq!(rt; stage_from(Stage::start(), symbols), stage);
+        check_equal(&rt, stage_from(Stage::start(), symbols), stage);
     }
 }
 

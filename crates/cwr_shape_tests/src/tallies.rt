@@ -1,5 +1,6 @@
 //! Tests of tallies, on worked orders of records.
 
+use crate::checks::check_equal;
 use cwr_fields::{Role, TransactionType};
 use cwr_layouts::Kind;
 use cwr_shape::{Bar, LimitKind, Limits, Place, Stage, Symbol, Tally, TransactionStep};
@@ -52,7 +53,7 @@ fn count_each(tally: &mut Tally, symbols: &[Symbol]) -> Result<(), Bar> {
 fn tally_of(rt: &impl Abort, numbers: Numbers, symbols: &[Symbol]) -> Tally {
     let limits = Limits::new(numbers.0, numbers.1, numbers.2).expect(rt, "no limits");
     let mut tally = Tally::new(limits);
-    assert_eq!(rt; count_each(&mut tally, symbols), Ok(()));
+    check_equal(rt, count_each(&mut tally, symbols), Ok(()));
     tally
 }
 
@@ -107,7 +108,7 @@ static PLACES: [(usize, Place); 4] = [
 fn places_of_the_next_record(rt: HostRuntime) {
     for (count, place) in &PLACES {
         let tally = tally_of(&rt, LARGEST, &TWO_GROUPS[..(*count).min(12)]);
-        assert_eq!(rt; tally.place(), *place, "after {count}");
+        check_equal(&rt, (count, tally.place()), (count, *place));
     }
 }
 
@@ -124,18 +125,18 @@ fn counts_of(tally: &Tally) -> (Stage, u32, u32, u32) {
 #[test]
 fn counts_of_two_groups(rt: HostRuntime) {
     let none = tally_of(&rt, LARGEST, &[]);
-    assert_eq!(rt; counts_of(&none), (Stage::Start, 0, 0, 0));
+    check_equal(&rt, counts_of(&none), (Stage::Start, 0, 0, 0));
     let second = tally_of(&rt, LARGEST, &TWO_GROUPS[..6]);
-    assert_eq!(rt; second.groups(), 2);
+    check_equal(&rt, second.groups(), 2);
     let both = tally_of(&rt, LARGEST, &TWO_GROUPS);
-    assert_eq!(rt; counts_of(&both), (Stage::Ended, 12, 2, 3));
+    check_equal(&rt, counts_of(&both), (Stage::Ended, 12, 2, 3));
 }
 
 #[test]
 fn stage_of_a_begun_agreement(rt: HostRuntime) {
     let tally = tally_of(&rt, LARGEST, &AGREED);
     let begun = Stage::Within(TransactionType::Agreement, TransactionStep::Agreed);
-    assert_eq!(rt; tally.stage(), begun);
+    check_equal(&rt, tally.stage(), begun);
 }
 
 /// What may come next.

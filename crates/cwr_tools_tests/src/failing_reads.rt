@@ -1,5 +1,6 @@
 //! Tests of whole runs whose reader fails in one of its reads.
 
+use crate::checks::check_equal;
 use crate::devices::{Reader, WIDE, failing_after, writer_of};
 use crate::outputs::Mishap;
 use crate::runs::{Tool, joined, parted, reported};
@@ -42,13 +43,13 @@ fn check_failing(rt: &(impl Abort + AllocGlobal), left: &[u8], reads: usize) {
         fault_of(rt, Tool::Show, failing_after(left, reads)),
         split_fault(rt, failing_after(left, reads)),
     ];
-    assert_eq!(rt; answers, [fault; 3], "after {reads}");
+    check_equal(rt, (reads, answers), (reads, [fault; 3]));
     let readers = [failing_after(left, 16), failing_after(left, reads)];
     let wanted = JoinFault {
         input: 2,
         fault: ToolFault::Reader,
     };
-    assert_eq!(rt; join_fault(rt, readers), Some(wanted), "after {reads}");
+    check_equal(rt, (reads, join_fault(rt, readers)), (reads, Some(wanted)));
 }
 
 #[test]

@@ -1,5 +1,6 @@
 //! Tests of joins of worked texts: what they write and answer.
 
+use crate::checks::check_equal;
 use crate::devices::{Reader, STUCK, WIDE, Width, reader_of, writer_of};
 use crate::runs::joined;
 use crate::works::{Given, LARGEST, Numbers, Worked, text_given, text_of};
@@ -95,14 +96,14 @@ fn join_readers(
     assert!(rt; !readers.is_empty());
     let writer = writer_of(rt.alloc(), width);
     let (writer, answer) = joined(rt, numbers, readers, writer);
-    assert_eq!(rt; answer, wanted);
+    check_equal(rt, answer, wanted);
     writer.into_inner().text
 }
 
 /// Checks that a text is the first bytes of a worked one, so many of them.
 fn check_front(rt: &(impl Abort + AllocGlobal), text: &[u8], (worked, len): (Worked, usize)) {
     let whole = text_of(rt, worked);
-    assert_eq!(rt; Some(text), whole.get(..len));
+    check_equal(rt, Some(text), whole.get(..len));
 }
 
 /// Joins the inputs of a row.

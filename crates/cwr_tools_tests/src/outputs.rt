@@ -3,6 +3,7 @@
 ghost use Rattle.std.specs.Prelude.{◌≡◌, Some, map};
 ghost use Rattle.cwr_fields.specs.Format.Failures.{one_more_failure};
 
+use crate::checks::check_equal;
 use crate::devices::{Bounded, WIDE, Width};
 use crate::works::{Worked, text_of};
 use cwr_fields::Counted;
@@ -147,12 +148,12 @@ impl Outputs for Shelf {
 
 /// Checks that a text is the canonical one of this.
 fn check_text(rt: &(impl Abort + AllocGlobal), text: &Vec<u8>, worked: Worked) {
-    assert_eq!(rt; text.as_slice(), text_of(rt, worked).as_slice());
+    check_equal(rt, text.as_slice(), text_of(rt, worked).as_slice());
 }
 
 /// Checks that the texts are the canonical ones of these.
 pub(crate) fn check_texts(rt: &(impl Abort + AllocGlobal), texts: &[Vec<u8>], wanted: &[Worked]) {
-    assert_eq!(rt; texts.len(), wanted.len());
+    check_equal(rt, texts.len(), wanted.len());
     for (text, worked) in texts.iter().zip(wanted) {
         check_text(rt, text, *worked);
     }

@@ -1,5 +1,6 @@
 //! Tests of what a check and a show write on a worked text, and of what they answer.
 
+use crate::checks::check_equal;
 use crate::devices::{Reader, STUCK, WIDE, Width, reader_of, writer_of};
 use crate::runs::{Tool, reported};
 use crate::works::{Given, Judged, LARGEST, Numbers, WITHOUT_NAME, Worked, text_given, text_of};
@@ -155,7 +156,7 @@ fn check_parts(rt: &(impl Abort + AllocGlobal), text: &[u8], parts: &[&str], roo
             .expect(rt, "no memory");
     }
     wanted.truncate(room);
-    assert_eq!(rt; text, wanted.as_slice());
+    check_equal(rt, text, wanted.as_slice());
 }
 
 /// Reports on a text within limits: these parts are written. The answer comes back.
@@ -198,7 +199,7 @@ fn check_row(rt: &(impl Abort + AllocGlobal), row: &Reported) {
     let text = text_given(rt, worked, what);
     let read = (text.as_slice(), fails);
     let answer = check_report(rt, (tool, (8, 1, 2)), read, width, parts);
-    assert_eq!(rt; answer, wanted);
+    check_equal(rt, answer, wanted);
 }
 
 #[test]
@@ -212,7 +213,7 @@ fn reports_over_devices(rt: HostRuntime) {
 fn check_next(rt: &(impl Abort + AllocGlobal), reader: &mut Reader<'_>, wanted: Verdict) {
     let writer = Counted::new(io::empty());
     let (_, answer) = reported(rt, Tool::Check, LARGEST, reader, writer);
-    assert_eq!(rt; answer, Ok(wanted));
+    check_equal(rt, answer, Ok(wanted));
 }
 
 #[test]

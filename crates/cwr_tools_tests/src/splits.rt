@@ -1,5 +1,6 @@
 //! Tests of splits of worked texts: their outputs, and what they answer.
 
+use crate::checks::check_equal;
 use crate::devices::reader_of;
 use crate::outputs::{Mishap, Shelf, check_texts};
 use crate::runs::parted;
@@ -84,7 +85,7 @@ fn check_split(
 ) -> Shelf {
     let mut reader = reader_of(text, fails);
     let (shelf, answer) = parted(rt, (12, 2, 2), &mut reader, n, mishap);
-    assert_eq!(rt; answer, wanted, "at {mishap:?}");
+    check_equal(rt, (mishap, answer), (mishap, wanted));
     check_texts(rt, shelf.texts(), outputs);
     check_counts(rt, &shelf, counts_of(&wanted), (outputs.len(), is_open));
     shelf
@@ -105,7 +106,7 @@ fn check_counts(
         shelf.counts(),
         shelf.given_up().is_some(),
     );
-    assert_eq!(rt; found, (asked, counts, is_open));
+    check_equal(rt, found, (asked, counts, is_open));
 }
 
 /// Splits the text of a row.
@@ -142,7 +143,7 @@ fn check_full(
     });
     let split = (2, Mishap::Writer(next, room));
     let shelf = check_split(rt, (all, false), split, fault, (outputs, true));
-    assert_eq!(rt; shelf.given_up(), Some(text), "after {room} bytes");
+    check_equal(rt, (room, shelf.given_up()), (room, Some(text)));
 }
 
 #[test]

@@ -1,6 +1,7 @@
 //! Worked transmissions of new and revised works, the parts of a larger one and the joins of them; and what tests of runs
 //! share: texts and limits.
 
+use crate::checks::check_equal;
 use cwr_decode::Refusal;
 use cwr_fields::CellFault;
 use cwr_shape::{Level, Limits, Reason};
@@ -319,8 +320,8 @@ static LENGTHS: [(Worked, usize); 8] = [
 #[test]
 fn lengths_of_texts(rt: HostRuntime) {
     for (worked, len) in &LENGTHS {
-        assert_eq!(rt; text_of(&rt, *worked).len(), *len, "{worked:?}");
+        check_equal(&rt, text_of(&rt, *worked).len(), *len);
     }
     let short = text_given(&rt, Worked::OneAcknowledgement, Given::Trimmed);
-    assert_eq!(rt; short.len(), 323);
+    check_equal(&rt, short.len(), 323);
 }
