@@ -1,5 +1,5 @@
 -- What is written, read and counted in two steps.
-use Rattle.std.proofs.Common.{◌≡◌, ℕ, ◌+◌, ◌-◌, Bool, List, [], ◌++◌, length, Option, Some, None, refl, sym, ap, subst, ◌∙◌, arith}
+use Rattle.std.proofs.Common.{◌≡◌, ℕ, ◌+◌, ◌-◌, ◌<◌, Bool, true, false, List, [], ◌++◌, length, Option, Some, None, refl, sym, ap, subst, ◌∙◌, arith}
 use Rattle.std.specs.Prelude.{◌^◌, min, Result, Ok, Err, is_err}
 use Rattle.std.specs.Io.KnownBytes.{Appends, Consumes, Keeps}
 use Rattle.std.proofs.KnownBytes.{Appends-nil, Appends-trans, Consumes-kept, Consumes-nil, Consumes-trans}
@@ -22,24 +22,28 @@ takes_none left after k = ([], Consumes-kept left left after [] (Consumes-nil le
 pub takes_both : (left mid after : Option (List ℕ)) → TakesMore left mid → TakesMore mid after → TakesMore left after
 takes_both left mid after p q = (p.0 ++ q.0, Consumes-trans left mid after p.0 q.0 p.1 q.1)
 
--- nothing was read so far
-pub trailing_none : (left : Option (List ℕ)) (found : Trailing) → found.bytes ≡ 0 → IsTrailing left left found
-trailing_none left found e = record { more = []; consumed = Consumes-nil left; counted = e }
+-- the first piece was read
+pub trailing_first : (left after : Option (List ℕ)) (old new : Trailing) (ended : Bool) → old.bytes ≡ 0 → TakesPiece left after old new ended → IsTrailing left after (record new { is_all = ended })
+trailing_first left after old new ended e p = record {
+  more = p.piece;
+  consumed = p.consumed;
+  counted = omega (arith, e, p.counted);
+  all = p.at_end;
+  some = λ f. omega (arith, e, p.counted, p.some f);
+}
 
 -- a piece more was read
-pub trailing_more : (left mid after : Option (List ℕ)) (old new : Trailing) → IsTrailing left mid old → TakesPiece mid after old new → IsTrailing left after new
-trailing_more left mid after old new h p = record {
+pub trailing_more : (left mid after : Option (List ℕ)) (old new : Trailing) (ended : Bool) → old.is_all ≡ false → IsTrailing left mid old → TakesPiece mid after old new ended → IsTrailing left after (record new { is_all = ended })
+trailing_more left mid after old new ended f h p = record {
   more = h.more ++ p.piece;
   consumed = Consumes-trans left mid after h.more p.piece h.consumed p.consumed;
   counted = omega (arith, h.counted, p.counted, length-append h.more p.piece);
+  all = p.at_end;
+  some = λ _. omega (arith, p.counted, h.some f);
 }
 
 pub taken_by : (left after : Option (List ℕ)) (found : Trailing) → IsTrailing left after found → TakesMore left after
 taken_by left after found h = (h.more, h.consumed)
-
--- only the bytes are counted
-pub same_trailing : (left after : Option (List ℕ)) (found : Trailing) (is_all : Bool) (begins : List ℕ) → IsTrailing left after found → IsTrailing left after (record found { is_all = is_all; begins = begins })
-same_trailing left after found is_all begins h = record { more = h.more; consumed = h.consumed; counted = h.counted }
 
 -- a check and words after it
 pub explains_after : {W : Type 0} (limits : Limits) (before left after : Option (List ℕ)) (contents : W → Option (List ℕ)) (old between new : W) (checked result : Result Verdict ToolFault)

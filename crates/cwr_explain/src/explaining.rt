@@ -1,10 +1,11 @@
 //! Checking a transmission, and explaining what was found.
 
-ghost use Rattle.std.specs.Prelude.{◌≡◌, true, OnOk};
+ghost use Rattle.std.specs.Prelude.{◌≡◌, true, IfOk, IsSomeAnd, OnOk};
 ghost use Rattle.cwr_tools.specs.Format.Verdicts.{JudgesText};
 ghost use Rattle.cwr_tools.specs.Format.Reports.{CountsReaderFault, CountsWriterFault};
-ghost use Rattle.cwr_explain.specs.Format.Explained.{AddsWords, IsAnswerTo, ReadsOnly, TakesMore, WritesOnly};
-ghost use Rattle.cwr_explain.specs.Steps.Explained.{Explains};
+ghost use Rattle.cwr_tools.specs.Format.Watching.{SeesAccepted};
+ghost use Rattle.cwr_explain.specs.Format.Explained.{AddsWords, FindsAfter, IsAnswerTo, IsTrailing, ReadsOnly, TakesMore, WritesOnly};
+ghost use Rattle.cwr_explain.specs.Steps.Explained.{Explains, found_in, is_good};
 
 use crate::causes::{Refused, add_trailing, add_truncated, kind_of};
 use crate::lines_at_end::{line_at_end, line_before};
@@ -14,7 +15,7 @@ use cwr_encode::Sink;
 use cwr_fields::{Source, Target};
 use cwr_layouts::LONGEST_LINE;
 use cwr_shape::Limits;
-use cwr_tools::{ToolFault, Verdict, check_explained};
+use cwr_tools::{ToolFault, Verdict, Watch, check_explained};
 use std::alloc::{AllocError, Global};
 
 /// What the reader has after a run.
@@ -26,6 +27,18 @@ enum Beyond {
     GoesOn(bool),
     /// Nobody asked.
     Unasked,
+}
+
+impl Beyond {
+    /// What was found after a transmission, if that was looked for.
+    fn found(self) -> Option<Trailing>
+        ensures { result ≡ found_in self }
+    {
+        match self {
+            Beyond::Trailing(found) => Some(found),
+            Beyond::GoesOn(_) | Beyond::Unasked => None,
+        }
+    }
 }
 
 /// Whether the reader shows a byte more.
@@ -46,6 +59,7 @@ fn look_beyond<R: Source>(
     verdict: &Verdict,
     last: &LastRead,
 ) -> Result<Beyond, ToolFault>
+    ensures found { is_good verdict.now ≡ true → IfOk result (λ beyond. IsSomeAnd (found_in beyond) (IsTrailing (R.remaining reader.old) (R.remaining reader.new))) }
     ensures taken { TakesMore (R.remaining reader.old) (R.remaining reader.new) }
     ensures failures { ReadsOnly result (R.failures reader.old) (R.failures reader.new) }
 {
@@ -138,13 +152,14 @@ fn explained<R: Source>(
     reader: &mut R,
     verdict: &Verdict,
     last: &LastRead,
-) -> Result<String, ToolFault>
+) -> Result<(String, Beyond), ToolFault>
+    ensures found { is_good verdict.now ≡ true → IfOk result (λ p. IsSomeAnd (found_in p.1) (IsTrailing (R.remaining reader.old) (R.remaining reader.new))) }
     ensures taken { TakesMore (R.remaining reader.old) (R.remaining reader.new) }
     ensures failures { ReadsOnly result (R.failures reader.old) (R.failures reader.new) }
 {
     let beyond = look_beyond(reader, verdict, last)?;
     match explanation(alloc, limits, name, verdict, last, beyond) {
-        Ok(text) => Ok(text),
+        Ok(text) => Ok((text, beyond)),
         Err(_) => Err(ToolFault::Memory),
     }
 }
@@ -158,7 +173,8 @@ fn add_explanation<R: Source, W: Target>(
     verdict: Verdict,
     last: &LastRead,
     writer: W,
-) -> (W, Result<Verdict, ToolFault>)
+) -> (W, Result<Verdict, ToolFault>, Option<Trailing>)
+    ensures found { is_good verdict ≡ true → OnOk result.1 (IsSomeAnd result.2 (IsTrailing (R.remaining reader.old) (R.remaining reader.new))) }
     ensures words { AddsWords W.contents writer result.0 }
     ensures taken { TakesMore (R.remaining reader.old) (R.remaining reader.new) }
     ensures answered { IsAnswerTo verdict result.1 }
@@ -167,12 +183,12 @@ fn add_explanation<R: Source, W: Target>(
     ensures handed_on { OnOk result.1 (W.handed_on result.0 ≡ true) }
 {
     match explained(alloc, limits, name, reader, &verdict, last) {
-        Err(fault) => (writer, Err(fault)),
-        Ok(text) => {
+        Err(fault) => (writer, Err(fault), None),
+        Ok((text, beyond)) => {
             let (writer, written) = write_text(writer, text.as_str());
             match written {
-                Ok(()) => (writer, Ok(verdict)),
-                Err(fault) => (writer, Err(fault)),
+                Ok(()) => (writer, Ok(verdict), beyond.found()),
+                Err(fault) => (writer, Err(fault), None),
             }
         }
     }
@@ -180,29 +196,34 @@ fn add_explanation<R: Source, W: Target>(
 
 /// Checks a transmission as `check` does, and writes what that writes. Then it writes lines that explain the verdict: of a
 /// refusal where it is, what stands there and what may; of an input that ends too early what may come next; of a transmission
-/// what stands after it. `name` is that of the input in these lines.
+/// what stands after it, which is answered too. `name` is that of the input in these lines. The watch sees the findings that are
+/// told.
 ///
 /// Where a device or memory fails after the verdict, the lines of `check` are written.
 pub fn explain<R: Source, W: Target + Drop>(
     alloc: Global,
     limits: Limits,
     name: &str,
+    watch: &mut Watch,
     reader: &mut R,
     writer: W,
-) -> (W, Result<Verdict, ToolFault>)
+) -> (W, Result<Verdict, ToolFault>, Option<Trailing>)
     ensures explains { Explains limits (R.remaining reader.old) (R.remaining reader.new) W.contents writer result.0 result.1 }
     ensures judged { JudgesText limits (R.remaining reader.old) result.1 }
+    // Where the text is accepted, the watch saw the findings in its transmission, and what stands after that was found.
+    ensures seen { OnOk result.1 (SeesAccepted limits (R.remaining reader.old) watch.old watch.new) }
+    ensures found { OnOk result.1 (FindsAfter limits (R.remaining reader.old) (R.remaining reader.new) result.2) }
     // No failure is passed over: a device failed only where that is the answer.
     ensures reader_failures { CountsReaderFault result.1 (R.failures reader.old) (R.failures reader.new) }
     ensures writer_failures { CountsWriterFault result.1 (W.failures writer) (W.failures result.0) }
     // All that was written was handed on.
     ensures handed_on { OnOk result.1 (W.handed_on result.0 ≡ true) }
 {
-    let (writer, checked, last) = check_explained(alloc, limits, reader, writer);
+    let (writer, checked, last) = check_explained(alloc, limits, watch, reader, writer);
     match checked {
-        Err(fault) => (writer, Err(fault)),
+        Err(fault) => (writer, Err(fault), None),
         Ok(verdict) => match last {
-            None => (writer, Ok(verdict)),
+            None => (writer, Ok(verdict), None),
             Some(last) => add_explanation(alloc, &limits, name, reader, verdict, &last, writer),
         },
     }

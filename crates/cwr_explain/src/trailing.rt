@@ -1,6 +1,6 @@
 //! What stands after a transmission.
 
-ghost use Rattle.std.specs.Prelude.{◌≡◌, ◌+◌, ◌-◌, ◌^◌, min, length, IfOk, OnErr, OnOk};
+ghost use Rattle.std.specs.Prelude.{◌≡◌, ◌+◌, ◌-◌, ◌^◌, min, length, IfOk, OnErr};
 ghost use Rattle.cwr_explain.specs.Format.Explained.{IsTrailing, ReadsOnly, TakesMore};
 ghost use Rattle.cwr_explain.specs.Steps.Explained.{TakesPiece};
 
@@ -57,7 +57,7 @@ impl Trailing {
 
 /// Takes what the reader shows next, and counts it. The answer is whether that was the end.
 fn take_piece<R: Source>(reader: &mut R, found: &mut Trailing) -> Result<bool, ToolFault>
-    ensures ok { OnOk result (TakesPiece (R.remaining reader.old) (R.remaining reader.new) found.old found.new) }
+    ensures ok { IfOk result (TakesPiece (R.remaining reader.old) (R.remaining reader.new) found.old found.new) }
     ensures err { OnErr result (TakesMore (R.remaining reader.old) (R.remaining reader.new)) }
     ensures failures { ReadsOnly result (R.failures reader.old) (R.failures reader.new) }
 {
@@ -78,11 +78,12 @@ pub fn read_trailing<R: Source>(reader: &mut R) -> Result<Trailing, ToolFault>
     ensures failures { ReadsOnly result (R.failures reader.old) (R.failures reader.new) }
 {
     let mut found = Trailing::new();
-    for _ in 0..MOST_PIECES {
-        if take_piece(reader, &mut found)? {
-            found.is_all = true;
+    found.is_all = take_piece(reader, &mut found)?;
+    for _ in 1..MOST_PIECES {
+        if found.is_all {
             break;
         }
+        found.is_all = take_piece(reader, &mut found)?;
     }
     Ok(found)
 }

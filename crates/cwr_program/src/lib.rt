@@ -1,9 +1,18 @@
 //! The program `cwr` between its words and its devices.
 #![tactic(auto)]
 
-mod commands;
+mod endings;
 mod faults;
+mod file_lines;
+mod imports;
+mod inputs;
+mod joins;
 mod new_files;
+mod outputs;
 mod program;
+mod reports;
+mod same_files;
+mod several;
+mod splits;
 
 pub use program::{refuse_words, run};

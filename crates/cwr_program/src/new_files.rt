@@ -1,33 +1,18 @@
 //! Files that are written, and that have their names only once they are whole.
 
-ghost use Rattle.std.specs.Prelude.{◌≡◌, ℕ, None, Some, IfOk, IfSome};
+ghost use Rattle.std.specs.Prelude.{◌≡◌, ℕ, None, Some, IfOk};
 ghost use Rattle.cwr_fields.specs.Steps.Counted.{failures_of};
 ghost use Rattle.cwr_fields.specs.Format.Failures.{one_more_failure};
 ghost use Rattle.cwr_program.specs.Steps.NumberedFiles.{failed_calls_of, given_up_of, lent_of};
 
-use cwr_fields::Counted;
+use crate::faults::{Fault, Name, Reason};
+use crate::outputs::{Gathered, gathered, told_of};
+use crate::same_files::{Identity, identity_of, is_there};
 use cwr_tools::{OutputFault, Outputs};
 use std::alloc::{AllocError, Global};
 use std::fs::File;
 use std::io;
-use std::io::{BufWriter, Write};
 use std::rt::Files;
-
-/// How many bytes of output are gathered before they are written.
-const GATHERED: usize = 65_536;
-
-/// A writer that gathers what it is given before it writes. What is left is written when it is dropped.
-pub(crate) fn with_buffer<O: Write + Drop>(
-    alloc: Global,
-    output: O,
-) -> Result<Counted<BufWriter<O>>, AllocError>
-    ensures { IfOk result (λ writer. failures_of writer ≡ 0) }
-{
-    match BufWriter::with_capacity(alloc, GATHERED, output) {
-        Ok(writer) => Ok(Counted::new(writer)),
-        Err(_) => Err(AllocError),
-    }
-}
 
 /// How many names are tried for a file that isn't whole yet.
 const MOST_PARTS: u32 = 100;
@@ -99,6 +84,12 @@ impl NewFile {
         }
     }
 
+    /// Gives the file its name as `keep` does, and tells what it is called where that fails.
+    pub(crate) fn keep_as<'a, R: Files>(self, rt: &R, name: Name<'a>) -> Result<(), Fault<'a>> {
+        self.keep(rt)
+            .map_err(|fault| Fault::Output(name, Some(Reason::of(&fault))))
+    }
+
     /// Removes the file. Where that can't be done it stays under the name that says so.
     pub(crate) fn discard<R: Files>(self, rt: &R) {
         if let Some(part) = &self.part {
@@ -107,58 +98,125 @@ impl NewFile {
     }
 }
 
+/// Makes the file that a transmission is written to.
+pub(crate) fn create_output<'a, R: Files>(
+    rt: &R,
+    alloc: Global,
+    out: &'a str,
+) -> Result<(NewFile, R::File), Fault<'a>> {
+    let name = out.to_string(alloc).map_err(|_| Fault::Memory)?;
+    match NewFile::create(rt, alloc, name) {
+        Ok(made) => Ok(made),
+        Err(fault) if fault.kind() == io::ErrorKind::OutOfMemory => Err(Fault::Memory),
+        Err(fault) => Err(Fault::Open(Name::File(out), Some(Reason::of(&fault)))),
+    }
+}
+
 /// The files of a split, whose names are a prefix and eight digits, from `00000001` on.
 #[derive(Drop)]
-pub(crate) struct NumberedFiles<'a, R: Files> {
-    rt: &'a R,
+pub(crate) struct NumberedFiles<'r, 'a, R: Files> {
+    rt: &'r R,
     alloc: Global,
     prefix: &'a str,
+    /// The input, which no part may be.
+    input: Option<Identity>,
+    /// No part may replace a file.
+    only_new: bool,
     /// How many were asked for.
     asked: u32,
     /// The one that is being written.
     open_file: Option<NewFile>,
+    /// What is told of the file that couldn't be made, finished or written.
+    fault: Option<Fault<'a>>,
     failed_calls: u64,
     given_up: u64,
 }
 
-impl<'a, R: Files> NumberedFiles<'a, R> {
-    /// The files whose names begin with the prefix. None was asked for.
-    pub(crate) fn new(rt: &'a R, alloc: Global, prefix: &'a str) -> NumberedFiles<'a, R> {
+impl<'r, 'a, R: Files> NumberedFiles<'r, 'a, R> {
+    /// The files whose names begin with the prefix, none of which may be the input, or may be there where only new ones may be made. None
+    /// was asked for.
+    pub(crate) fn new(
+        rt: &'r R,
+        alloc: Global,
+        prefix: &'a str,
+        input: Option<Identity>,
+        only_new: bool,
+    ) -> NumberedFiles<'r, 'a, R> {
         NumberedFiles {
             rt,
             alloc,
             prefix,
+            input,
+            only_new,
             asked: 0,
             open_file: None,
+            fault: None,
             failed_calls: 0,
             given_up: 0,
         }
     }
 
-    /// Makes the next file. `None` where that fails.
-    fn make(&mut self) -> Option<Counted<BufWriter<R::File>>>
-        ensures failed_calls { failed_calls_of self.new ≡ failed_calls_of self.old }
-        ensures given_up { given_up_of self.new ≡ given_up_of self.old }
-        ensures unfailed { IfSome result (λ writer. failures_of writer ≡ 0) }
-        ensures lent { IfSome result (λ writer. lent_of self.new ≡ 1) }
-    {
-        self.asked = self.asked.checked_add(1)?;
-        let prefix = self.prefix;
-        let number = self.asked;
-        let name = format!(in self.alloc; "{prefix}{number:08}").ok()?;
-        let (made, file) = NewFile::create(self.rt, self.alloc, name).ok()?;
-        self.open_file = Some(made);
-        with_buffer(self.alloc, file).ok()
+    /// What is told of the file that couldn't be made, finished or written.
+    pub(crate) fn fault(&self) -> Fault<'a> {
+        self.fault.unwrap_or(Fault::Output(self.name(), None))
     }
 
-    /// Gives the file that was written its name. `None` where that fails.
-    fn keep(&mut self) -> Option<()>
+    /// What the part in hand is called.
+    fn name(&self) -> Name<'a> {
+        Name::Part(self.prefix, self.asked)
+    }
+
+    /// Makes the file of that name.
+    fn create(&mut self, name: String) -> Result<Gathered<'a, R::File>, Fault<'a>>
+        ensures failed_calls { failed_calls_of self.new ≡ failed_calls_of self.old }
+        ensures given_up { given_up_of self.new ≡ given_up_of self.old }
+        ensures unfailed { IfOk result (λ writer. failures_of writer ≡ 0) }
+        ensures lent { IfOk result (λ writer. lent_of self.new ≡ 1) }
+    {
+        if self.input.is_some() && identity_of(self.rt, name.as_str()) == self.input {
+            return Err(Fault::IsInput(self.name()));
+        }
+        if self.only_new && is_there(self.rt, name.as_str()) {
+            return Err(Fault::IsThere(self.name()));
+        }
+        match NewFile::create(self.rt, self.alloc, name) {
+            Ok((made, file)) => {
+                self.open_file = Some(made);
+                gathered(self.alloc, file, self.name()).map_err(|_| Fault::Memory)
+            }
+            Err(fault) => Err(Fault::Output(self.name(), Some(Reason::of(&fault)))),
+        }
+    }
+
+    /// Makes the next file.
+    fn make(&mut self) -> Result<Gathered<'a, R::File>, Fault<'a>>
+        ensures failed_calls { failed_calls_of self.new ≡ failed_calls_of self.old }
+        ensures given_up { given_up_of self.new ≡ given_up_of self.old }
+        ensures unfailed { IfOk result (λ writer. failures_of writer ≡ 0) }
+        ensures lent { IfOk result (λ writer. lent_of self.new ≡ 1) }
+    {
+        let Some(number) = self.asked.checked_add(1) else {
+            return Err(Fault::Output(self.name(), None));
+        };
+        self.asked = number;
+        let prefix = self.prefix;
+        match format!(in self.alloc; "{prefix}{number:08}") {
+            Ok(name) => self.create(name),
+            Err(_) => Err(Fault::Memory),
+        }
+    }
+
+    /// Gives the file that was written its name.
+    fn keep(&mut self) -> Result<(), Fault<'a>>
         ensures failed_calls { failed_calls_of self.new ≡ failed_calls_of self.old }
         ensures given_up { given_up_of self.new ≡ given_up_of self.old }
         ensures lent { lent_of self.new ≡ 0 }
     {
-        let made = self.open_file.take()?;
-        made.keep(self.rt).ok()
+        let name = self.name();
+        match self.open_file.take() {
+            Some(made) => made.keep_as(self.rt, name),
+            None => Err(Fault::Output(name, None)),
+        }
     }
 
     /// Removes the file that was being written, if there is one.
@@ -173,18 +231,19 @@ impl<'a, R: Files> NumberedFiles<'a, R> {
     }
 
     /// Counts a call that failed.
-    fn count_failure(&mut self) -> OutputFault
+    fn count_failure(&mut self, fault: Fault<'a>) -> OutputFault
         ensures failed_calls { failed_calls_of self.new ≡ one_more_failure (failed_calls_of self.old) }
         ensures given_up { given_up_of self.new ≡ given_up_of self.old }
         ensures lent { lent_of self.new ≡ lent_of self.old }
     {
+        self.fault = Some(fault);
         self.failed_calls = self.failed_calls.saturating_add(1);
         OutputFault
     }
 }
 
-impl<R: Files> Outputs for NumberedFiles<'_, R> {
-    type W = Counted<BufWriter<R::File>>;
+impl<'a, R: Files> Outputs for NumberedFiles<'_, 'a, R> {
+    type W = Gathered<'a, R::File>;
 
     // What a file holds isn't known.
     ghost texts = { λ files. None };
@@ -196,32 +255,37 @@ impl<R: Files> Outputs for NumberedFiles<'_, R> {
     // One file is written at a time.
     ghost lent = { lent_of };
 
-    fn next(&mut self) -> Result<Counted<BufWriter<R::File>>, OutputFault> {
+    fn next(&mut self) -> Result<Gathered<'a, R::File>, OutputFault> {
         if self.open_file.is_some() || self.failed_calls == u64::MAX {
-            return Err(self.count_failure());
+            let fault = Fault::Output(self.name(), None);
+            return Err(self.count_failure(fault));
         }
         match self.make() {
-            Some(writer) => Ok(writer),
-            None => {
+            Ok(writer) => Ok(writer),
+            Err(fault) => {
                 self.discard();
-                Err(self.count_failure())
+                Err(self.count_failure(fault))
             }
         }
     }
 
-    fn done(&mut self, writer: Counted<BufWriter<R::File>>) -> Result<(), OutputFault> {
+    fn done(&mut self, writer: Gathered<'a, R::File>) -> Result<(), OutputFault> {
         drop(writer);
         match self.keep() {
-            Some(()) if self.failed_calls < u64::MAX => Ok(()),
-            _ => Err(self.count_failure()),
+            Ok(()) if self.failed_calls < u64::MAX => Ok(()),
+            Ok(()) => {
+                let fault = Fault::Output(self.name(), None);
+                Err(self.count_failure(fault))
+            }
+            Err(fault) => Err(self.count_failure(fault)),
         }
     }
 
-    fn give_up(&mut self, writer: Counted<BufWriter<R::File>>) {
+    fn give_up(&mut self, writer: Gathered<'a, R::File>) {
         if writer.failures() > 0 {
             self.given_up = self.given_up.saturating_add(1);
         }
-        drop(writer);
+        self.fault = Some(Fault::Write(told_of(writer)));
         self.discard();
     }
 }

@@ -1,14 +1,18 @@
 //! The program between its words and its devices.
 
-ghost use Rattle.std.specs.Prelude.{◌≡◌, ◌≢◌, ◌≤◌};
+ghost use Rattle.std.specs.Prelude.{◌≡◌, ◌≢◌, ◌≤◌, map, true};
 ghost use Rattle.clap.specs.Values.{kind_of};
-ghost use Rattle.cwr_program.specs.Format.Endings.{EndsOnInput, IsOfInput};
+ghost use Rattle.cwr_program.specs.Format.Endings.{EndsOnInput, IsOfInput, fault_status, wanted_in};
+ghost use Rattle.cwr_program.specs.Format.Inputs.{are_standard};
 
-use crate::commands::{
-    Status, check_input, explain_input, export_input, import_file, import_input, join_files,
-    open_input, show_input, split_file,
-};
-use crate::faults::Fault;
+use crate::endings::{Status, Wanted};
+use crate::faults::{Fault, tell_fault};
+use crate::imports::{import_file, import_input};
+use crate::inputs::{DASH, Input, open_input};
+use crate::joins::{Union, join_files};
+use crate::reports::{Asked, Telling, report_input, telling_of};
+use crate::several::report_several;
+use crate::splits::{Cut, split_file};
 use clap::error::ErrorKind;
 use cwr_shape::Limits;
 use cwr_words::{Task, Work, task_of};
@@ -16,9 +20,6 @@ use std::convert::AsStr;
 use std::io;
 use std::io::{Read, Write};
 use std::rt::Files;
-
-/// What an input without a file is called.
-const STANDARD_INPUT: &str = "standard input";
 
 /// Runs what the words ask for, the program's name first. The answer is the exit status.
 pub fn run<R: Files + AllocGlobal, S: AsStr, I: Read + Drop, O: Write + Drop, E: Write + Drop>(
@@ -31,9 +32,9 @@ pub fn run<R: Files + AllocGlobal, S: AsStr, I: Read + Drop, O: Write + Drop, E:
     ensures { result ≤ 3 }
 {
     let status = match task_of(rt.alloc(), words) {
-        Ok(task) => match perform(rt, task, input, output, &mut error) {
+        Ok(task) => match perform(rt, &task, input, output, &mut error) {
             Ok(status) => status,
-            Err(fault) => report(error, fault),
+            Err(fault) => report(&mut error, &fault),
         },
         Err(answer) => answer_words(error, &answer, file_in_place(rt, words, &answer)),
     };
@@ -45,7 +46,7 @@ pub fn refuse_words<E: Write + Drop>(fault: &io::Error, mut error: E) -> u8
     ensures { result ≤ 3 }
 {
     let status = if fault.kind() == io::ErrorKind::OutOfMemory {
-        report(error, Fault::Memory)
+        report(&mut error, &Fault::Memory)
     } else {
         let _ = error.write_all(b"error: a word of the command line is not UTF-8\n");
         Status::CommandLine
@@ -78,7 +79,7 @@ fn answer_words<E: Write + Drop>(mut error: E, answer: &clap::Error, file: Optio
     ensures words { kind_of answer.now ≢ ErrorKind.OutOfMemory → result ≡ Status.CommandLine }
 {
     if matches!(answer.kind(), ErrorKind::OutOfMemory) {
-        return report(error, Fault::Memory);
+        return report(&mut error, &Fault::Memory);
     }
     // What standard error doesn't take is lost.
     let _ = write!(error, "{answer}");
@@ -88,80 +89,126 @@ fn answer_words<E: Write + Drop>(mut error: E, answer: &clap::Error, file: Optio
     Status::CommandLine
 }
 
-/// Writes the line of a fault.
-fn report<E: Write + Drop>(mut error: E, fault: Fault<'_>) -> Status
-    ensures { result ≡ Status.Fault }
+/// Tells of a fault. The status is that of a wrong command line where what was to be written may not be.
+fn report<E: Write>(error: &mut E, fault: &Fault<'_>) -> Status
+    ensures { result ≡ fault_status fault.now }
 {
-    // What standard error doesn't take is lost.
-    let _ = writeln!(error, "cwr: {fault}");
-    Status::Fault
-}
-
-/// Writes the transmission that the input's lines are, to the file of that name or to the output.
-fn import<'a, R: Files + AllocGlobal, I: Read + Drop, O: Write + Drop, E: Write + Drop>(
-    rt: &R,
-    limits: Limits,
-    line: u32,
-    input: I,
-    out: Option<&'a str>,
-    output: O,
-    error: E,
-) -> Result<Status, Fault<'a>> {
-    match out {
-        Some(name) => import_file(rt, limits, line as usize, input, name, error),
-        None => import_input(rt.alloc(), limits, line as usize, input, output, error),
+    tell_fault(error, fault);
+    match fault {
+        Fault::IsInput(_) | Fault::IsThere(_) => Status::CommandLine,
+        Fault::Open(..)
+        | Fault::Read(_)
+        | Fault::Write(_)
+        | Fault::Output(..)
+        | Fault::Memory => Status::Fault,
     }
 }
 
-/// Does what is asked for.
-fn perform<'a, R: Files + AllocGlobal, I: Read + Drop, O: Write + Drop, E: Write + Drop>(
+/// Writes the transmission that the input's lines are, to the file of that name or to the output.
+fn import<'a, R: Files + AllocGlobal, I: Read + Drop, O: Write + Drop, E: Write>(
     rt: &R,
-    task: Task<'a>,
-    input: I,
+    limits: Limits,
+    line: u32,
+    input: Input<'a, R::File, I>,
+    out: Option<&'a str>,
     output: O,
-    error: E,
+    error: &mut E,
+) -> Result<Status, Fault<'a>> {
+    let most = line as usize;
+    match out {
+        Some(name) => import_file(rt, limits, most, input, name, error),
+        None => import_input(rt.alloc(), limits, most, input, output, error),
+    }
+}
+
+/// Judges the transmissions of files, or the one on standard input.
+fn judge<'a, R: Files + AllocGlobal, I: Read + Drop, O: Write + Drop, E: Write>(
+    rt: &R,
+    asked: &Asked,
+    explained: bool,
+    names: &[&'a str],
+    standard: I,
+    output: O,
+    error: &mut E,
 ) -> Result<Status, Fault<'a>>
-    ensures { IsOfInput task.entry.work → EndsOnInput task.entry.limits (I.remaining input) result }
+    ensures { are_standard (map (λ name. name.now) names.now) ≡ true → EndsOnInput asked.now.limits asked.now.wanted (I.remaining standard) result }
 {
-    let limits = task.limits;
-    match task.work {
-        Work::Check(None) => check_input(rt.alloc(), limits, input, output),
-        Work::Check(Some(name)) => check_input(rt.alloc(), limits, open_input(rt, name)?, output),
-        Work::Show(None) => show_input(rt.alloc(), limits, input, output),
-        Work::Show(Some(name)) => show_input(rt.alloc(), limits, open_input(rt, name)?, output),
-        Work::Explain(None) => explain_input(rt.alloc(), limits, STANDARD_INPUT, input, output),
-        Work::Explain(Some(name)) => {
-            explain_input(rt.alloc(), limits, name, open_input(rt, name)?, output)
+    if names.len() > 1 {
+        return report_several(rt, asked, explained, names, standard, output, error);
+    }
+    let name = names.first().copied();
+    let input = open_input(rt, name, &mut Some(standard))?;
+    let telling = telling_of(explained, name.unwrap_or(DASH));
+    report_input(asked, telling, input, output, error)
+}
+
+/// Does what is asked for.
+fn perform<'a, R: Files + AllocGlobal, I: Read + Drop, O: Write + Drop, E: Write>(
+    rt: &R,
+    task: &Task<'a>,
+    standard: I,
+    output: O,
+    error: &mut E,
+) -> Result<Status, Fault<'a>>
+    ensures { IsOfInput task.now.work → EndsOnInput task.now.limits (wanted_in task.now.whole task.now.work) (I.remaining standard) result }
+{
+    let mut asked = Asked {
+        alloc: rt.alloc(),
+        limits: task.limits,
+        wanted: Wanted {
+            whole: task.whole,
+            fail_on: None,
+        },
+        quiet: false,
+    };
+    let (judging, explained) = match &task.work {
+        Work::Check(judging) => (judging, false),
+        Work::Explain(judging) => (judging, true),
+        Work::Show(file) => {
+            let input = open_input(rt, *file, &mut Some(standard))?;
+            return report_input(&asked, Telling::Records, input, output, error);
         }
-        Work::Json {
-            file: None,
-            numbers,
-        } => export_input(rt.alloc(), limits, numbers, input, output, error),
-        Work::Json {
-            file: Some(name),
-            numbers,
-        } => {
-            let file = open_input(rt, name)?;
-            export_input(rt.alloc(), limits, numbers, file, output, error)
+        Work::Json { file, numbers } => {
+            let telling = Telling::Data { numbers: *numbers };
+            let input = open_input(rt, *file, &mut Some(standard))?;
+            return report_input(&asked, telling, input, output, error);
         }
-        Work::Write {
-            file: None,
-            out,
-            line,
-        } => import(rt, limits, line, input, out, output, error),
-        Work::Write {
-            file: Some(name),
-            out,
-            line,
-        } => {
-            let file = open_input(rt, name)?;
-            import(rt, limits, line, file, out, output, error)
+        Work::Write { file, out, line } => {
+            let input = open_input(rt, *file, &mut Some(standard))?;
+            return import(rt, task.limits, *line, input, *out, output, error);
         }
         Work::Split {
             transactions,
             file,
             prefix,
-        } => split_file(rt, limits, transactions, file, prefix, output),
-        Work::Join { out, files } => join_files(rt, limits, out, files.as_slice(), output),
-    }
+            only_new,
+        } => {
+            let cut = Cut {
+                limits: task.limits,
+                whole: task.whole,
+                transactions: *transactions,
+                file: *file,
+                prefix: *prefix,
+                only_new: *only_new,
+            };
+            let input = open_input(rt, Some(*file), &mut Some(standard))?;
+            return split_file(rt, &cut, input, output, error);
+        }
+        Work::Join {
+            out,
+            files,
+            only_new,
+        } => {
+            let union = Union {
+                limits: task.limits,
+                whole: task.whole,
+                out: *out,
+                only_new: *only_new,
+            };
+            return join_files(rt, &union, files.as_slice(), standard, output, error);
+        }
+    };
+    asked.wanted.fail_on = judging.fail_on;
+    asked.quiet = judging.quiet;
+    judge(rt, &asked, explained, judging.files.as_slice(), standard, output, error)
 }

@@ -9,3 +9,4 @@ pub mod Splits
 pub mod Splitting
 pub mod Texts
 pub mod Verdicts
+pub mod Watching

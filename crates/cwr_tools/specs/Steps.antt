@@ -10,3 +10,4 @@ pub mod SplitPlaces
 pub mod SplitSteps
 pub mod Splitting
 pub mod Verdicts
+pub mod Watching

@@ -2,6 +2,7 @@
 
 ghost use Rattle.std.specs.Prelude.{◌≡◌, true, IfOk, OnOk, IsSomeAnd};
 ghost use Rattle.cwr_tools.specs.Format.Verdicts.{JudgesText};
+ghost use Rattle.cwr_tools.specs.Format.Watching.{SeesAccepted};
 ghost use Rattle.cwr_tools.specs.Steps.Verdicts.{IsReadLast};
 ghost use Rattle.cwr_tools.specs.Format.Reports.{CountsReaderFault, CountsWriterFault, JudgesAccepted, JudgesCanonical, lines_of_explained, lines_of_findings};
 ghost use Rattle.cwr_tools.specs.Steps.Reports.{Reports};
@@ -9,6 +10,7 @@ ghost use Rattle.cwr_tools.specs.Steps.Reports.{Reports};
 use crate::item_lines::Report;
 use crate::reporting::write_report;
 use crate::verdicts::{ToolFault, Verdict};
+use crate::watch::Watch;
 use cwr_decode::LastRead;
 use cwr_fields::{Source, Target};
 use cwr_shape::Limits;
@@ -37,21 +39,55 @@ pub fn check<R: Source, W: Target + Drop>(
     // All that was written was handed on.
     ensures handed_on { OnOk result.1 (W.handed_on result.0 ≡ true) }
 {
-    write_report(Report::Findings, alloc, limits, reader, &mut None, writer)
+    check_watched(alloc, limits, &mut Watch::new(None), reader, writer)
+}
+
+/// Checks a transmission as `check` does. The watch sees the findings that are told.
+pub fn check_watched<R: Source, W: Target + Drop>(
+    alloc: Global,
+    limits: Limits,
+    watch: &mut Watch,
+    reader: &mut R,
+    writer: W,
+) -> (W, Result<Verdict, ToolFault>)
+    ensures reported { Reports lines_of_findings limits (R.remaining reader.old) (R.remaining reader.new) W.contents writer result.0 result.1 }
+    ensures judged { JudgesText limits (R.remaining reader.old) result.1 }
+    ensures accepted { IfOk result.1 (JudgesAccepted lines_of_findings limits (R.remaining reader.old) (R.remaining reader.new) W.contents writer result.0) }
+    ensures canonical { IfOk result.1 (JudgesCanonical lines_of_findings limits (R.remaining reader.old) (R.remaining reader.new) W.contents writer result.0) }
+    // Where the text is accepted, the watch saw the findings in its transmission.
+    ensures seen { OnOk result.1 (SeesAccepted limits (R.remaining reader.old) watch.old watch.new) }
+    // No failure is passed over: a device failed only where that is the answer.
+    ensures reader_failures { CountsReaderFault result.1 (R.failures reader.old) (R.failures reader.new) }
+    ensures writer_failures { CountsWriterFault result.1 (W.failures writer) (W.failures result.0) }
+    // All that was written was handed on.
+    ensures handed_on { OnOk result.1 (W.handed_on result.0 ≡ true) }
+{
+    write_report(
+        Report::Findings,
+        alloc,
+        limits,
+        reader,
+        watch,
+        &mut None,
+        writer,
+    )
 }
 
 /// Checks a transmission as `check` does, and writes what that writes, with lines under each finding: where its record stands, the
 /// rule in words, how much it rejects, and the cells that it speaks of. These lines begin with two spaces. Beside its answer comes
 /// what was read last, where there is a verdict: the stage of the accepted records, and the last bytes that the reader lost, of a
-/// refused line all.
+/// refused line all. The watch sees the findings that are told.
 pub fn check_explained<R: Source, W: Target + Drop>(
     alloc: Global,
     limits: Limits,
+    watch: &mut Watch,
     reader: &mut R,
     writer: W,
 ) -> (W, Result<Verdict, ToolFault>, Option<LastRead>)
     ensures reported { Reports lines_of_explained limits (R.remaining reader.old) (R.remaining reader.new) W.contents writer result.0 result.1 }
     ensures judged { JudgesText limits (R.remaining reader.old) result.1 }
+    ensures accepted { IfOk result.1 (JudgesAccepted lines_of_explained limits (R.remaining reader.old) (R.remaining reader.new) W.contents writer result.0) }
+    ensures seen { OnOk result.1 (SeesAccepted limits (R.remaining reader.old) watch.old watch.new) }
     ensures reader_failures { CountsReaderFault result.1 (R.failures reader.old) (R.failures reader.new) }
     ensures writer_failures { CountsWriterFault result.1 (W.failures writer) (W.failures result.0) }
     // All that was written was handed on.
@@ -64,6 +100,7 @@ pub fn check_explained<R: Source, W: Target + Drop>(
         alloc,
         limits,
         reader,
+        watch,
         &mut last,
         writer,
     );

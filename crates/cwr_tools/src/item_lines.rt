@@ -1,6 +1,6 @@
 //! The lines of items, put to a sink.
 
-ghost use Rattle.std.specs.Prelude.{◌≡◌, ◌+◌, ◌≤◌, length, false, IfErr};
+ghost use Rattle.std.specs.Prelude.{◌≡◌, ◌+◌, ◌≤◌, ◌∷◌, [], length, false, IfErr, OnOk};
 ghost use Rattle.cwr_encode.specs.Steps.Sinks.{Puts, has_failed, written_of};
 ghost use Rattle.cwr_judge.specs.Format.Items.{item_records};
 ghost use Rattle.cwr_values.specs.Format.Rows.{trailer};
@@ -9,12 +9,15 @@ ghost use Rattle.cwr_levels.specs.Format.ReportLines.{finding_line};
 ghost use Rattle.cwr_tools.specs.Format.Texts.{finding_lines_in, numbered_records, record_lines};
 ghost use Rattle.cwr_tools.specs.Format.FindingNotes.{explained_in};
 ghost use Rattle.cwr_tools.specs.Format.Reports.{ItemLines, has_findings};
+ghost use Rattle.cwr_tools.specs.Format.Watching.{watched};
 ghost use Rattle.cwr_tools.specs.Steps.Reports.{PutsLines, lines_at, lines_in, notes_at};
+ghost use Rattle.cwr_tools.specs.Steps.Watching.{watched_by};
 
 use crate::finding_notes::put_all_explained;
 use crate::record_lines::RecordLines;
 use crate::totals::Totals;
 use crate::verdicts::ToolFault;
+use crate::watch::Watch;
 use cwr_encode::{Sink, SinkFault};
 use cwr_fields::Target;
 use cwr_json::{Notes, RecordText, put_data};
@@ -143,10 +146,12 @@ fn put_findings<W: Target>(
     group: u32,
     sequence: u32,
     item: &Item,
+    watch: &mut Watch,
     sink: &mut Sink<W>,
 ) -> Result<(), ToolFault>
     requires { has_failed sink.old ≡ false }
-    ensures { PutsLines W.contents W.failures (has_findings item.now) (finding_lines_in group sequence item.now) result sink.old sink.new }
+    ensures puts { PutsLines W.contents W.failures (has_findings item.now) (finding_lines_in group sequence item.now) result sink.old sink.new }
+    ensures watched { OnOk result (watch.new ≡ watched watch.old (item.now ∷ [])) }
 {
     let Item::Transaction(transaction) = item else {
         return Ok(());
@@ -154,6 +159,7 @@ fn put_findings<W: Target>(
     let Ok(found) = findings(alloc, transaction) else {
         return Err(ToolFault::Memory);
     };
+    watch.see(found.as_slice());
     match put_found(group, sequence, found.as_slice(), sink) {
         Ok(()) => Ok(()),
         Err(fault) => Err(writer_fault(fault)),
@@ -168,11 +174,13 @@ fn put_explained_findings<W: Target>(
     sequence: u32,
     first: u64,
     item: &Item,
+    watch: &mut Watch,
     sink: &mut Sink<W>,
 ) -> Result<(), ToolFault>
     requires unfailed { has_failed sink.old ≡ false }
     requires few { first + length (item_records item.now) ≤ 100000000 }
-    ensures { PutsLines W.contents W.failures (has_findings item.now) (explained_in group sequence first item.now) result sink.old sink.new }
+    ensures puts { PutsLines W.contents W.failures (has_findings item.now) (explained_in group sequence first item.now) result sink.old sink.new }
+    ensures watched { OnOk result (watch.new ≡ watched watch.old (item.now ∷ [])) }
 {
     let Item::Transaction(transaction) = item else {
         return Ok(());
@@ -180,6 +188,7 @@ fn put_explained_findings<W: Target>(
     let Ok(found) = findings(alloc, transaction) else {
         return Err(ToolFault::Memory);
     };
+    watch.see(found.as_slice());
     match put_all_explained(group, sequence, first, transaction, found.as_slice(), sink) {
         Ok(()) => Ok(()),
         Err(fault) => Err(writer_fault(fault)),
@@ -204,7 +213,8 @@ fn notes_at(noted: bool, counts: &Totals, item: &Item) -> Option<Notes>
     })
 }
 
-/// Puts the lines of an item that comes after items with these numbers. Those of a record, and data, are made in the buffers.
+/// Puts the lines of an item that comes after items with these numbers. Those of a record, and data, are made in the buffers. The
+/// watch sees the findings that are told.
 pub(crate) fn put_item<W: Target>(
     report: Report,
     alloc: Global,
@@ -212,17 +222,27 @@ pub(crate) fn put_item<W: Target>(
     item: &Item,
     lines: &mut RecordLines,
     text: &mut RecordText,
+    watch: &mut Watch,
     sink: &mut Sink<W>,
 ) -> Result<(), ToolFault>
     requires unfailed { has_failed sink.old ≡ false }
     requires few { counts.now.records + length (item_records item.now) ≤ 99999999 }
-    ensures { PutsLines W.contents W.failures ((lines_in report).take_memory item.now) (lines_at report counts.now item.now) result sink.old sink.new }
+    ensures watched { OnOk result (watch.new ≡ watched_by report watch.old (item.now ∷ [])) }
+    ensures puts { PutsLines W.contents W.failures ((lines_in report).take_memory item.now) (lines_at report counts.now item.now) result sink.old sink.new }
 {
     match report {
-        Report::Findings => put_findings(alloc, counts.groups, counts.in_group, item, sink),
+        Report::Findings => put_findings(alloc, counts.groups, counts.in_group, item, watch, sink),
         Report::Explained => {
             let first = u64::from(counts.records) + 1;
-            put_explained_findings(alloc, counts.groups, counts.in_group, first, item, sink)
+            put_explained_findings(
+                alloc,
+                counts.groups,
+                counts.in_group,
+                first,
+                item,
+                watch,
+                sink,
+            )
         }
         Report::Records => {
             match put_records(u64::from(counts.records) + 1, item, lines, sink) {

@@ -8,6 +8,7 @@ ghost use Rattle.cwr_tools.specs.Steps.Reports.{Reports};
 use crate::item_lines::Report;
 use crate::reporting::write_report;
 use crate::verdicts::{ToolFault, Verdict};
+use crate::watch::Watch;
 use cwr_fields::{Source, Target};
 use cwr_shape::Limits;
 use std::alloc::Global;
@@ -39,6 +40,7 @@ pub fn json<R: Source, W: Target + Drop>(
         alloc,
         limits,
         reader,
+        &mut Watch::new(None),
         &mut None,
         writer,
     )

@@ -20,8 +20,9 @@ mod split_output;
 mod splitting;
 mod totals;
 mod verdicts;
+mod watch;
 
-pub use checking::{check, check_explained};
+pub use checking::{check, check_explained, check_watched};
 pub use joining::join;
 pub use json_lines::json;
 pub use note_lines::level_words;
@@ -31,3 +32,4 @@ pub use reporting::put_verdict_line;
 pub use showing::show;
 pub use splitting::split;
 pub use verdicts::{JoinFault, JoinReport, SplitReport, ToolFault, Verdict};
+pub use watch::Watch;

@@ -12,11 +12,13 @@ ghost use Rattle.cwr_tools.specs.Format.Verdicts.{IsVerdictOf};
 ghost use Rattle.cwr_tools.specs.Steps.Verdicts.{IsReadLast};
 ghost use Rattle.cwr_tools.specs.Format.Reports.{CountsReaderFault, CountsWriterFault};
 ghost use Rattle.cwr_tools.specs.Steps.Reports.{PutsReport, Reports, lines_in};
+ghost use Rattle.cwr_tools.specs.Steps.Watching.{WatchesRun};
 
 use crate::item_lines::{Report, put_item, writer_fault};
 use crate::record_lines::RecordLines;
 use crate::totals::Totals;
 use crate::verdicts::{ToolFault, Verdict};
+use crate::watch::Watch;
 use cwr_decode::{LastRead, ReadFault, Reading};
 use cwr_encode::{Sink, SinkFault};
 use cwr_fields::{Source, Target};
@@ -61,12 +63,13 @@ fn begin_reading<'a, R: Source>(
 }
 
 /// Reads a transmission item by item, up to its end or to where it is refused or ends too early, and puts the lines of
-/// each item. Then `last` gets what was read last, of a report that explains.
+/// each item. Then `last` gets what was read last, of a report that explains. The watch sees the findings that are told.
 fn put_items<R: Source, W: Target>(
     report: Report,
     alloc: Global,
     limits: Limits,
     reader: &mut R,
+    watch: &mut Watch,
     last: &mut Option<LastRead>,
     sink: &mut Sink<W>,
 ) -> Result<Verdict, ToolFault>
@@ -74,6 +77,7 @@ fn put_items<R: Source, W: Target>(
     requires empty { HasWritten W.contents (W.contents (writer_of sink.old)) [] sink.old }
     ensures puts { PutsReport (lines_in report) (λ verdict. []) limits (R.remaining reader.old) (R.remaining reader.new) W.contents W.failures result sink.old sink.new }
     ensures failures { CountsReaderFault result (R.failures reader.old) (R.failures reader.new) }
+    ensures watched { IfOk result (WatchesRun report limits (R.remaining reader.old) (R.remaining reader.new) watch.old watch.new) }
     ensures last { report ≡ Report.Explained → IfOk result (λ verdict. IsSomeAnd last.new (IsReadLast limits (R.remaining reader.old) (R.remaining reader.new) verdict)) }
 {
     let mut reading = begin_reading(report, alloc, limits, reader);
@@ -83,7 +87,9 @@ fn put_items<R: Source, W: Target>(
     'items: loop {
         match reading.next_item() {
             Ok(Some(item)) => {
-                put_item(report, alloc, &counts, &item, &mut lines, &mut text, sink)?;
+                put_item(
+                    report, alloc, &counts, &item, &mut lines, &mut text, watch, sink,
+                )?;
                 counts.count(&item);
             }
             Ok(None) => {
@@ -137,6 +143,7 @@ fn put_report<R: Source, W: Target>(
     alloc: Global,
     limits: Limits,
     reader: &mut R,
+    watch: &mut Watch,
     last: &mut Option<LastRead>,
     sink: &mut Sink<W>,
 ) -> Result<Verdict, ToolFault>
@@ -144,9 +151,10 @@ fn put_report<R: Source, W: Target>(
     requires empty { HasWritten W.contents (W.contents (writer_of sink.old)) [] sink.old }
     ensures puts { PutsReport (lines_in report) (lines_in report).last limits (R.remaining reader.old) (R.remaining reader.new) W.contents W.failures result sink.old sink.new }
     ensures failures { CountsReaderFault result (R.failures reader.old) (R.failures reader.new) }
+    ensures watched { IfOk result (WatchesRun report limits (R.remaining reader.old) (R.remaining reader.new) watch.old watch.new) }
     ensures last { report ≡ Report.Explained → IfOk result (λ verdict. IsSomeAnd last.new (IsReadLast limits (R.remaining reader.old) (R.remaining reader.new) verdict)) }
 {
-    let verdict = put_items(report, alloc, limits, reader, last, sink)?;
+    let verdict = put_items(report, alloc, limits, reader, watch, last, sink)?;
     match put_verdict(report, &verdict, sink) {
         Ok(()) => Ok(verdict),
         Err(fault) => Err(writer_fault(fault)),
@@ -160,6 +168,7 @@ pub(crate) fn write_report<R: Source, W: Target>(
     alloc: Global,
     limits: Limits,
     reader: &mut R,
+    watch: &mut Watch,
     last: &mut Option<LastRead>,
     writer: W,
 ) -> (W, Result<Verdict, ToolFault>)
@@ -167,10 +176,11 @@ pub(crate) fn write_report<R: Source, W: Target>(
     ensures reader_failures { CountsReaderFault result.1 (R.failures reader.old) (R.failures reader.new) }
     ensures writer_failures { CountsWriterFault result.1 (W.failures writer) (W.failures result.0) }
     ensures handed_on { OnOk result.1 (W.handed_on result.0 ≡ true) }
+    ensures watched { IfOk result.1 (WatchesRun report limits (R.remaining reader.old) (R.remaining reader.new) watch.old watch.new) }
     ensures last { report ≡ Report.Explained → IfOk result.1 (λ verdict. IsSomeAnd last.new (IsReadLast limits (R.remaining reader.old) (R.remaining reader.new) verdict)) }
 {
     let mut sink = Sink::new(writer);
-    let put = put_report(report, alloc, limits, reader, last, &mut sink);
+    let put = put_report(report, alloc, limits, reader, watch, last, &mut sink);
     let written = sink.written();
     let mut writer = sink.into_inner();
     match put {

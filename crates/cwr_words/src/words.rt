@@ -1,29 +1,40 @@
 //! The words of the command line.
 
-ghost use Rattle.std.specs.Prelude.{◌≡◌, ℕ, List, None, Some, Ok, IfOk, IfSome, codes, false, true, if◌then◌else◌};
+ghost use Rattle.std.specs.Prelude.{◌≡◌, ℕ, List, map, None, Some, IfOk, IfSome, IsOkAnd, IsSomeAnd, codes, false, true, if◌then◌else◌};
 ghost use Rattle.std.specs.Str.{bytes_eq};
 ghost use Rattle.std.specs.Str.Parse.{digits_value, without_leading_plus};
 ghost use Rattle.clap.specs.Words.{found_of, has_subcommand, one_text};
 ghost use Rattle.cwr_shape.specs.Format.Ranges.{limit_values};
-ghost use Rattle.cwr_words.specs.Format.Words.{IsAskedBy, IsExportOf, IsImportOf, IsJoinOf, IsSplitOf, IsWorkOf};
+ghost use Rattle.cwr_words.specs.Format.Words.{AreNamesOf, IsAskedBy, IsExportOf, IsImportOf, IsJoinOf, IsJudgingOf, IsPlainCheck, IsSplitOf, IsWorkOf, level_named};
 
 use clap::error::ErrorKind;
 use clap::{Arg, ArgAction, ArgMatches, Command, Error, value_parser};
-use cwr_shape::Limits;
+use cwr_shape::{Level, Limits};
 use std::alloc::{AllocError, Global};
 use std::convert::AsStr;
 use std::num::NonZeroU32;
 
-/// What is done.
+/// Which transmissions are judged, and how that is told.
+#[derive(Debug, PartialEq, Eq, Drop)]
+pub struct Judging<'a> {
+    /// The names of their files, in their order. Without a name it is that on standard input.
+    pub files: Vec<&'a str>,
+    /// Of a transmission that is good nothing is printed.
+    pub quiet: bool,
+    /// A finding of this level, or of a worse one, ends the run as a refusal does.
+    pub fail_on: Option<Level>,
+}
+
+/// What is done. Each file that is read may be called `-`, which is standard input.
 #[derive(Debug, PartialEq, Eq, Drop)]
 pub enum Work<'a> {
-    /// A transmission is checked, that of the file, or without one that on standard input.
-    Check(Option<&'a str>),
-    /// Its records are shown.
+    /// Transmissions are checked.
+    Check(Judging<'a>),
+    /// The records of one are shown, that of the file, or without one that on standard input.
     Show(Option<&'a str>),
-    /// It is checked, and what is found is explained.
-    Explain(Option<&'a str>),
-    /// Its data is written as JSON.
+    /// They are checked, and what is found is explained.
+    Explain(Judging<'a>),
+    /// The data of one is written as JSON.
     Json {
         /// The name of the transmission's file, or none for that on standard input.
         file: Option<&'a str>,
@@ -47,6 +58,8 @@ pub enum Work<'a> {
         file: &'a str,
         /// What the names of the parts' files begin with.
         prefix: &'a str,
+        /// No part may replace a file.
+        only_new: bool,
     },
     /// Transmissions are joined to one.
     Join {
@@ -54,6 +67,8 @@ pub enum Work<'a> {
         out: &'a str,
         /// The names of the transmissions' files, in their order.
         files: Vec<&'a str>,
+        /// The file that is written may replace none.
+        only_new: bool,
     },
 }
 
@@ -64,6 +79,8 @@ pub struct Task<'a> {
     pub work: Work<'a>,
     /// The limits that transmissions are read and joined within.
     pub limits: Limits,
+    /// Bytes after a transmission end the run as a refusal does.
+    pub whole: bool,
 }
 
 /// The name of the subcommand that checks.
@@ -95,6 +112,21 @@ const NUMBER: &str = "N";
 
 /// The id of the flag that adds numbers.
 const NUMBERS: &str = "numbers";
+
+/// The id of the flag that leaves out what is good.
+const QUIET: &str = "quiet";
+
+/// The id of the level of findings that end a run as a refusal does.
+const FAIL_ON: &str = "fail-on";
+
+/// The id of the flag that wants nothing after a transmission.
+const WHOLE: &str = "whole";
+
+/// The id of the flag that wants no file replaced.
+const NEW: &str = "new";
+
+/// The levels by their letters.
+const LEVELS: [&str; 5] = ["F", "R", "T", "G", "E"];
 
 /// The id of the most bytes of a line.
 const LINE: &str = "line";
@@ -134,19 +166,64 @@ fn with_limits<'a>(alloc: Global, command: Command<'a>) -> Result<Command<'a>, A
         .arg(transaction.help("The most records of one transaction, 1 to 999999"))
 }
 
+/// A flag, which is `--` and its id.
+fn flag<'a>(alloc: Global, id: &'a str, help: &'a str) -> Arg<'a> {
+    Arg::new(alloc, id)
+        .long(id)
+        .action(ArgAction::SetTrue)
+        .help(help)
+}
+
+/// Adds the limits, and the flag that wants nothing after a transmission.
+fn with_reading<'a>(alloc: Global, command: Command<'a>) -> Result<Command<'a>, AllocError> {
+    with_limits(alloc, command)?.arg(flag(
+        alloc,
+        WHOLE,
+        "Status 1 where bytes follow the transmission",
+    ))
+}
+
+/// Adds the flag that wants no file replaced.
+fn with_new<'a>(alloc: Global, command: Command<'a>) -> Result<Command<'a>, AllocError> {
+    command.arg(flag(
+        alloc,
+        NEW,
+        "Refuses to replace a file that is there",
+    ))
+}
+
 /// A subcommand over one transmission, within the limits that its words give.
 fn over_one<'a>(alloc: Global, name: &'a str, about: &'a str) -> Result<Command<'a>, AllocError> {
-    let file = Arg::new(alloc, FILE).help("The transmission; without it standard input is read");
+    let file = Arg::new(alloc, FILE).help("The transmission; without it standard input is read, as it is for -");
     let command = Command::new(alloc, name).about(about);
-    with_limits(alloc, command)?.arg(file)
+    with_reading(alloc, command)?.arg(file)
+}
+
+/// A subcommand that judges transmissions.
+fn over_many<'a>(alloc: Global, name: &'a str, about: &'a str) -> Result<Command<'a>, AllocError> {
+    let files = Arg::new(alloc, FILE)
+        .num_args(1..)
+        .help("The transmissions; without one standard input is read, as it is for -");
+    let level = Arg::new(alloc, FAIL_ON)
+        .long(FAIL_ON)
+        .value_name("LEVEL")
+        .value_parser(&LEVELS[..])
+        .help("Status 1 where a finding has that level or a worse one; F is the least, E the worst");
+    let quiet = flag(alloc, QUIET, "Prints only what isn't good");
+    let command = Command::new(alloc, name).about(about);
+    with_reading(alloc, command)?
+        .arg(level)?
+        .arg(quiet)?
+        .arg(files)
 }
 
 /// The subcommand that writes JSON.
 fn exporting<'a>(alloc: Global) -> Result<Command<'a>, AllocError> {
-    let numbers = Arg::new(alloc, NUMBERS)
-        .long(NUMBERS)
-        .action(ArgAction::SetTrue)
-        .help("Adds the notes _group, _transaction and _line to each line");
+    let numbers = flag(
+        alloc,
+        NUMBERS,
+        "Adds the notes _group, _transaction and _line to each line",
+    );
     over_one(
         alloc,
         JSON,
@@ -157,7 +234,7 @@ fn exporting<'a>(alloc: Global) -> Result<Command<'a>, AllocError> {
 
 /// The subcommand that reads JSON.
 fn importing<'a>(alloc: Global) -> Result<Command<'a>, AllocError> {
-    let file = Arg::new(alloc, FILE).help("The lines; without it standard input is read");
+    let file = Arg::new(alloc, FILE).help("The lines; without it standard input is read, as it is for -");
     let out = Arg::new(alloc, OUT)
         .short('o')
         .value_name(OUT)
@@ -182,12 +259,12 @@ fn splitting<'a>(alloc: Global) -> Result<Command<'a>, AllocError> {
         .help("The transactions of a part, 1 to 99999999; the last part may have fewer");
     let file = Arg::new(alloc, FILE)
         .required(true)
-        .help("The transmission");
+        .help("The transmission; - is standard input");
     let prefix = Arg::new(alloc, PREFIX).required(true).help(
         "The parts are written to PREFIX00000001, PREFIX00000002 and so on",
     );
     let command = Command::new(alloc, SPLIT).about("Cuts a transmission into parts");
-    with_limits(alloc, command)?
+    with_new(alloc, with_reading(alloc, command)?)?
         .arg(number)?
         .arg(file)?
         .arg(prefix)
@@ -201,9 +278,11 @@ fn joining<'a>(alloc: Global) -> Result<Command<'a>, AllocError> {
     let files = Arg::new(alloc, FILE)
         .required(true)
         .num_args(1..)
-        .help("The transmissions, in their order");
+        .help("The transmissions, in their order; - is standard input");
     let command = Command::new(alloc, JOIN).about("Joins transmissions to one");
-    with_limits(alloc, command)?.arg(out)?.arg(files)
+    with_new(alloc, with_reading(alloc, command)?)?
+        .arg(out)?
+        .arg(files)
 }
 
 /// The version of the program.
@@ -249,16 +328,16 @@ fn command<'a>(alloc: Global) -> Result<Command<'a>, AllocError> {
         .version(VERSION)
         .about("Reads CWR 2.1 transmissions; without words it is `cwr check`")
         .after_help(OUTCOMES)
-        .subcommand(over_one(alloc, CHECK, "Judges a transmission")?)?
+        .subcommand(over_many(alloc, CHECK, "Judges transmissions")?)?
         .subcommand(over_one(
             alloc,
             SHOW,
             "Shows the records of a transmission, and judges it",
         )?)?
-        .subcommand(over_one(
+        .subcommand(over_many(
             alloc,
             EXPLAIN,
-            "Judges a transmission, and explains what is wrong with it",
+            "Judges transmissions, and explains what is wrong with them",
         )?)?
         .subcommand(exporting(alloc)?)?
         .subcommand(importing(alloc)?)?
@@ -288,18 +367,39 @@ fn limits_of(matches: &ArgMatches<'_>) -> Option<Limits>
     Limits::new(records, groups, transaction).ok()
 }
 
-/// The work of a subcommand over one transmission.
-fn work_over<'a>(name: &str, given: &ArgMatches<'a>) -> Work<'a>
-    ensures { IsWorkOf name.now (found_of given.now) result }
+/// The names that stand for the files.
+fn names_in<'a>(alloc: Global, given: &ArgMatches<'a>) -> Result<Vec<&'a str>, AllocError>
+    ensures { IfOk result (λ names. AreNamesOf (found_of given.now) (map (λ name. name.now) names.items)) }
 {
-    let file = given.get_str(FILE);
-    if name == SHOW {
-        Work::Show(file)
-    } else if name == EXPLAIN {
-        Work::Explain(file)
-    } else {
-        Work::Check(file)
+    match given.get_strs(FILE) {
+        Some(names) => names.to_vec(alloc),
+        None => Ok(Vec::new(alloc)),
     }
+}
+
+/// The level that a letter is.
+fn level_of(letter: &str) -> Option<Level>
+    ensures { result ≡ level_named letter.now }
+{
+    match letter {
+        "F" => Some(Level::F),
+        "R" => Some(Level::R),
+        "T" => Some(Level::T),
+        "G" => Some(Level::G),
+        "E" => Some(Level::E),
+        _ => None,
+    }
+}
+
+/// Which transmissions are judged, and how.
+fn judging_in<'a>(alloc: Global, given: &ArgMatches<'a>) -> Result<Judging<'a>, AllocError>
+    ensures { IfOk result (IsJudgingOf (found_of given.now)) }
+{
+    Ok(Judging {
+        files: names_in(alloc, given)?,
+        quiet: given.get_flag(QUIET),
+        fail_on: given.get_str(FAIL_ON).and_then(level_of),
+    })
 }
 
 /// The work of an export.
@@ -332,6 +432,7 @@ fn split_in<'a>(given: &ArgMatches<'a>) -> Option<Work<'a>>
         transactions: NonZeroU32::new(number)?,
         file: given.get_str(FILE)?,
         prefix: given.get_str(PREFIX)?,
+        only_new: given.get_flag(NEW),
     })
 }
 
@@ -339,13 +440,14 @@ fn split_in<'a>(given: &ArgMatches<'a>) -> Option<Work<'a>>
 fn join_in<'a>(alloc: Global, given: &ArgMatches<'a>) -> Result<Option<Work<'a>>, AllocError>
     ensures { IfOk result (λ found. IfSome found (λ work. IsJoinOf (found_of given.now) work)) }
 {
-    match (given.get_str(OUT), given.get_strs(FILE)) {
-        (Some(out), Some(names)) => Ok(Some(Work::Join {
-            out,
-            files: names.to_vec(alloc)?,
-        })),
-        _ => Ok(None),
-    }
+    let Some(out) = given.get_str(OUT) else {
+        return Ok(None);
+    };
+    Ok(Some(Work::Join {
+        out,
+        files: names_in(alloc, given)?,
+        only_new: given.get_flag(NEW),
+    }))
 }
 
 /// The work that a subcommand asks for. `None` where a word is missing or out of its range.
@@ -364,26 +466,38 @@ fn work_in<'a>(
         Ok(import_in(given))
     } else if name == JOIN {
         join_in(alloc, given)
+    } else if name == SHOW {
+        Ok(Some(Work::Show(given.get_str(FILE))))
+    } else if name == EXPLAIN {
+        Ok(Some(Work::Explain(judging_in(alloc, given)?)))
     } else {
-        Ok(Some(work_over(name, given)))
+        Ok(Some(Work::Check(judging_in(alloc, given)?)))
     }
 }
 
 /// What is asked for. `None` where a word is missing or out of its range.
 fn task_in<'a>(alloc: Global, matches: &ArgMatches<'a>) -> Result<Option<Task<'a>>, AllocError>
     // Without a subcommand it is a check of standard input within the largest limits.
-    ensures without { has_subcommand matches.now ≡ false
-        → result ≡ Ok (Some (record { work = Work.Check None; limits = limit_values 99999999 99999 999999 })) }
+    ensures without { has_subcommand matches.now ≡ false → IsOkAnd result (λ found. IsSomeAnd found IsPlainCheck) }
     ensures asked { IfOk result (λ found. IfSome found (λ task. has_subcommand matches.now ≡ true → IsAskedBy matches.now task)) }
 {
     let Some((name, given)) = matches.subcommand() else {
         return Ok(Some(Task {
-            work: Work::Check(None),
+            work: Work::Check(Judging {
+                files: Vec::new(alloc),
+                quiet: false,
+                fail_on: None,
+            }),
             limits: largest(),
+            whole: false,
         }));
     };
     match (work_in(alloc, name, given)?, limits_of(given)) {
-        (Some(work), Some(limits)) => Ok(Some(Task { work, limits })),
+        (Some(work), Some(limits)) => Ok(Some(Task {
+            work,
+            limits,
+            whole: given.get_flag(WHOLE),
+        })),
         _ => Ok(None),
     }
 }

@@ -1,7 +1,10 @@
 -- What words after a verdict add, what they may take from the reader, and which faults they have.
-use Rattle.std.specs.Prelude.{◌≡◌, ℕ, ◌-◌, ◌^◌, min, List, length, Option, Result, Ok, Err}
-use Rattle.std.specs.Io.KnownBytes.{Appends, Consumes}
+use Rattle.std.specs.Prelude.{◌≡◌, ℕ, ◌-◌, ◌^◌, ◌<◌, min, true, false, List, drop, length, Option, Some, IfSome, IsSomeAnd, Result, Ok, Err}
+use Rattle.std.specs.Io.KnownBytes.{Appends, Consumes, IsAtEnd}
 use Rattle.cwr_fields.specs.Format.Failures.{one_more_failure}
+use Rattle.cwr_shape.specs.declared.limits.Limits.{Limits}
+use Rattle.cwr_values.specs.Format.Values.{TransmissionValue}
+use Rattle.cwr_judge.specs.Format.Ends.{IsAccepted}
 use Rattle.cwr_tools.specs.declared.verdicts.Verdict.{Verdict}
 use Rattle.cwr_tools.specs.declared.verdicts.ToolFault.{ToolFault}
 use Rattle.cwr_tools.specs.declared.verdicts.ToolFault.TheVariants.{Reader, Writer, Memory}
@@ -15,11 +18,17 @@ AddsWords contents old new = (words : List ℕ) × Appends (contents old) (conte
 abbrev pub TakesMore : Option (List ℕ) → Option (List ℕ) → Type 0
 TakesMore left after = (more : List ℕ) × Consumes left after more
 
--- what stands after a transmission was read and counted
+-- What stands after a transmission was read and counted, all of it where that is said. Where it isn't, there were bytes.
 pub record IsTrailing (left after : Option (List ℕ)) (found : Trailing) : Type 0 where
   pub more : List ℕ
   pub consumed : Consumes left after more
   pub counted : found.bytes ≡ min (length more) (2 ^ 64 - 1)
+  pub all : found.is_all ≡ true → IsAtEnd after
+  pub some : found.is_all ≡ false → 0 < found.bytes
+
+-- where the text is accepted, what stands after its transmission was found
+abbrev pub FindsAfter : Limits → Option (List ℕ) → Option (List ℕ) → Option Trailing → Type 0
+FindsAfter limits before after found = IfSome before (λ text. (v : TransmissionValue) (n : ℕ) → IsAccepted limits text v n → IsSomeAnd found (IsTrailing (Some (drop n text)) after))
 
 -- a writer's failures count one more where its fault is answered, and else they stay; no other fault is answered
 abbrev pub WritesOnly : Result (Unit {0}) ToolFault → ℕ → ℕ → Type 0

@@ -1,19 +1,24 @@
 -- What an explained check has written and taken, step by step.
-use Rattle.std.specs.Prelude.{◌≡◌, ℕ, ◌+◌, ◌-◌, ◌^◌, min, List, length, Option, Result}
-use Rattle.std.specs.Io.KnownBytes.{Appends, Consumes}
+use Rattle.std.specs.Prelude.{◌≡◌, ℕ, ◌+◌, ◌-◌, ◌^◌, ◌<◌, min, Bool, true, false, List, length, Option, None, Some, Result}
+use Rattle.std.specs.Io.KnownBytes.{Appends, Consumes, IsAtEnd}
 use Rattle.cwr_shape.specs.declared.limits.Limits.{Limits}
 use Rattle.cwr_tools.specs.declared.verdicts.Verdict.{Verdict}
+use Rattle.cwr_tools.specs.declared.verdicts.Verdict.TheVariants.{Good}
 use Rattle.cwr_tools.specs.declared.verdicts.ToolFault.{ToolFault}
 use Rattle.cwr_explain.specs.declared.trailing.Trailing.{Trailing}
+use Rattle.cwr_explain.specs.declared.explaining.Beyond.{Beyond}
+use Rattle.cwr_explain.specs.declared.explaining.Beyond.TheVariants as beyonds
 use Rattle.cwr_tools.specs.Format.Reports.{lines_of_explained}
 use Rattle.cwr_tools.specs.Steps.Reports.{Reports}
 use Rattle.cwr_explain.specs.Format.Explained.{IsAnswerAfter}
 
--- a piece more was taken and counted
-pub record TakesPiece (left after : Option (List ℕ)) (old new : Trailing) : Type 0 where
+-- a piece more was taken and counted, or the end was reached
+pub record TakesPiece (left after : Option (List ℕ)) (old new : Trailing) (ended : Bool) : Type 0 where
   pub piece : List ℕ
   pub consumed : Consumes left after piece
   pub counted : new.bytes ≡ min (old.bytes + length piece) (2 ^ 64 - 1)
+  pub at_end : ended ≡ true → IsAtEnd after
+  pub some : ended ≡ false → 0 < length piece
 
 -- First a check is made, and what it writes is written: the text on the findings and the verdict, with all that is said of a
 -- check of these bytes. Then words follow it; after a fault of the check there are none. More bytes may be taken from the reader.
@@ -27,3 +32,14 @@ pub record Explains {W : Type 0} (limits : Limits) (before after : Option (List 
   pub more : List ℕ
   pub taken : Consumes left after more
   pub answered : IsAnswerAfter checked result
+
+-- what was found after a transmission, if that was looked for
+abbrev pub found_in : Beyond → Option Trailing
+found_in (beyonds.Trailing found) = Some found
+found_in (beyonds.GoesOn more) = None
+found_in beyonds.Unasked = None
+
+-- the verdict is that on a transmission
+abbrev pub is_good : Verdict → Bool
+is_good (Good groups transactions records) = true
+is_good verdict = false

@@ -1,71 +1,95 @@
 -- What the end of a run over texts means for the program.
-use Rattle.std.specs.Prelude.{◌≡◌, ◌⊎◌, ℕ, List, Option, None, Some, IfSome, Result, Ok, Err}
+use Rattle.std.specs.Prelude.{◌≡◌, ◌≢◌, ◌⊎◌, ℕ, Bool, true, false, List, [], drop, map, Option, None, Some, IfSome, option_map, Result, Ok, Err}
 use Rattle.cwr_shape.specs.declared.limits.Limits.{Limits}
 use Rattle.cwr_values.specs.Format.Values.{TransmissionValue}
 use Rattle.cwr_judge.specs.declared.refusals.Refusal.{Refusal}
 use Rattle.cwr_judge.specs.Format.Ends.{IsAccepted, IsRefused, IsTruncated}
-use Rattle.cwr_tools.specs.declared.verdicts.Verdict.{Verdict}
-use Rattle.cwr_tools.specs.declared.verdicts.Verdict.TheVariants.{Good, Refused, Truncated}
+use Rattle.cwr_judge.specs.Format.Items.{value_items}
 use Rattle.cwr_tools.specs.declared.verdicts.ToolFault.{ToolFault}
 use Rattle.cwr_tools.specs.declared.verdicts.ToolFault.TheVariants as tool_faults
+use Rattle.cwr_tools.specs.Format.Watching.{any_from}
 use Rattle.cwr_write.specs.declared.writing.Written.{Written}
 use Rattle.cwr_write.specs.declared.writing.WriteFault.{WriteFault}
 use Rattle.cwr_write.specs.declared.writing.WriteFault.TheVariants as write_faults
-use Rattle.cwr_program.specs.declared.commands.Status.{Status}
-use Rattle.cwr_program.specs.declared.commands.Status.TheVariants as statuses
 use Rattle.cwr_words.specs.declared.words.Work.{Work}
 use Rattle.cwr_words.specs.declared.words.Work.TheVariants.{Check, Show, Explain, Json}
+use Rattle.cwr_program.specs.declared.endings.Status.{Status}
+use Rattle.cwr_program.specs.declared.endings.Status.TheVariants as statuses
+use Rattle.cwr_program.specs.declared.endings.Wanted.{Wanted}
+use Rattle.cwr_program.specs.declared.faults.Told.{Told}
 use Rattle.cwr_program.specs.declared.faults.Fault.{Fault}
 use Rattle.cwr_program.specs.declared.faults.Fault.TheVariants as faults
+use Rattle.cwr_program.specs.Format.Inputs.{are_standard, is_standard}
 
 -- A run without a fault ends well. An input that is refused or ends too early, and a limit that the result passes, end it
--- otherwise, and the fault of a device or of memory is reported.
-abbrev pub EndsAfterFault : Option ToolFault → Result Status Fault → Type 0
-EndsAfterFault None ending = ending ≡ Ok statuses.Good
-EndsAfterFault (Some tool_faults.Reader) ending = ending ≡ Err faults.Read
-EndsAfterFault (Some (tool_faults.Writer written)) ending = ending ≡ Err faults.Write
-EndsAfterFault (Some tool_faults.Memory) ending = ending ≡ Err faults.Memory
-EndsAfterFault (Some (tool_faults.Refused refusal)) ending = ending ≡ Ok statuses.Refused
-EndsAfterFault (Some (tool_faults.Truncated records)) ending = ending ≡ Ok statuses.Refused
-EndsAfterFault (Some tool_faults.Output) ending = ending ≡ Err faults.Output
-EndsAfterFault (Some (tool_faults.Limit limit)) ending = ending ≡ Ok statuses.Refused
+-- otherwise, and the fault of a device or of memory is reported, with what is known of that device.
+abbrev pub EndsAfterFault : Told → Told → Fault → Option ToolFault → Result Status Fault → Type 0
+EndsAfterFault input output made None ending = ending ≡ Ok statuses.Good
+EndsAfterFault input output made (Some tool_faults.Reader) ending = ending ≡ Err (faults.Read input)
+EndsAfterFault input output made (Some (tool_faults.Writer written)) ending = ending ≡ Err (faults.Write output)
+EndsAfterFault input output made (Some tool_faults.Memory) ending = ending ≡ Err faults.Memory
+EndsAfterFault input output made (Some (tool_faults.Refused refusal)) ending = ending ≡ Ok statuses.Refused
+EndsAfterFault input output made (Some (tool_faults.Truncated records)) ending = ending ≡ Ok statuses.Refused
+EndsAfterFault input output made (Some tool_faults.Output) ending = ending ≡ Err made
+EndsAfterFault input output made (Some (tool_faults.Limit limit)) ending = ending ≡ Ok statuses.Refused
 
--- the verdict on an input that is good ends the run well, another one otherwise
-abbrev pub EndsAs : Result Verdict ToolFault → Result Status Fault → Type 0
-EndsAs (Ok (Good groups transactions records)) ending = ending ≡ Ok statuses.Good
-EndsAs (Ok (Refused refusal)) ending = ending ≡ Ok statuses.Refused
-EndsAs (Ok (Truncated records)) ending = ending ≡ Ok statuses.Refused
-EndsAs (Err fault) ending = EndsAfterFault (Some fault) ending
+-- What is wanted of a transmission that takes the text's first n bytes is there: nothing follows, if that is wanted, and no finding has
+-- the unwanted level or a worse one.
+pub record Meets (wanted : Wanted) (text : List ℕ) (v : TransmissionValue) (n : ℕ) : Type 0 where
+  pub whole : wanted.whole ≡ true → drop n text ≡ []
+  pub calm : any_from wanted.fail_on (value_items v) ≡ false
 
--- A run over the text ends well where that begins with a transmission within the limits, and as refused where it is refused or
--- truncated. Else an input, standard output or memory failed.
-abbrev pub EndsOn : Limits → List ℕ → Result Status Fault → Type 0
-EndsOn limits text (Ok statuses.Good) = (v : TransmissionValue) × (n : ℕ) × IsAccepted limits text v n
-EndsOn limits text (Ok statuses.Refused) = ((refusal : Refusal) × IsRefused limits text refusal) ⊎ ((records : ℕ) × IsTruncated limits text records)
-EndsOn limits text (Ok statuses.CommandLine) = ⊥
-EndsOn limits text (Ok statuses.Fault) = ⊥
-EndsOn limits text (Err faults.Read) = Unit {0}
-EndsOn limits text (Err faults.Write) = Unit {0}
-EndsOn limits text (Err faults.Memory) = Unit {0}
-EndsOn limits text (Err fault) = ⊥
+-- it isn't there
+abbrev pub FallsShort : Wanted → List ℕ → TransmissionValue → ℕ → Type 0
+FallsShort wanted text v n = ((wanted.whole ≡ true) × (drop n text ≢ [])) ⊎ (any_from wanted.fail_on (value_items v) ≡ true)
+
+-- A run over the text ends well where that begins with a transmission within the limits that has all that is wanted, and as refused
+-- where it hasn't, or where the text is refused or truncated.
+abbrev pub IsStatusOn : Limits → Wanted → List ℕ → Status → Type 0
+IsStatusOn limits wanted text statuses.Good = (v : TransmissionValue) × (n : ℕ) × IsAccepted limits text v n × Meets wanted text v n
+IsStatusOn limits wanted text statuses.Refused =
+    ((refusal : Refusal) × IsRefused limits text refusal) ⊎ (((records : ℕ) × IsTruncated limits text records)
+    ⊎ ((v : TransmissionValue) × (n : ℕ) × IsAccepted limits text v n × FallsShort wanted text v n))
+IsStatusOn limits wanted text statuses.CommandLine = ⊥
+IsStatusOn limits wanted text statuses.Fault = ⊥
+
+-- else an input, standard output or memory failed
+abbrev pub EndsOn : Limits → Wanted → List ℕ → Result Status Fault → Type 0
+EndsOn limits wanted text (Ok status) = IsStatusOn limits wanted text status
+EndsOn limits wanted text (Err (faults.Read told)) = Unit {0}
+EndsOn limits wanted text (Err (faults.Write told)) = Unit {0}
+EndsOn limits wanted text (Err faults.Memory) = Unit {0}
+EndsOn limits wanted text (Err fault) = ⊥
 
 -- so it is where the bytes of the input are known
-abbrev pub EndsOnInput : Limits → Option (List ℕ) → Result Status Fault → Type 0
-EndsOnInput limits input ending = IfSome input (λ text. EndsOn limits text ending)
+abbrev pub EndsOnInput : Limits → Wanted → Option (List ℕ) → Result Status Fault → Type 0
+EndsOnInput limits wanted input ending = IfSome input (λ text. EndsOn limits wanted text ending)
 
 -- an import that is written ends the run well, and one that is refused otherwise; the fault of a device or of memory is reported
-abbrev pub ImportEndsAs : Result Written WriteFault → Result Status Fault → Type 0
-ImportEndsAs (Ok written) ending = ending ≡ Ok statuses.Good
-ImportEndsAs (Err (write_faults.Refused refusal)) ending = ending ≡ Ok statuses.Refused
-ImportEndsAs (Err (write_faults.Early lines)) ending = ending ≡ Ok statuses.Refused
-ImportEndsAs (Err write_faults.Reader) ending = ending ≡ Err faults.Read
-ImportEndsAs (Err (write_faults.Writer written)) ending = ending ≡ Err faults.Write
-ImportEndsAs (Err write_faults.Memory) ending = ending ≡ Err faults.Memory
+abbrev pub ImportEndsAs : Told → Told → Result Written WriteFault → Result Status Fault → Type 0
+ImportEndsAs input output (Ok written) ending = ending ≡ Ok statuses.Good
+ImportEndsAs input output (Err (write_faults.Refused refusal)) ending = ending ≡ Ok statuses.Refused
+ImportEndsAs input output (Err (write_faults.Early lines)) ending = ending ≡ Ok statuses.Refused
+ImportEndsAs input output (Err write_faults.Reader) ending = ending ≡ Err (faults.Read input)
+ImportEndsAs input output (Err (write_faults.Writer written)) ending = ending ≡ Err (faults.Write output)
+ImportEndsAs input output (Err write_faults.Memory) ending = ending ≡ Err faults.Memory
 
--- the work checks what is on standard input
+-- the work is done on what is on standard input
 abbrev pub IsOfInput : Work → Type 0
-IsOfInput (Check None) = Unit {0}
-IsOfInput (Show None) = Unit {0}
-IsOfInput (Explain None) = Unit {0}
-IsOfInput (Json None numbers) = Unit {0}
+IsOfInput (Check judging) = are_standard (map (λ name. name.now) judging.files.items) ≡ true
+IsOfInput (Explain judging) = are_standard (map (λ name. name.now) judging.files.items) ≡ true
+IsOfInput (Show file) = is_standard (option_map (λ name. name.now) file) ≡ true
+IsOfInput (Json file numbers) = is_standard (option_map (λ name. name.now) file) ≡ true
 IsOfInput work = ⊥
+
+-- what is wanted of the transmission: the options of a judgement say which findings end it
+abbrev pub wanted_in : Bool → Work → Wanted
+wanted_in whole (Check judging) = record { whole = whole; fail_on = judging.fail_on }
+wanted_in whole (Explain judging) = record { whole = whole; fail_on = judging.fail_on }
+wanted_in whole work = record { whole = whole; fail_on = None }
+
+-- the status of a fault: what was to be written may not be, or a file, a device or memory failed
+abbrev pub fault_status : Fault → Status
+fault_status (faults.IsInput name) = statuses.CommandLine
+fault_status (faults.IsThere name) = statuses.CommandLine
+fault_status fault = statuses.Fault

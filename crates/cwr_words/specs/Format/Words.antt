@@ -1,5 +1,5 @@
 -- What the words of a subcommand ask for.
-use Rattle.std.specs.Prelude.{◌≡◌, ℕ, Bool, true, false, List, map, Some, option_map, codes}
+use Rattle.std.specs.Prelude.{◌≡◌, ℕ, Bool, true, false, List, [], map, Option, Some, None, option_map, codes, if◌then◌else◌}
 use Rattle.std.specs.Str.{bytes_eq}
 use Rattle.std.specs.Int.NonZero.{non_zero_u32_get}
 use Rattle.std.specs.Str.Parse.{digits_value, without_leading_plus}
@@ -7,25 +7,58 @@ use Rattle.clap.specs.declared.parser.matches.ArgMatches.{ArgMatches}
 use Rattle.clap.specs.declared.parser.matches.Found.{Found}
 use Rattle.clap.specs.Words.{one_text, first_value, matched_of, raw_values, rows_of, subcommand_name_of, subcommand_rows_of}
 use Rattle.cwr_shape.specs.declared.limits.Limits.{Limits}
+use Rattle.cwr_shape.specs.declared.reasons.Level.{Level}
+use Rattle.cwr_shape.specs.declared.reasons.Level.TheVariants as levels
+use Rattle.cwr_shape.specs.Format.Ranges.{limit_values}
+use Rattle.cwr_words.specs.declared.words.Judging.{Judging}
 use Rattle.cwr_words.specs.declared.words.Task.{Task}
 use Rattle.cwr_words.specs.declared.words.Work.{Work}
 use Rattle.cwr_words.specs.declared.words.Work.TheVariants.{Check, Show, Explain, Json, Write, Split, Join}
 
--- a split into parts of so many transactions as N says, of the file FILE to files whose names begin with PREFIX
-abbrev pub IsSplitOf : Found → Work → Type 0
-IsSplitOf found (Check file) = ⊥
-IsSplitOf found (Show file) = ⊥
-IsSplitOf found (Explain file) = ⊥
-IsSplitOf found (Json file numbers) = ⊥
-IsSplitOf found (Write file out line) = ⊥
-IsSplitOf found (Split transactions file prefix) =
-    ((text : List ℕ) → one_text found (codes "N") ≡ Some text → non_zero_u32_get transactions ≡ digits_value 10 (without_leading_plus text))
-    × (first_value found (codes "FILE") ≡ Some file.now) × (first_value found (codes "PREFIX") ≡ Some prefix.now)
-IsSplitOf found (Join out files) = ⊥
-
 -- the flag of that id is given
 abbrev pub IsFlagOf : Found → List ℕ → Bool → Type 0
 IsFlagOf found id given = (one_text found id ≡ Some (codes "true") → given ≡ true) × (one_text found id ≡ Some (codes "false") → given ≡ false)
+
+-- the names that FILE has
+abbrev pub values_of : Option (List (List ℕ)) → List (List ℕ)
+values_of None = []
+values_of (Some values) = values
+
+abbrev pub AreNamesOf : Found → List (List ℕ) → Type 0
+AreNamesOf found names = names ≡ values_of (option_map raw_values (matched_of found (codes "FILE")))
+
+-- the level of that letter
+pub level_named : List ℕ → Option Level
+level_named letter =
+    if bytes_eq letter (codes "F") then Some levels.F
+    else if bytes_eq letter (codes "R") then Some levels.R
+    else if bytes_eq letter (codes "T") then Some levels.T
+    else if bytes_eq letter (codes "G") then Some levels.G
+    else if bytes_eq letter (codes "E") then Some levels.E
+    else None
+
+-- the level that the option's letter is, or none without the option
+pub level_given : Option (List ℕ) → Option Level
+level_given None = None
+level_given (Some letter) = level_named letter
+
+-- the transmissions of the files FILE, with what the options of a judgement say
+pub record IsJudgingOf (found : Found) (judging : Judging) : Type 0 where
+  pub files : AreNamesOf found (map (λ name. name.now) judging.files.items)
+  pub quiet : IsFlagOf found (codes "quiet") judging.quiet
+  pub fail_on : judging.fail_on ≡ level_given (first_value found (codes "fail-on"))
+
+-- a split into parts of so many transactions as N says, of the file FILE to files whose names begin with PREFIX
+abbrev pub IsSplitOf : Found → Work → Type 0
+IsSplitOf found (Check judging) = ⊥
+IsSplitOf found (Show file) = ⊥
+IsSplitOf found (Explain judging) = ⊥
+IsSplitOf found (Json file numbers) = ⊥
+IsSplitOf found (Write file out line) = ⊥
+IsSplitOf found (Split transactions file prefix only_new) =
+    ((text : List ℕ) → one_text found (codes "N") ≡ Some text → non_zero_u32_get transactions ≡ digits_value 10 (without_leading_plus text))
+    × (first_value found (codes "FILE") ≡ Some file.now) × (first_value found (codes "PREFIX") ≡ Some prefix.now) × IsFlagOf found (codes "new") only_new
+IsSplitOf found (Join out files only_new) = ⊥
 
 -- the data of the file FILE, with numbers where that flag is given
 abbrev pub IsExportOf : Found → Work → Type 0
@@ -41,19 +74,20 @@ IsImportOf found work = ⊥
 
 -- a join of the files FILE, in their order, to the file OUT
 abbrev pub IsJoinOf : Found → Work → Type 0
-IsJoinOf found (Join out files) = (first_value found (codes "OUT") ≡ Some out.now) × (option_map raw_values (matched_of found (codes "FILE")) ≡ Some (map (λ name. name.now) files.items))
+IsJoinOf found (Join out files only_new) =
+    (first_value found (codes "OUT") ≡ Some out.now) × AreNamesOf found (map (λ name. name.now) files.items) × IsFlagOf found (codes "new") only_new
 IsJoinOf found work = ⊥
 
--- Work of the subcommand of that name: one transmission is checked, shown, explained or written as JSON, that of the first file that FILE names, if
--- it names one; one is written from lines of JSON, one is split, or some are joined.
+-- Work of the subcommand of that name: transmissions are checked or explained; one is shown or written as JSON, that of the first file that
+-- FILE names, if it names one; one is written from lines of JSON, one is split, or some are joined.
 abbrev pub IsWorkOf : List ℕ → Found → Work → Type 0
-IsWorkOf name found (Check file) = (bytes_eq name (codes "show") ≡ false) × (bytes_eq name (codes "explain") ≡ false) × (option_map (λ f. f.now) file ≡ first_value found (codes "FILE"))
+IsWorkOf name found (Check judging) = (bytes_eq name (codes "show") ≡ false) × (bytes_eq name (codes "explain") ≡ false) × IsJudgingOf found judging
 IsWorkOf name found (Show file) = (bytes_eq name (codes "show") ≡ true) × (option_map (λ f. f.now) file ≡ first_value found (codes "FILE"))
-IsWorkOf name found (Explain file) = (bytes_eq name (codes "explain") ≡ true) × (option_map (λ f. f.now) file ≡ first_value found (codes "FILE"))
+IsWorkOf name found (Explain judging) = (bytes_eq name (codes "explain") ≡ true) × IsJudgingOf found judging
 IsWorkOf name found (Json file numbers) = (bytes_eq name (codes "json") ≡ true) × IsExportOf found (Json file numbers)
 IsWorkOf name found (Write file out line) = (bytes_eq name (codes "write") ≡ true) × IsImportOf found (Write file out line)
-IsWorkOf name found (Split transactions file prefix) = (bytes_eq name (codes "split") ≡ true) × IsSplitOf found (Split transactions file prefix)
-IsWorkOf name found (Join out files) = (bytes_eq name (codes "join") ≡ true) × IsJoinOf found (Join out files)
+IsWorkOf name found (Split transactions file prefix only_new) = (bytes_eq name (codes "split") ≡ true) × IsSplitOf found (Split transactions file prefix only_new)
+IsWorkOf name found (Join out files only_new) = (bytes_eq name (codes "join") ≡ true) × IsJoinOf found (Join out files only_new)
 
 -- the limits are the numbers that the options of a subcommand say
 pub record AreLimitsOf (found : Found) (limits : Limits) : Type 0 where
@@ -69,3 +103,14 @@ pub record IsAskedBy (matches : ArgMatches) (task : Task) : Type 0 where
   pub rows : option_map (λ p. p.1) (subcommand_rows_of matches) ≡ Some (rows_of found)
   pub work : IsWorkOf name found task.work
   pub limits : AreLimitsOf found task.limits
+  pub whole : IsFlagOf found (codes "whole") task.whole
+
+-- without words: the one on standard input is checked, within the largest limits, and nothing else is wanted of it
+abbrev pub IsPlainWork : Work → Type 0
+IsPlainWork (Check judging) = (judging.files.items ≡ []) × (judging.quiet ≡ false) × (judging.fail_on ≡ None)
+IsPlainWork work = ⊥
+
+pub record IsPlainCheck (task : Task) : Type 0 where
+  pub work : IsPlainWork task.work
+  pub limits : task.limits ≡ limit_values 99999999 99999 999999
+  pub part : task.whole ≡ false

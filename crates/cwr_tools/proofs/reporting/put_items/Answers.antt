@@ -1,4 +1,4 @@
-use Rattle.std.proofs.Common.{◌≡◌, ℕ, List, Option, rules, refl, sym, ap, subst, ◌∙◌, arith}
+use Rattle.std.proofs.Common.{◌≡◌, ℕ, List, [], ◌∷◌, Option, rules, refl, sym, ap, subst, ◌∙◌, arith}
 use Rattle.std.specs.Prelude.{Result, Ok, IfOk, IfSome, IsSomeAnd}
 use Rattle.cwr_decode.specs.Steps.LastReads.{stage_of_records}
 use Rattle.cwr_decode.specs.Steps.Machines.{Standing}
@@ -11,6 +11,11 @@ use Rattle.cwr_tools.specs.Steps.Verdicts.{IsReadLast, StopsAfter}
 use Rattle.cwr_tools.specs.Steps.Reports.{PutsReport, lines_in}
 use Rattle.cwr_tools.proofs.CountedTotals.{counts_none, next_room, total_grows}
 use Rattle.cwr_tools.proofs.LastReported.{HoldsRead, err_last, fault_answered, good_answered, holds_more, holds_none}
+use Rattle.cwr_tools.specs.declared.watch.Watch.{Watch}
+use Rattle.cwr_tools.specs.Steps.Verdicts.{IsRightVerdict}
+use Rattle.cwr_tools.specs.Steps.Watching.{watched_by}
+use Rattle.cwr_tools.proofs.FindingsWatched.{by_more, by_none}
+use Rattle.cwr_tools.proofs.WatchedRuns.{fault_right, fault_tells, good_right, watched_before}
 use Rattle.cwr_tools.proofs.ReportsOn.{IsReporting, fault_reported, good_reported, item_fault, nothing, reads_item, reports_item, reports_nothing, room_in, same_fault, stops_after, stops_decoder}
 use Rattle.cwr_tools.proofs.reporting.put_items.Goals as goal
 
@@ -21,6 +26,7 @@ items-init g c =
     record {
       reporting = reports_nothing c.args.report c.args.limits c.begin_reading-reading.result.decoder (g.R.Source.remaining c.args.reader.now) (g.R.Source.remaining c.begin_reading-reading.result.reader.now) g.W.Target.contents g.W.Target.failures
           c.new-counts.result c.args.sink.now reading (counts_none c.new-counts.result c.new-counts.ensures) c.requires.unfailed c.requires.empty;
+      watched = by_none c.args.report c.args.watch.now;
       failures = ap g.R.Source.failures new.kept;
       last = λ explains. subst (λ (b : Option (List ℕ)). HoldsRead b (g.R.Source.remaining c.begin_reading-reading.result.reader.now) c.begin_reading-reading.result.last) (ap g.R.Source.remaining new.kept)
           (holds_none (g.R.Source.remaining c.begin_reading-reading.result.reader.now) c.begin_reading-reading.result.last (new.last explains));
@@ -75,7 +81,9 @@ items-preserved-in_ok-put_item-in-Ok-Some g c =
       reporting = subst (λ (counts : Totals). IsReporting c.args.report c.args.limits c.next_item.new.self.decoder (g.R.Source.remaining c.args.reader.now) (g.R.Source.remaining c.next_item.new.self.reader.now) g.W.Target.contents g.W.Target.failures
           counts c.args.sink.now c.put_item.new.sink) (sym c.count.ensures)
           (reports_item c.args.report c.args.limits c.items.reading.decoder c.next_item.new.self.decoder (g.R.Source.remaining c.args.reader.now) _ _ g.W.Target.contents g.W.Target.failures c.items.counts c.args.sink.now c.items.sink c.put_item.new.sink
-          c.in-Ok-Some.item tt c.items.invariant.reporting reading c.in_ok-put_item-in-Ok-Some.ensures);
+          c.in-Ok-Some.item tt c.items.invariant.reporting reading c.in_ok-put_item-in-Ok-Some.ensures.puts);
+      watched = c.in_ok-put_item-in-Ok-Some.ensures.watched ∙ ap (λ (w : Watch). watched_by c.args.report w (c.in-Ok-Some.item ∷ [])) c.items.invariant.watched
+          ∙ by_more c.args.report c.args.watch.now c.items.invariant.reporting.given c.in-Ok-Some.item;
       failures = c.in-Ok-Some.ensures.failures ∙ c.items.invariant.failures;
       last = λ explains. holds_more _ _ _ _ _ (c.items.invariant.last explains) c.in-Ok-Some.ensures.last;
       same = c.in-Ok-Some.ensures.same_reference ∙ c.items.invariant.same;
@@ -105,7 +113,9 @@ items-preserved g c =
       reporting = subst (λ (counts : Totals). IsReporting c.args.report c.args.limits c.next_item.new.self.decoder (g.R.Source.remaining c.args.reader.now) (g.R.Source.remaining c.next_item.new.self.reader.now) g.W.Target.contents g.W.Target.failures
           counts c.args.sink.now c.put_item.new.sink) (sym c.count.ensures)
           (reports_item c.args.report c.args.limits c.items.reading.decoder c.next_item.new.self.decoder (g.R.Source.remaining c.args.reader.now) _ _ g.W.Target.contents g.W.Target.failures c.items.counts c.args.sink.now c.items.sink c.put_item.new.sink
-          c.in-Ok-Some.item tt c.items.invariant.reporting reading c.in_ok-put_item-in-Ok-Some.ensures);
+          c.in-Ok-Some.item tt c.items.invariant.reporting reading c.in_ok-put_item-in-Ok-Some.ensures.puts);
+      watched = c.in_ok-put_item-in-Ok-Some.ensures.watched ∙ ap (λ (w : Watch). watched_by c.args.report w (c.in-Ok-Some.item ∷ [])) c.items.invariant.watched
+          ∙ by_more c.args.report c.args.watch.now c.items.invariant.reporting.given c.in-Ok-Some.item;
       failures = c.in-Ok-Some.ensures.failures ∙ c.items.invariant.failures;
       last = λ explains. holds_more _ _ _ _ _ (c.items.invariant.last explains) c.in-Ok-Some.ensures.last;
       same = c.in-Ok-Some.ensures.same_reference ∙ c.items.invariant.same;
@@ -119,7 +129,7 @@ returns-in_err-put_item-in-Ok-Some-clause-puts g c =
     = subst (λ (r : Result Verdict ToolFault). PutsReport (lines_in c.args.report) nothing c.args.limits (g.R.Source.remaining c.args.reader.now) (g.R.Source.remaining c.next_item.new.self.reader.now) g.W.Target.contents g.W.Target.failures r c.args.sink.now c.put_item.new.sink)
     (sym (same_fault c.from_residual.result c.in_err-put_item-in-Ok-Some.field-0.0 c.from_residual.ensures.1))
     (item_fault c.args.report nothing c.args.limits c.items.reading.decoder c.next_item.new.self.decoder (g.R.Source.remaining c.args.reader.now) _ _ g.W.Target.contents g.W.Target.failures c.items.counts c.args.sink.now c.items.sink c.put_item.new.sink
-    c.in-Ok-Some.item c.in_err-put_item-in-Ok-Some.field-0.0 c.items.invariant.reporting reading c.in_err-put_item-in-Ok-Some.ensures) in
+    c.in-Ok-Some.item c.in_err-put_item-in-Ok-Some.field-0.0 c.items.invariant.reporting reading c.in_err-put_item-in-Ok-Some.ensures.puts) in
     search rules
 
 pub returns-in-Ok-None-clause-puts : goal.returns-in-Ok-None-clause-puts
@@ -164,3 +174,23 @@ returns-in-Err-clause-last g c = λ explains.
     (subst (λ (d : Standing). IfSome c.last_read-in-Err.result (λ last. last.stage ≡ stage_of_records d)) (sym same) c.last_read-in-Err.ensures.stage)
     (holds_more _ _ _ _ _ (c.items.invariant.last explains) c.in-Err.ensures.last) c.last_read-in-Err.ensures.bytes c.verdict_of.ensures in
     search rules
+
+pub returns-in_err-put_item-in-Ok-Some-clause-watched : goal.returns-in_err-put_item-in-Ok-Some-clause-watched
+returns-in_err-put_item-in-Ok-Some-clause-watched g c = fault_tells _ c.from_residual.result c.in_err-put_item-in-Ok-Some.field-0.0 (same_fault c.from_residual.result c.in_err-put_item-in-Ok-Some.field-0.0 c.from_residual.ensures.1)
+
+pub returns-in-Ok-None-clause-watched : goal.returns-in-Ok-None-clause-watched
+returns-in-Ok-None-clause-watched g c =
+    let all : HasReadAll c.args.limits (g.R.Source.remaining c.args.reader.now) (g.R.Source.remaining c.next_item.new.self.reader.now) c.items.invariant.reporting.given
+    = none_read c.args.limits c.items.reading.decoder c.next_item.new.self.decoder (g.R.Source.remaining c.args.reader.now) _ _ c.items.invariant.reporting.given c.in-Ok-None.field-0 _ c.in-Ok-None.field-0-is
+    c.items.invariant.reporting.reading c.in-Ok-None.ensures.reads c.in-Ok-None.ensures.again (λ e. ap g.R.Source.remaining e) in
+    let right : IsRightVerdict c.args.limits (g.R.Source.remaining c.args.reader.now) c.good.result (g.R.Source.remaining c.next_item.new.self.reader.now) c.items.invariant.reporting.given
+    = good_right c.args.limits _ _ c.items.invariant.reporting.given c.items.counts c.good.result all c.items.invariant.reporting.counts c.good.ensures in
+    (c.items.invariant.reporting.given, right, c.items.invariant.watched)
+
+pub returns-in-Err-clause-watched : goal.returns-in-Err-clause-watched
+returns-in-Err-clause-watched g c =
+    let stop : StopsAfter c.args.limits c.in-Err.fault (g.R.Source.remaining c.args.reader.now) (g.R.Source.remaining c.next_item.new.self.reader.now) c.items.invariant.reporting.given
+    = stops_after c.args.limits c.items.reading.decoder c.next_item.new.self.decoder (g.R.Source.remaining c.args.reader.now) _ _ c.items.invariant.reporting.given c.in-Err.fault _ _
+    c.items.invariant.reporting.reading c.in-Err.ensures.reads c.in-Err.ensures.again in
+    watched_before c.args.limits _ _ c.items.invariant.reporting.given _ c.verdict_of.result
+    (fault_right c.args.limits _ _ c.items.invariant.reporting.given c.in-Err.fault c.verdict_of.result stop c.verdict_of.ensures) c.items.invariant.watched

@@ -1,6 +1,7 @@
 use Rattle.cwr_tools.specs.Format.Reports.{lines_of_findings}
 use Rattle.cwr_tools.proofs.RightReports.{accepted_reports, canonical_reports, judged_text}
-use Rattle.cwr_tools.proofs.checking.check.Goals as goal
+use Rattle.cwr_tools.proofs.WatchedRuns.{sees_accepted}
+use Rattle.cwr_tools.proofs.checking.check_watched.Goals as goal
 
 pub returns-clause-judged : goal.returns-clause-judged
 returns-clause-judged g c = judged_text lines_of_findings c.args.limits _ _ g.W.Target.contents c.args.writer c.write_report.result.0 c.write_report.result.1 c.write_report.ensures.reported
@@ -10,3 +11,6 @@ returns-clause-accepted g c = accepted_reports lines_of_findings c.args.limits _
 
 pub returns-clause-canonical : goal.returns-clause-canonical
 returns-clause-canonical g c = canonical_reports lines_of_findings c.args.limits _ _ g.W.Target.contents c.args.writer c.write_report.result.0 c.write_report.result.1 c.write_report.ensures.reported
+
+pub returns-clause-seen : goal.returns-clause-seen
+returns-clause-seen g c = sees_accepted c.args.limits _ _ c.args.watch.now c.write_report.new.watch c.write_report.result.1 c.write_report.ensures.watched

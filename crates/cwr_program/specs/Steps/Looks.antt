@@ -1,0 +1,71 @@
+-- What was seen of a transmission, and after it.
+use Rattle.std.specs.Prelude.{◌≡◌, ℕ, Bool, true, false, not, nat_lt, ◌||◌, List, drop, Option, Some, None, IfSome, if◌then◌else◌, Result, Ok, Err}
+use Rattle.cwr_shape.specs.declared.limits.Limits.{Limits}
+use Rattle.cwr_values.specs.Format.Values.{TransmissionValue}
+use Rattle.cwr_judge.specs.Format.Ends.{IsAccepted}
+use Rattle.cwr_tools.specs.declared.verdicts.Verdict.{Verdict}
+use Rattle.cwr_tools.specs.declared.verdicts.Verdict.TheVariants.{Good, Refused, Truncated}
+use Rattle.cwr_tools.specs.declared.verdicts.ToolFault.{ToolFault}
+use Rattle.cwr_tools.specs.declared.verdicts.ToolFault.TheVariants as tool_faults
+use Rattle.cwr_explain.specs.declared.trailing.Trailing.{Trailing}
+use Rattle.cwr_explain.specs.Format.Explained.{IsTrailing}
+use Rattle.cwr_program.specs.declared.endings.Look.{Look}
+use Rattle.cwr_program.specs.declared.endings.Look.TheVariants as looks
+use Rattle.cwr_program.specs.declared.endings.Status.{Status}
+use Rattle.cwr_program.specs.declared.endings.Status.TheVariants as statuses
+use Rattle.cwr_program.specs.declared.endings.Wanted.{Wanted}
+use Rattle.cwr_program.specs.declared.reports.Judgement.{Judgement}
+use Rattle.cwr_program.specs.declared.reports.Telling.{Telling}
+use Rattle.cwr_program.specs.declared.reports.Telling.TheVariants as tellings
+use Rattle.cwr_program.specs.Format.Endings.{IsStatusOn}
+
+-- bytes stand after a transmission
+abbrev pub follows : Trailing → Bool
+follows trailing = nat_lt 0 trailing.bytes || not trailing.is_all
+
+-- the status of a good verdict, where nothing may follow the transmission: none where that can't be read
+abbrev pub status_after : Look → Option Status
+status_after (looks.Found trailing) = if follows trailing then Some statuses.Refused else Some statuses.Good
+status_after looks.Failed = None
+status_after looks.Unasked = Some statuses.Good
+
+-- the status of a good verdict, where a finding is unwanted or none is
+abbrev pub good_status : Wanted → Look → Bool → Option Status
+good_status wanted look true = Some statuses.Refused
+good_status wanted look false = if wanted.whole then status_after look else Some statuses.Good
+
+-- the status of a verdict
+abbrev pub status_in : Wanted → Verdict → Look → Bool → Option Status
+status_in wanted (Good groups transactions records) look found = good_status wanted look found
+status_in wanted (Refused refusal) look found = Some statuses.Refused
+status_in wanted (Truncated records) look found = Some statuses.Refused
+
+-- what the input has left was read, or it failed
+abbrev pub IsLook : Option (List ℕ) → Option (List ℕ) → Look → Type 0
+IsLook left after (looks.Found trailing) = IsTrailing left after trailing
+IsLook left after looks.Failed = Unit {0}
+IsLook left after looks.Unasked = ⊥
+
+-- so it was where the verdict is good
+abbrev pub LooksOnce : Option (List ℕ) → Option (List ℕ) → Result Verdict ToolFault → Look → Type 0
+LooksOnce left after (Ok (Good groups transactions records)) look = IsLook left after look
+LooksOnce left after outcome look = Unit {0}
+
+-- so what stands after its transmission was read where the text is accepted
+abbrev pub LooksAfter : Limits → Option (List ℕ) → Look → Type 0
+LooksAfter limits before look = IfSome before (λ text. (v : TransmissionValue) (n : ℕ) → IsAccepted limits text v n → (after : Option (List ℕ)) × IsLook (Some (drop n text)) after look)
+
+-- what is told of a transmission are its findings
+abbrev pub tells_findings : Telling → Bool
+tells_findings tellings.Findings = true
+tells_findings (tellings.Explained name) = true
+tells_findings tellings.Records = false
+tells_findings (tellings.Data numbers) = false
+
+-- an input whose bytes are known has the status on them, or a device or memory failed
+abbrev pub JudgesOn : Limits → Wanted → Option (List ℕ) → Result Judgement ToolFault → Type 0
+JudgesOn limits wanted before (Ok judgement) = IfSome before (λ text. IsStatusOn limits wanted text judgement.status)
+JudgesOn limits wanted before (Err tool_faults.Reader) = Unit {0}
+JudgesOn limits wanted before (Err (tool_faults.Writer written)) = Unit {0}
+JudgesOn limits wanted before (Err tool_faults.Memory) = Unit {0}
+JudgesOn limits wanted before (Err fault) = ⊥

@@ -1,0 +1,153 @@
+//! Lines with the name of their file, and without those on what is good.
+
+ghost use Rattle.std.specs.Prelude.{◌≡◌, ◌≤◌, ◌<◌, [], length, None, IfOk};
+ghost use Rattle.cwr_fields.specs.Format.Failures.{one_more_failure};
+
+use cwr_fields::{DeviceFault, Target};
+use memchr::memchr;
+
+/// The byte that ends a line.
+const LINE_FEED: u8 = b'\n';
+
+/// Where a line goes.
+#[derive(Clone, Copy, Debug, PartialEq, Eq)]
+enum Place {
+    /// The next byte begins a line.
+    Start,
+    /// The line is passed on.
+    Passed,
+    /// The line is left out.
+    LeftOut,
+}
+
+/// Lines on a file, each with its name before it if there is one. Where they are quiet, those before the verdict are left out, and so is
+/// the verdict on what is good.
+#[derive(Drop)]
+pub(crate) struct FileLines<'a, W> {
+    lines: W,
+    name: Option<&'a str>,
+    quiet: bool,
+    place: Place,
+    handed_on: bool,
+    failures: u64,
+}
+
+/// Writes all of a text, or as much as the writer takes before it fails.
+fn write_whole<W: Target>(lines: &mut W, text: &[u8]) -> Result<(), DeviceFault> {
+    let mut rest = text;
+    while !rest.is_empty() {
+        let count = lines.write(rest)?;
+        rest = &rest[count..];
+    }
+    Ok(())
+}
+
+/// How many bytes the first line of a text has, with its line feed: all of them where it has none.
+fn first_line(text: &[u8]) -> usize
+    ensures most { result ≤ length text.now }
+    ensures some { 0 < length text.now → 0 < result }
+{
+    match memchr(LINE_FEED, text) {
+        Some(end) => end + 1,
+        None => text.len(),
+    }
+}
+
+impl<'a, W> FileLines<'a, W> {
+    /// Lines that stand at the start of one.
+    pub(crate) fn new(lines: W, name: Option<&'a str>, quiet: bool) -> FileLines<'a, W> {
+        FileLines {
+            lines,
+            name,
+            quiet,
+            place: Place::Start,
+            handed_on: true,
+            failures: 0,
+        }
+    }
+
+    /// The writer that they are passed on to.
+    pub(crate) fn into_inner(self) -> W {
+        self.lines
+    }
+}
+
+impl<W: Target> FileLines<'_, W> {
+    /// Begins a line with that byte: its name is written, or it is left out. From a verdict on what isn't good on, all are passed on.
+    fn begin(&mut self, first: u8) -> Result<(), DeviceFault>
+        ensures failures { self.new.failures ≡ self.old.failures }
+        ensures handed_on { self.new.handed_on ≡ self.old.handed_on }
+    {
+        if self.quiet && first != b'R' && first != b'T' {
+            self.place = Place::LeftOut;
+            return Ok(());
+        }
+        self.quiet = false;
+        if let Some(name) = self.name {
+            write_whole(&mut self.lines, name.as_bytes())?;
+            write_whole(&mut self.lines, b": ")?;
+        }
+        self.place = Place::Passed;
+        Ok(())
+    }
+
+    /// Passes on, or leaves out, what stands at the front of a text up to the end of a line. The answer is how many bytes that is.
+    fn pass(&mut self, text: &[u8]) -> Result<usize, DeviceFault>
+        ensures bound { IfOk result (λ count. count ≤ length text.now) }
+        ensures some { IfOk result (λ count. count ≡ 0 → text.now ≡ []) }
+        ensures failures { self.new.failures ≡ self.old.failures }
+        ensures handed_on { self.new.handed_on ≡ self.old.handed_on }
+    {
+        let Some(first) = text.first() else {
+            return Ok(0);
+        };
+        if self.place == Place::Start {
+            self.begin(*first)?;
+        }
+        let line = &text[..first_line(text)];
+        let count = match self.place {
+            Place::LeftOut => line.len(),
+            Place::Start | Place::Passed => self.lines.write(line)?,
+        };
+        if count == line.len() && line.last() == Some(&LINE_FEED) {
+            self.place = Place::Start;
+        }
+        Ok(count)
+    }
+
+    /// Counts a failure.
+    fn count_failure(&mut self) -> DeviceFault
+        ensures failures { self.new.failures ≡ one_more_failure self.old.failures }
+        ensures handed_on { self.new.handed_on ≡ self.old.handed_on }
+    {
+        self.failures = self.failures.saturating_add(1);
+        DeviceFault
+    }
+}
+
+impl<W: Target> Target for FileLines<'_, W> {
+    // What is passed on isn't what was written.
+    ghost contents = { λ it. None };
+
+    ghost handed_on = { λ it. it.handed_on };
+
+    ghost failures = { λ it. it.failures };
+
+    fn write(&mut self, text: &[u8]) -> Result<usize, DeviceFault> {
+        self.handed_on = false;
+        match self.pass(text) {
+            Ok(count) if self.failures < u64::MAX => Ok(count),
+            _ => Err(self.count_failure()),
+        }
+    }
+
+    fn flush(&mut self) -> Result<(), DeviceFault> {
+        match self.lines.flush() {
+            Ok(()) if self.failures < u64::MAX => {
+                self.handed_on = true;
+                Ok(())
+            }
+            _ => Err(self.count_failure()),
+        }
+    }
+}

@@ -1,0 +1,99 @@
+//! Transmissions that are written from lines of JSON.
+
+ghost use Rattle.cwr_program.specs.Format.Endings.{ImportEndsAs};
+
+use crate::endings::Status;
+use crate::faults::{Fault, Name, Told};
+use crate::inputs::Input;
+use crate::new_files::create_output;
+use crate::outputs::{Gathered, gathered, told_of};
+use cwr_encode::Sink;
+use cwr_fields::Counted;
+use cwr_shape::Limits;
+use cwr_write::{WriteFault, Written, put_write_outcome, write};
+use std::alloc::Global;
+use std::io::{Read, Write};
+use std::rt::Files;
+
+/// What the end of an import means for the program.
+fn import_ending<'a>(
+    outcome: Result<Written, WriteFault>,
+    input: Told<'a>,
+    output: Told<'a>,
+) -> Result<Status, Fault<'a>>
+    ensures { ImportEndsAs input output outcome result }
+{
+    match outcome {
+        Ok(_) => Ok(Status::Good),
+        Err(WriteFault::Refused(_) | WriteFault::Early { .. }) => Ok(Status::Refused),
+        Err(WriteFault::Reader) => Err(Fault::Read(input)),
+        Err(WriteFault::Writer { .. }) => Err(Fault::Write(output)),
+        Err(WriteFault::Memory) => Err(Fault::Memory),
+    }
+}
+
+/// Writes to standard error how an import ended.
+fn tell_import<E: Write>(outcome: &Result<Written, WriteFault>, error: &mut E) {
+    // What standard error doesn't take is lost.
+    let _ = put_write_outcome(outcome, &mut Sink::new(Counted::new(error)));
+}
+
+/// Writes the transmission that the input's lines are, each of at most so many bytes, to the writer. Beside how that ended comes what
+/// is known of both.
+fn import<'a, F: Read + Drop, I: Read + Drop, O: Write + Drop>(
+    alloc: Global,
+    limits: Limits,
+    most: usize,
+    input: Input<'a, F, I>,
+    writer: Gathered<'a, O>,
+) -> (Result<Written, WriteFault>, Told<'a>, Told<'a>) {
+    let mut reader = Counted::new(input);
+    let (writer, outcome) = write(alloc, limits, most, &mut reader, writer);
+    (outcome, reader.into_inner().told(), told_of(writer))
+}
+
+/// Writes the transmission that the input's lines are to the output.
+pub(crate) fn import_input<'a, F: Read + Drop, I: Read + Drop, O: Write + Drop, E: Write>(
+    alloc: Global,
+    limits: Limits,
+    most: usize,
+    input: Input<'a, F, I>,
+    output: O,
+    error: &mut E,
+) -> Result<Status, Fault<'a>> {
+    let writer = gathered(alloc, output, Name::StandardOutput).map_err(|_| Fault::Memory)?;
+    let (outcome, read, written) = import(alloc, limits, most, input, writer);
+    tell_import(&outcome, error);
+    import_ending(outcome, read, written)
+}
+
+/// Writes the transmission that the input's lines are to a file, which gets its name where that is whole.
+pub(crate) fn import_file<
+    'a,
+    R: Files + AllocGlobal,
+    F: Read + Drop,
+    I: Read + Drop,
+    E: Write,
+>(
+    rt: &R,
+    limits: Limits,
+    most: usize,
+    input: Input<'a, F, I>,
+    out: &'a str,
+    error: &mut E,
+) -> Result<Status, Fault<'a>> {
+    let alloc = rt.alloc();
+    let (made, file) = create_output(rt, alloc, out)?;
+    let Ok(writer) = gathered(alloc, file, Name::File(out)) else {
+        made.discard(rt);
+        return Err(Fault::Memory);
+    };
+    let (outcome, read, written) = import(alloc, limits, most, input, writer);
+    if outcome.is_ok() {
+        made.keep_as(rt, Name::File(out))?;
+    } else {
+        made.discard(rt);
+    }
+    tell_import(&outcome, error);
+    import_ending(outcome, read, written)
+}

@@ -1,0 +1,104 @@
+//! Inputs: files, and standard input.
+
+ghost use Rattle.std.specs.Prelude.{◌≡◌, ℕ, List, Option, Some, IfOk, IfSome, true, option_map};
+ghost use Rattle.cwr_program.specs.Format.Inputs.{is_standard};
+ghost use Rattle.cwr_program.specs.Steps.Inputs.{remaining_of};
+
+use crate::faults::{Fault, Name, Reason, STANDARD_INPUT, Told};
+use std::fs::File;
+use std::io;
+use std::io::Read;
+use std::rt::Files;
+
+/// What standard input is called in the place of a file.
+pub(crate) const DASH: &str = "-";
+
+/// What an input is read from.
+#[derive(Drop)]
+enum Device<F, I> {
+    File(F),
+    Standard(I),
+}
+
+/// An input, with what is told of it where it fails.
+#[derive(Drop)]
+pub(crate) struct Input<'a, F, I> {
+    device: Device<F, I>,
+    name: Name<'a>,
+    /// How many bytes were read.
+    bytes: u64,
+    /// Why the last call failed, if it did.
+    reason: Option<Reason>,
+}
+
+impl<'a, F, I> Input<'a, F, I> {
+    /// What is known of the input.
+    pub(crate) fn told(&self) -> Told<'a> {
+        Told {
+            name: self.name,
+            bytes: self.bytes,
+            reason: self.reason,
+        }
+    }
+}
+
+impl<F: Read, I: Read> Read for Input<'_, F, I> {
+    ghost remaining = { remaining_of F.remaining I.remaining };
+
+    fn read(&mut self, buf: &mut [u8]) -> io::Result<usize> {
+        let answer = match &mut self.device {
+            Device::File(file) => file.read(buf),
+            Device::Standard(input) => input.read(buf),
+        };
+        match &answer {
+            Ok(count) => self.bytes = self.bytes.saturating_add(*count as u64),
+            Err(fault) => self.reason = Some(Reason::of(fault)),
+        }
+        answer
+    }
+}
+
+/// Whether the word, or that there is none, names standard input.
+pub(crate) fn is_standard(name: Option<&str>) -> bool
+    ensures { result ≡ is_standard (option_map (λ n. n.now) name.entry) }
+{
+    match name {
+        None => true,
+        Some(name) => name == DASH,
+    }
+}
+
+/// What an input is called in lines.
+pub(crate) fn shown_name(word: &str) -> &str {
+    if word == DASH { STANDARD_INPUT } else { word }
+}
+
+/// The input of that name: a file, or standard input, which is there once.
+pub(crate) fn open_input<'a, R: Files, I: Read>(
+    rt: &R,
+    name: Option<&'a str>,
+    standard: &mut Option<I>,
+) -> Result<Input<'a, R::File, I>, Fault<'a>>
+    ensures standard { is_standard (option_map (λ n. n.now) name) ≡ true → IfSome standard.old (λ input. IfOk result (λ opened. remaining_of R.File.Read.remaining I.remaining opened ≡ I.remaining input)) }
+{
+    match name {
+        Some(word) if word != DASH => match File::open(rt, word) {
+            Ok(file) => Ok(Input {
+                device: Device::File(file),
+                name: Name::File(word),
+                bytes: 0,
+                reason: None,
+            }),
+            Err(fault) => Err(Fault::Open(Name::File(word), Some(Reason::of(&fault)))),
+        },
+        _ => match standard.take() {
+            Some(input) => Ok(Input {
+                device: Device::Standard(input),
+                name: Name::StandardInput,
+                bytes: 0,
+                reason: None,
+            }),
+            None => Err(Fault::Open(Name::StandardInput, None)),
+        },
+    }
+}

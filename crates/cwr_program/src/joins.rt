@@ -1,0 +1,167 @@
+//! Transmissions that are joined to one.
+
+use crate::endings::{Look, Status, ended_by, follows};
+use crate::faults::{Fault, Name, Told};
+use crate::inputs::{Input, is_standard, open_input};
+use crate::new_files::create_output;
+use crate::outputs::{gathered, told_of};
+use crate::reports::{look_beyond, tell_following};
+use crate::same_files::{identity_of, identity_of_input, is_there};
+use crate::splits::hand_on;
+use cwr_encode::Sink;
+use cwr_fields::{Counted, Source};
+use cwr_shape::Limits;
+use cwr_tools::{join, put_join_outcome};
+use std::alloc::Global;
+use std::io::{Read, Write};
+use std::rt::Files;
+
+/// How transmissions are joined.
+#[derive(Clone, Copy, Debug)]
+pub(crate) struct Union<'a> {
+    pub(crate) limits: Limits,
+    /// Nothing may follow a transmission.
+    pub(crate) whole: bool,
+    /// The name of the file that is written.
+    pub(crate) out: &'a str,
+    /// That file may replace none.
+    pub(crate) only_new: bool,
+}
+
+/// An input that is read.
+type Reader<'a, F, I> = Counted<Input<'a, F, I>>;
+
+/// The inputs of these names, in their order.
+fn open_inputs<'a, R: Files, I: Read + Drop>(
+    rt: &R,
+    alloc: Global,
+    names: &[&'a str],
+    standard: I,
+) -> Result<Vec<Reader<'a, R::File, I>>, Fault<'a>> {
+    let mut standard = Some(standard);
+    let mut readers = Vec::new(alloc);
+    for name in names {
+        let input = open_input(rt, Some(*name), &mut standard)?;
+        readers
+            .push(Counted::new(input))
+            .map_err(|_| Fault::Memory)?;
+    }
+    Ok(readers)
+}
+
+/// Refuses to write to one of the inputs, or to a file that is there where only a new one may be made.
+fn refuse_out<'a, R: Files>(
+    rt: &R,
+    union: &Union<'a>,
+    names: &[&'a str],
+) -> Result<(), Fault<'a>> {
+    let out = union.out;
+    let own = identity_of(rt, out);
+    for name in names {
+        if own.is_some() && identity_of_input(rt, name) == own {
+            return Err(Fault::IsInput(Name::File(out)));
+        }
+    }
+    if union.only_new && is_there(rt, out) {
+        return Err(Fault::IsThere(Name::File(out)));
+    }
+    Ok(())
+}
+
+/// What is known of the input of that number, from 1.
+fn told_at<F: Drop, I: Drop>(mut readers: Vec<Reader<'_, F, I>>, number: usize) -> Option<Told<'_>> {
+    let index = number.checked_sub(1)?;
+    if index < readers.len() {
+        Some(readers.swap_remove(index).into_inner().told())
+    } else {
+        None
+    }
+}
+
+/// What a word that names an input is called in messages.
+fn name_of(word: &str) -> Name<'_> {
+    if is_standard(Some(word)) {
+        Name::StandardInput
+    } else {
+        Name::File(word)
+    }
+}
+
+/// Looks what stands after the transmission of each input, and tells it: whether bytes do, or the number of the input that failed there.
+fn look_after_each<R: Source, E: Write>(
+    readers: &mut [R],
+    names: &[&str],
+    error: &mut E,
+) -> Result<bool, usize> {
+    let mut found = false;
+    let mut failed = None;
+    for i in 0..readers.len() {
+        let look = look_beyond(&mut readers[i]);
+        match look {
+            Look::Found(trailing) => found = found || follows(&trailing),
+            Look::Failed | Look::Unasked => failed = failed.or(Some(i + 1)),
+        }
+        if let Some(word) = names.get(i) {
+            tell_following(error, name_of(word), &look);
+        }
+    }
+    match failed {
+        None => Ok(found),
+        Some(number) => Err(number),
+    }
+}
+
+/// Joins the transmissions of files to one, and writes the line that says how that ended.
+pub(crate) fn join_files<
+    'a,
+    R: Files + AllocGlobal,
+    I: Read + Drop,
+    O: Write + Drop,
+    E: Write,
+>(
+    rt: &R,
+    union: &Union<'a>,
+    names: &[&'a str],
+    standard: I,
+    output: O,
+    error: &mut E,
+) -> Result<Status, Fault<'a>> {
+    let alloc = rt.alloc();
+    let out = Name::File(union.out);
+    let lines = gathered(alloc, output, Name::StandardOutput).map_err(|_| Fault::Memory)?;
+    let mut readers = open_inputs(rt, alloc, names, standard)?;
+    if readers.is_empty() {
+        return Ok(Status::CommandLine);
+    }
+    refuse_out(rt, union, names)?;
+    let (made, file) = create_output(rt, alloc, union.out)?;
+    let Ok(writer) = gathered(alloc, file, out) else {
+        made.discard(rt);
+        return Err(Fault::Memory);
+    };
+    let (writer, outcome) = join(alloc, union.limits, readers.as_mut_slice(), writer);
+    let written = told_of(writer);
+    if outcome.is_ok() {
+        let after = look_after_each(readers.as_mut_slice(), names, error);
+        if union.whole && after != Ok(false) {
+            made.discard(rt);
+            return match after {
+                Ok(_) => Ok(Status::Refused),
+                Err(number) => Err(Fault::Read(told_at(readers, number).unwrap_or(written))),
+            };
+        }
+        made.keep_as(rt, out)?;
+    } else {
+        made.discard(rt);
+    }
+    let mut sink = Sink::new(lines);
+    let put = put_join_outcome(&outcome, &mut sink);
+    hand_on(put, sink)?;
+    match outcome {
+        Ok(_) => Ok(Status::Good),
+        Err(stopped) => {
+            let read = told_at(readers, stopped.input).unwrap_or(written);
+            ended_by(Some(stopped.fault), read, written, Fault::Output(out, None))
+        }
+    }
+}

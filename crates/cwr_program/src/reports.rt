@@ -1,0 +1,272 @@
+//! Transmissions that are judged, shown, or written as data.
+
+ghost use Rattle.std.specs.Prelude.{◌≡◌, true, false, OnOk, None};
+ghost use Rattle.cwr_tools.specs.Format.Verdicts.{JudgesText};
+ghost use Rattle.cwr_tools.specs.Format.Watching.{SeesAccepted};
+ghost use Rattle.cwr_program.specs.Format.Endings.{EndsOnInput};
+ghost use Rattle.cwr_program.specs.Steps.Inputs.{remaining_of};
+ghost use Rattle.cwr_program.specs.Steps.Looks.{IsLook, JudgesOn, LooksAfter, LooksOnce, tells_findings};
+
+use crate::endings::{Look, Status, Wanted, follows, status_of};
+use crate::faults::{Fault, Name, Told};
+use crate::file_lines::FileLines;
+use crate::inputs::{Input, shown_name};
+use crate::outputs::{Gathered, gathered, told_of};
+use cwr_encode::{Sink, SinkFault};
+use cwr_explain::{Trailing, explain, read_trailing};
+use cwr_fields::{Counted, Source, Target};
+use cwr_shape::Limits;
+use cwr_tools::{
+    ToolFault, Verdict, Watch, check_watched, json, put_verdict_line, show,
+};
+use std::alloc::Global;
+use std::io;
+use std::io::{Read, Write};
+
+/// What is written of a transmission.
+#[derive(Clone, Copy, Debug)]
+pub(crate) enum Telling<'a> {
+    /// The findings, and the verdict.
+    Findings,
+    /// The same with what explains them, in which the input has that name.
+    Explained(&'a str),
+    /// The records with their cells, and the verdict.
+    Records,
+    /// The data as lines of JSON, and the verdict to standard error.
+    Data {
+        /// With the numbers of groups, transactions and lines.
+        numbers: bool,
+    },
+}
+
+/// What a check tells of an input, where it is explained too.
+pub(crate) fn telling_of(explained: bool, word: &str) -> Telling<'_>
+    ensures { tells_findings result ≡ true }
+{
+    if explained {
+        Telling::Explained(shown_name(word))
+    } else {
+        Telling::Findings
+    }
+}
+
+/// How an input is judged.
+#[derive(Clone, Copy, Debug)]
+pub(crate) struct Asked {
+    pub(crate) alloc: Global,
+    pub(crate) limits: Limits,
+    pub(crate) wanted: Wanted,
+    /// Nothing is written of what is good.
+    pub(crate) quiet: bool,
+}
+
+/// What was made of an input that could be read: the verdict, what stands after it, and the status.
+#[derive(Clone, Copy, Debug)]
+pub(crate) struct Judgement {
+    pub(crate) verdict: Verdict,
+    pub(crate) look: Look,
+    pub(crate) status: Status,
+}
+
+/// Looks what an input has left after its transmission.
+pub(crate) fn look_beyond<R: Source>(reader: &mut R) -> Look
+    ensures { IsLook (R.remaining reader.old) (R.remaining reader.new) result }
+{
+    match read_trailing(reader) {
+        Ok(found) => Look::Found(found),
+        Err(_) => Look::Failed,
+    }
+}
+
+/// Looks so where the verdict is good.
+fn look_after<R: Source>(reader: &mut R, outcome: &Result<Verdict, ToolFault>) -> Look
+    ensures { LooksOnce (R.remaining reader.old) (R.remaining reader.new) outcome.now result }
+{
+    match outcome {
+        Ok(Verdict::Good { .. }) => look_beyond(reader),
+        _ => Look::Unasked,
+    }
+}
+
+/// Reads a transmission, writes what is told of it, and looks what stands after it. The writer comes back.
+fn tell<R: Source, W: Target + Drop>(
+    alloc: Global,
+    limits: Limits,
+    telling: Telling<'_>,
+    watch: &mut Watch,
+    reader: &mut R,
+    writer: W,
+) -> (W, Result<Verdict, ToolFault>, Look)
+    requires { tells_findings telling ≡ false → watch.old.from ≡ None }
+    ensures judged { JudgesText limits (R.remaining reader.old) result.1 }
+    ensures seen { OnOk result.1 (SeesAccepted limits (R.remaining reader.old) watch.old watch.new) }
+    ensures looks { OnOk result.1 (LooksAfter limits (R.remaining reader.old) result.2) }
+{
+    match telling {
+        Telling::Findings => {
+            let (writer, outcome) = check_watched(alloc, limits, watch, reader, writer);
+            let look = look_after(reader, &outcome);
+            (writer, outcome, look)
+        }
+        Telling::Explained(name) => {
+            let (writer, outcome, found) = explain(alloc, limits, name, watch, reader, writer);
+            (writer, outcome, found.map_or(Look::Unasked, Look::Found))
+        }
+        Telling::Records => {
+            let (writer, outcome) = show(alloc, limits, reader, writer);
+            let look = look_after(reader, &outcome);
+            (writer, outcome, look)
+        }
+        Telling::Data { numbers } => {
+            let (writer, outcome) = json(alloc, limits, numbers, reader, writer);
+            let look = look_after(reader, &outcome);
+            (writer, outcome, look)
+        }
+    }
+}
+
+/// Judges an input, and writes what is told of it. The writer comes back, and what is known of the input where it fails.
+pub(crate) fn judge_input<'a, F: Read + Drop, I: Read + Drop, W: Target + Drop>(
+    asked: &Asked,
+    telling: Telling<'_>,
+    input: Input<'a, F, I>,
+    writer: W,
+) -> (W, Result<Judgement, ToolFault>, Told<'a>)
+    requires { tells_findings telling ≡ false → asked.now.wanted.fail_on ≡ None }
+    ensures { JudgesOn asked.now.limits asked.now.wanted (remaining_of F.remaining I.remaining input) result.1 }
+{
+    let mut reader = Counted::new(input);
+    let mut watch = Watch::new(asked.wanted.fail_on);
+    let (writer, outcome, look) = tell(
+        asked.alloc,
+        asked.limits,
+        telling,
+        &mut watch,
+        &mut reader,
+        writer,
+    );
+    let told = reader.into_inner().told();
+    let judged = match outcome {
+        Ok(verdict) => match status_of(asked.wanted, &verdict, look, watch.found) {
+            Some(status) => Ok(Judgement {
+                verdict,
+                look,
+                status,
+            }),
+            None => Err(ToolFault::Reader),
+        },
+        Err(fault) => Err(fault),
+    };
+    (writer, judged, told)
+}
+
+/// Writes to standard error what stands after the transmission of that input, if bytes do.
+fn put_following<E: Write>(error: &mut E, name: Name<'_>, trailing: &Trailing) -> io::Result<()> {
+    let least = if trailing.is_all { "" } else { "at least " };
+    match trailing.bytes {
+        1 => write!(error, "cwr: {name}: 1 byte follows the transmission")?,
+        count => write!(error, "cwr: {name}: {least}{count} bytes follow the transmission")?,
+    }
+    if trailing.begins == *b"HDR" {
+        writeln!(error, ", the first of them look like another one (HDR)")
+    } else {
+        writeln!(error)
+    }
+}
+
+/// Tells on standard error what stands after the transmission of that input, or that it can't be read. What standard error doesn't
+/// take is lost.
+pub(crate) fn tell_following<E: Write>(error: &mut E, name: Name<'_>, look: &Look) {
+    let _ = match look {
+        Look::Found(trailing) if follows(trailing) => put_following(error, name, trailing),
+        Look::Failed => writeln!(
+            error,
+            "cwr: {name}: what follows the transmission can't be read"
+        ),
+        Look::Found(_) | Look::Unasked => Ok(()),
+    };
+}
+
+/// Tells on standard error what is not among the lines: what follows the transmission, and the verdict beside data.
+pub(crate) fn tell_aside<E: Write>(
+    error: &mut E,
+    telling: Telling<'_>,
+    name: Name<'_>,
+    judgement: &Judgement,
+) {
+    match telling {
+        // What follows stands in the explanation.
+        Telling::Explained(_) => {}
+        Telling::Findings | Telling::Records => tell_following(error, name, &judgement.look),
+        Telling::Data { .. } => {
+            // What standard error doesn't take is lost.
+            let _ = put_verdict_line(&judgement.verdict, &mut Sink::new(Counted::new(&mut *error)));
+            tell_following(error, name, &judgement.look);
+        }
+    }
+}
+
+/// Puts the verdict on what is good and has less than was wanted, which quiet lines leave out.
+pub(crate) fn put_unwanted<W: Target + Drop>(
+    quiet: bool,
+    judgement: &Judgement,
+    lines: W,
+) -> (W, Result<(), SinkFault>) {
+    let is_good = matches!(judgement.verdict, Verdict::Good { .. });
+    if !quiet || !is_good || judgement.status == Status::Good {
+        return (lines, Ok(()));
+    }
+    let mut sink = Sink::new(lines);
+    let put = put_verdict_line(&judgement.verdict, &mut sink);
+    (sink.into_inner(), put)
+}
+
+/// The lines on an input, to standard output.
+fn lines_on<'a, F: Read + Drop, I: Read + Drop, O: Write + Drop>(
+    asked: &Asked,
+    telling: Telling<'_>,
+    input: Input<'a, F, I>,
+    lines: Gathered<'a, O>,
+) -> (Gathered<'a, O>, Result<Judgement, ToolFault>, Told<'a>)
+    requires { tells_findings telling ≡ false → asked.now.wanted.fail_on ≡ None }
+    ensures { JudgesOn asked.now.limits asked.now.wanted (remaining_of F.remaining I.remaining input) result.1 }
+{
+    if asked.quiet {
+        let lines = FileLines::new(lines, None, true);
+        let (lines, judged, told) = judge_input(asked, telling, input, lines);
+        (lines.into_inner(), judged, told)
+    } else {
+        judge_input(asked, telling, input, lines)
+    }
+}
+
+/// Reports on an input: writes what is told of it to standard output, and what isn't among those lines to standard error.
+pub(crate) fn report_input<'a, F: Read + Drop, I: Read + Drop, O: Write + Drop, E: Write>(
+    asked: &Asked,
+    telling: Telling<'_>,
+    input: Input<'a, F, I>,
+    output: O,
+    error: &mut E,
+) -> Result<Status, Fault<'a>>
+    requires { tells_findings telling ≡ false → asked.now.wanted.fail_on ≡ None }
+    ensures { EndsOnInput asked.now.limits asked.now.wanted (remaining_of F.remaining I.remaining input) result }
+{
+    let lines = match gathered(asked.alloc, output, Name::StandardOutput) {
+        Ok(lines) => lines,
+        Err(_) => return Err(Fault::Memory),
+    };
+    let (lines, judged, told) = lines_on(asked, telling, input, lines);
+    match judged {
+        Ok(judgement) => {
+            let (mut lines, put) = put_unwanted(asked.quiet, &judgement, lines);
+            if put.is_err() || lines.flush().is_err() {
+                return Err(Fault::Write(told_of(lines)));
+            }
+            tell_aside(error, telling, told.name, &judgement);
+            Ok(judgement.status)
+        }
+        Err(ToolFault::Reader) => Err(Fault::Read(told)),
+        Err(ToolFault::Writer { .. }) => Err(Fault::Write(told_of(lines))),
+        Err(_) => Err(Fault::Memory),
+    }
+}

@@ -1,0 +1,106 @@
+//! Transmissions that are cut into files.
+
+use crate::endings::{Look, Status, ended_by, follows};
+use crate::faults::{Fault, Name, Told};
+use crate::inputs::Input;
+use crate::new_files::NumberedFiles;
+use crate::outputs::{Gathered, gathered, told_of};
+use crate::reports::{look_beyond, tell_following};
+use crate::same_files::identity_of_input;
+use cwr_encode::{Sink, SinkFault};
+use cwr_fields::{Counted, Target};
+use cwr_shape::Limits;
+use cwr_tools::{SplitReport, ToolFault, put_split_outcome, split};
+use std::io::{Read, Write};
+use std::num::NonZeroU32;
+use std::rt::Files;
+
+/// How a transmission is cut into files.
+#[derive(Clone, Copy, Debug)]
+pub(crate) struct Cut<'a> {
+    pub(crate) limits: Limits,
+    /// Nothing may follow the transmission.
+    pub(crate) whole: bool,
+    /// The transactions of a part.
+    pub(crate) transactions: NonZeroU32,
+    /// The word that names the input.
+    pub(crate) file: &'a str,
+    /// What the names of the parts begin with.
+    pub(crate) prefix: &'a str,
+    /// No part may replace a file.
+    pub(crate) only_new: bool,
+}
+
+/// Hands on the lines that were put, where they could be.
+pub(crate) fn hand_on<'a, O: Write + Drop>(
+    put: Result<(), SinkFault>,
+    sink: Sink<Gathered<'a, O>>,
+) -> Result<(), Fault<'a>> {
+    let mut writer = sink.into_inner();
+    match (put, writer.flush()) {
+        (Ok(()), Ok(())) => Ok(()),
+        _ => Err(Fault::Write(told_of(writer))),
+    }
+}
+
+/// Whether a word names a part: the prefix and eight digits.
+fn is_part(name: &str, prefix: &str) -> bool {
+    match name.strip_prefix(prefix) {
+        Some(number) => number.len() == 8 && number.bytes().all(|digit| digit.is_ascii_digit()),
+        None => false,
+    }
+}
+
+/// Cuts the transmission of an input into files of so many transactions, and writes the line that says how that ended.
+pub(crate) fn split_file<
+    'a,
+    R: Files + AllocGlobal,
+    I: Read + Drop,
+    O: Write + Drop,
+    E: Write,
+>(
+    rt: &R,
+    cut: &Cut<'a>,
+    input: Input<'a, R::File, I>,
+    output: O,
+    error: &mut E,
+) -> Result<Status, Fault<'a>> {
+    let alloc = rt.alloc();
+    if is_part(cut.file, cut.prefix) {
+        return Err(Fault::IsInput(Name::File(cut.file)));
+    }
+    let lines = gathered(alloc, output, Name::StandardOutput).map_err(|_| Fault::Memory)?;
+    let mut reader = Counted::new(input);
+    let own = identity_of_input(rt, cut.file);
+    let mut files = NumberedFiles::new(rt, alloc, cut.prefix, own, cut.only_new);
+    let transactions = cut.transactions.get();
+    let outcome = split(alloc, cut.limits, &mut reader, transactions, &mut files);
+    let look = if outcome.is_ok() {
+        look_beyond(&mut reader)
+    } else {
+        Look::Unasked
+    };
+    let told = reader.into_inner().told();
+    let mut sink = Sink::new(lines);
+    let put = put_split_outcome(&outcome, &mut sink);
+    hand_on(put, sink)?;
+    tell_following(error, told.name, &look);
+    split_ending(outcome, cut.whole, look, told, files.fault())
+}
+
+/// How a split ends the run: by what came of it, and by what follows the transmission where nothing may.
+fn split_ending<'a>(
+    outcome: Result<SplitReport, ToolFault>,
+    whole: bool,
+    look: Look,
+    told: Told<'a>,
+    made: Fault<'a>,
+) -> Result<Status, Fault<'a>> {
+    match (outcome, look) {
+        (Ok(_), Look::Found(trailing)) if whole && follows(&trailing) => Ok(Status::Refused),
+        (Ok(_), Look::Failed) if whole => Err(Fault::Read(told)),
+        // A part's writer tells what it is.
+        (Err(ToolFault::Writer { .. }), _) => Err(made),
+        (outcome, _) => ended_by(outcome.err(), told, told, made),
+    }
+}

@@ -1,0 +1,48 @@
+-- Whether items have a finding of a level, or of a worse one.
+use Rattle.std.specs.Prelude.{◌≡◌, ℕ, Bool, false, nat_le, ◌||◌, List, Option, Some, None, IfSome}
+use Rattle.std.specs.List.{list_any}
+use Rattle.cwr_shape.specs.declared.limits.Limits.{Limits}
+use Rattle.cwr_shape.specs.declared.reasons.Level.{Level}
+use Rattle.cwr_shape.specs.declared.reasons.Level.TheVariants.{E, G, T, R, F}
+use Rattle.cwr_values.specs.declared.items.Item.{Item}
+use Rattle.cwr_values.specs.declared.items.Item.TheVariants.{Transaction}
+use Rattle.cwr_values.specs.Format.Values.{TransmissionValue}
+use Rattle.cwr_judge.specs.Format.Ends.{IsAccepted}
+use Rattle.cwr_judge.specs.Format.Items.{value_items}
+use Rattle.cwr_levels.specs.declared.rules.Finding.{Finding}
+use Rattle.cwr_levels.specs.Format.Findings.{findings}
+use Rattle.cwr_tools.specs.declared.watch.Watch.{Watch}
+
+-- how far what a level rejects goes: a field, a record, a transaction, a group, a file
+pub reach : Level → ℕ
+reach F = 0
+reach R = 1
+reach T = 2
+reach G = 3
+reach E = 4
+
+-- the other level is that level or a worse one
+pub is_from : Level → Level → Bool
+is_from level other = nat_le (reach level) (reach other)
+
+-- one of the findings has that level or a worse one; without a level none is asked for
+abbrev pub has_from : Option Level → List Finding → Bool
+has_from None found = false
+has_from (Some level) found = list_any (λ f. is_from level f.level) found
+
+-- so it is of a transaction's findings
+abbrev pub item_has_from : Option Level → Item → Bool
+item_has_from level (Transaction t) = has_from level (findings t)
+item_has_from level item = false
+
+-- and of those of some transaction among items
+abbrev pub any_from : Option Level → List Item → Bool
+any_from level items = list_any (item_has_from level) items
+
+-- with what came in these items
+abbrev pub watched : Watch → List Item → Watch
+watched watch items = record watch { found = watch.found || any_from watch.from items }
+
+-- where a text is accepted, what came in its transmission was seen
+abbrev pub SeesAccepted : Limits → Option (List ℕ) → Watch → Watch → Type 0
+SeesAccepted limits before old new = IfSome before (λ text. (v : TransmissionValue) (n : ℕ) → IsAccepted limits text v n → new ≡ watched old (value_items v))
