@@ -4,8 +4,10 @@ use crate::expected::{add_cell_type, letters_of, number_rule};
 use crate::lines_at_end::{LineAtEnd, line_again, line_at_end};
 use crate::next_symbols::coming;
 use crate::openings::opening_of;
+use crate::shifts::add_shift;
 use crate::texts::{add_beginning, add_cell, add_label};
 use crate::trailing::Trailing;
+use crate::versions::add_version;
 use crate::wrong_numbers::WrongNumber;
 use cwr_decode::{LastRead, Refusal};
 use cwr_fields::{CellFault, first_control};
@@ -356,6 +358,10 @@ impl Refused<'_> {
         self.add_expected(alloc, text, limits, stage, &cut)?;
         self.add_level(text)?;
         self.add_opening(text)?;
+        add_version(text, self.kind, self.line.bytes)?;
+        if !self.is_too_long {
+            add_shift(text, self.kind, self.refusal.field, self.without_return())?;
+        }
         add_returns(text, self.line.bytes)?;
         add_cut_off(text, &self.line, self.kind)
     }

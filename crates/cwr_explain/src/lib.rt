@@ -8,8 +8,10 @@ pub mod laws;
 mod lines_at_end;
 mod next_symbols;
 mod openings;
+mod shifts;
 mod texts;
 mod trailing;
+mod versions;
 mod wrong_numbers;
 
 pub use explaining::explain;

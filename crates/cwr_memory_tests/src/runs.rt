@@ -4,7 +4,9 @@ use crate::outputs::{Nowhere, Numbered};
 use crate::works::{TWO_GROUPS_WITH_A_FINDING, ended, largest, text_of};
 use cwr_explain::explain;
 use cwr_fields::Counted;
-use cwr_tools::{JoinFault, JoinReport, SplitReport, ToolFault, Verdict, check, join, show, split};
+use cwr_tools::{
+    JoinFault, JoinReport, SplitReport, ToolFault, Verdict, Watch, check, join, show, split,
+};
 use cwr_worked::texts::{ONE_ACKNOWLEDGEMENT, TWO_GROUPS, WORK_OF_ELEVEN};
 use std::process::Abort;
 use std::test::Fail;
@@ -34,7 +36,15 @@ fn shown(rt: &impl AllocGlobal, text: &[u8]) -> Result<Verdict, ToolFault> {
 fn explained(rt: &impl AllocGlobal, text: &[u8]) -> Result<Verdict, ToolFault> {
     let mut reader = Counted::new(text);
     let writer = Counted::new(Nowhere);
-    explain(rt.alloc(), largest(), "it", &mut reader, writer).1
+    explain(
+        rt.alloc(),
+        largest(),
+        "it",
+        &mut Watch::new(None),
+        &mut reader,
+        writer,
+    )
+    .1
 }
 
 /// What a run answers. `None` where that is out of memory.

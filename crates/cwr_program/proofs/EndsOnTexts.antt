@@ -1,38 +1,153 @@
 -- A run over a text ends as that text does.
-use Rattle.std.proofs.Common.{◌≡◌, ℕ, List, [], Option, Some, None, sym, ap₂, subst, ◌∙◌, inl, inr}
-use Rattle.std.specs.Prelude.{Result, Ok, Err}
+use Rattle.std.proofs.Common.{◌≡◌, ℕ, ◌+◌, ◌<◌, Bool, true, false, not, ◌||◌, List, [], ◌∷◌, ◌++◌, length, drop, zero, suc, Option, Some, None, refl, sym, ap, ap₂, subst, ◌∙◌, inl, inr, arith, true≢false}
+use Rattle.std.specs.Prelude.{◌≢◌, ◌^◌, ◌-◌, min, nat_lt, if◌then◌else◌, IfOk, IfSome, IsSomeAnd, OnOk, Result, Ok, Err}
+use Rattle.std.specs.List.{list_any}
 use Rattle.std.specs.Io.KnownBytes.{prepend_known}
 use Rattle.std.proofs.KnownBytes.{prepend_known-nil}
+use Rattle.std.proofs.lemmas.Bool.{lt-ltb, ltb-true}
 use Rattle.cwr_shape.specs.declared.limits.Limits.{Limits}
+use Rattle.cwr_shape.specs.declared.reasons.Level.{Level}
+use Rattle.cwr_values.specs.declared.items.Item.{Item}
+use Rattle.cwr_values.specs.declared.items.Item.TheVariants as items
+use Rattle.cwr_values.specs.Format.Values.{TransmissionValue}
+use Rattle.cwr_judge.specs.Format.Ends.{IsAccepted}
+use Rattle.cwr_judge.specs.Format.Items.{value_items}
 use Rattle.cwr_tools.specs.declared.verdicts.Verdict.{Verdict}
 use Rattle.cwr_tools.specs.declared.verdicts.Verdict.TheVariants as verdicts
 use Rattle.cwr_tools.specs.declared.verdicts.ToolFault.{ToolFault}
 use Rattle.cwr_tools.specs.declared.verdicts.ToolFault.TheVariants as tool_faults
-use Rattle.cwr_tools.specs.Format.Verdicts.{JudgesText}
-use Rattle.cwr_program.specs.declared.commands.Status.{Status}
-use Rattle.cwr_program.specs.declared.faults.Fault.{Fault}
-use Rattle.cwr_program.specs.Format.Endings.{EndsAs, EndsOn, EndsOnInput}
+use Rattle.cwr_tools.specs.declared.watch.Watch.{Watch}
+use Rattle.cwr_tools.specs.Format.Reports.{ItemLines, JudgesAccepted}
+use Rattle.cwr_tools.specs.Format.Verdicts.{IsVerdictOn, JudgesText}
+use Rattle.cwr_tools.specs.Format.Watching.{SeesAccepted, any_from, item_has_from, watched}
+use Rattle.cwr_explain.specs.declared.trailing.Trailing.{Trailing}
+use Rattle.cwr_explain.specs.Format.Explained.{FindsAfter, IsTrailing}
+use Rattle.cwr_program.specs.declared.endings.Look.{Look}
+use Rattle.cwr_program.specs.declared.endings.Look.TheVariants as looks
+use Rattle.cwr_program.specs.declared.endings.Status.{Status}
+use Rattle.cwr_program.specs.declared.endings.Status.TheVariants as statuses
+use Rattle.cwr_program.specs.declared.endings.Wanted.{Wanted}
+use Rattle.cwr_program.specs.Format.Endings.{FallsShort, IsStatusOn, Meets}
+use Rattle.cwr_program.specs.Steps.Looks.{IsLook, LooksAfter, LooksOnce, follows, good_status, look_of, status_after, status_in}
 
-ends_on : (limits : Limits) (text : List ℕ) (outcome : Result Verdict ToolFault) (ending : Result Status Fault) → JudgesText limits (Some text) outcome → EndsAs outcome ending → EndsOn limits text ending
-ends_on limits text (Ok (verdicts.Good groups transactions records)) ending judged ends = subst (EndsOn limits text) (sym ends) (judged.0, judged.1, judged.2)
-ends_on limits text (Ok (verdicts.Refused refusal)) ending judged ends = subst (EndsOn limits text) (sym ends) (inl (refusal, judged))
-ends_on limits text (Ok (verdicts.Truncated records)) ending judged ends = subst (EndsOn limits text) (sym ends) (inr (records, judged))
-ends_on limits text (Err tool_faults.Reader) ending judged ends = subst (EndsOn limits text) (sym ends) tt
-ends_on limits text (Err (tool_faults.Writer written)) ending judged ends = subst (EndsOn limits text) (sym ends) tt
-ends_on limits text (Err tool_faults.Memory) ending judged ends = subst (EndsOn limits text) (sym ends) tt
-ends_on limits text (Err (tool_faults.Refused refusal)) ending judged ends = absurd judged
-ends_on limits text (Err (tool_faults.Truncated records)) ending judged ends = absurd judged
-ends_on limits text (Err (tool_faults.Limit limit)) ending judged ends = absurd judged
-ends_on limits text (Err tool_faults.Output) ending judged ends = absurd judged
+-- ---- what stands after a transmission
 
--- so it does where its bytes are known
-ends_on_input : (limits : Limits) (input : Option (List ℕ)) (outcome : Result Verdict ToolFault) (ending : Result Status Fault) → JudgesText limits input outcome → EndsAs outcome ending → EndsOnInput limits input ending
-ends_on_input limits None outcome ending judged ends = tt
-ends_on_input limits (Some text) outcome ending judged ends = ends_on limits text outcome ending judged ends
+none_taken : (more : List ℕ) → min (length more) (2 ^ 64 - 1) ≡ 0 → more ≡ []
+none_taken [] e = refl
+none_taken (x ∷ more) e = absurd (omega (arith, e))
+
+not_empty : (more rest : List ℕ) → 0 < length more → more ++ rest ≢ []
+not_empty [] rest h = absurd (omega (arith, h))
+not_empty (x ∷ more) rest h = λ e. absurd (cc e)
+
+-- nothing follows
+follows_not : (text : List ℕ) (after : Option (List ℕ)) (t : Trailing) → IsTrailing (Some text) after t → follows t ≡ false → text ≡ []
+follows_not text None t h f = absurd h.consumed
+follows_not text (Some rest) t h f = by (nat_lt 0 t.bytes) t.is_all refl refl f where
+  by : (b a : Bool) → nat_lt 0 t.bytes ≡ b → t.is_all ≡ a → (b || not a) ≡ false → text ≡ []
+  by false true b a e =
+      let none : t.bytes ≡ 0 = zero_bytes t.bytes b in
+      h.consumed ∙ ap₂ (λ (xs ys : List ℕ). xs ++ ys) (none_taken h.more (sym h.counted ∙ none)) (h.all a)
+  by false false b a e = absurd (true≢false e)
+  by true c b a e = absurd (true≢false e)
+  zero_bytes : (n : ℕ) → nat_lt 0 n ≡ false → n ≡ 0
+  zero_bytes 0 e = refl
+  zero_bytes (suc n) e = absurd (true≢false (sym (lt-ltb 0 (suc n) (omega arith)) ∙ e))
+
+-- bytes follow
+follows_some : (text : List ℕ) (after : Option (List ℕ)) (t : Trailing) → IsTrailing (Some text) after t → follows t ≡ true → text ≢ []
+follows_some text None t h f = absurd h.consumed
+follows_some text (Some rest) t h f = λ e. not_empty h.more rest (by (nat_lt 0 t.bytes) t.is_all refl refl f) (sym h.consumed ∙ e) where
+  by : (b a : Bool) → nat_lt 0 t.bytes ≡ b → t.is_all ≡ a → (b || not a) ≡ true → 0 < length h.more
+  by true a b e f = let some : 0 < t.bytes = ltb-true 0 t.bytes b in omega (arith, some, h.counted)
+  by false false b e f = let some : 0 < t.bytes = h.some e in omega (arith, some, h.counted)
+  by false true b e f = absurd (true≢false (sym f))
+
+-- ---- the status of a verdict
+
+-- with the status that a transmission has which has no unwanted finding
+status_whole : (limits : Limits) (wanted : Wanted) (text : List ℕ) (v : TransmissionValue) (n : ℕ) (look : Look) (status : Status) → IsAccepted limits text v n → any_from wanted.fail_on (value_items v) ≡ false
+    → wanted.whole ≡ true → (after : Option (List ℕ)) → IsLook (Some (drop n text)) after look → status_after look ≡ Some status → IsStatusOn limits wanted text status
+status_whole limits wanted text v n (looks.Found t) status accepted calm whole after h e = by (follows t) refl e where
+  by : (b : Bool) → follows t ≡ b → (if b then Some statuses.Refused else Some statuses.Good) ≡ Some status → IsStatusOn limits wanted text status
+  by true f e = let is : statuses.Refused ≡ status = cc e in
+      subst (IsStatusOn limits wanted text) is (inr (inr (v, n, accepted, inl (whole, follows_some (drop n text) after t h f))))
+  by false f e = let is : statuses.Good ≡ status = cc e in
+      subst (IsStatusOn limits wanted text) is (v, n, accepted, record { whole = λ _. follows_not (drop n text) after t h f; calm = calm })
+status_whole limits wanted text v n looks.Failed status accepted calm whole after h e = absurd (cc e)
+status_whole limits wanted text v n looks.Unasked status accepted calm whole after h e = absurd h
+
+status_calm : (limits : Limits) (wanted : Wanted) (text : List ℕ) (v : TransmissionValue) (n : ℕ) (look : Look) (status : Status) (whole : Bool) → wanted.whole ≡ whole → IsAccepted limits text v n → any_from wanted.fail_on (value_items v) ≡ false
+    → (after : Option (List ℕ)) → IsLook (Some (drop n text)) after look → (if whole then status_after look else Some statuses.Good) ≡ Some status → IsStatusOn limits wanted text status
+status_calm limits wanted text v n look status true is accepted calm after h e = status_whole limits wanted text v n look status accepted calm is after h e
+status_calm limits wanted text v n look status false is accepted calm after h e = let good : statuses.Good ≡ status = cc e in
+    subst (IsStatusOn limits wanted text) good (v, n, accepted, record { whole = λ w. absurd (true≢false (sym w ∙ is)); calm = calm })
+
+status_good : (limits : Limits) (wanted : Wanted) (text : List ℕ) (v : TransmissionValue) (n : ℕ) (look : Look) (found : Bool) (status : Status) → IsAccepted limits text v n → any_from wanted.fail_on (value_items v) ≡ found
+    → (after : Option (List ℕ)) → IsLook (Some (drop n text)) after look → good_status wanted look found ≡ Some status → IsStatusOn limits wanted text status
+status_good limits wanted text v n look true status accepted saw after h e = let refused : statuses.Refused ≡ status = cc e in
+    subst (IsStatusOn limits wanted text) refused (inr (inr (v, n, accepted, inr saw)))
+status_good limits wanted text v n look false status accepted saw after h e = status_calm limits wanted text v n look status wanted.whole refl accepted saw after h e
+
+status_on : (limits : Limits) (wanted : Wanted) (text : List ℕ) (verdict : Verdict) (look : Look) (old new : Watch) (status : Status) → old ≡ record { from = wanted.fail_on; found = false } → IsVerdictOn limits text verdict
+    → SeesAccepted limits (Some text) old new → LooksAfter limits (Some text) look → status_in wanted verdict look new.found ≡ Some status → IsStatusOn limits wanted text status
+status_on limits wanted text (verdicts.Good groups transactions records) look old new status fresh judged seen looked e =
+    let v = judged.0 in
+    let n = judged.1 in
+    let saw : any_from wanted.fail_on (value_items v) ≡ new.found = sym (ap (λ (w : Watch). w.found) (seen v n judged.2 ∙ ap (λ (w : Watch). watched w (value_items v)) fresh)) in
+    status_good limits wanted text v n look new.found status judged.2 saw (looked v n judged.2).0 (looked v n judged.2).1 e
+status_on limits wanted text (verdicts.Refused refusal) look old new status fresh judged seen looked e = let refused : statuses.Refused ≡ status = cc e in
+    subst (IsStatusOn limits wanted text) refused (inl (refusal, judged))
+status_on limits wanted text (verdicts.Truncated records) look old new status fresh judged seen looked e = let refused : statuses.Refused ≡ status = cc e in
+    subst (IsStatusOn limits wanted text) refused (inr (inl (records, judged)))
+
+-- where its bytes are known
+pub status_on_input : (limits : Limits) (wanted : Wanted) (before : Option (List ℕ)) (verdict : Verdict) (look : Look) (old new : Watch) (status : Status) → old ≡ record { from = wanted.fail_on; found = false }
+    → JudgesText limits before (Ok verdict) → SeesAccepted limits before old new → LooksAfter limits before look → status_in wanted verdict look new.found ≡ Some status → IfSome before (λ text. IsStatusOn limits wanted text status)
+status_on_input limits wanted None verdict look old new status fresh judged seen looked e = tt
+status_on_input limits wanted (Some text) verdict look old new status fresh judged seen looked e = status_on limits wanted text verdict look old new status fresh judged seen looked e
 
 -- where it is read by a source that has read nothing of it so far
-pub ends_on_source : {R : Type 0} (limits : Limits) (remaining : R → Option (List ℕ)) (input inner : R) (ahead : List ℕ) (outcome : Result Verdict ToolFault) (ending : Result Status Fault) → inner ≡ input → ahead ≡ []
-    → JudgesText limits (prepend_known ahead (remaining inner)) outcome → EndsAs outcome ending → EndsOnInput limits (remaining input) ending
-ends_on_source limits remaining input inner ahead outcome ending i a judged ends =
-    ends_on_input limits (remaining input) outcome ending
-    (subst (λ (known : Option (List ℕ)). JudgesText limits known outcome) (ap₂ (λ (xs : List ℕ) (r : _). prepend_known xs (remaining r)) a i ∙ prepend_known-nil (remaining input)) judged) ends
+pub from_source : {R : Type 0} (P : Option (List ℕ) → Type 0) (remaining : R → Option (List ℕ)) (input inner : R) (ahead : List ℕ) → inner ≡ input → ahead ≡ [] → P (prepend_known ahead (remaining inner)) → P (remaining input)
+from_source P remaining input inner ahead i a p = subst P (ap₂ (λ (xs : List ℕ) (r : _). prepend_known xs (remaining r)) a i ∙ prepend_known-nil (remaining input)) p
+
+-- ---- what is seen and looked for
+
+none_from : (given : List Item) → any_from None given ≡ false
+none_from [] = refl
+none_from (items.Transaction t ∷ given) = none_from given
+none_from (items.Opened r ∷ given) = none_from given
+none_from (items.GroupOpened r ∷ given) = none_from given
+none_from (items.GroupClosed r ∷ given) = none_from given
+none_from (items.Ended ∷ given) = none_from given
+
+or_false : (b : Bool) → (b || false) ≡ b
+or_false true = refl
+or_false false = refl
+
+watched_same : (watch : Watch) (from : Option Level) (given : List Item) → watch.from ≡ from → from ≡ None → watch ≡ watched watch given
+watched_same watch from given e none =
+    ap (λ (b : Bool). record watch { found = b }) (sym (ap (λ (b : Bool). watch.found || b) (ap (λ (l : Option Level). any_from l given) (e ∙ none) ∙ none_from given) ∙ or_false watch.found))
+
+-- a watch without a level sees nothing
+pub sees_nothing : (limits : Limits) (before : Option (List ℕ)) (watch : Watch) → watch.from ≡ None → SeesAccepted limits before watch watch
+sees_nothing limits None watch none = tt
+sees_nothing limits (Some text) watch none = λ v n a. watched_same watch watch.from (value_items v) refl none
+
+-- after a report that left what stands after the transmission
+pub looks_after : {W : Type 0} (of : ItemLines) (limits : Limits) (before mid after : Option (List ℕ)) (contents : W → Option (List ℕ)) (old new : W) (outcome : Result Verdict ToolFault) (look : Look)
+    → IfOk outcome (JudgesAccepted of limits before mid contents old new) → LooksOnce mid after outcome look → OnOk outcome (LooksAfter limits before look)
+looks_after of limits before mid after contents old new (Err fault) look judged once = tt
+looks_after of limits None mid after contents old new (Ok verdict) look judged once = tt
+looks_after of limits (Some text) mid after contents old new (Ok verdict) look judged once = λ v n a.
+    let j = judged v n a in
+    (after, subst (λ (m : Option (List ℕ)). IsLook m after look) j.1 (subst (λ (it : Verdict). LooksOnce mid after (Ok it) look) j.0 once))
+
+-- after one that explained what stands there
+pub looks_found : (limits : Limits) (before after : Option (List ℕ)) (outcome : Result Verdict ToolFault) (found : Option Trailing) → OnOk outcome (FindsAfter limits before after found) → OnOk outcome (LooksAfter limits before (look_of found))
+looks_found limits before after (Err fault) found h = tt
+looks_found limits None after (Ok verdict) found h = tt
+looks_found limits (Some text) after (Ok verdict) found h = λ v n a. (after, by found (h v n a)) where
+  by : {left : Option (List ℕ)} (it : Option Trailing) → IsSomeAnd it (IsTrailing left after) → IsLook left after (look_of it)
+  by None s = absurd s
+  by (Some t) s = s

@@ -5,7 +5,7 @@ ghost use Rattle.cwr_tools.specs.Format.Verdicts.{JudgesText};
 ghost use Rattle.cwr_tools.specs.Format.Watching.{SeesAccepted};
 ghost use Rattle.cwr_program.specs.Format.Endings.{EndsOnInput};
 ghost use Rattle.cwr_program.specs.Steps.Inputs.{remaining_of};
-ghost use Rattle.cwr_program.specs.Steps.Looks.{IsLook, JudgesOn, LooksAfter, LooksOnce, tells_findings};
+ghost use Rattle.cwr_program.specs.Steps.Looks.{IsLook, JudgesOn, LooksAfter, LooksOnce, look_of, tells_findings};
 
 use crate::endings::{Look, Status, Wanted, follows, status_of};
 use crate::faults::{Fault, Name, Told};
@@ -88,6 +88,16 @@ fn look_after<R: Source>(reader: &mut R, outcome: &Result<Verdict, ToolFault>) -
     }
 }
 
+/// What was found after a transmission, if that was looked for.
+fn look_of(found: Option<Trailing>) -> Look
+    ensures { result ≡ look_of found }
+{
+    match found {
+        Some(trailing) => Look::Found(trailing),
+        None => Look::Unasked,
+    }
+}
+
 /// Reads a transmission, writes what is told of it, and looks what stands after it. The writer comes back.
 fn tell<R: Source, W: Target + Drop>(
     alloc: Global,
@@ -110,7 +120,7 @@ fn tell<R: Source, W: Target + Drop>(
         }
         Telling::Explained(name) => {
             let (writer, outcome, found) = explain(alloc, limits, name, watch, reader, writer);
-            (writer, outcome, found.map_or(Look::Unasked, Look::Found))
+            (writer, outcome, look_of(found))
         }
         Telling::Records => {
             let (writer, outcome) = show(alloc, limits, reader, writer);

@@ -81,13 +81,27 @@ type Run = (
 );
 
 /// What is written of a file that can't be opened.
-const NO_FILE: &[u8] = b"cwr: cannot open no/such/file.cwr\n";
+const NO_FILE: &[u8] = b"cwr: cannot open no/such/file.cwr
+cwr: no/such/file.cwr: No such file or directory (os error 2)
+";
+
+/// What is written of a file that can't be made.
+const NO_OUT: &[u8] = b"cwr: cannot open no/such/out
+cwr: no/such/out: No such file or directory (os error 2)
+";
 
 /// What is written of an input without a byte.
 const EMPTY: &[u8] = b"TRUNCATED records 0\n";
 
 /// What is written of an input that fails.
-const READ_FAULT: &[u8] = b"cwr: read fault\n";
+const READ_FAULT: &[u8] = b"cwr: read fault
+cwr: standard input: other error, after 0 bytes
+";
+
+/// What is written of one that fails after an acknowledgement without TRL.
+const READ_FAULT_LATER: &[u8] = b"cwr: read fault
+cwr: standard input: other error, after 333 bytes
+";
 
 /// What is written of one acknowledgement.
 const GOOD: &[u8] = b"GOOD groups 1 transactions 1 records 5\n";
@@ -115,7 +129,7 @@ static RUNS: [Run; 23] = [
     (&["cwr", "split", "-n", "3", "no/such/file.cwr", "part-"], FAILING, 3, (b"", NO_FILE)),
     (&["cwr", "join", "/dev/null", "/dev/null", "/dev/null"], FAILING, 1, (b"input 1: TRUNCATED records 0\n", b"")),
     (&["cwr", "join", "no/such/out", "/dev/null", "no/such/file.cwr"], FAILING, 3, (b"", NO_FILE)),
-    (&["cwr", "join", "no/such/out", "/dev/null"], FAILING, 3, (b"", b"cwr: cannot open no/such/out\n")),
+    (&["cwr", "join", "no/such/out", "/dev/null"], FAILING, 3, (b"", NO_OUT)),
     (&["cwr", "--version"], FAILING, 2, (b"", b"cwr 0.1.0\n")),
     (&["cwr"], FAILING, 3, (b"", READ_FAULT)),
     (&["cwr", "explain"], (&[b"hdr"], false), 1, (EXPLAINED, b"")),
@@ -174,7 +188,7 @@ const BEFORE_TRAILER: &[&[u8]] = &[HDR, GRH_ACK, ACK_0, b"GRT0000100000001000000
 static SHOWN: [Run; 3] = [
     (&["cwr", "show"], ONE, 0, (SHOWN_LAST, b"")),
     (&["cwr", "show", "--records", "5"], ONE, 0, (SHOWN_LAST, b"")),
-    (&["cwr", "show"], (BEFORE_TRAILER, true), 3, (SHOWN_BEFORE, READ_FAULT)),
+    (&["cwr", "show"], (BEFORE_TRAILER, true), 3, (SHOWN_BEFORE, READ_FAULT_LATER)),
 ];
 
 #[test]
@@ -259,15 +273,25 @@ fn check_write_fault<R: Files + AllocGlobal + Abort, O: Write + Drop>(
     rt: &R,
     input: Given,
     output: O,
+    fault: &[u8],
 ) {
     let (status, error) = ran(rt, &["cwr"], input, output);
-    let fault = b"cwr: write fault\n".as_slice();
     check_equal(rt, (status, error.as_slice()), (3, fault));
 }
+
+/// What is written of a writer that takes four bytes.
+const FULL: &[u8] = b"cwr: write fault
+cwr: standard output, after 4 bytes
+";
+
+/// What is written of one that can't hand on the 39 bytes of a verdict.
+const NOT_HANDED_ON: &[u8] = b"cwr: write fault
+cwr: standard output: other error, after 39 bytes
+";
 
 #[test]
 fn writers_that_fail(rt: HostRuntime) {
     let mut full = [0u8; 4];
-    check_write_fault(&rt, NOTHING, full.as_mut_slice());
-    check_write_fault(&rt, ONE, Stuck);
+    check_write_fault(&rt, NOTHING, full.as_mut_slice(), FULL);
+    check_write_fault(&rt, ONE, Stuck, NOT_HANDED_ON);
 }

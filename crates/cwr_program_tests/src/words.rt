@@ -20,21 +20,24 @@ fn asked(rt: &(impl Abort + AllocGlobal), words: &[&str]) -> Option<(String, Lim
 
 /// Words, what they ask for, and its limits.
 #[rattlefmt::skip]
-static ASKED: [(&[&str], &str, Numbers); 14] = [
-    (&["cwr"], "Check(None)", LARGEST),
-    (&["cwr", "check"], "Check(None)", LARGEST),
+static ASKED: [(&[&str], &str, Numbers); 17] = [
+    (&["cwr"], "Check(Judging { files: [], quiet: false, fail_on: None })", LARGEST),
+    (&["cwr", "check"], "Check(Judging { files: [], quiet: false, fail_on: None })", LARGEST),
     (&["cwr", "show"], "Show(None)", LARGEST),
-    (&["cwr", "explain"], "Explain(None)", LARGEST),
+    (&["cwr", "explain"], "Explain(Judging { files: [], quiet: false, fail_on: None })", LARGEST),
     (&["cwr", "show", "a.cwr"], "Show(Some(\"a.cwr\"))", LARGEST),
-    (&["cwr", "check", "a.cwr"], "Check(Some(\"a.cwr\"))", LARGEST),
-    (&["cwr", "check", "--records", "5", "--groups=2", "--transaction", "7", "a.cwr"], "Check(Some(\"a.cwr\"))", (5, 2, 7)),
+    (&["cwr", "check", "a.cwr"], "Check(Judging { files: [\"a.cwr\"], quiet: false, fail_on: None })", LARGEST),
+    (&["cwr", "check", "--records", "5", "--groups=2", "--transaction", "7", "a.cwr"], "Check(Judging { files: [\"a.cwr\"], quiet: false, fail_on: None })", (5, 2, 7)),
+    (&["cwr", "check", "a.cwr", "-", "--quiet", "--fail-on", "G"], "Check(Judging { files: [\"a.cwr\", \"-\"], quiet: true, fail_on: Some(G) })", LARGEST),
+    (&["cwr", "explain", "--fail-on=F"], "Explain(Judging { files: [], quiet: false, fail_on: Some(F) })", LARGEST),
     (&["cwr", "show", "--groups", "3"], "Show(None)", (99_999_999, 3, 999_999)),
-    (&["cwr", "split", "-n", "1", "a.cwr", "part-"], "Split { transactions: 1, file: \"a.cwr\", prefix: \"part-\" }", LARGEST),
-    (&["cwr", "split", "a.cwr", "-n99999999", "part-"], "Split { transactions: 99999999, file: \"a.cwr\", prefix: \"part-\" }", LARGEST),
-    (&["cwr", "split", "--groups", "9", "a.cwr", "part-", "-n", "250"], "Split { transactions: 250, file: \"a.cwr\", prefix: \"part-\" }", (99_999_999, 9, 999_999)),
-    (&["cwr", "join", "out.cwr", "a.cwr"], "Join { out: \"out.cwr\", files: [\"a.cwr\"] }", LARGEST),
-    (&["cwr", "join", "out.cwr", "a.cwr", "b.cwr"], "Join { out: \"out.cwr\", files: [\"a.cwr\", \"b.cwr\"] }", LARGEST),
-    (&["cwr", "join", "out.cwr", "a.cwr", "b.cwr", "a.cwr"], "Join { out: \"out.cwr\", files: [\"a.cwr\", \"b.cwr\", \"a.cwr\"] }", LARGEST),
+    (&["cwr", "split", "-n", "1", "a.cwr", "part-"], "Split { transactions: 1, file: \"a.cwr\", prefix: \"part-\", only_new: false }", LARGEST),
+    (&["cwr", "split", "a.cwr", "-n99999999", "part-"], "Split { transactions: 99999999, file: \"a.cwr\", prefix: \"part-\", only_new: false }", LARGEST),
+    (&["cwr", "split", "--groups", "9", "a.cwr", "part-", "-n", "250"], "Split { transactions: 250, file: \"a.cwr\", prefix: \"part-\", only_new: false }", (99_999_999, 9, 999_999)),
+    (&["cwr", "split", "--new", "-n", "1", "a.cwr", "part-"], "Split { transactions: 1, file: \"a.cwr\", prefix: \"part-\", only_new: true }", LARGEST),
+    (&["cwr", "join", "out.cwr", "a.cwr"], "Join { out: \"out.cwr\", files: [\"a.cwr\"], only_new: false }", LARGEST),
+    (&["cwr", "join", "out.cwr", "a.cwr", "b.cwr"], "Join { out: \"out.cwr\", files: [\"a.cwr\", \"b.cwr\"], only_new: false }", LARGEST),
+    (&["cwr", "join", "out.cwr", "a.cwr", "b.cwr", "a.cwr"], "Join { out: \"out.cwr\", files: [\"a.cwr\", \"b.cwr\", \"a.cwr\"], only_new: false }", LARGEST),
 ];
 
 #[test]
@@ -49,7 +52,9 @@ fn work_that_is_asked_for(rt: HostRuntime) {
 
 /// Words that are missing or out of range.
 #[rattlefmt::skip]
-static WRONG: [&[&str]; 9] = [
+static WRONG: [&[&str]; 11] = [
+    &["cwr", "check", "--fail-on", "X"],
+    &["cwr", "show", "a.cwr", "b.cwr"],
     &["cwr", "split"],
     &["cwr", "split", "a.cwr", "part-"],
     &["cwr", "split", "-n", "1", "a.cwr"],

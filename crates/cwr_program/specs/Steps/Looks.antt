@@ -55,6 +55,11 @@ LooksOnce left after outcome look = Unit {0}
 abbrev pub LooksAfter : Limits → Option (List ℕ) → Look → Type 0
 LooksAfter limits before look = IfSome before (λ text. (v : TransmissionValue) (n : ℕ) → IsAccepted limits text v n → (after : Option (List ℕ)) × IsLook (Some (drop n text)) after look)
 
+-- what was found, if it was looked for
+abbrev pub look_of : Option Trailing → Look
+look_of None = looks.Unasked
+look_of (Some trailing) = looks.Found trailing
+
 -- what is told of a transmission are its findings
 abbrev pub tells_findings : Telling → Bool
 tells_findings tellings.Findings = true
