@@ -1,5 +1,6 @@
 //! The lines that explain a verdict.
 
+use crate::ahead::Ahead;
 use crate::expected::{add_cell_type, letters_of, number_rule};
 use crate::lines_at_end::{LineAtEnd, line_again, line_at_end};
 use crate::next_symbols::coming;
@@ -32,6 +33,8 @@ pub(crate) struct Refused<'a> {
     pub kind: Option<Kind>,
     /// Whether it has more than 1,024 bytes.
     pub is_too_long: bool,
+    /// How the numbers after a wrong one go on, where they were looked at.
+    pub ahead: Option<Ahead>,
 }
 
 impl Refused<'_> {
@@ -274,6 +277,7 @@ impl Refused<'_> {
                 expected,
                 line: self.line.bytes,
                 before: self.before,
+                ahead: self.ahead,
             }
             .add(text),
             _ => Ok(()),

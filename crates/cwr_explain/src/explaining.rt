@@ -7,14 +7,15 @@ ghost use Rattle.cwr_tools.specs.Format.Watching.{SeesAccepted};
 ghost use Rattle.cwr_explain.specs.Format.Explained.{AddsWords, FindsAfter, IsAnswerTo, IsTrailing, ReadsOnly, TakesMore, WritesOnly};
 ghost use Rattle.cwr_explain.specs.Steps.Explained.{Explains, found_in, is_good};
 
+use crate::ahead::{Ahead, Sequence, look_ahead, sequence_at};
 use crate::causes::{Refused, add_trailing, add_truncated, kind_of};
-use crate::lines_at_end::{line_at_end, line_before};
+use crate::lines_at_end::{LineAtEnd, line_at_end, line_before};
 use crate::trailing::{Trailing, read_trailing};
 use cwr_decode::{LastRead, Refusal};
 use cwr_encode::Sink;
 use cwr_fields::{Source, Target};
 use cwr_layouts::LONGEST_LINE;
-use cwr_shape::Limits;
+use cwr_shape::{Limits, Reason};
 use cwr_tools::{ToolFault, Verdict, Watch, check_explained};
 use std::alloc::{AllocError, Global};
 
@@ -25,6 +26,8 @@ enum Beyond {
     Trailing(Trailing),
     /// After a refused line that had no line feed: whether it goes on.
     GoesOn(bool),
+    /// After a line whose number is wrong: how the numbers go on.
+    Numbers(Ahead),
     /// Nobody asked.
     Unasked,
 }
@@ -36,7 +39,7 @@ impl Beyond {
     {
         match self {
             Beyond::Trailing(found) => Some(found),
-            Beyond::GoesOn(_) | Beyond::Unasked => None,
+            Beyond::GoesOn(_) | Beyond::Numbers(_) | Beyond::Unasked => None,
         }
     }
 }
@@ -52,8 +55,36 @@ fn has_more<R: Source>(reader: &mut R) -> Result<bool, ToolFault>
     }
 }
 
-/// Looks at what the reader has after the run: all of it after a transmission, and whether there is a byte after a refused
-/// line of 1,024 bytes.
+/// The sequence of a line whose number is refused, and that number.
+fn wrong_sequence(refusal: &Refusal, line: &LineAtEnd<'_>) -> Option<(Sequence, u64)> {
+    match refusal.reason {
+        Reason::Number { .. } if line.ended => {
+            sequence_at(kind_of(line.bytes), refusal.field, line.bytes)
+        }
+        _ => None,
+    }
+}
+
+/// Looks at what the reader has after a refused line: whether there is a byte after one of 1,024 bytes, and how the numbers go on after
+/// a wrong one.
+fn look_after_line<R: Source>(
+    reader: &mut R,
+    refusal: &Refusal,
+    line: &LineAtEnd<'_>,
+) -> Result<Beyond, ToolFault>
+    ensures taken { TakesMore (R.remaining reader.old) (R.remaining reader.new) }
+    ensures failures { ReadsOnly result (R.failures reader.old) (R.failures reader.new) }
+{
+    if !line.ended && line.bytes.len() == LONGEST_LINE {
+        return Ok(Beyond::GoesOn(has_more(reader)?));
+    }
+    match wrong_sequence(refusal, line) {
+        Some((sequence, number)) => Ok(Beyond::Numbers(look_ahead(reader, sequence, number)?)),
+        None => Ok(Beyond::Unasked),
+    }
+}
+
+/// Looks at what the reader has after the run: all of it after a transmission, and what tells more of a refused line.
 fn look_beyond<R: Source>(
     reader: &mut R,
     verdict: &Verdict,
@@ -66,10 +97,8 @@ fn look_beyond<R: Source>(
     let line = line_at_end(&last.bytes);
     match verdict {
         Verdict::Good { .. } => Ok(Beyond::Trailing(read_trailing(reader)?)),
-        Verdict::Refused(_) if !line.ended && line.bytes.len() == LONGEST_LINE => Ok(Beyond::GoesOn(
-            has_more(reader)?,
-        )),
-        _ => Ok(Beyond::Unasked),
+        Verdict::Refused(refusal) => look_after_line(reader, refusal, &line),
+        Verdict::Truncated { .. } => Ok(Beyond::Unasked),
     }
 }
 
@@ -81,7 +110,7 @@ fn add_refused(
     name: &str,
     refusal: &Refusal,
     last: &LastRead,
-    is_too_long: bool,
+    beyond: Beyond,
 ) -> Result<(), AllocError> {
     let line = line_at_end(&last.bytes);
     let refused = Refused {
@@ -90,7 +119,11 @@ fn add_refused(
         line,
         before: line_before(&last.bytes),
         kind: kind_of(line.bytes),
-        is_too_long,
+        is_too_long: matches!(beyond, Beyond::GoesOn(true)),
+        ahead: match beyond {
+            Beyond::Numbers(ahead) => Some(ahead),
+            Beyond::Trailing(_) | Beyond::GoesOn(_) | Beyond::Unasked => None,
+        },
     };
     refused.add(alloc, text, limits, last.stage)
 }
@@ -112,8 +145,7 @@ fn explanation(
             }
         }
         Verdict::Refused(refusal) => {
-            let is_too_long = matches!(beyond, Beyond::GoesOn(true));
-            add_refused(alloc, &mut text, limits, name, refusal, last, is_too_long)?;
+            add_refused(alloc, &mut text, limits, name, refusal, last, beyond)?;
         }
         Verdict::Truncated { records } => add_truncated(alloc, &mut text, name, *records, last)?,
     }

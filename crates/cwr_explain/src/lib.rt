@@ -1,6 +1,7 @@
 //! What a check found, explained: which bytes, what stands there, and what may.
 #![tactic(auto)]
 
+mod ahead;
 mod causes;
 mod expected;
 mod explaining;

@@ -42,20 +42,63 @@ fn goes_on(bytes: &[u8], end: usize) -> bool {
     }
 }
 
+/// How many blanks end a text.
+const GAP: usize = 3;
+
+/// Whether a cell has text again after a gap of blanks.
+fn has_text_after_gap(cell: &[u8]) -> bool {
+    let mut blanks: usize = 0;
+    let mut begun = false;
+    for byte in cell {
+        if *byte == b' ' {
+            blanks = blanks.saturating_add(1);
+        } else {
+            if begun && blanks >= GAP {
+                return true;
+            }
+            begun = true;
+            blanks = 0;
+        }
+    }
+    false
+}
+
+/// Why blanks may have been lost in a line before a field ends.
+#[derive(Clone, Copy, Debug, PartialEq, Eq)]
+enum Sign {
+    /// Its text goes on over its end.
+    GoesOn,
+    /// It has text again after blanks.
+    Gap,
+}
+
+/// What a field shows of lost blanks.
+fn sign_in(bytes: &[u8], place: &Field) -> Option<Sign> {
+    let end = place.start.saturating_add(place.width);
+    if place.width < WIDE {
+        return None;
+    }
+    if goes_on(bytes, end) {
+        return Some(Sign::GoesOn);
+    }
+    match bytes.get(place.start..end) {
+        Some(cell) if has_text_after_gap(cell) => Some(Sign::Gap),
+        _ => None,
+    }
+}
+
 /// The least width of a field of which text is expected to end within it.
 const WIDE: usize = 14;
 
-/// The first wide field before the refused one that ends within a word.
-fn field_within_word(kind: Kind, refused: u8, bytes: &[u8]) -> Option<Field> {
+/// The first field before the refused one that shows that blanks were lost.
+fn field_with_sign(kind: Kind, refused: u8, bytes: &[u8]) -> Option<(Field, Sign)> {
     for j in 1..fields(kind) {
         if j >= refused {
             break;
         }
-        match field(kind, j) {
-            Some(place) if place.width >= WIDE && goes_on(bytes, place.start.saturating_add(place.width)) => {
-                return Some(place);
-            }
-            _ => {}
+        let place = field(kind, j)?;
+        if let Some(sign) = sign_in(bytes, &place) {
+            return Some((place, sign));
         }
     }
     None
@@ -79,15 +122,19 @@ pub(crate) fn add_shift(
     if bytes.len() >= width(kind) {
         return Ok(());
     }
-    match field_within_word(kind, refused, bytes) {
-        Some(place) => {
+    match field_with_sign(kind, refused, bytes) {
+        Some((place, sign)) => {
             let letters = letters_of(kind);
-            let Field { name, start, width, .. } = place;
-            let last = start.saturating_add(width);
+            let name = place.name;
+            let last = place.start.saturating_add(place.width);
+            let what = match sign {
+                Sign::GoesOn => "goes on over its end",
+                Sign::Gap => "has text again after blanks",
+            };
             add_label(text, "note")?;
             writeln!(
                 text,
-                "the text of {letters} {name} goes on over its end at byte {last}, and the line is short: blanks may have been lost before that"
+                "{letters} {name} {what} (byte {last}), and the line is short: blanks may have been lost before that"
             )
         }
         None => Ok(()),

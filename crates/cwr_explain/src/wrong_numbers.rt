@@ -1,5 +1,6 @@
 //! What a wrong number points to: records that are missing or stand twice, or a count that wasn't changed.
 
+use crate::ahead::Ahead;
 use crate::texts::add_label;
 use cwr_layouts::Kind;
 use std::alloc::AllocError;
@@ -23,6 +24,8 @@ pub(crate) struct WrongNumber<'a> {
     pub line: &'a [u8],
     /// The line before, where its bytes are still held.
     pub before: Option<&'a [u8]>,
+    /// How the numbers after it go on, where they were looked at.
+    pub ahead: Option<Ahead>,
 }
 
 /// What is numbered, as one and as several.
@@ -111,13 +114,31 @@ fn add_used(
     }
 }
 
+/// Adds how the numbers after a wrong one go on.
+fn add_ahead(text: &mut String, what: Numbered, ahead: Ahead) -> Result<(), AllocError> {
+    let Numbered { one, several, .. } = what;
+    match (ahead.count, ahead.goes_on) {
+        (0, _) => Ok(()),
+        (1, true) => write!(text, "; the {one} after it goes on from this number"),
+        (count, true) => write!(text, "; the {count} {several} after it go on from this number"),
+        (_, false) => write!(
+            text,
+            "; the {several} after it don't go on from this number, so it may be the one that is wrong"
+        ),
+    }
+}
+
 impl WrongNumber<'_> {
     /// Adds what a number points to that is one more with each of what it numbers.
     fn add_in_order(&self, text: &mut String, what: Numbered) -> Result<(), AllocError> {
         if self.found > self.expected {
-            add_missing(text, what, self.found, self.expected)
+            add_missing(text, what, self.found, self.expected)?;
         } else {
-            add_used(text, what, self.found, self.expected)
+            add_used(text, what, self.found, self.expected)?;
+        }
+        match self.ahead {
+            Some(ahead) => add_ahead(text, what, ahead),
+            None => Ok(()),
         }
     }
 

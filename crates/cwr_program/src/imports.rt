@@ -6,6 +6,7 @@ use crate::endings::Status;
 use crate::faults::{Fault, Name, Told};
 use crate::inputs::Input;
 use crate::new_files::create_output;
+use crate::progress::Pace;
 use crate::outputs::{Gathered, gathered, told_of};
 use cwr_encode::Sink;
 use cwr_fields::Counted;
@@ -40,11 +41,11 @@ fn tell_import<E: Write>(outcome: &Result<Written, WriteFault>, error: &mut E) {
 
 /// Writes the transmission that the input's lines are, each of at most so many bytes, to the writer. Beside how that ended comes what
 /// is known of both.
-fn import<'a, F: Read + Drop, I: Read + Drop, O: Write + Drop>(
+fn import<'a, F: Read + Drop, I: Read + Drop, P: Pace + Drop, O: Write + Drop>(
     alloc: Global,
     limits: Limits,
     most: usize,
-    input: Input<'a, F, I>,
+    input: Input<'a, F, I, P>,
     writer: Gathered<'a, O>,
 ) -> (Result<Written, WriteFault>, Told<'a>, Told<'a>) {
     let mut reader = Counted::new(input);
@@ -53,11 +54,11 @@ fn import<'a, F: Read + Drop, I: Read + Drop, O: Write + Drop>(
 }
 
 /// Writes the transmission that the input's lines are to the output.
-pub(crate) fn import_input<'a, F: Read + Drop, I: Read + Drop, O: Write + Drop, E: Write>(
+pub(crate) fn import_input<'a, F: Read + Drop, I: Read + Drop, P: Pace + Drop, O: Write + Drop, E: Write>(
     alloc: Global,
     limits: Limits,
     most: usize,
-    input: Input<'a, F, I>,
+    input: Input<'a, F, I, P>,
     output: O,
     error: &mut E,
 ) -> Result<Status, Fault<'a>> {
@@ -73,12 +74,13 @@ pub(crate) fn import_file<
     R: Files + AllocGlobal,
     F: Read + Drop,
     I: Read + Drop,
+    P: Pace + Drop,
     E: Write,
 >(
     rt: &R,
     limits: Limits,
     most: usize,
-    input: Input<'a, F, I>,
+    input: Input<'a, F, I, P>,
     out: &'a str,
     error: &mut E,
 ) -> Result<Status, Fault<'a>> {

@@ -5,6 +5,8 @@ ghost use Rattle.cwr_program.specs.Format.Inputs.{is_standard};
 ghost use Rattle.cwr_program.specs.Steps.Inputs.{remaining_of};
 
 use crate::faults::{Fault, Name, Reason, STANDARD_INPUT, Told};
+use crate::progress::Pace;
+use crate::same_files::size_of;
 use std::fs::File;
 use std::io;
 use std::io::Read;
@@ -22,18 +24,21 @@ enum Device<F, I> {
 
 /// An input, with what is told of it where it fails.
 #[derive(Drop)]
-pub(crate) struct Input<'a, F, I> {
+pub(crate) struct Input<'a, F, I, P> {
     device: Device<F, I>,
     name: Name<'a>,
     /// How many bytes were read.
     bytes: u64,
     /// Why the last call failed, if it did.
     reason: Option<Reason>,
+    /// What follows how far it is read.
+    pace: P,
 }
 
-impl<'a, F, I> Input<'a, F, I> {
-    /// What is known of the input.
-    pub(crate) fn told(&self) -> Told<'a> {
+impl<'a, F: Drop, I: Drop, P: Pace + Drop> Input<'a, F, I, P> {
+    /// What is known of an input that is read no further.
+    pub(crate) fn told(mut self) -> Told<'a> {
+        self.pace.end();
         Told {
             name: self.name,
             bytes: self.bytes,
@@ -42,7 +47,7 @@ impl<'a, F, I> Input<'a, F, I> {
     }
 }
 
-impl<F: Read, I: Read> Read for Input<'_, F, I> {
+impl<F: Read, I: Read, P: Pace> Read for Input<'_, F, I, P> {
     ghost remaining = { remaining_of F.remaining I.remaining };
 
     fn read(&mut self, buf: &mut [u8]) -> io::Result<usize> {
@@ -51,7 +56,10 @@ impl<F: Read, I: Read> Read for Input<'_, F, I> {
             Device::Standard(input) => input.read(buf),
         };
         match &answer {
-            Ok(count) => self.bytes = self.bytes.saturating_add(*count as u64),
+            Ok(count) => {
+                self.bytes = self.bytes.saturating_add(*count as u64);
+                self.pace.advance(self.name, &buf[..*count], self.bytes);
+            }
             Err(fault) => self.reason = Some(Reason::of(fault)),
         }
         answer
@@ -74,30 +82,39 @@ pub(crate) fn shown_name(word: &str) -> &str {
 }
 
 /// The input of that name: a file, or standard input, which is there once.
-pub(crate) fn open_input<'a, R: Files, I: Read>(
+pub(crate) fn open_input<'a, R: Files, I: Read, P: Pace + Drop>(
     rt: &R,
     name: Option<&'a str>,
     standard: &mut Option<I>,
-) -> Result<Input<'a, R::File, I>, Fault<'a>>
+    mut pace: P,
+) -> Result<Input<'a, R::File, I, P>, Fault<'a>>
     ensures standard { is_standard (option_map (λ n. n.now) name) ≡ true → IfSome standard.old (λ input. IfOk result (λ opened. remaining_of R.File.Read.remaining I.remaining opened ≡ I.remaining input)) }
 {
     match name {
         Some(word) if word != DASH => match File::open(rt, word) {
-            Ok(file) => Ok(Input {
-                device: Device::File(file),
-                name: Name::File(word),
-                bytes: 0,
-                reason: None,
-            }),
+            Ok(file) => {
+                pace.begin(size_of(rt, word));
+                Ok(Input {
+                    device: Device::File(file),
+                    name: Name::File(word),
+                    bytes: 0,
+                    reason: None,
+                    pace,
+                })
+            }
             Err(fault) => Err(Fault::Open(Name::File(word), Some(Reason::of(&fault)))),
         },
         _ => match standard.take() {
-            Some(input) => Ok(Input {
-                device: Device::Standard(input),
-                name: Name::StandardInput,
-                bytes: 0,
-                reason: None,
-            }),
+            Some(input) => {
+                pace.begin(None);
+                Ok(Input {
+                    device: Device::Standard(input),
+                    name: Name::StandardInput,
+                    bytes: 0,
+                    reason: None,
+                    pace,
+                })
+            }
             None => Err(Fault::Open(Name::StandardInput, None)),
         },
     }

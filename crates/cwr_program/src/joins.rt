@@ -5,6 +5,7 @@ use crate::faults::{Fault, Name, Told};
 use crate::inputs::{Input, is_standard, open_input};
 use crate::new_files::create_output;
 use crate::outputs::{gathered, told_of};
+use crate::progress::{Pace, Paced, Unwatched};
 use crate::reports::{look_beyond, tell_following};
 use crate::same_files::{identity_of, identity_of_input, is_there};
 use crate::splits::hand_on;
@@ -28,8 +29,8 @@ pub(crate) struct Union<'a> {
     pub(crate) only_new: bool,
 }
 
-/// An input that is read.
-type Reader<'a, F, I> = Counted<Input<'a, F, I>>;
+/// An input that is read. How far that is isn't followed: the result is, as it is written.
+type Reader<'a, F, I> = Counted<Input<'a, F, I, Unwatched>>;
 
 /// The inputs of these names, in their order.
 fn open_inputs<'a, R: Files, I: Read + Drop>(
@@ -41,7 +42,7 @@ fn open_inputs<'a, R: Files, I: Read + Drop>(
     let mut standard = Some(standard);
     let mut readers = Vec::new(alloc);
     for name in names {
-        let input = open_input(rt, Some(*name), &mut standard)?;
+        let input = open_input(rt, Some(*name), &mut standard, Unwatched)?;
         readers
             .push(Counted::new(input))
             .map_err(|_| Fault::Memory)?;
@@ -116,6 +117,7 @@ pub(crate) fn join_files<
     'a,
     R: Files + AllocGlobal,
     I: Read + Drop,
+    P: Pace,
     O: Write + Drop,
     E: Write,
 >(
@@ -123,6 +125,7 @@ pub(crate) fn join_files<
     union: &Union<'a>,
     names: &[&'a str],
     standard: I,
+    pace: &mut P,
     output: O,
     error: &mut E,
 ) -> Result<Status, Fault<'a>> {
@@ -135,12 +138,13 @@ pub(crate) fn join_files<
     }
     refuse_out(rt, union, names)?;
     let (made, file) = create_output(rt, alloc, union.out)?;
-    let Ok(writer) = gathered(alloc, file, out) else {
+    let Ok(writer) = gathered(alloc, Paced::new(file, out, &mut *pace), out) else {
         made.discard(rt);
         return Err(Fault::Memory);
     };
     let (writer, outcome) = join(alloc, union.limits, readers.as_mut_slice(), writer);
     let written = told_of(writer);
+    pace.end();
     if outcome.is_ok() {
         let after = look_after_each(readers.as_mut_slice(), names, error);
         if union.whole && after != Ok(false) {

@@ -10,6 +10,7 @@ mod joins;
 mod new_files;
 mod outputs;
 mod program;
+mod progress;
 mod reports;
 mod same_files;
 mod several;

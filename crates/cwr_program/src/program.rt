@@ -10,6 +10,7 @@ use crate::faults::{Fault, tell_fault};
 use crate::imports::{import_file, import_input};
 use crate::inputs::{DASH, Input, open_input};
 use crate::joins::{Union, join_files};
+use crate::progress::{Pace, Progress};
 use crate::reports::{Asked, Telling, report_input, telling_of};
 use crate::several::report_several;
 use crate::splits::{Cut, split_file};
@@ -20,22 +21,36 @@ use std::convert::AsStr;
 use std::io;
 use std::io::{Read, Write};
 use std::rt::Files;
+use std::time::Clock;
 
-/// Runs what the words ask for, the program's name first. The answer is the exit status.
-pub fn run<R: Files + AllocGlobal, S: AsStr, I: Read + Drop, O: Write + Drop, E: Write + Drop>(
+/// Runs what the words ask for, the program's name first. The answer is the exit status. `terminal` is standard error once more, on
+/// which it is shown how far a long run is: where that is a terminal, or the words ask for it.
+pub fn run<
+    R: Files + Clock + AllocGlobal,
+    S: AsStr,
+    I: Read + Drop,
+    O: Write + Drop,
+    E: Write + Drop,
+    T: Write + Drop,
+>(
     rt: &R,
     words: &[S],
     input: I,
     output: O,
     mut error: E,
+    terminal: T,
+    is_terminal: bool,
 ) -> u8
     ensures { result ≤ 3 }
 {
     let status = match task_of(rt.alloc(), words) {
-        Ok(task) => match perform(rt, &task, input, output, &mut error) {
-            Ok(status) => status,
-            Err(fault) => report(&mut error, &fault),
-        },
+        Ok(task) => {
+            let mut progress = Progress::new(rt, terminal, task.progress.unwrap_or(is_terminal));
+            match perform(rt, &task, input, &mut progress, output, &mut error) {
+                Ok(status) => status,
+                Err(fault) => report(&mut error, &fault),
+            }
+        }
         Err(answer) => answer_words(error, &answer, file_in_place(rt, words, &answer)),
     };
     status as u8
@@ -105,11 +120,11 @@ fn report<E: Write>(error: &mut E, fault: &Fault<'_>) -> Status
 }
 
 /// Writes the transmission that the input's lines are, to the file of that name or to the output.
-fn import<'a, R: Files + AllocGlobal, I: Read + Drop, O: Write + Drop, E: Write>(
+fn import<'a, R: Files + AllocGlobal, I: Read + Drop, P: Pace + Drop, O: Write + Drop, E: Write>(
     rt: &R,
     limits: Limits,
     line: u32,
-    input: Input<'a, R::File, I>,
+    input: Input<'a, R::File, I, P>,
     out: Option<&'a str>,
     output: O,
     error: &mut E,
@@ -122,31 +137,33 @@ fn import<'a, R: Files + AllocGlobal, I: Read + Drop, O: Write + Drop, E: Write>
 }
 
 /// Judges the transmissions of files, or the one on standard input.
-fn judge<'a, R: Files + AllocGlobal, I: Read + Drop, O: Write + Drop, E: Write>(
+fn judge<'a, R: Files + AllocGlobal, I: Read + Drop, P: Pace, O: Write + Drop, E: Write>(
     rt: &R,
     asked: &Asked,
     explained: bool,
     names: &[&'a str],
     standard: I,
+    pace: &mut P,
     output: O,
     error: &mut E,
 ) -> Result<Status, Fault<'a>>
     ensures { are_standard (map (λ name. name.now) names.now) ≡ true → EndsOnInput asked.now.limits asked.now.wanted (I.remaining standard) result }
 {
     if names.len() > 1 {
-        return report_several(rt, asked, explained, names, standard, output, error);
+        return report_several(rt, asked, explained, names, standard, pace, output, error);
     }
     let name = names.first().copied();
-    let input = open_input(rt, name, &mut Some(standard))?;
+    let input = open_input(rt, name, &mut Some(standard), &mut *pace)?;
     let telling = telling_of(explained, name.unwrap_or(DASH));
     report_input(asked, telling, input, output, error)
 }
 
 /// Does what is asked for.
-fn perform<'a, R: Files + AllocGlobal, I: Read + Drop, O: Write + Drop, E: Write>(
+fn perform<'a, R: Files + AllocGlobal, I: Read + Drop, P: Pace, O: Write + Drop, E: Write>(
     rt: &R,
     task: &Task<'a>,
     standard: I,
+    pace: &mut P,
     output: O,
     error: &mut E,
 ) -> Result<Status, Fault<'a>>
@@ -165,16 +182,16 @@ fn perform<'a, R: Files + AllocGlobal, I: Read + Drop, O: Write + Drop, E: Write
         Work::Check(judging) => (judging, false),
         Work::Explain(judging) => (judging, true),
         Work::Show(file) => {
-            let input = open_input(rt, *file, &mut Some(standard))?;
+            let input = open_input(rt, *file, &mut Some(standard), &mut *pace)?;
             return report_input(&asked, Telling::Records, input, output, error);
         }
         Work::Json { file, numbers } => {
             let telling = Telling::Data { numbers: *numbers };
-            let input = open_input(rt, *file, &mut Some(standard))?;
+            let input = open_input(rt, *file, &mut Some(standard), &mut *pace)?;
             return report_input(&asked, telling, input, output, error);
         }
         Work::Write { file, out, line } => {
-            let input = open_input(rt, *file, &mut Some(standard))?;
+            let input = open_input(rt, *file, &mut Some(standard), &mut *pace)?;
             return import(rt, task.limits, *line, input, *out, output, error);
         }
         Work::Split {
@@ -191,7 +208,7 @@ fn perform<'a, R: Files + AllocGlobal, I: Read + Drop, O: Write + Drop, E: Write
                 prefix: *prefix,
                 only_new: *only_new,
             };
-            let input = open_input(rt, Some(*file), &mut Some(standard))?;
+            let input = open_input(rt, Some(*file), &mut Some(standard), &mut *pace)?;
             return split_file(rt, &cut, input, output, error);
         }
         Work::Join {
@@ -205,10 +222,11 @@ fn perform<'a, R: Files + AllocGlobal, I: Read + Drop, O: Write + Drop, E: Write
                 out: *out,
                 only_new: *only_new,
             };
-            return join_files(rt, &union, files.as_slice(), standard, output, error);
+            return join_files(rt, &union, files.as_slice(), standard, pace, output, error);
         }
     };
     asked.wanted.fail_on = judging.fail_on;
     asked.quiet = judging.quiet;
-    judge(rt, &asked, explained, judging.files.as_slice(), standard, output, error)
+    let names = judging.files.as_slice();
+    judge(rt, &asked, explained, names, standard, pace, output, error)
 }

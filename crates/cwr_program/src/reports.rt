@@ -11,6 +11,7 @@ use crate::endings::{Look, Status, Wanted, follows, status_of};
 use crate::faults::{Fault, Name, Told};
 use crate::file_lines::FileLines;
 use crate::inputs::{Input, shown_name};
+use crate::progress::Pace;
 use crate::outputs::{Gathered, gathered, told_of};
 use cwr_encode::{Sink, SinkFault};
 use cwr_explain::{Trailing, explain, read_trailing};
@@ -136,10 +137,10 @@ fn tell<R: Source, W: Target + Drop>(
 }
 
 /// Judges an input, and writes what is told of it. The writer comes back, and what is known of the input where it fails.
-pub(crate) fn judge_input<'a, F: Read + Drop, I: Read + Drop, W: Target + Drop>(
+pub(crate) fn judge_input<'a, F: Read + Drop, I: Read + Drop, P: Pace + Drop, W: Target + Drop>(
     asked: &Asked,
     telling: Telling<'_>,
-    input: Input<'a, F, I>,
+    input: Input<'a, F, I, P>,
     writer: W,
 ) -> (W, Result<Judgement, ToolFault>, Told<'a>)
     requires { tells_findings telling ≡ false → asked.now.wanted.fail_on ≡ None }
@@ -232,10 +233,10 @@ pub(crate) fn put_unwanted<W: Target + Drop>(
 }
 
 /// The lines on an input, to standard output.
-fn lines_on<'a, F: Read + Drop, I: Read + Drop, O: Write + Drop>(
+fn lines_on<'a, F: Read + Drop, I: Read + Drop, P: Pace + Drop, O: Write + Drop>(
     asked: &Asked,
     telling: Telling<'_>,
-    input: Input<'a, F, I>,
+    input: Input<'a, F, I, P>,
     lines: Gathered<'a, O>,
 ) -> (Gathered<'a, O>, Result<Judgement, ToolFault>, Told<'a>)
     requires { tells_findings telling ≡ false → asked.now.wanted.fail_on ≡ None }
@@ -251,10 +252,10 @@ fn lines_on<'a, F: Read + Drop, I: Read + Drop, O: Write + Drop>(
 }
 
 /// Reports on an input: writes what is told of it to standard output, and what isn't among those lines to standard error.
-pub(crate) fn report_input<'a, F: Read + Drop, I: Read + Drop, O: Write + Drop, E: Write>(
+pub(crate) fn report_input<'a, F: Read + Drop, I: Read + Drop, P: Pace + Drop, O: Write + Drop, E: Write>(
     asked: &Asked,
     telling: Telling<'_>,
-    input: Input<'a, F, I>,
+    input: Input<'a, F, I, P>,
     output: O,
     error: &mut E,
 ) -> Result<Status, Fault<'a>>

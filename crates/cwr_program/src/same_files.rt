@@ -1,4 +1,4 @@
-//! Whether two names are those of one file.
+//! What the system says of files: which names are those of one, and how large it is.
 
 use std::os::unix::fs::MetadataExt;
 use std::rt::Files;
@@ -30,6 +30,14 @@ pub(crate) fn identity_of_input<R: Files>(rt: &R, name: &str) -> Option<Identity
         identity_of(rt, STANDARD_INPUT)
     } else {
         identity_of(rt, name)
+    }
+}
+
+/// How many bytes the file of that name has, where it holds what is written to it.
+pub(crate) fn size_of<R: Files>(rt: &R, name: &str) -> Option<u64> {
+    match rt.metadata(name) {
+        Ok(found) if found.is_file() => Some(found.len()),
+        _ => None,
     }
 }
 

@@ -4,6 +4,7 @@ use crate::endings::Status;
 use crate::faults::{Fault, Name, tell_fault};
 use crate::file_lines::FileLines;
 use crate::inputs::{open_input, shown_name};
+use crate::progress::Pace;
 use crate::outputs::{Gathered, gathered, told_of};
 use crate::reports::{Asked, Judgement, judge_input, put_unwanted, tell_aside, telling_of};
 use cwr_encode::Sink;
@@ -69,12 +70,13 @@ impl Sums {
 
 /// Judges the files of these names, writes the lines on each with its name before them, and last the line of the sums. A file that
 /// fails is told of on standard error, and the next one follows.
-pub(crate) fn report_several<'a, R: Files, I: Read + Drop, O: Write + Drop, E: Write>(
+pub(crate) fn report_several<'a, R: Files, I: Read + Drop, P: Pace, O: Write + Drop, E: Write>(
     rt: &R,
     asked: &Asked,
     explained: bool,
     names: &[&'a str],
     standard: I,
+    pace: &mut P,
     output: O,
     error: &mut E,
 ) -> Result<Status, Fault<'a>> {
@@ -85,7 +87,7 @@ pub(crate) fn report_several<'a, R: Files, I: Read + Drop, O: Write + Drop, E: W
     let mut standard = Some(standard);
     let mut sums = Sums::new();
     for name in names {
-        let input = match open_input(rt, Some(*name), &mut standard) {
+        let input = match open_input(rt, Some(*name), &mut standard, &mut *pace) {
             Ok(input) => input,
             Err(fault) => {
                 tell_fault(error, &fault);

@@ -4,6 +4,7 @@ use crate::endings::{Look, Status, ended_by, follows};
 use crate::faults::{Fault, Name, Told};
 use crate::inputs::Input;
 use crate::new_files::NumberedFiles;
+use crate::progress::Pace;
 use crate::outputs::{Gathered, gathered, told_of};
 use crate::reports::{look_beyond, tell_following};
 use crate::same_files::identity_of_input;
@@ -56,12 +57,13 @@ pub(crate) fn split_file<
     'a,
     R: Files + AllocGlobal,
     I: Read + Drop,
+    P: Pace + Drop,
     O: Write + Drop,
     E: Write,
 >(
     rt: &R,
     cut: &Cut<'a>,
-    input: Input<'a, R::File, I>,
+    input: Input<'a, R::File, I, P>,
     output: O,
     error: &mut E,
 ) -> Result<Status, Fault<'a>> {

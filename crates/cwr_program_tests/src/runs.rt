@@ -8,6 +8,7 @@ use std::io;
 use std::io::{Read, Write};
 use std::process::Abort;
 use std::rt::Files;
+use std::time::Clock;
 
 /// The standard input of a run: what is left of its text, and whether it fails where nothing is.
 #[derive(Drop)]
@@ -55,7 +56,7 @@ const ONE: Given = (ONE_ACKNOWLEDGEMENT, false);
 const TWO: Given = (TWO_ACKNOWLEDGEMENTS, false);
 
 /// Runs with the words over the input, into an output: the status that is answered, and what is written to standard error.
-fn ran<R: Files + AllocGlobal + Abort, O: Write + Drop>(
+fn ran<R: Files + Clock + AllocGlobal + Abort, O: Write + Drop>(
     rt: &R,
     words: &[&str],
     (lines, fails): Given,
@@ -67,7 +68,15 @@ fn ran<R: Files + AllocGlobal + Abort, O: Write + Drop>(
         fails,
     };
     let mut error = Vec::new(rt.alloc());
-    let status = run(rt, words, input, output, &mut error);
+    let status = run(
+        rt,
+        words,
+        input,
+        output,
+        &mut error,
+        Vec::new(rt.alloc()),
+        false,
+    );
     (status, error)
 }
 
@@ -147,7 +156,7 @@ static RUNS: [Run; 23] = [
 ];
 
 /// Checks a run.
-fn check_run<R: Files + AllocGlobal + Abort>(rt: &R, row: &Run) {
+fn check_run<R: Files + Clock + AllocGlobal + Abort>(rt: &R, row: &Run) {
     let (words, input, status, texts) = *row;
     let mut output = Vec::new(rt.alloc());
     let (answer, error) = ran(rt, words, input, &mut output);
@@ -204,7 +213,7 @@ fn records_are_shown(rt: HostRuntime) {
 
 /// What standard error has after a run with the words, whose status says that they are answered by a text, and which writes
 /// nothing else.
-fn answer_to<R: Files + AllocGlobal + Abort>(rt: &R, words: &[&str]) -> Vec<u8> {
+fn answer_to<R: Files + Clock + AllocGlobal + Abort>(rt: &R, words: &[&str]) -> Vec<u8> {
     let mut output = Vec::new(rt.alloc());
     let (status, error) = ran(rt, words, FAILING, &mut output);
     check_equal(rt, (words, (status, output.len())), (words, (2, 0)));
@@ -269,7 +278,7 @@ fn words_that_are_answered_by_a_text(rt: HostRuntime) {
 }
 
 /// Checks the input into a writer that fails: the status says so, and just this is written to standard error.
-fn check_write_fault<R: Files + AllocGlobal + Abort, O: Write + Drop>(
+fn check_write_fault<R: Files + Clock + AllocGlobal + Abort, O: Write + Drop>(
     rt: &R,
     input: Given,
     output: O,

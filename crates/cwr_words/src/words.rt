@@ -81,6 +81,8 @@ pub struct Task<'a> {
     pub limits: Limits,
     /// Bytes after a transmission end the run as a refusal does.
     pub whole: bool,
+    /// Whether standard error shows how far a long run is; `None` where that is so if it is a terminal.
+    pub progress: Option<bool>,
 }
 
 /// The name of the subcommand that checks.
@@ -121,6 +123,12 @@ const FAIL_ON: &str = "fail-on";
 
 /// The id of the flag that wants nothing after a transmission.
 const WHOLE: &str = "whole";
+
+/// The id of the flag that shows how far a long run is.
+const PROGRESS: &str = "progress";
+
+/// The id of the flag that doesn't.
+const NO_PROGRESS: &str = "no-progress";
 
 /// The id of the flag that wants no file replaced.
 const NEW: &str = "new";
@@ -174,13 +182,21 @@ fn flag<'a>(alloc: Global, id: &'a str, help: &'a str) -> Arg<'a> {
         .help(help)
 }
 
-/// Adds the limits, and the flag that wants nothing after a transmission.
+/// Adds the flags on how far a long run is.
+fn with_progress<'a>(alloc: Global, command: Command<'a>) -> Result<Command<'a>, AllocError> {
+    command
+        .arg(flag(
+            alloc,
+            PROGRESS,
+            "Shows on standard error how far a long run is, as it does on a terminal",
+        ))?
+        .arg(flag(alloc, NO_PROGRESS, "Doesn't show it"))
+}
+
+/// Adds the limits, the flag that wants nothing after a transmission, and those on how far a long run is.
 fn with_reading<'a>(alloc: Global, command: Command<'a>) -> Result<Command<'a>, AllocError> {
-    with_limits(alloc, command)?.arg(flag(
-        alloc,
-        WHOLE,
-        "Status 1 where bytes follow the transmission",
-    ))
+    let whole = flag(alloc, WHOLE, "Status 1 where bytes follow the transmission");
+    with_progress(alloc, with_limits(alloc, command)?.arg(whole)?)
 }
 
 /// Adds the flag that wants no file replaced.
@@ -243,7 +259,7 @@ fn importing<'a>(alloc: Global) -> Result<Command<'a>, AllocError> {
     let command = Command::new(alloc, WRITE).about(
         "Writes the transmission that lines of JSON are, and to standard error how that ended",
     );
-    with_limits(alloc, command)?
+    with_progress(alloc, with_limits(alloc, command)?)?
         .arg(line.help("The most bytes of a line, 1 to 1000000000"))?
         .arg(out)?
         .arg(file)
@@ -475,6 +491,15 @@ fn work_in<'a>(
     }
 }
 
+/// Whether it is shown how far a long run is, where a word says so.
+fn progress_in(given: &ArgMatches<'_>) -> Option<bool> {
+    match (given.get_flag(NO_PROGRESS), given.get_flag(PROGRESS)) {
+        (true, _) => Some(false),
+        (false, true) => Some(true),
+        (false, false) => None,
+    }
+}
+
 /// What is asked for. `None` where a word is missing or out of its range.
 fn task_in<'a>(alloc: Global, matches: &ArgMatches<'a>) -> Result<Option<Task<'a>>, AllocError>
     // Without a subcommand it is a check of standard input within the largest limits.
@@ -490,6 +515,7 @@ fn task_in<'a>(alloc: Global, matches: &ArgMatches<'a>) -> Result<Option<Task<'a
             }),
             limits: largest(),
             whole: false,
+            progress: None,
         }));
     };
     match (work_in(alloc, name, given)?, limits_of(given)) {
@@ -497,6 +523,7 @@ fn task_in<'a>(alloc: Global, matches: &ArgMatches<'a>) -> Result<Option<Task<'a
             work,
             limits,
             whole: given.get_flag(WHOLE),
+            progress: progress_in(given),
         })),
         _ => Ok(None),
     }

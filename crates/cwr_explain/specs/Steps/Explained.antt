@@ -37,6 +37,7 @@ pub record Explains {W : Type 0} (limits : Limits) (before after : Option (List 
 abbrev pub found_in : Beyond → Option Trailing
 found_in (beyonds.Trailing found) = Some found
 found_in (beyonds.GoesOn more) = None
+found_in (beyonds.Numbers ahead) = None
 found_in beyonds.Unasked = None
 
 -- the verdict is that on a transmission
