@@ -14,7 +14,7 @@ use Rattle.cwr_levels.specs.Format.Findings.{findings}
 use Rattle.cwr_tools.specs.declared.watch.Watch.{Watch}
 
 -- how far what a level rejects goes: a field, a record, a transaction, a group, a file
-pub reach : Level → ℕ
+abbrev pub reach : Level → ℕ
 reach F = 0
 reach R = 1
 reach T = 2
@@ -22,7 +22,7 @@ reach G = 3
 reach E = 4
 
 -- the other level is that level or a worse one
-pub is_from : Level → Level → Bool
+abbrev pub is_from : Level → Level → Bool
 is_from level other = nat_le (reach level) (reach other)
 
 -- one of the findings has that level or a worse one; without a level none is asked for

@@ -28,7 +28,7 @@ abbrev pub AreNamesOf : Found → List (List ℕ) → Type 0
 AreNamesOf found names = names ≡ values_of (option_map raw_values (matched_of found (codes "FILE")))
 
 -- the level of that letter
-pub level_named : List ℕ → Option Level
+abbrev pub level_named : List ℕ → Option Level
 level_named letter =
     if bytes_eq letter (codes "F") then Some levels.F
     else if bytes_eq letter (codes "R") then Some levels.R
@@ -38,7 +38,7 @@ level_named letter =
     else None
 
 -- the level that the option's letter is, or none without the option
-pub level_given : Option (List ℕ) → Option Level
+abbrev pub level_given : Option (List ℕ) → Option Level
 level_given None = None
 level_given (Some letter) = level_named letter
 
