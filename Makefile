@@ -31,28 +31,46 @@ need = @command -v $(1) > /dev/null || { echo "make: $(1) is missing: $(2)" >&2;
 debian = $(call need,$(1),Debian's package $(2) has it)
 rt = $(call need,rt,it is the Rattle toolchain's)
 
-.PHONY: all test install uninstall dist deb clean help
+# what is made of the manual, of the program's help and of the toolchain's licences
+made = $(addprefix $(OUT)/made/,cwr.1 cwr.bash copyright)
+
+.PHONY: all made test install uninstall dist deb clean help
+.DELETE_ON_ERROR:
 
 all: ## proves the program and builds it
 	$(rt)
 	rt ci cwr
 	cd crates/cwr && rt run -- check ../../samples/good/acknowledgement.cwr
 	@touch $(PROGRAM) # rt leaves it as it is where nothing has changed for it
+	$(MAKE) made
 
 $(PROGRAM): $(wildcard crates/*/src/*.rt)
 	@echo "make: $@ is missing or older than $(firstword $?): run make first" >&2; exit 1
+
+made: $(made)
+
+$(OUT)/made:
+	mkdir -p $@
+
+$(OUT)/made/cwr.1: docs/MANUAL.md tools/manual crates/cwr_words/src/words.rt | $(OUT)/made
+	$(call debian,python3,python3)
+	tools/manual --page $(VERSION) $(DATE) > $@
+
+# with those for zsh and fish beside it
+$(OUT)/made/cwr.bash: tools/completions $(PROGRAM) | $(OUT)/made
+	$(call debian,python3,python3)
+	tools/completions $(PROGRAM) $(OUT)/made
+
+$(OUT)/made/copyright: tools/licenses crates.txt | $(OUT)/made
+	$(rt)
+	tools/licenses > $@
 
 test: ## proves every crate, tries the edits that must fail, and runs all tests
 	$(rt)
 	rt ci
 
-install: $(PROGRAM) ## puts the program, its manual, completions and documents below PREFIX
-	$(rt)
-	$(call debian,python3,python3)
-	install -d $(OUT)/made $(bin) $(man) $(bash) $(zsh) $(fish) $(doc)/docs $(doc)/samples
-	tools/manual --page $(VERSION) $(DATE) > $(OUT)/made/cwr.1
-	tools/completions $(PROGRAM) $(OUT)/made
-	tools/licenses > $(OUT)/made/copyright
+install: $(PROGRAM) $(made) ## puts the program, its manual, completions and documents below PREFIX
+	install -d $(bin) $(man) $(bash) $(zsh) $(fish) $(doc)/docs $(doc)/samples
 	install -m 755 $(PROGRAM) $(bin)/cwr
 	install -m 644 $(OUT)/made/cwr.1 $(man)
 	install -m 644 $(OUT)/made/cwr.bash $(bash)/cwr
@@ -69,7 +87,7 @@ uninstall: ## removes what install put there
 
 dist: ## packs what install puts as OUT/cwr-VERSION-linux-x86_64.tar.gz, and its SHA-256
 	$(call debian,$(STRIP),binutils)
-	rm -rf $(OUT)/dist
+	rm -rf $(OUT)/dist $(OUT)/made
 	$(MAKE) install DESTDIR= PREFIX=$(abspath $(OUT))/dist/$(RELEASE)
 	$(STRIP) -R .comment $(OUT)/dist/$(RELEASE)/bin/cwr
 	tar -C $(OUT)/dist --sort=name --owner=0 --group=0 --numeric-owner --mode=u=rwX,go=rX --mtime=@$(SOURCE_DATE_EPOCH) \
@@ -81,7 +99,7 @@ deb: ## packs it as OUT/cwr_VERSION_amd64.deb
 	$(call debian,$(STRIP),binutils)
 	$(call debian,dpkg-deb,dpkg)
 	$(call debian,dpkg-shlibdeps,dpkg-dev)
-	rm -rf $(OUT)/deb
+	rm -rf $(OUT)/deb $(OUT)/made
 	$(MAKE) install DESTDIR=$(OUT)/deb PREFIX=/usr zsh='$$(share)/zsh/vendor-completions'
 	$(STRIP) -R .comment $(OUT)/deb/usr/bin/cwr
 	tools/make_deb $(OUT)/deb $(VERSION) $(OUT)
