@@ -1,9 +1,10 @@
 //! What each subcommand does, between its files and its lines.
 
-ghost use Rattle.std.specs.Prelude.{◌≡◌, ◌<◌, length, IfErr};
+ghost use Rattle.std.specs.Prelude.{◌≡◌, ◌<◌, length, IfErr, IfOk};
 ghost use Rattle.cwr_program.specs.Format.Endings.{EndsAs, EndsAfterFault, EndsOnInput, ImportEndsAs};
 
 use crate::faults::Fault;
+use crate::manual::MANUAL;
 use crate::new_files::{NewFile, NumberedFiles, with_buffer};
 use cwr_encode::{Sink, SinkFault};
 use cwr_explain::explain;
@@ -277,6 +278,18 @@ pub(crate) fn join_files<'a, R: Files + AllocGlobal, O: Write + Drop>(
     let put = put_join_outcome(&outcome, &mut sink);
     hand_on(put, sink)?;
     ended_by(outcome.err().map(|stopped| stopped.fault))
+}
+
+/// Prints the manual.
+pub(crate) fn print_manual<'a, O: Write + Drop>(mut output: O) -> Result<Status, Fault<'a>>
+    ensures good { IfOk result (λ status. status ≡ Status.Good) }
+    ensures fault { IfErr result (λ fault. fault ≡ Fault.Write) }
+{
+    let put = output.write_all(MANUAL.as_bytes());
+    match (put, output.flush()) {
+        (Ok(()), Ok(())) => Ok(Status::Good),
+        _ => Err(Fault::Write),
+    }
 }
 
 /// What the verdict on a transmission means for the program.

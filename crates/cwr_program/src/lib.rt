@@ -3,6 +3,7 @@
 
 mod commands;
 mod faults;
+mod manual;
 mod new_files;
 mod program;
 

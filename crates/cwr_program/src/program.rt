@@ -6,7 +6,7 @@ ghost use Rattle.cwr_program.specs.Format.Endings.{EndsOnInput, IsOfInput};
 
 use crate::commands::{
     Status, check_input, explain_input, export_input, import_file, import_input, join_files,
-    open_input, show_input, split_file,
+    open_input, print_manual, show_input, split_file,
 };
 use crate::faults::Fault;
 use clap::error::ErrorKind;
@@ -163,5 +163,6 @@ fn perform<'a, R: Files + AllocGlobal, I: Read + Drop, O: Write + Drop, E: Write
             prefix,
         } => split_file(rt, limits, transactions, file, prefix, output),
         Work::Join { out, files } => join_files(rt, limits, out, files.as_slice(), output),
+        Work::Manual => print_manual(output),
     }
 }
