@@ -3,7 +3,9 @@
 ghost use Rattle.std.specs.Prelude.{◌≡◌, IfOk};
 ghost use Rattle.cwr_fields.specs.Steps.Counted.{failures_of};
 
-use crate::faults::{Name, Reason, Told};
+use crate::endings::Status;
+use crate::faults::{Fault, Name, Reason, Told};
+use crate::manual::MANUAL;
 use cwr_fields::Counted;
 use std::alloc::{AllocError, Global};
 use std::io;
@@ -85,4 +87,16 @@ pub(crate) fn gathered<'a, O: Write + Drop>(
 /// What is known of a writer that is given up. What is left in it is written, where that can be.
 pub(crate) fn told_of<'a, O: Write + Drop>(writer: Gathered<'a, O>) -> Told<'a> {
     writer.into_inner().get_ref().told()
+}
+
+/// Prints the manual.
+pub(crate) fn print_manual<'a, O: Write + Drop>(output: O) -> Result<Status, Fault<'a>>
+    ensures { IfOk result (λ status. status ≡ Status.Good) }
+{
+    let mut output = Output::new(output, Name::StandardOutput);
+    let put = output.write_all(MANUAL.as_bytes());
+    match (put, output.flush()) {
+        (Ok(()), Ok(())) => Ok(Status::Good),
+        _ => Err(Fault::Write(output.told())),
+    }
 }

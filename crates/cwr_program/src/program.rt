@@ -10,6 +10,7 @@ use crate::faults::{Fault, tell_fault};
 use crate::imports::{import_file, import_input};
 use crate::inputs::{DASH, Input, open_input};
 use crate::joins::{Union, join_files};
+use crate::outputs::print_manual;
 use crate::progress::{Pace, Progress};
 use crate::reports::{Asked, Telling, report_input, telling_of};
 use crate::several::report_several;
@@ -224,6 +225,7 @@ fn perform<'a, R: Files + AllocGlobal, I: Read + Drop, P: Pace, O: Write + Drop,
             };
             return join_files(rt, &union, files.as_slice(), standard, pace, output, error);
         }
+        Work::Manual => return print_manual(output),
     };
     asked.wanted.fail_on = judging.fail_on;
     asked.quiet = judging.quiet;

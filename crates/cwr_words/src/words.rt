@@ -70,6 +70,8 @@ pub enum Work<'a> {
         /// The file that is written may replace none.
         only_new: bool,
     },
+    /// The manual is printed.
+    Manual,
 }
 
 /// What the words ask for.
@@ -105,6 +107,9 @@ const SPLIT: &str = "split";
 
 /// The name of the subcommand that joins.
 const JOIN: &str = "join";
+
+/// The name of the subcommand that prints the manual.
+const MANUAL: &str = "manual";
 
 /// The id of the one file of a subcommand, or of its files.
 const FILE: &str = "FILE";
@@ -358,7 +363,8 @@ fn command<'a>(alloc: Global) -> Result<Command<'a>, AllocError> {
         .subcommand(exporting(alloc)?)?
         .subcommand(importing(alloc)?)?
         .subcommand(splitting(alloc)?)?
-        .subcommand(joining(alloc)?)
+        .subcommand(joining(alloc)?)?
+        .subcommand(Command::new(alloc, MANUAL).about("Prints the manual"))
 }
 
 /// The largest limits.
@@ -368,15 +374,18 @@ fn largest() -> Limits
     Limits::new(99_999_999, 99_999, 999_999).unwrap()
 }
 
-/// The limits that the words of a subcommand give. `None` where one is missing or out of its range.
-fn limits_of(matches: &ArgMatches<'_>) -> Option<Limits>
-    ensures records { IfSome result (λ limits. (text : List ℕ) → one_text (found_of matches.now) (codes "records") ≡ Some text
+/// The limits that the words of a subcommand give. `None` where one is missing or out of its range. The manual takes none.
+fn limits_of(name: &str, matches: &ArgMatches<'_>) -> Option<Limits>
+    ensures records { bytes_eq name.now (codes "manual") ≡ false → IfSome result (λ limits. (text : List ℕ) → one_text (found_of matches.now) (codes "records") ≡ Some text
         → limits.records ≡ digits_value 10 (without_leading_plus text)) }
-    ensures groups { IfSome result (λ limits. (text : List ℕ) → one_text (found_of matches.now) (codes "groups") ≡ Some text
+    ensures groups { bytes_eq name.now (codes "manual") ≡ false → IfSome result (λ limits. (text : List ℕ) → one_text (found_of matches.now) (codes "groups") ≡ Some text
         → limits.groups ≡ digits_value 10 (without_leading_plus text)) }
-    ensures transaction { IfSome result (λ limits. (text : List ℕ) → one_text (found_of matches.now) (codes "transaction") ≡ Some text
+    ensures transaction { bytes_eq name.now (codes "manual") ≡ false → IfSome result (λ limits. (text : List ℕ) → one_text (found_of matches.now) (codes "transaction") ≡ Some text
         → limits.transaction ≡ digits_value 10 (without_leading_plus text)) }
 {
+    if name == MANUAL {
+        return Some(largest());
+    }
     let records = matches.get_one::<u32>(RECORDS)?;
     let groups = matches.get_one::<u32>(GROUPS)?;
     let transaction = matches.get_one::<u32>(TRANSACTION)?;
@@ -482,6 +491,8 @@ fn work_in<'a>(
         Ok(import_in(given))
     } else if name == JOIN {
         join_in(alloc, given)
+    } else if name == MANUAL {
+        Ok(Some(Work::Manual))
     } else if name == SHOW {
         Ok(Some(Work::Show(given.get_str(FILE))))
     } else if name == EXPLAIN {
@@ -518,7 +529,7 @@ fn task_in<'a>(alloc: Global, matches: &ArgMatches<'a>) -> Result<Option<Task<'a
             progress: None,
         }));
     };
-    match (work_in(alloc, name, given)?, limits_of(given)) {
+    match (work_in(alloc, name, given)?, limits_of(name, given)) {
         (Some(work), Some(limits)) => Ok(Some(Task {
             work,
             limits,

@@ -13,7 +13,7 @@ use Rattle.cwr_shape.specs.Format.Ranges.{limit_values}
 use Rattle.cwr_words.specs.declared.words.Judging.{Judging}
 use Rattle.cwr_words.specs.declared.words.Task.{Task}
 use Rattle.cwr_words.specs.declared.words.Work.{Work}
-use Rattle.cwr_words.specs.declared.words.Work.TheVariants.{Check, Show, Explain, Json, Write, Split, Join}
+use Rattle.cwr_words.specs.declared.words.Work.TheVariants.{Check, Show, Explain, Json, Write, Split, Join, Manual}
 
 -- the flag of that id is given
 abbrev pub IsFlagOf : Found → List ℕ → Bool → Type 0
@@ -59,6 +59,7 @@ IsSplitOf found (Split transactions file prefix only_new) =
     ((text : List ℕ) → one_text found (codes "N") ≡ Some text → non_zero_u32_get transactions ≡ digits_value 10 (without_leading_plus text))
     × (first_value found (codes "FILE") ≡ Some file.now) × (first_value found (codes "PREFIX") ≡ Some prefix.now) × IsFlagOf found (codes "new") only_new
 IsSplitOf found (Join out files only_new) = ⊥
+IsSplitOf found Manual = ⊥
 
 -- the data of the file FILE, with numbers where that flag is given
 abbrev pub IsExportOf : Found → Work → Type 0
@@ -79,7 +80,8 @@ IsJoinOf found (Join out files only_new) =
 IsJoinOf found work = ⊥
 
 -- Work of the subcommand of that name: transmissions are checked or explained; one is shown or written as JSON, that of the first file that
--- FILE names, if it names one; one is written from lines of JSON, one is split, or some are joined.
+-- FILE names, if it names one; one is written from lines of JSON, one is split, some are joined, or the manual
+-- is printed.
 abbrev pub IsWorkOf : List ℕ → Found → Work → Type 0
 IsWorkOf name found (Check judging) = (bytes_eq name (codes "show") ≡ false) × (bytes_eq name (codes "explain") ≡ false) × IsJudgingOf found judging
 IsWorkOf name found (Show file) = (bytes_eq name (codes "show") ≡ true) × (option_map (λ f. f.now) file ≡ first_value found (codes "FILE"))
@@ -88,6 +90,7 @@ IsWorkOf name found (Json file numbers) = (bytes_eq name (codes "json") ≡ true
 IsWorkOf name found (Write file out line) = (bytes_eq name (codes "write") ≡ true) × IsImportOf found (Write file out line)
 IsWorkOf name found (Split transactions file prefix only_new) = (bytes_eq name (codes "split") ≡ true) × IsSplitOf found (Split transactions file prefix only_new)
 IsWorkOf name found (Join out files only_new) = (bytes_eq name (codes "join") ≡ true) × IsJoinOf found (Join out files only_new)
+IsWorkOf name found Manual = bytes_eq name (codes "manual") ≡ true
 
 -- the limits are the numbers that the options of a subcommand say
 pub record AreLimitsOf (found : Found) (limits : Limits) : Type 0 where
@@ -95,14 +98,14 @@ pub record AreLimitsOf (found : Found) (limits : Limits) : Type 0 where
   pub groups : (text : List ℕ) → one_text found (codes "groups") ≡ Some text → limits.groups ≡ digits_value 10 (without_leading_plus text)
   pub transaction : (text : List ℕ) → one_text found (codes "transaction") ≡ Some text → limits.transaction ≡ digits_value 10 (without_leading_plus text)
 
--- the task is the work of the subcommand that the words name, within the limits that its words give
+-- the task is the work of the subcommand that the words name, within the limits that its words give; the manual takes none
 pub record IsAskedBy (matches : ArgMatches) (task : Task) : Type 0 where
   pub name : List ℕ
   pub found : Found
   pub named : subcommand_name_of matches ≡ Some name
   pub rows : option_map (λ p. p.1) (subcommand_rows_of matches) ≡ Some (rows_of found)
   pub work : IsWorkOf name found task.work
-  pub limits : AreLimitsOf found task.limits
+  pub limits : bytes_eq name (codes "manual") ≡ false → AreLimitsOf found task.limits
   pub whole : IsFlagOf found (codes "whole") task.whole
 
 -- without words: the one on standard input is checked, within the largest limits, and nothing else is wanted of it

@@ -1,0 +1,111 @@
+# The words that a packager tries, each a few lines over `rt` and the scripts in tools/.
+#
+# PREFIX is where things are found, DESTDIR what stands before it while they are packed, PROGRAM the built program, and OUT
+# the folder for what is packed. SOURCE_DATE_EPOCH is the date of all that, by default that of the last commit.
+
+PREFIX = /usr/local
+DESTDIR =
+PROGRAM = crates/cwr/out/cwr
+OUT = out
+STRIP = strip
+
+# The version stands in this one place.
+VERSION := $(shell sed -n 's/^const VERSION: &str = "\(.*\)";$$/\1/p' crates/cwr_words/src/words.rt)
+ifndef SOURCE_DATE_EPOCH
+SOURCE_DATE_EPOCH := $(shell git -c safe.directory='*' log -1 --format=%ct 2> /dev/null || echo 0)
+endif
+export SOURCE_DATE_EPOCH
+DATE := $(shell date -u -d @$(SOURCE_DATE_EPOCH) +%F)
+RELEASE = cwr-$(VERSION)-linux-x86_64
+
+bin = $(DESTDIR)$(PREFIX)/bin
+share = $(DESTDIR)$(PREFIX)/share
+man = $(share)/man/man1
+doc = $(share)/doc/cwr
+bash = $(share)/bash-completion/completions
+zsh = $(share)/zsh/site-functions
+fish = $(share)/fish/vendor_completions.d
+
+# what a target needs, and where that is to be had
+need = @command -v $(1) > /dev/null || { echo "make: $(1) is missing: $(2)" >&2; exit 1; }
+debian = $(call need,$(1),Debian's package $(2) has it)
+rt = $(call need,rt,it is the Rattle toolchain's)
+
+# what is made of the manual, of the program's help and of the toolchain's licences
+made = $(addprefix $(OUT)/made/,cwr.1 cwr.bash copyright)
+
+.PHONY: all made test install uninstall dist deb clean help
+.DELETE_ON_ERROR:
+
+all: ## proves the program and builds it
+	$(rt)
+	rt ci cwr
+	cd crates/cwr && rt run -- check ../../samples/good/acknowledgement.cwr
+	@touch $(PROGRAM) # rt leaves it as it is where nothing has changed for it
+	$(MAKE) made
+
+$(PROGRAM): $(wildcard crates/*/src/*.rt)
+	@echo "make: $@ is missing or older than $(firstword $?): run make first" >&2; exit 1
+
+made: $(made)
+
+$(OUT)/made:
+	mkdir -p $@
+
+$(OUT)/made/cwr.1: docs/MANUAL.md tools/manual crates/cwr_words/src/words.rt | $(OUT)/made
+	$(call debian,python3,python3)
+	tools/manual --page $(VERSION) $(DATE) > $@
+
+# with those for zsh and fish beside it
+$(OUT)/made/cwr.bash: tools/completions $(PROGRAM) | $(OUT)/made
+	$(call debian,python3,python3)
+	tools/completions $(PROGRAM) $(OUT)/made
+
+$(OUT)/made/copyright: tools/licenses crates.txt | $(OUT)/made
+	$(rt)
+	tools/licenses > $@
+
+test: ## proves every crate, tries the edits that must fail, and runs all tests
+	$(rt)
+	rt ci
+
+install: $(PROGRAM) $(made) ## puts the program, its manual, completions and documents below PREFIX
+	install -d $(bin) $(man) $(bash) $(zsh) $(fish) $(doc)/docs $(doc)/samples
+	install -m 755 $(PROGRAM) $(bin)/cwr
+	install -m 644 $(OUT)/made/cwr.1 $(man)
+	install -m 644 $(OUT)/made/cwr.bash $(bash)/cwr
+	install -m 644 $(OUT)/made/_cwr $(zsh)
+	install -m 644 $(OUT)/made/cwr.fish $(fish)
+	install -m 644 README.md $(OUT)/made/copyright $(doc)
+	install -m 644 docs/*.md $(doc)/docs
+	cp -R samples/. $(doc)/samples && chmod -R u=rwX,go=rX $(doc)/samples
+	@# A crate cwr_c puts its library into $(DESTDIR)$(PREFIX)/lib and its header into $(DESTDIR)$(PREFIX)/include here.
+
+uninstall: ## removes what install put there
+	rm -f $(bin)/cwr $(man)/cwr.1 $(bash)/cwr $(zsh)/_cwr $(fish)/cwr.fish
+	rm -rf $(doc)
+
+dist: ## packs what install puts as OUT/cwr-VERSION-linux-x86_64.tar.gz, and its SHA-256
+	$(call debian,$(STRIP),binutils)
+	rm -rf $(OUT)/dist $(OUT)/made
+	$(MAKE) install DESTDIR= PREFIX=$(abspath $(OUT))/dist/$(RELEASE)
+	$(STRIP) -R .comment $(OUT)/dist/$(RELEASE)/bin/cwr
+	tar -C $(OUT)/dist --sort=name --owner=0 --group=0 --numeric-owner --mode=u=rwX,go=rX --mtime=@$(SOURCE_DATE_EPOCH) \
+	    --format=ustar -cf $(OUT)/$(RELEASE).tar $(RELEASE)
+	gzip -9nf $(OUT)/$(RELEASE).tar
+	cd $(OUT) && sha256sum $(RELEASE).tar.gz > $(RELEASE).tar.gz.sha256
+
+deb: ## packs it as OUT/cwr_VERSION_amd64.deb
+	$(call debian,$(STRIP),binutils)
+	$(call debian,dpkg-deb,dpkg)
+	$(call debian,dpkg-shlibdeps,dpkg-dev)
+	rm -rf $(OUT)/deb $(OUT)/made
+	$(MAKE) install DESTDIR=$(OUT)/deb PREFIX=/usr zsh='$$(share)/zsh/vendor-completions'
+	$(STRIP) -R .comment $(OUT)/deb/usr/bin/cwr
+	tools/make_deb $(OUT)/deb $(VERSION) $(OUT)
+
+clean: ## removes OUT
+	rm -rf $(OUT)
+
+help: ## lists these words
+	@sed -n 's/^\([a-z]*\):.*## /\1\t/p' Makefile | expand -t 12

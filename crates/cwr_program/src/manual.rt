@@ -1,0 +1,255 @@
+//! The manual, which `tools/manual` writes from docs/MANUAL.md.
+
+/// The manual, as it is printed.
+pub(crate) const MANUAL: &str = "\
+CWR(1)                          User Commands                           CWR(1)
+
+NAME
+       cwr - checks, explains, shows, splits and joins CWR 2.1 files
+
+SYNOPSIS
+           cwr COMMAND [OPTIONS] ...
+           cwr < FILE
+
+DESCRIPTION
+       `cwr` reads CWR 2.1 transmissions, the fixed-width files in which music
+       publishers and societies register works. It says whether a file is
+       good, names the first record and field from which none can go on, shows
+       what a file has, and writes files whose numbers are right.
+
+       Where FILE may be left out, standard input is read; `-` is no name for
+       it. Without any word `cwr` is `cwr check`. Memory holds one line and
+       one transaction, however large the file is.
+
+       A word that begins with a hyphen is an option. After `--` it is a file.
+
+COMMANDS
+   cwr check [OPTIONS] [FILE]
+       Judges a transmission. It prints a line for each finding in a
+       transaction, and the verdict last.
+
+   cwr show [OPTIONS] [FILE]
+       Prints each record under its number, with a line for each cell that
+       isn't blank, and the verdict last.
+
+   cwr explain [OPTIONS] [FILE]
+       Prints what `cwr check` prints. Under each line stands, indented, where
+       it is, what was found, what may stand there, and how much is rejected.
+
+   cwr json [OPTIONS] [FILE]
+       Writes the data of a transmission as lines of JSON to standard output,
+       a line for each header, transaction and trailer. The verdict goes to
+       standard error.
+
+       --numbers
+              Adds the notes `_group`, `_transaction` and `_line` to each
+              line.
+
+   cwr write [OPTIONS] [FILE]
+       Writes the transmission that lines of JSON are, with all its numbers.
+       FILE has lines as `cwr json` writes them. How it ended goes to standard
+       error.
+
+       -o OUT
+              The file that is written. It is written as `OUT.part`, and gets
+              its name when it is whole. Without it standard output is
+              written.
+
+       --line NUMBER
+              The most bytes of a line, 1 to 1000000000. Without it 64000000.
+
+   cwr split [OPTIONS] -n N FILE PREFIX
+       Cuts a transmission into parts, each a whole transmission with N
+       transactions. They are written to `PREFIX00000001`, `PREFIX00000002`
+       and so on. What has such a name is replaced.
+
+       -n N   The transactions of a part, 1 to 99999999. The last part may
+              have fewer.
+
+   cwr join [OPTIONS] OUT FILE...
+       Joins transmissions to one in the file OUT, in their order, with their
+       groups numbered anew. OUT is none of the inputs. It is written as
+       `OUT.part`, and gets its name when it is whole.
+
+   cwr manual
+       Prints this manual to standard output, with status 0.
+
+   cwr help [COMMAND]...
+       Prints the short help of the program or of a command to standard error,
+       with status 2.
+
+OPTIONS
+       These limits go with each command that reads or writes a transmission.
+       What would pass one is refused.
+
+       --records NUMBER
+              The most records of a transmission, 5 to 99999999. Without it
+              99999999.
+
+       --groups NUMBER
+              The most groups of a transmission, 1 to 99999. Without it 99999.
+
+       --transaction NUMBER
+              The most records of one transaction, 1 to 999999. Without it
+              999999. It bounds the memory that a stranger's file can take.
+
+       These print to standard error, and the status is 2.
+
+       -h, --help
+              The short help of the program, or of the command before it.
+
+       -V, --version
+              The version. It stands before any command.
+
+OUTPUT
+       The last line on standard output is one of these. Capitals after small
+       letters stand for numbers, REASON for words.
+
+       GOOD groups G transactions T records R
+              The input begins with a transmission. No byte after it is
+              judged.
+
+       REFUSED record R field F level L REASON
+              No transmission continues from that field of line R. L is `E`
+              where the file is rejected, `G` the group, `T` the transaction,
+              `R` the record, `F` the field.
+
+       TRUNCATED records R
+              The input ended too early, after R records.
+
+       SPLIT outputs O transactions T
+              The parts are written.
+
+       JOINED inputs I groups G transactions T records R
+              The result is written.
+
+       input I: LIMIT records, groups or transaction
+              The result would pass that limit with input I. Before `REFUSED`
+              and `TRUNCATED`, too, `cwr join` writes the number of the input.
+
+       Before it `cwr check` and `cwr explain` write the findings:
+
+       FINDING group G transaction T record S field F level L rule V
+              A rule of the format is broken in that record. The group is
+              counted from 1, the transaction and the record from 0. The
+              verdict stays as it is.
+
+       `cwr write` writes one of these to standard error:
+
+       WRITTEN lines L bytes B
+              The transmission is written.
+
+       REFUSED line L ...
+              That line isn't taken, and why.
+
+       REFUSED the input ends before the trailer
+              No line is TRL's.
+
+EXIT STATUS
+       0      Good: the verdict is `GOOD`, with findings or without; or what
+              was asked for is written.
+
+       1      Refused, truncated, or past a limit.
+
+       2      A wrong command line, or help.
+
+       3      A file, a device or memory failed. Standard error says which, in
+              a line that begins with `cwr: `.
+
+FILES
+       PREFIX00000001
+              The first part of a split. After a refusal or a fault the parts
+              that were finished stay, each a whole transmission.
+
+       NAME.part
+              What a file is called until it is whole; `NAME.part1` to
+              `NAME.part99` where something has that name. After a fault it is
+              removed. A run that is killed may leave it.
+
+EXAMPLES
+       Is a file good?
+
+           $ cwr check works.cwr; echo $?
+           GOOD groups 2 transactions 3 records 12
+           0
+
+       What is wrong with this one?
+
+           $ cwr explain wrong_code.cwr
+           REFUSED record 5 field 10 level T cell not a code
+             where     wrong_code.cwr, line 5, bytes 127 to 129 of the line, byte 704 of the file
+             field     NWR distribution category
+             found     \"ROC\"
+             expected  a code, one of: JAZ POP SER UNC, or spaces
+             level     T: the transaction is rejected
+
+       Rules that a good file breaks:
+
+           $ cwr check findings.cwr
+           FINDING group 1 transaction 0 record 0 field 7 level F rule V1
+           FINDING group 2 transaction 1 record 0 field 1 level T rule V6
+           GOOD groups 2 transactions 3 records 12
+
+       A compressed file, through a pipe:
+
+           $ gzip -c works.cwr | gzip -dc | cwr check
+           GOOD groups 2 transactions 3 records 12
+
+       All files of a folder that aren't good:
+
+           $ for f in w*.cwr; do cwr check \"$f\" > /dev/null || echo \"$f\"; done
+           work_missing.cwr
+           wrong_code.cwr
+           wrong_count.cwr
+           wrong_date.cwr
+           wrong_role.cwr
+           wrong_share.cwr
+           wrong_time.cwr
+           wrong_type.cwr
+           wrong_version.cwr
+
+       What an acknowledgement says:
+
+           $ cwr show acknowledgement.cwr | sed -n '/^[0-9]* ACK$/,$p'
+           3 ACK
+             4 creation date: 20240102
+             5 creation time: 101500
+             6 original group id: 00001
+             7 original transaction sequence: 00000000
+             8 original transaction type: NWR
+             9 creation title: BLUE RIVER
+             10 submitter creation number: W0001
+             12 processing date: 20240110
+             13 transaction status: AS
+           4 GRT
+           5 TRL
+           GOOD groups 1 transactions 1 records 5
+
+       Parts of one work each, and the whole again:
+
+           $ cwr split -n 1 works.cwr part-
+           SPLIT outputs 3 transactions 3
+           $ cwr join whole.cwr part-00000001 part-00000002 part-00000003
+           JOINED inputs 3 groups 3 transactions 3 records 14
+
+       The data out, and the same transmission again:
+
+           $ cwr json works.cwr > works.jsonl
+           GOOD groups 2 transactions 3 records 12
+           $ cwr write works.jsonl -o again.cwr
+           WRITTEN lines 9 bytes 1599
+
+       A file that isn't there:
+
+           $ cwr check none.cwr; echo $?
+           cwr: cannot open none.cwr
+           3
+
+SEE ALSO
+       The format, and what to do about each reason of a refusal, stand in
+       `FORMAT.md`, the lines of JSON in `JSON.md`, and what can be relied on
+       in `TRUST.md`. They lie in `docs/`, beside this page; an installed
+       program has them in `share/doc/cwr/docs/`.
+
+       jq(1), sqlite3(1)
+";
