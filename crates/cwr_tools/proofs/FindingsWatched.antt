@@ -16,6 +16,16 @@ any_at p zero [] x e = absurd (cc e)
 any_at p (suc i) (y ∷ xs) x e = any_at p i xs x e
 any_at p (suc i) [] x e = absurd (cc e)
 
+-- this one has it
+pub any_here : {A : Type 0} (p : A → Bool) (i : ℕ) (xs : List A) (x : A) → Some x ≡ slice_get xs i → p x ≡ true → list_any p (drop i xs) ≡ list_any p xs → true ≡ list_any p xs
+any_here p i xs x e here rest = sym (ap (λ (b : Bool). b || list_any p (drop (suc i) xs)) here) ∙ sym (any_at p i xs x e) ∙ rest
+
+-- it hasn't, and one after it may
+pub any_later : {A : Type 0} (p : A → Bool) (i : ℕ) (xs : List A) (x : A) → Some x ≡ slice_get xs i → p x ≡ false → list_any p (drop i xs) ≡ list_any p xs → list_any p (drop (i + 1) xs) ≡ list_any p xs
+any_later p i xs x e not_here rest =
+    let next : i + 1 ≡ suc i = omega arith in
+    ap (λ (k : ℕ). list_any p (drop k xs)) next ∙ sym (ap (λ (b : Bool). b || list_any p (drop (suc i) xs)) not_here) ∙ sym (any_at p i xs x e) ∙ rest
+
 pub any_past : {A : Type 0} (p : A → Bool) (i : ℕ) (xs : List A) → None ≡ slice_get xs i → list_any p (drop i xs) ≡ false
 any_past p zero [] e = refl
 any_past p zero (y ∷ xs) e = absurd (cc e)

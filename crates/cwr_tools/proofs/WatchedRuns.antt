@@ -44,10 +44,10 @@ fault_right limits before after given (read_faults.Truncated records) result sto
 fault_right limits before after given read_faults.Memory result stop e = subst (λ (r : Result Verdict ToolFault). IfOk r (λ verdict. IsRightVerdict limits before verdict after given)) (sym e) tt
 
 -- with what was watched for before it
-pub watched_before : (limits : Limits) (before after : Option (List ℕ)) (given : List Item) (A : Type 0) (result : Result Verdict ToolFault) → IfOk result (λ verdict. IsRightVerdict limits before verdict after given) → A
-    → IfOk result (λ verdict. (items : List Item) × IsRightVerdict limits before verdict after items × A)
-watched_before limits before after given A (Ok verdict) right a = (given, right, a)
-watched_before limits before after given A (Err fault) right a = tt
+pub watched_before : (limits : Limits) (before after : Option (List ℕ)) (given : List Item) (P : List Item → Type 0) (result : Result Verdict ToolFault) → IfOk result (λ verdict. IsRightVerdict limits before verdict after given) → P given
+    → IfOk result (λ verdict. (items : List Item) × IsRightVerdict limits before verdict after items × P items)
+watched_before limits before after given P (Ok verdict) right p = (given, right, p)
+watched_before limits before after given P (Err fault) right p = tt
 
 -- a fault tells nothing of a verdict
 pub fault_tells : {A E : Type 0} (P : A → Type 0) (result : Result A E) (fault : E) → result ≡ Err fault → IfOk result P

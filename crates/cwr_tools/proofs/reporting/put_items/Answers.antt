@@ -13,7 +13,8 @@ use Rattle.cwr_tools.proofs.CountedTotals.{counts_none, next_room, total_grows}
 use Rattle.cwr_tools.proofs.LastReported.{HoldsRead, err_last, fault_answered, good_answered, holds_more, holds_none}
 use Rattle.cwr_tools.specs.declared.watch.Watch.{Watch}
 use Rattle.cwr_tools.specs.Steps.Verdicts.{IsRightVerdict}
-use Rattle.cwr_tools.specs.Steps.Watching.{watched_by}
+use Rattle.cwr_values.specs.declared.items.Item.{Item}
+use Rattle.cwr_tools.specs.Steps.Watching.{WatchesRun, watched_by}
 use Rattle.cwr_tools.proofs.FindingsWatched.{by_more, by_none}
 use Rattle.cwr_tools.proofs.WatchedRuns.{fault_right, fault_tells, good_right, watched_before}
 use Rattle.cwr_tools.proofs.ReportsOn.{IsReporting, fault_reported, good_reported, item_fault, nothing, reads_item, reports_item, reports_nothing, room_in, same_fault, stops_after, stops_decoder}
@@ -185,12 +186,16 @@ returns-in-Ok-None-clause-watched g c =
     c.items.invariant.reporting.reading c.in-Ok-None.ensures.reads c.in-Ok-None.ensures.again (λ e. ap g.R.Source.remaining e) in
     let right : IsRightVerdict c.args.limits (g.R.Source.remaining c.args.reader.now) c.good.result (g.R.Source.remaining c.next_item.new.self.reader.now) c.items.invariant.reporting.given
     = good_right c.args.limits _ _ c.items.invariant.reporting.given c.items.counts c.good.result all c.items.invariant.reporting.counts c.good.ensures in
-    (c.items.invariant.reporting.given, right, c.items.invariant.watched)
+    let watching : WatchesRun c.args.report c.args.limits (g.R.Source.remaining c.args.reader.now) (g.R.Source.remaining c.next_item.new.self.reader.now) c.args.watch.now c.items.watch c.good.result
+    = (c.items.invariant.reporting.given, right, c.items.invariant.watched) in
+    search rules
 
 pub returns-in-Err-clause-watched : goal.returns-in-Err-clause-watched
 returns-in-Err-clause-watched g c =
     let stop : StopsAfter c.args.limits c.in-Err.fault (g.R.Source.remaining c.args.reader.now) (g.R.Source.remaining c.next_item.new.self.reader.now) c.items.invariant.reporting.given
     = stops_after c.args.limits c.items.reading.decoder c.next_item.new.self.decoder (g.R.Source.remaining c.args.reader.now) _ _ c.items.invariant.reporting.given c.in-Err.fault _ _
     c.items.invariant.reporting.reading c.in-Err.ensures.reads c.in-Err.ensures.again in
-    watched_before c.args.limits _ _ c.items.invariant.reporting.given _ c.verdict_of.result
-    (fault_right c.args.limits _ _ c.items.invariant.reporting.given c.in-Err.fault c.verdict_of.result stop c.verdict_of.ensures) c.items.invariant.watched
+    let watching : IfOk c.verdict_of.result (WatchesRun c.args.report c.args.limits (g.R.Source.remaining c.args.reader.now) (g.R.Source.remaining c.next_item.new.self.reader.now) c.args.watch.now c.items.watch)
+    = watched_before c.args.limits _ _ c.items.invariant.reporting.given (λ (items : List Item). c.items.watch ≡ watched_by c.args.report c.args.watch.now items) c.verdict_of.result
+    (fault_right c.args.limits _ _ c.items.invariant.reporting.given c.in-Err.fault c.verdict_of.result stop c.verdict_of.ensures) c.items.invariant.watched in
+    search rules
