@@ -1,6 +1,6 @@
 -- What was watched for in a run came in the items before its verdict.
-use Rattle.std.proofs.Common.{◌≡◌, ℕ, List, length, drop, Option, Some, None, sym, ap, subst, ◌∙◌}
-use Rattle.std.specs.Prelude.{Result, Ok, Err, IfOk, OnOk}
+use Rattle.std.proofs.Common.{◌≡◌, ℕ, List, [], ◌∷◌, ◌++◌, length, drop, Option, Some, None, sym, ap, subst, ◌∙◌}
+use Rattle.std.specs.Prelude.{Result, Ok, Err, IfOk, IfSome, OnOk}
 use Rattle.cwr_shape.specs.declared.limits.Limits.{Limits}
 use Rattle.cwr_values.specs.declared.items.Item.{Item}
 use Rattle.cwr_values.specs.Format.Values.{TransmissionValue}
@@ -9,9 +9,12 @@ use Rattle.cwr_judge.specs.Format.Items.{value_items}
 use Rattle.cwr_judge.proofs.Accepted.{accepted_once}
 use Rattle.cwr_decode.specs.declared.readings.ReadFault.{ReadFault}
 use Rattle.cwr_decode.specs.declared.readings.ReadFault.TheVariants as read_faults
-use Rattle.cwr_decode.specs.Steps.Runs.{HasReadAll}
+use Rattle.cwr_decode.specs.Steps.Machines.{Standing, again}
+use Rattle.cwr_decode.specs.Steps.Readings.{answer_of, Reads}
+use Rattle.cwr_decode.specs.Steps.Runs.{HasReadAll, IsReadingOn}
 use Rattle.cwr_decode.proofs.ItemsMakeOneTransmission.{items_once}
-use Rattle.cwr_decode.proofs.ItemsReadSoFar.{all_items, all_taken}
+use Rattle.cwr_decode.proofs.ItemsReadSoFar.{all_items, all_taken, some_read}
+use Rattle.cwr_tools.specs.declared.item_lines.Report.{Report}
 use Rattle.cwr_tools.specs.declared.totals.Totals.{Totals}
 use Rattle.cwr_tools.specs.declared.verdicts.Verdict.{Verdict}
 use Rattle.cwr_tools.specs.declared.verdicts.Verdict.TheVariants.{Good, Refused, Truncated}
@@ -19,8 +22,31 @@ use Rattle.cwr_tools.specs.declared.verdicts.ToolFault.{ToolFault}
 use Rattle.cwr_tools.specs.declared.watch.Watch.{Watch}
 use Rattle.cwr_tools.specs.Format.Verdicts.{IsVerdictOf}
 use Rattle.cwr_tools.specs.Format.Watching.{SeesAccepted, watched}
-use Rattle.cwr_tools.specs.Steps.Verdicts.{IsRightVerdict, StopsAfter}
-use Rattle.cwr_tools.proofs.CountedTotals.{IsCount, good_count}
+use Rattle.cwr_tools.specs.Steps.Verdicts.{totals_with, IsRightVerdict, StopsAfter}
+use Rattle.cwr_tools.specs.Steps.Watching.{watched_by}
+use Rattle.cwr_tools.proofs.CountedTotals.{IsCount, count_more, good_count}
+use Rattle.cwr_tools.proofs.FindingsWatched.{by_more, by_none}
+
+-- what was watched for so far, in the items that were read
+pub record IsWatching (report : Report) (limits : Limits) (d : Standing) (before now : Option (List ℕ)) (c : Totals) (old new : Watch) : Type 0 where
+  pub given : List Item
+  pub reading : IsReadingOn limits d before now given
+  pub counts : IsCount c given
+  pub watched : new ≡ watched_by report old given
+
+pub watches_nothing : (report : Report) (limits : Limits) (d : Standing) (before now : Option (List ℕ)) (c : Totals) (watch : Watch) → IsReadingOn limits d before now [] → IsCount c [] → IsWatching report limits d before now c watch watch
+watches_nothing report limits d before now c watch reading counts = record { given = []; reading = reading; counts = counts; watched = by_none report watch }
+
+-- with an item more
+pub watches_item : (report : Report) (limits : Limits) (d new : Standing) (before left after : Option (List ℕ)) (c : Totals) (old mid next : Watch) (reported : Option Item) (item : Item) (B C : Type 0)
+    → reported ≡ Some item → (h : IsWatching report limits d before left c old mid) → Reads d left (Ok reported) new after → IfSome (again d.state) (λ o. (Some (Ok reported) ≡ answer_of o) × B × C)
+    → next ≡ watched_by report mid (item ∷ []) → IsWatching report limits new before after (totals_with c item) old next
+watches_item report limits d new before left after c old mid next reported item B C e h r same saw = record {
+  given = h.given ++ item ∷ [];
+  reading = some_read limits d new before left after h.given reported item B C e h.reading r same;
+  counts = count_more c h.given item h.counts;
+  watched = saw ∙ ap (λ (w : Watch). watched_by report w (item ∷ [])) h.watched ∙ by_more report old h.given item;
+}
 
 -- the verdict after all items
 pub good_right : (limits : Limits) (before after : Option (List ℕ)) (given : List Item) (c : Totals) (verdict : Verdict) → HasReadAll limits before after given → IsCount c given → verdict ≡ Good c.groups c.transactions c.records

@@ -11,12 +11,10 @@ use Rattle.cwr_tools.specs.Steps.Verdicts.{IsReadLast, StopsAfter}
 use Rattle.cwr_tools.specs.Steps.Reports.{PutsReport, lines_in}
 use Rattle.cwr_tools.proofs.CountedTotals.{counts_none, next_room, total_grows}
 use Rattle.cwr_tools.proofs.LastReported.{HoldsRead, err_last, fault_answered, good_answered, holds_more, holds_none}
-use Rattle.cwr_tools.specs.declared.watch.Watch.{Watch}
 use Rattle.cwr_tools.specs.Steps.Verdicts.{IsRightVerdict}
 use Rattle.cwr_values.specs.declared.items.Item.{Item}
 use Rattle.cwr_tools.specs.Steps.Watching.{WatchesRun, watched_by}
-use Rattle.cwr_tools.proofs.FindingsWatched.{by_more, by_none}
-use Rattle.cwr_tools.proofs.WatchedRuns.{fault_right, fault_tells, good_right, watched_before}
+use Rattle.cwr_tools.proofs.WatchedRuns.{IsWatching, fault_right, fault_tells, good_right, watched_before, watches_item, watches_nothing}
 use Rattle.cwr_tools.proofs.ReportsOn.{IsReporting, fault_reported, good_reported, item_fault, nothing, reads_item, reports_item, reports_nothing, room_in, same_fault, stops_after, stops_decoder}
 use Rattle.cwr_tools.proofs.reporting.put_items.Goals as goal
 
@@ -27,7 +25,7 @@ items-init g c =
     record {
       reporting = reports_nothing c.args.report c.args.limits c.begin_reading-reading.result.decoder (g.R.Source.remaining c.args.reader.now) (g.R.Source.remaining c.begin_reading-reading.result.reader.now) g.W.Target.contents g.W.Target.failures
           c.new-counts.result c.args.sink.now reading (counts_none c.new-counts.result c.new-counts.ensures) c.requires.unfailed c.requires.empty;
-      watched = by_none c.args.report c.args.watch.now;
+      watching = watches_nothing c.args.report c.args.limits c.begin_reading-reading.result.decoder _ _ c.new-counts.result c.args.watch.now reading (counts_none c.new-counts.result c.new-counts.ensures);
       failures = ap g.R.Source.failures new.kept;
       last = λ explains. subst (λ (b : Option (List ℕ)). HoldsRead b (g.R.Source.remaining c.begin_reading-reading.result.reader.now) c.begin_reading-reading.result.last) (ap g.R.Source.remaining new.kept)
           (holds_none (g.R.Source.remaining c.begin_reading-reading.result.reader.now) c.begin_reading-reading.result.last (new.last explains));
@@ -83,8 +81,9 @@ items-preserved-in_ok-put_item-in-Ok-Some g c =
           counts c.args.sink.now c.put_item.new.sink) (sym c.count.ensures)
           (reports_item c.args.report c.args.limits c.items.reading.decoder c.next_item.new.self.decoder (g.R.Source.remaining c.args.reader.now) _ _ g.W.Target.contents g.W.Target.failures c.items.counts c.args.sink.now c.items.sink c.put_item.new.sink
           c.in-Ok-Some.item tt c.items.invariant.reporting reading c.in_ok-put_item-in-Ok-Some.ensures.puts);
-      watched = c.in_ok-put_item-in-Ok-Some.ensures.watched ∙ ap (λ (w : Watch). watched_by c.args.report w (c.in-Ok-Some.item ∷ [])) c.items.invariant.watched
-          ∙ by_more c.args.report c.args.watch.now c.items.invariant.reporting.given c.in-Ok-Some.item;
+      watching = subst (λ (counts : Totals). IsWatching c.args.report c.args.limits c.next_item.new.self.decoder (g.R.Source.remaining c.args.reader.now) (g.R.Source.remaining c.next_item.new.self.reader.now) counts c.args.watch.now c.put_item.new.watch) (sym c.count.ensures)
+          (watches_item c.args.report c.args.limits c.items.reading.decoder c.next_item.new.self.decoder (g.R.Source.remaining c.args.reader.now) _ _ c.items.counts c.args.watch.now c.items.watch c.put_item.new.watch
+          c.in-Ok-Some.field-0 c.in-Ok-Some.item _ _ c.in-Ok-Some.field-0-is c.items.invariant.watching c.in-Ok-Some.ensures.reads c.in-Ok-Some.ensures.again c.in_ok-put_item-in-Ok-Some.ensures.watched);
       failures = c.in-Ok-Some.ensures.failures ∙ c.items.invariant.failures;
       last = λ explains. holds_more _ _ _ _ _ (c.items.invariant.last explains) c.in-Ok-Some.ensures.last;
       same = c.in-Ok-Some.ensures.same_reference ∙ c.items.invariant.same;
@@ -115,8 +114,9 @@ items-preserved g c =
           counts c.args.sink.now c.put_item.new.sink) (sym c.count.ensures)
           (reports_item c.args.report c.args.limits c.items.reading.decoder c.next_item.new.self.decoder (g.R.Source.remaining c.args.reader.now) _ _ g.W.Target.contents g.W.Target.failures c.items.counts c.args.sink.now c.items.sink c.put_item.new.sink
           c.in-Ok-Some.item tt c.items.invariant.reporting reading c.in_ok-put_item-in-Ok-Some.ensures.puts);
-      watched = c.in_ok-put_item-in-Ok-Some.ensures.watched ∙ ap (λ (w : Watch). watched_by c.args.report w (c.in-Ok-Some.item ∷ [])) c.items.invariant.watched
-          ∙ by_more c.args.report c.args.watch.now c.items.invariant.reporting.given c.in-Ok-Some.item;
+      watching = subst (λ (counts : Totals). IsWatching c.args.report c.args.limits c.next_item.new.self.decoder (g.R.Source.remaining c.args.reader.now) (g.R.Source.remaining c.next_item.new.self.reader.now) counts c.args.watch.now c.put_item.new.watch) (sym c.count.ensures)
+          (watches_item c.args.report c.args.limits c.items.reading.decoder c.next_item.new.self.decoder (g.R.Source.remaining c.args.reader.now) _ _ c.items.counts c.args.watch.now c.items.watch c.put_item.new.watch
+          c.in-Ok-Some.field-0 c.in-Ok-Some.item _ _ c.in-Ok-Some.field-0-is c.items.invariant.watching c.in-Ok-Some.ensures.reads c.in-Ok-Some.ensures.again c.in_ok-put_item-in-Ok-Some.ensures.watched);
       failures = c.in-Ok-Some.ensures.failures ∙ c.items.invariant.failures;
       last = λ explains. holds_more _ _ _ _ _ (c.items.invariant.last explains) c.in-Ok-Some.ensures.last;
       same = c.in-Ok-Some.ensures.same_reference ∙ c.items.invariant.same;
@@ -181,21 +181,21 @@ returns-in_err-put_item-in-Ok-Some-clause-watched g c = fault_tells _ c.from_res
 
 pub returns-in-Ok-None-clause-watched : goal.returns-in-Ok-None-clause-watched
 returns-in-Ok-None-clause-watched g c =
-    let all : HasReadAll c.args.limits (g.R.Source.remaining c.args.reader.now) (g.R.Source.remaining c.next_item.new.self.reader.now) c.items.invariant.reporting.given
-    = none_read c.args.limits c.items.reading.decoder c.next_item.new.self.decoder (g.R.Source.remaining c.args.reader.now) _ _ c.items.invariant.reporting.given c.in-Ok-None.field-0 _ c.in-Ok-None.field-0-is
-    c.items.invariant.reporting.reading c.in-Ok-None.ensures.reads c.in-Ok-None.ensures.again (λ e. ap g.R.Source.remaining e) in
-    let right : IsRightVerdict c.args.limits (g.R.Source.remaining c.args.reader.now) c.good.result (g.R.Source.remaining c.next_item.new.self.reader.now) c.items.invariant.reporting.given
-    = good_right c.args.limits _ _ c.items.invariant.reporting.given c.items.counts c.good.result all c.items.invariant.reporting.counts c.good.ensures in
+    let all : HasReadAll c.args.limits (g.R.Source.remaining c.args.reader.now) (g.R.Source.remaining c.next_item.new.self.reader.now) c.items.invariant.watching.given
+    = none_read c.args.limits c.items.reading.decoder c.next_item.new.self.decoder (g.R.Source.remaining c.args.reader.now) _ _ c.items.invariant.watching.given c.in-Ok-None.field-0 _ c.in-Ok-None.field-0-is
+    c.items.invariant.watching.reading c.in-Ok-None.ensures.reads c.in-Ok-None.ensures.again (λ e. ap g.R.Source.remaining e) in
+    let right : IsRightVerdict c.args.limits (g.R.Source.remaining c.args.reader.now) c.good.result (g.R.Source.remaining c.next_item.new.self.reader.now) c.items.invariant.watching.given
+    = good_right c.args.limits _ _ c.items.invariant.watching.given c.items.counts c.good.result all c.items.invariant.watching.counts c.good.ensures in
     let watching : WatchesRun c.args.report c.args.limits (g.R.Source.remaining c.args.reader.now) (g.R.Source.remaining c.next_item.new.self.reader.now) c.args.watch.now c.items.watch c.good.result
-    = (c.items.invariant.reporting.given, right, c.items.invariant.watched) in
+    = (c.items.invariant.watching.given, right, c.items.invariant.watching.watched) in
     search rules
 
 pub returns-in-Err-clause-watched : goal.returns-in-Err-clause-watched
 returns-in-Err-clause-watched g c =
-    let stop : StopsAfter c.args.limits c.in-Err.fault (g.R.Source.remaining c.args.reader.now) (g.R.Source.remaining c.next_item.new.self.reader.now) c.items.invariant.reporting.given
-    = stops_after c.args.limits c.items.reading.decoder c.next_item.new.self.decoder (g.R.Source.remaining c.args.reader.now) _ _ c.items.invariant.reporting.given c.in-Err.fault _ _
-    c.items.invariant.reporting.reading c.in-Err.ensures.reads c.in-Err.ensures.again in
+    let stop : StopsAfter c.args.limits c.in-Err.fault (g.R.Source.remaining c.args.reader.now) (g.R.Source.remaining c.next_item.new.self.reader.now) c.items.invariant.watching.given
+    = stops_after c.args.limits c.items.reading.decoder c.next_item.new.self.decoder (g.R.Source.remaining c.args.reader.now) _ _ c.items.invariant.watching.given c.in-Err.fault _ _
+    c.items.invariant.watching.reading c.in-Err.ensures.reads c.in-Err.ensures.again in
     let watching : IfOk c.verdict_of.result (WatchesRun c.args.report c.args.limits (g.R.Source.remaining c.args.reader.now) (g.R.Source.remaining c.next_item.new.self.reader.now) c.args.watch.now c.items.watch)
-    = watched_before c.args.limits _ _ c.items.invariant.reporting.given (λ (items : List Item). c.items.watch ≡ watched_by c.args.report c.args.watch.now items) c.verdict_of.result
-    (fault_right c.args.limits _ _ c.items.invariant.reporting.given c.in-Err.fault c.verdict_of.result stop c.verdict_of.ensures) c.items.invariant.watched in
+    = watched_before c.args.limits _ _ c.items.invariant.watching.given (λ (items : List Item). c.items.watch ≡ watched_by c.args.report c.args.watch.now items) c.verdict_of.result
+    (fault_right c.args.limits _ _ c.items.invariant.watching.given c.in-Err.fault c.verdict_of.result stop c.verdict_of.ensures) c.items.invariant.watching.watched in
     search rules
