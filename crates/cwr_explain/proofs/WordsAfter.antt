@@ -1,7 +1,10 @@
 -- What is written, read and counted in two steps.
-use Rattle.std.proofs.Common.{◌≡◌, ℕ, ◌+◌, ◌-◌, ◌<◌, Bool, true, false, List, [], ◌++◌, length, Option, Some, None, refl, sym, ap, subst, ◌∙◌, arith}
-use Rattle.std.specs.Prelude.{◌^◌, min, Result, Ok, Err, is_err}
-use Rattle.std.specs.Io.KnownBytes.{Appends, Consumes, Keeps}
+use Rattle.std.proofs.Common.{◌≡◌, ℕ, zero, suc, ◌+◌, ◌-◌, ◌<◌, Bool, true, false, true≢false, List, [], ◌∷◌, ◌++◌, length, take, drop, Option, Some, None, refl, sym, ap, ap₂, subst, ◌∙◌, arith}
+use Rattle.std.specs.Prelude.{◌^◌, min, nat_eq, IfSome, IsSomeAnd, OnOk, Result, Ok, Err, is_err}
+use Rattle.std.specs.Io.{StartsWith}
+use Rattle.std.specs.Io.KnownBytes.{Appends, Consumes, IsAtEnd, Keeps}
+use Rattle.std.proofs.lemmas.Bool.{eqb-true}
+use Rattle.cwr_decode.proofs.FromReader.{consumes_taken}
 use Rattle.std.proofs.KnownBytes.{Appends-nil, Appends-trans, Consumes-kept, Consumes-nil, Consumes-trans}
 use Rattle.std.proofs.lemmas.List.{length-append}
 use Rattle.cwr_fields.specs.Format.Failures.{one_more_failure}
@@ -9,11 +12,11 @@ use Rattle.cwr_shape.specs.declared.limits.Limits.{Limits}
 use Rattle.cwr_tools.specs.declared.verdicts.Verdict.{Verdict}
 use Rattle.cwr_tools.specs.declared.verdicts.ToolFault.{ToolFault}
 use Rattle.cwr_tools.specs.declared.verdicts.ToolFault.TheVariants as faults
-use Rattle.cwr_tools.specs.Format.Reports.{CountsReaderFault, CountsWriterFault, lines_of_explained}
+use Rattle.cwr_tools.specs.Format.Reports.{CountsReaderFault, CountsWriterFault, JudgesAccepted, lines_of_explained}
 use Rattle.cwr_tools.specs.Steps.Reports.{Reports}
 use Rattle.cwr_explain.specs.declared.trailing.Trailing.{Trailing}
-use Rattle.cwr_explain.specs.Format.Explained.{AddsWords, IsAnswerAfter, IsAnswerTo, IsTrailing, ReadsOnly, TakesMore, WritesOnly}
-use Rattle.cwr_explain.specs.Steps.Explained.{Explains, TakesPiece}
+use Rattle.cwr_explain.specs.Format.Explained.{AddsWords, FindsAfter, IsAnswerAfter, IsAnswerTo, IsTrailing, ReadsOnly, TakesMore, WritesOnly}
+use Rattle.cwr_explain.specs.Steps.Explained.{Explains, TakesPiece, is_good}
 
 -- known bytes that stay are none that were taken
 pub takes_none : (left after : Option (List ℕ)) → Keeps left after → TakesMore left after
@@ -32,15 +35,47 @@ trailing_first left after old new ended e p = record {
   some = λ f. omega (arith, e, p.counted, p.some f);
 }
 
+ends_with : (left mid after : Option (List ℕ)) (more : List ℕ) → Consumes left mid more → IfSome mid (λ bytes. IsAtEnd after) → IfSome left (λ bytes. IsAtEnd after)
+ends_with None mid after more c h = tt
+ends_with (Some xs) None after more c h = absurd c
+ends_with (Some xs) (Some ys) after more c h = h
+
 -- a piece more was read
 pub trailing_more : (left mid after : Option (List ℕ)) (old new : Trailing) (ended : Bool) → old.is_all ≡ false → IsTrailing left mid old → TakesPiece mid after old new ended → IsTrailing left after (record new { is_all = ended })
 trailing_more left mid after old new ended f h p = record {
   more = h.more ++ p.piece;
   consumed = Consumes-trans left mid after h.more p.piece h.consumed p.consumed;
   counted = omega (arith, h.counted, p.counted, length-append h.more p.piece);
-  all = p.at_end;
+  all = λ e. ends_with left mid after h.more h.consumed (p.at_end e);
   some = λ _. omega (arith, p.counted, h.some f);
 }
+
+take_all : (xs : List ℕ) → take (length xs) xs ≡ xs
+take_all [] = refl
+take_all (x ∷ xs) = ap (λ (l : List ℕ). x ∷ l) (take_all xs)
+
+-- what a reader shows is taken whole
+pub takes_shown : (left mid after : Option (List ℕ)) (piece : List ℕ) → Keeps left mid → IfSome left (λ xs. StartsWith xs piece) → IfSome mid (λ xs. after ≡ Some (drop (length piece) xs)) → TakesMore left after
+takes_shown left mid after piece kept front lost = (piece, subst (Consumes left after) (take_all piece) (consumes_taken left mid after piece (length piece) kept front (omega arith) lost))
+
+-- and counted
+pub takes_piece : (left mid after : Option (List ℕ)) (piece : List ℕ) (old new : Trailing) → Keeps left mid → IfSome left (λ xs. StartsWith xs piece) → IfSome left (λ xs. length piece ≡ 0 → xs ≡ [])
+    → IfSome mid (λ xs. after ≡ Some (drop (length piece) xs)) → new.bytes ≡ min (old.bytes + length piece) (2 ^ 64 - 1) → TakesPiece left after old new (nat_eq (length piece) 0)
+unfolding takes_shown
+takes_piece left mid after piece old new kept front end lost counted = record {
+  piece = piece;
+  consumed = (takes_shown left mid after piece kept front lost).1;
+  counted = counted;
+  at_end = λ e. ended left mid kept end lost (eqb-true (length piece) 0 e);
+  some = λ e. not_none (length piece) e;
+} where
+  ended : (left mid : Option (List ℕ)) → Keeps left mid → IfSome left (λ xs. length piece ≡ 0 → xs ≡ []) → IfSome mid (λ xs. after ≡ Some (drop (length piece) xs)) → length piece ≡ 0 → IfSome left (λ bytes. IsAtEnd after)
+  ended None mid kept end lost e = tt
+  ended (Some xs) None kept end lost e = absurd kept
+  ended (Some xs) (Some ys) kept end lost e = subst IsAtEnd (sym (lost ∙ ap₂ (λ (k : ℕ) (l : List ℕ). Some (drop k l)) e (kept ∙ end e))) refl
+  not_none : (n : ℕ) → nat_eq n 0 ≡ false → 0 < n
+  not_none zero e = absurd (true≢false e)
+  not_none (suc n) e = omega arith
 
 pub taken_by : (left after : Option (List ℕ)) (found : Trailing) → IsTrailing left after found → TakesMore left after
 taken_by left after found h = (h.more, h.consumed)
@@ -72,3 +107,12 @@ counts_reader result old mid new e h = subst (λ (n : ℕ). CountsReaderFault re
 
 pub counts_writer : (result : Result Verdict ToolFault) (old mid new : ℕ) → mid ≡ old → CountsWriterFault result mid new → CountsWriterFault result old new
 counts_writer result old mid new e h = subst (λ (n : ℕ). CountsWriterFault result n new) e h
+
+-- what stands after an accepted transmission was found
+pub finds_after : {W : Type 0} (limits : Limits) (before left after : Option (List ℕ)) (contents : W → Option (List ℕ)) (old new : W) (verdict : Verdict) (result : Result Verdict ToolFault) (found : Option Trailing)
+    → JudgesAccepted lines_of_explained limits before left contents old new verdict → (is_good verdict ≡ true → OnOk result (IsSomeAnd found (IsTrailing left after))) → OnOk result (FindsAfter limits before after found)
+finds_after limits before left after contents old new verdict (Err fault) found accepted h = tt
+finds_after limits None left after contents old new verdict (Ok other) found accepted h = tt
+finds_after limits (Some text) left after contents old new verdict (Ok other) found accepted h = λ v n a.
+    let j = accepted v n a in
+    subst (λ (m : Option (List ℕ)). IsSomeAnd found (IsTrailing m after)) j.1 (h (ap is_good j.0))

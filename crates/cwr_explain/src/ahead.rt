@@ -107,13 +107,14 @@ impl Walk {
 
     /// Looks at the line whose front was read.
     fn end_line(&mut self) {
-        let kind = Kind::of(&[self.front[0], self.front[1], self.front[2]]);
-        let record = number_at(&self.front[..], RECORD_SEQUENCE);
+        let front = self.front;
+        let kind = Kind::of(&[front[0], front[1], front[2]]);
+        let record = number_at(&front[..], RECORD_SEQUENCE);
         match (self.sequence, kind) {
             _ if self.filled < FRONT => self.ended = true,
             (_, None | Some(Kind::Hdr | Kind::Grh | Kind::Grt | Kind::Trl)) => self.ended = true,
             (Sequence::Transactions, _) if record == Some(0) => {
-                self.follow(number_at(&self.front[..], TRANSACTION_SEQUENCE));
+                self.follow(number_at(&front[..], TRANSACTION_SEQUENCE));
             }
             (Sequence::Transactions, _) => {}
             (Sequence::Records, _) if record == Some(0) => self.ended = true,
@@ -133,8 +134,8 @@ impl Walk {
     }
 }
 
-/// Reads what the reader shows next. The answer is whether that was the end, or enough.
-fn follow_piece<R: Source>(reader: &mut R, walk: &mut Walk) -> Result<bool, ToolFault>
+/// Reads what the reader shows next.
+fn follow_piece<R: Source>(reader: &mut R, walk: &mut Walk) -> Result<(), ToolFault>
     ensures ok { OnOk result (TakesMore (R.remaining reader.old) (R.remaining reader.new)) }
     ensures err { OnErr result (TakesMore (R.remaining reader.old) (R.remaining reader.new)) }
     ensures failures { ReadsOnly result (R.failures reader.old) (R.failures reader.new) }
@@ -149,8 +150,9 @@ fn follow_piece<R: Source>(reader: &mut R, walk: &mut Walk) -> Result<bool, Tool
         }
     }
     let count = piece.len();
+    walk.ended = walk.ended || count == 0;
     reader.consume(count);
-    Ok(count == 0 || walk.ended)
+    Ok(())
 }
 
 /// Reads how the numbers of a sequence go on after that number, on the lines after the one in hand.
@@ -164,9 +166,10 @@ pub(crate) fn look_ahead<R: Source>(
 {
     let mut walk = Walk::new(sequence, number);
     for _ in 0..MOST_PIECES {
-        if follow_piece(reader, &mut walk)? {
+        if walk.ended {
             break;
         }
+        follow_piece(reader, &mut walk)?;
     }
     Ok(walk.ahead)
 }

@@ -23,7 +23,7 @@ pub record IsTrailing (left after : Option (List ℕ)) (found : Trailing) : Type
   pub more : List ℕ
   pub consumed : Consumes left after more
   pub counted : found.bytes ≡ min (length more) (2 ^ 64 - 1)
-  pub all : found.is_all ≡ true → IsAtEnd after
+  pub all : found.is_all ≡ true → IfSome left (λ bytes. IsAtEnd after)
   pub some : found.is_all ≡ false → 0 < found.bytes
 
 -- where the text is accepted, what stands after its transmission was found

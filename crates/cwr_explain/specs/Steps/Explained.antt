@@ -1,5 +1,5 @@
 -- What an explained check has written and taken, step by step.
-use Rattle.std.specs.Prelude.{◌≡◌, ℕ, ◌+◌, ◌-◌, ◌^◌, ◌<◌, min, Bool, true, false, List, length, Option, None, Some, Result}
+use Rattle.std.specs.Prelude.{◌≡◌, ℕ, ◌+◌, ◌-◌, ◌^◌, ◌<◌, min, Bool, true, false, List, length, Option, None, Some, IfSome, Result}
 use Rattle.std.specs.Io.KnownBytes.{Appends, Consumes, IsAtEnd}
 use Rattle.cwr_shape.specs.declared.limits.Limits.{Limits}
 use Rattle.cwr_tools.specs.declared.verdicts.Verdict.{Verdict}
@@ -17,7 +17,7 @@ pub record TakesPiece (left after : Option (List ℕ)) (old new : Trailing) (end
   pub piece : List ℕ
   pub consumed : Consumes left after piece
   pub counted : new.bytes ≡ min (old.bytes + length piece) (2 ^ 64 - 1)
-  pub at_end : ended ≡ true → IsAtEnd after
+  pub at_end : ended ≡ true → IfSome left (λ bytes. IsAtEnd after)
   pub some : ended ≡ false → 0 < length piece
 
 -- First a check is made, and what it writes is written: the text on the findings and the verdict, with all that is said of a
