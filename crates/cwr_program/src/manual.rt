@@ -17,24 +17,38 @@ DESCRIPTION
        good, names the first record and field from which none can go on, shows
        what a file has, and writes files whose numbers are right.
 
-       Where FILE may be left out, standard input is read; `-` is no name for
-       it. Without any word `cwr` is `cwr check`. Memory holds one line and
-       one transaction, however large the file is.
+       Where FILE may be left out, standard input is read. So it is where `-`
+       stands in the place of a file that is read. Without any word `cwr` is
+       `cwr check`. Memory holds one line and one transaction, however large
+       the file is.
 
        A word that begins with a hyphen is an option. After `--` it is a file.
 
 COMMANDS
-   cwr check [OPTIONS] [FILE]
-       Judges a transmission. It prints a line for each finding in a
-       transaction, and the verdict last.
+   cwr check [OPTIONS] [FILE]...
+       Judges transmissions. It prints a line for each finding in a
+       transaction, and the verdict last. Of several files each line has the
+       file's name and a colon before it, and the last line has the sums. A
+       file that fails doesn't stop the others. The status is the worst of
+       all.
+
+       --quiet
+              Prints only what isn't good, and the sums.
+
+       --fail-on LEVEL
+              Status 1 where a finding has that level or a worse one. From the
+              least to the worst they are F, R, T, G and E.
 
    cwr show [OPTIONS] [FILE]
        Prints each record under its number, with a line for each cell that
        isn't blank, and the verdict last.
 
-   cwr explain [OPTIONS] [FILE]
-       Prints what `cwr check` prints. Under each line stands, indented, where
-       it is, what was found, what may stand there, and how much is rejected.
+   cwr explain [OPTIONS] [FILE]...
+       Prints what `cwr check` prints, with its options. Under each line
+       stands, indented, where it is, what was found, what may stand there,
+       and how much is rejected. Of a wrong number it says what that points
+       to: a record that is missing or stands twice, or a count that wasn't
+       changed.
 
    cwr json [OPTIONS] [FILE]
        Writes the data of a transmission as lines of JSON to standard output,
@@ -61,15 +75,23 @@ COMMANDS
    cwr split [OPTIONS] -n N FILE PREFIX
        Cuts a transmission into parts, each a whole transmission with N
        transactions. They are written to `PREFIX00000001`, `PREFIX00000002`
-       and so on. What has such a name is replaced.
+       and so on. What has such a name is replaced. A part that would be the
+       input is refused.
+
+       --new  Replaces no file: where one has a part's name, the status is 2,
+              and the parts before it stay.
 
        -n N   The transactions of a part, 1 to 99999999. The last part may
               have fewer.
 
    cwr join [OPTIONS] OUT FILE...
        Joins transmissions to one in the file OUT, in their order, with their
-       groups numbered anew. OUT is none of the inputs. It is written as
+       groups numbered anew. Where OUT is one of the inputs, under whatever
+       name, nothing is written, and the status is 2. It is written as
        `OUT.part`, and gets its name when it is whole.
+
+       --new  Replaces no file: where OUT is there, nothing is written, and
+              the status is 2.
 
    cwr manual
        Prints this manual to standard output, with status 0.
@@ -93,6 +115,22 @@ OPTIONS
               The most records of one transaction, 1 to 999999. Without it
               999999. It bounds the memory that a stranger's file can take.
 
+       These go with each command that reads a transmission.
+
+       --whole
+              Status 1 where bytes follow the transmission. A join then writes
+              nothing.
+
+       These go with each command that reads.
+
+       --progress
+              Shows on standard error how far a long run is, from the second
+              second on. Without it that is so where standard error is a
+              terminal.
+
+       --no-progress
+              Doesn't show it.
+
        These print to standard error, and the status is 2.
 
        -h, --help
@@ -107,7 +145,7 @@ OUTPUT
 
        GOOD groups G transactions T records R
               The input begins with a transmission. No byte after it is
-              judged.
+              judged; how many follow is told on standard error.
 
        REFUSED record R field F level L REASON
               No transmission continues from that field of line R. L is `E`
@@ -126,6 +164,9 @@ OUTPUT
        input I: LIMIT records, groups or transaction
               The result would pass that limit with input I. Before `REFUSED`
               and `TRUNCATED`, too, `cwr join` writes the number of the input.
+
+       FILES N good G refused R truncated T failed X
+              Several files were judged.
 
        Before it `cwr check` and `cwr explain` write the findings:
 
@@ -149,12 +190,16 @@ EXIT STATUS
        0      Good: the verdict is `GOOD`, with findings or without; or what
               was asked for is written.
 
-       1      Refused, truncated, or past a limit.
+       1      Refused, truncated, or past a limit; or less than `--whole` or
+              `--fail-on` ask for.
 
-       2      A wrong command line, or help.
+       2      A wrong command line, or help; or a file that may not be
+              written: an input, or with `--new` one that is there.
 
-       3      A file, a device or memory failed. Standard error says which, in
-              a line that begins with `cwr: `.
+       3      A file, a device or memory failed. Standard error says which in
+              a line that begins with `cwr: `, and on a second one why, with
+              the bytes read or written before. A closed pipe is passed over
+              without a word.
 
 FILES
        PREFIX00000001
@@ -197,16 +242,16 @@ EXAMPLES
 
        All files of a folder that aren't good:
 
-           $ for f in w*.cwr; do cwr check \"$f\" > /dev/null || echo \"$f\"; done
-           work_missing.cwr
-           wrong_code.cwr
-           wrong_count.cwr
-           wrong_date.cwr
-           wrong_role.cwr
-           wrong_share.cwr
-           wrong_time.cwr
-           wrong_type.cwr
-           wrong_version.cwr
+           $ cwr check --quiet work*.cwr wrong_c*.cwr
+           work_missing.cwr: REFUSED record 7 field 2 level T number expected 0
+           wrong_code.cwr: REFUSED record 5 field 10 level T cell not a code
+           wrong_count.cwr: REFUSED record 4 field 4 level G number expected 3
+           FILES 4 good 1 refused 3 truncated 0 failed 0
+
+       Is there a finding for which a record or more is rejected?
+
+           $ cwr check --fail-on R findings.cwr > /dev/null; echo $?
+           1
 
        What an acknowledgement says:
 
@@ -243,6 +288,7 @@ EXAMPLES
 
            $ cwr check none.cwr; echo $?
            cwr: cannot open none.cwr
+           cwr: none.cwr: No such file or directory (os error 2)
            3
 
 SEE ALSO
