@@ -27,8 +27,11 @@ use Rattle.cwr_program.specs.declared.endings.Look.TheVariants as looks
 use Rattle.cwr_program.specs.declared.endings.Status.{Status}
 use Rattle.cwr_program.specs.declared.endings.Status.TheVariants as statuses
 use Rattle.cwr_program.specs.declared.endings.Wanted.{Wanted}
-use Rattle.cwr_program.specs.Format.Endings.{FallsShort, IsStatusOn, Meets}
-use Rattle.cwr_program.specs.Steps.Looks.{IsLook, LooksAfter, LooksOnce, follows, good_status, look_of, status_after, status_in}
+use Rattle.cwr_program.specs.declared.faults.Told.{Told}
+use Rattle.cwr_program.specs.declared.faults.Fault.TheVariants as faults
+use Rattle.cwr_program.specs.declared.reports.Judgement.{Judgement}
+use Rattle.cwr_program.specs.Format.Endings.{EndsOnInput, FallsShort, IsStatusOn, Meets}
+use Rattle.cwr_program.specs.Steps.Looks.{IsLook, JudgesOn, LooksAfter, LooksOnce, follows, good_status, look_of, status_after, status_in}
 
 -- ---- what stands after a transmission
 
@@ -40,6 +43,10 @@ not_empty : (more rest : List ℕ) → 0 < length more → more ++ rest ≢ []
 not_empty [] rest h = absurd (omega (arith, h))
 not_empty (x ∷ more) rest h = λ e. absurd (cc e)
 
+zero_bytes : (n : ℕ) → nat_lt 0 n ≡ false → n ≡ 0
+zero_bytes zero e = refl
+zero_bytes (suc n) e = absurd (true≢false (sym (lt-ltb 0 (suc n) (omega arith)) ∙ e))
+
 -- nothing follows
 follows_not : (text : List ℕ) (after : Option (List ℕ)) (t : Trailing) → IsTrailing (Some text) after t → follows t ≡ false → text ≡ []
 follows_not text None t h f = absurd h.consumed
@@ -50,9 +57,6 @@ follows_not text (Some rest) t h f = by (nat_lt 0 t.bytes) t.is_all refl refl f 
       h.consumed ∙ ap₂ (λ (xs ys : List ℕ). xs ++ ys) (none_taken h.more (sym h.counted ∙ none)) (h.all a)
   by false false b a e = absurd (true≢false e)
   by true c b a e = absurd (true≢false e)
-  zero_bytes : (n : ℕ) → nat_lt 0 n ≡ false → n ≡ 0
-  zero_bytes 0 e = refl
-  zero_bytes (suc n) e = absurd (true≢false (sym (lt-ltb 0 (suc n) (omega arith)) ∙ e))
 
 -- bytes follow
 follows_some : (text : List ℕ) (after : Option (List ℕ)) (t : Trailing) → IsTrailing (Some text) after t → follows t ≡ true → text ≢ []
@@ -130,9 +134,10 @@ watched_same watch from given e none =
     ap (λ (b : Bool). record watch { found = b }) (sym (ap (λ (b : Bool). watch.found || b) (ap (λ (l : Option Level). any_from l given) (e ∙ none) ∙ none_from given) ∙ or_false watch.found))
 
 -- a watch without a level sees nothing
-pub sees_nothing : (limits : Limits) (before : Option (List ℕ)) (watch : Watch) → watch.from ≡ None → SeesAccepted limits before watch watch
-sees_nothing limits None watch none = tt
-sees_nothing limits (Some text) watch none = λ v n a. watched_same watch watch.from (value_items v) refl none
+pub sees_nothing : (limits : Limits) (before : Option (List ℕ)) (watch : Watch) (outcome : Result Verdict ToolFault) → watch.from ≡ None → OnOk outcome (SeesAccepted limits before watch watch)
+sees_nothing limits before watch (Err fault) none = tt
+sees_nothing limits None watch (Ok verdict) none = tt
+sees_nothing limits (Some text) watch (Ok verdict) none = λ v n a. watched_same watch watch.from (value_items v) refl none
 
 -- after a report that left what stands after the transmission
 pub looks_after : {W : Type 0} (of : ItemLines) (limits : Limits) (before mid after : Option (List ℕ)) (contents : W → Option (List ℕ)) (old new : W) (outcome : Result Verdict ToolFault) (look : Look)
@@ -147,7 +152,24 @@ looks_after of limits (Some text) mid after contents old new (Ok verdict) look j
 pub looks_found : (limits : Limits) (before after : Option (List ℕ)) (outcome : Result Verdict ToolFault) (found : Option Trailing) → OnOk outcome (FindsAfter limits before after found) → OnOk outcome (LooksAfter limits before (look_of found))
 looks_found limits before after (Err fault) found h = tt
 looks_found limits None after (Ok verdict) found h = tt
-looks_found limits (Some text) after (Ok verdict) found h = λ v n a. (after, by found (h v n a)) where
-  by : {left : Option (List ℕ)} (it : Option Trailing) → IsSomeAnd it (IsTrailing left after) → IsLook left after (look_of it)
-  by None s = absurd s
-  by (Some t) s = s
+looks_found limits (Some text) after (Ok verdict) found h = λ v n a. (after, by (Some (drop n text)) found (h v n a)) where
+  by : (left : Option (List ℕ)) (it : Option Trailing) → IsSomeAnd it (IsTrailing left after) → IsLook left after (look_of it)
+  by left None s = absurd s
+  by left (Some t) s = s
+
+-- ---- how a run ends
+
+pub ends_ok : (limits : Limits) (wanted : Wanted) (before : Option (List ℕ)) (judged : Result Judgement ToolFault) (judgement : Judgement) → judged ≡ Ok judgement → JudgesOn limits wanted before judged → EndsOnInput limits wanted before (Ok judgement.status)
+ends_ok limits wanted before judged judgement e h = subst (JudgesOn limits wanted before) e h
+
+pub ends_read : (limits : Limits) (wanted : Wanted) (before : Option (List ℕ)) (told : Told) → EndsOnInput limits wanted before (Err (faults.Read told))
+ends_read limits wanted None told = tt
+ends_read limits wanted (Some text) told = tt
+
+pub ends_write : (limits : Limits) (wanted : Wanted) (before : Option (List ℕ)) (told : Told) → EndsOnInput limits wanted before (Err (faults.Write told))
+ends_write limits wanted None told = tt
+ends_write limits wanted (Some text) told = tt
+
+pub ends_memory : (limits : Limits) (wanted : Wanted) (before : Option (List ℕ)) → EndsOnInput limits wanted before (Err faults.Memory)
+ends_memory limits wanted None = tt
+ends_memory limits wanted (Some text) = tt

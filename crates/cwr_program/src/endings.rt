@@ -76,7 +76,7 @@ pub(crate) fn ended_by<'a>(
     output: Told<'a>,
     made: Fault<'a>,
 ) -> Result<Status, Fault<'a>>
-    ensures { EndsAfterFault input output made fault result }
+    ensures { EndsAfterFault input.entry output.entry made.entry fault result }
 {
     match fault {
         None => Ok(Status::Good),

@@ -22,7 +22,7 @@ fn import_ending<'a>(
     input: Told<'a>,
     output: Told<'a>,
 ) -> Result<Status, Fault<'a>>
-    ensures { ImportEndsAs input output outcome result }
+    ensures { ImportEndsAs input.entry output.entry outcome result }
 {
     match outcome {
         Ok(_) => Ok(Status::Good),

@@ -1,6 +1,6 @@
 //! Inputs: files, and standard input.
 
-ghost use Rattle.std.specs.Prelude.{◌≡◌, ℕ, List, Option, Some, IfOk, IfSome, true, option_map};
+ghost use Rattle.std.specs.Prelude.{◌≡◌, ℕ, List, Option, Some, IfSome, IsOkAnd, true, option_map};
 ghost use Rattle.cwr_program.specs.Format.Inputs.{is_standard};
 ghost use Rattle.cwr_program.specs.Steps.Inputs.{remaining_of};
 
@@ -88,7 +88,7 @@ pub(crate) fn open_input<'a, R: Files, I: Read, P: Pace + Drop>(
     standard: &mut Option<I>,
     mut pace: P,
 ) -> Result<Input<'a, R::File, I, P>, Fault<'a>>
-    ensures standard { is_standard (option_map (λ n. n.now) name) ≡ true → IfSome standard.old (λ input. IfOk result (λ opened. remaining_of R.File.Read.remaining I.remaining opened ≡ I.remaining input)) }
+    ensures standard { is_standard (option_map (λ n. n.now) name.entry) ≡ true → IfSome standard.old (λ input. IsOkAnd result (λ opened. remaining_of R.File.remaining I.remaining opened ≡ I.remaining input)) }
 {
     match name {
         Some(word) if word != DASH => match File::open(rt, word) {

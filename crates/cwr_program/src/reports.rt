@@ -144,7 +144,7 @@ pub(crate) fn judge_input<'a, F: Read + Drop, I: Read + Drop, P: Pace + Drop, W:
     writer: W,
 ) -> (W, Result<Judgement, ToolFault>, Told<'a>)
     requires { tells_findings telling ≡ false → asked.now.wanted.fail_on ≡ None }
-    ensures { JudgesOn asked.now.limits asked.now.wanted (remaining_of F.remaining I.remaining input) result.1 }
+    ensures { JudgesOn asked.now.limits asked.now.wanted (remaining_of F.remaining I.remaining input.entry) result.1 }
 {
     let mut reader = Counted::new(input);
     let mut watch = Watch::new(asked.wanted.fail_on);
@@ -240,7 +240,7 @@ fn lines_on<'a, F: Read + Drop, I: Read + Drop, P: Pace + Drop, O: Write + Drop>
     lines: Gathered<'a, O>,
 ) -> (Gathered<'a, O>, Result<Judgement, ToolFault>, Told<'a>)
     requires { tells_findings telling ≡ false → asked.now.wanted.fail_on ≡ None }
-    ensures { JudgesOn asked.now.limits asked.now.wanted (remaining_of F.remaining I.remaining input) result.1 }
+    ensures { JudgesOn asked.now.limits asked.now.wanted (remaining_of F.remaining I.remaining input.entry) result.1 }
 {
     if asked.quiet {
         let lines = FileLines::new(lines, None, true);
@@ -260,7 +260,7 @@ pub(crate) fn report_input<'a, F: Read + Drop, I: Read + Drop, P: Pace + Drop, O
     error: &mut E,
 ) -> Result<Status, Fault<'a>>
     requires { tells_findings telling ≡ false → asked.now.wanted.fail_on ≡ None }
-    ensures { EndsOnInput asked.now.limits asked.now.wanted (remaining_of F.remaining I.remaining input) result }
+    ensures { EndsOnInput asked.now.limits asked.now.wanted (remaining_of F.remaining I.remaining input.entry) result }
 {
     let lines = match gathered(asked.alloc, output, Name::StandardOutput) {
         Ok(lines) => lines,

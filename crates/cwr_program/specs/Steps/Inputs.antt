@@ -8,5 +8,5 @@ abbrev pub remaining_in : {F I : Type 0} → (F → Option (List ℕ)) → (I �
 remaining_in of_file of_standard (File file) = of_file file
 remaining_in of_file of_standard (Standard input) = of_standard input
 
-abbrev pub remaining_of : {F I : Type 0} → (F → Option (List ℕ)) → (I → Option (List ℕ)) → Input F I → Option (List ℕ)
+abbrev pub remaining_of : {F I P : Type 0} → (F → Option (List ℕ)) → (I → Option (List ℕ)) → Input F I P → Option (List ℕ)
 remaining_of of_file of_standard input = remaining_in of_file of_standard input.device

@@ -1,3 +1,33 @@
+use Rattle.std.proofs.Common.{sym, ap, subst}
+use Rattle.std.specs.Prelude.{OnOk}
 use Rattle.cwr_tools.specs.Format.Reports.{lines_of_data, lines_of_findings, lines_of_records}
+use Rattle.cwr_program.specs.declared.endings.Look.{Look}
+use Rattle.cwr_program.specs.Steps.Looks.{LooksAfter, tells_findings}
 use Rattle.cwr_program.proofs.EndsOnTexts.{looks_after, looks_found, sees_nothing}
 use Rattle.cwr_program.proofs.reports.tell.Goals as goal
+
+pub returns-in-Findings-clause-looks : goal.returns-in-Findings-clause-looks
+returns-in-Findings-clause-looks g c =
+    looks_after lines_of_findings c.args.limits (g.R.Source.remaining c.args.reader.now) (g.R.Source.remaining c.check_watched-writer.new.reader) (g.R.Source.remaining c.look_after-look.new.reader) g.W.Target.contents
+    c.args.writer c.check_watched-writer.result.0 c.check_watched-writer.result.1 c.look_after-look.result c.check_watched-writer.ensures.accepted c.look_after-look.ensures
+
+pub returns-in-Explained-clause-looks : goal.returns-in-Explained-clause-looks
+returns-in-Explained-clause-looks g c =
+    subst (λ (l : Look). OnOk c.explain-writer.result.1 (LooksAfter c.args.limits (g.R.Source.remaining c.args.reader.now) l)) (sym c.look_of.ensures)
+    (looks_found c.args.limits (g.R.Source.remaining c.args.reader.now) (g.R.Source.remaining c.explain-writer.new.reader) c.explain-writer.result.1 c.explain-writer.result.2 c.explain-writer.ensures.found)
+
+pub returns-in-Records-clause-seen : goal.returns-in-Records-clause-seen
+returns-in-Records-clause-seen g c = sees_nothing c.args.limits (g.R.Source.remaining c.args.reader.now) c.args.watch.now c.show-writer.result.1 (c.requires (ap tells_findings c.in-Records.is))
+
+pub returns-in-Records-clause-looks : goal.returns-in-Records-clause-looks
+returns-in-Records-clause-looks g c =
+    looks_after lines_of_records c.args.limits (g.R.Source.remaining c.args.reader.now) (g.R.Source.remaining c.show-writer.new.reader) (g.R.Source.remaining c.look_after-look-in-Records.new.reader) g.W.Target.contents
+    c.args.writer c.show-writer.result.0 c.show-writer.result.1 c.look_after-look-in-Records.result c.show-writer.ensures.accepted c.look_after-look-in-Records.ensures
+
+pub returns-in-Data-clause-seen : goal.returns-in-Data-clause-seen
+returns-in-Data-clause-seen g c = sees_nothing c.args.limits (g.R.Source.remaining c.args.reader.now) c.args.watch.now c.json-writer.result.1 (c.requires (ap tells_findings c.in-Data.is))
+
+pub returns-in-Data-clause-looks : goal.returns-in-Data-clause-looks
+returns-in-Data-clause-looks g c =
+    looks_after (lines_of_data c.in-Data.numbers) c.args.limits (g.R.Source.remaining c.args.reader.now) (g.R.Source.remaining c.json-writer.new.reader) (g.R.Source.remaining c.look_after-look-in-Data.new.reader) g.W.Target.contents
+    c.args.writer c.json-writer.result.0 c.json-writer.result.1 c.look_after-look-in-Data.result c.json-writer.ensures.accepted c.look_after-look-in-Data.ensures
