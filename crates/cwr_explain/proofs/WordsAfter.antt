@@ -73,6 +73,7 @@ takes_piece left mid after piece old new kept front end lost counted = record {
   ended None mid kept end lost e = tt
   ended (Some xs) None kept end lost e = absurd kept
   ended (Some xs) (Some ys) kept end lost e = subst IsAtEnd (sym (lost ∙ ap₂ (λ (k : ℕ) (l : List ℕ). Some (drop k l)) e (kept ∙ end e))) refl
+
   not_none : (n : ℕ) → nat_eq n 0 ≡ false → 0 < n
   not_none zero e = absurd (true≢false e)
   not_none (suc n) e = omega arith

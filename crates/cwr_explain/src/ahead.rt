@@ -15,6 +15,7 @@ const FRONT: usize = 19;
 
 /// Where a line has its transaction's sequence, and where its own: the first byte, from 0. Each has eight digits.
 const TRANSACTION_SEQUENCE: usize = 3;
+
 const RECORD_SEQUENCE: usize = 11;
 
 /// The most pieces that are read to see how numbers go on.

@@ -21,14 +21,21 @@ fn bytes_beyond(bytes: &[u8]) -> usize {
 }
 
 /// Adds that characters of several bytes shift the cells of a line, if it has some.
-fn add_characters(text: &mut String, kind: Kind, bytes: &[u8], count: usize) -> Result<(), AllocError> {
+fn add_characters(
+    text: &mut String,
+    kind: Kind,
+    bytes: &[u8],
+    count: usize,
+) -> Result<(), AllocError> {
     add_label(text, "note")?;
     write!(
         text,
         "the line has characters of several bytes (UTF-8), which take {count} more than one each"
     )?;
     if bytes.len() > width(kind) {
-        text.push_str(": it was filled up by characters, and what stands behind them is shifted; fill it up by bytes\n")
+        text.push_str(
+            ": it was filled up by characters, and what stands behind them is shifted; fill it up by bytes\n",
+        )
     } else {
         text.push_str(": if it was filled up by characters, what stands behind them is shifted\n")
     }
@@ -36,7 +43,10 @@ fn add_characters(text: &mut String, kind: Kind, bytes: &[u8], count: usize) -> 
 
 /// Whether a letter or a digit of a text stands at both sides of where a field ends.
 fn goes_on(bytes: &[u8], end: usize) -> bool {
-    match (end.checked_sub(1).and_then(|last| bytes.get(last)), bytes.get(end)) {
+    match (
+        end.checked_sub(1).and_then(|last| bytes.get(last)),
+        bytes.get(end),
+    ) {
         (Some(last), Some(next)) => last.is_ascii_alphanumeric() && next.is_ascii_alphanumeric(),
         _ => false,
     }

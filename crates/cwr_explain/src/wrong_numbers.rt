@@ -120,7 +120,10 @@ fn add_ahead(text: &mut String, what: Numbered, ahead: Ahead) -> Result<(), Allo
     match (ahead.count, ahead.goes_on) {
         (0, _) => Ok(()),
         (1, true) => write!(text, "; the {one} after it goes on from this number"),
-        (count, true) => write!(text, "; the {count} {several} after it go on from this number"),
+        (count, true) => write!(
+            text,
+            "; the {count} {several} after it go on from this number"
+        ),
         (_, false) => write!(
             text,
             "; the {several} after it don't go on from this number, so it may be the one that is wrong"

@@ -31,7 +31,8 @@ use Rattle.cwr_program.specs.declared.faults.Told.{Told}
 use Rattle.cwr_program.specs.declared.faults.Fault.TheVariants as faults
 use Rattle.cwr_program.specs.declared.reports.Judgement.{Judgement}
 use Rattle.cwr_program.specs.Format.Endings.{EndsOnInput, FallsShort, IsStatusOn, Meets}
-use Rattle.cwr_program.specs.Steps.Looks.{IsLook, JudgesOn, LooksAfter, LooksOnce, follows, good_status, look_of, status_after, status_in}
+use Rattle.cwr_program.specs.Format.Inputs.{are_standard, is_standard}
+use Rattle.cwr_program.specs.Steps.Looks.{IsLook, JudgesOn, LooksAfter, LooksOnce, follows, good_status, judged_with, judgement_in, look_of, status_after, status_in}
 
 -- ---- what stands after a transmission
 
@@ -157,6 +158,21 @@ looks_found limits (Some text) after (Ok verdict) found h = λ v n a. (after, by
   by left None s = absurd s
   by left (Some t) s = s
 
+-- what is made of an input is right of its bytes
+pub judges_on : (limits : Limits) (wanted : Wanted) (before : Option (List ℕ)) (outcome : Result Verdict ToolFault) (look : Look) (old new : Watch) → old ≡ record { from = wanted.fail_on; found = false }
+    → JudgesText limits before outcome → OnOk outcome (SeesAccepted limits before old new) → OnOk outcome (LooksAfter limits before look) → JudgesOn limits wanted before (judgement_in wanted outcome look new.found)
+judges_on limits wanted before (Ok verdict) look old new fresh judged seen looked = by (status_in wanted verdict look new.found) refl where
+  by : (o : Option Status) → status_in wanted verdict look new.found ≡ o → JudgesOn limits wanted before (judged_with verdict look o)
+  by None e = tt
+  by (Some status) e = status_on_input limits wanted before verdict look old new status fresh judged seen looked e
+judges_on limits wanted before (Err tool_faults.Reader) look old new fresh judged seen looked = tt
+judges_on limits wanted before (Err (tool_faults.Writer written)) look old new fresh judged seen looked = tt
+judges_on limits wanted before (Err tool_faults.Memory) look old new fresh judged seen looked = tt
+judges_on limits wanted before (Err (tool_faults.Refused refusal)) look old new fresh judged seen looked = absurd judged
+judges_on limits wanted before (Err (tool_faults.Truncated records)) look old new fresh judged seen looked = absurd judged
+judges_on limits wanted before (Err (tool_faults.Limit limit)) look old new fresh judged seen looked = absurd judged
+judges_on limits wanted before (Err tool_faults.Output) look old new fresh judged seen looked = absurd judged
+
 -- ---- how a run ends
 
 pub ends_ok : (limits : Limits) (wanted : Wanted) (before : Option (List ℕ)) (judged : Result Judgement ToolFault) (judgement : Judgement) → judged ≡ Ok judgement → JudgesOn limits wanted before judged → EndsOnInput limits wanted before (Ok judgement.status)
@@ -173,3 +189,9 @@ ends_write limits wanted (Some text) told = tt
 pub ends_memory : (limits : Limits) (wanted : Wanted) (before : Option (List ℕ)) → EndsOnInput limits wanted before (Err faults.Memory)
 ends_memory limits wanted None = tt
 ends_memory limits wanted (Some text) = tt
+
+-- the words that name standard input
+one_standard : (names : List (List ℕ)) → are_standard names ≡ true → 1 < length names → ⊥
+one_standard [] e h = absurd (omega (arith, h))
+one_standard (name ∷ []) e h = absurd (omega (arith, h))
+one_standard (name ∷ other ∷ names) e h = absurd (true≢false (sym e))

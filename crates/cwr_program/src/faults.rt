@@ -2,9 +2,8 @@
 
 ghost use Rattle.std.specs.Prelude.{◌≡◌};
 
-use std::fmt;
 use std::fmt::{Display, Formatter};
-use std::io;
+use std::{fmt, io};
 use thiserror::Error;
 
 /// What standard input is called in messages.
@@ -107,11 +106,13 @@ impl Fault<'_> {
     /// Whether nobody reads what is written to standard output any more.
     pub(crate) fn is_closed_pipe(&self) -> bool {
         match self {
-            Fault::Write(Told {
-                name: Name::StandardOutput,
-                reason: Some(reason),
-                ..
-            }) => reason.kind == io::ErrorKind::BrokenPipe,
+            Fault::Write(
+                Told {
+                    name: Name::StandardOutput,
+                    reason: Some(reason),
+                    ..
+                },
+            ) => reason.kind == io::ErrorKind::BrokenPipe,
             _ => false,
         }
     }
@@ -139,7 +140,12 @@ fn put_device<E: io::Write>(
 fn put_lines<E: io::Write>(error: &mut E, fault: &Fault<'_>) -> io::Result<()> {
     writeln!(error, "cwr: {fault}")?;
     match fault {
-        Fault::Read(told) | Fault::Write(told) => put_device(error, told.name, told.reason, Some(told.bytes)),
+        Fault::Read(told) | Fault::Write(told) => put_device(
+            error,
+            told.name,
+            told.reason,
+            Some(told.bytes),
+        ),
         Fault::Open(name, Some(reason)) | Fault::Output(name, Some(reason)) => {
             put_device(error, *name, Some(*reason), None)
         }

@@ -6,8 +6,8 @@ use crate::endings::Status;
 use crate::faults::{Fault, Name, Told};
 use crate::inputs::Input;
 use crate::new_files::create_output;
-use crate::progress::Pace;
 use crate::outputs::{Gathered, gathered, told_of};
+use crate::progress::Pace;
 use cwr_encode::Sink;
 use cwr_fields::Counted;
 use cwr_shape::Limits;
@@ -54,7 +54,14 @@ fn import<'a, F: Read + Drop, I: Read + Drop, P: Pace + Drop, O: Write + Drop>(
 }
 
 /// Writes the transmission that the input's lines are to the output.
-pub(crate) fn import_input<'a, F: Read + Drop, I: Read + Drop, P: Pace + Drop, O: Write + Drop, E: Write>(
+pub(crate) fn import_input<
+    'a,
+    F: Read + Drop,
+    I: Read + Drop,
+    P: Pace + Drop,
+    O: Write + Drop,
+    E: Write,
+>(
     alloc: Global,
     limits: Limits,
     most: usize,

@@ -51,11 +51,7 @@ fn open_inputs<'a, R: Files, I: Read + Drop>(
 }
 
 /// Refuses to write to one of the inputs, or to a file that is there where only a new one may be made.
-fn refuse_out<'a, R: Files>(
-    rt: &R,
-    union: &Union<'a>,
-    names: &[&'a str],
-) -> Result<(), Fault<'a>> {
+fn refuse_out<'a, R: Files>(rt: &R, union: &Union<'a>, names: &[&'a str]) -> Result<(), Fault<'a>> {
     let out = union.out;
     let own = identity_of(rt, out);
     for name in names {
@@ -70,7 +66,10 @@ fn refuse_out<'a, R: Files>(
 }
 
 /// What is known of the input of that number, from 1.
-fn told_at<F: Drop, I: Drop>(mut readers: Vec<Reader<'_, F, I>>, number: usize) -> Option<Told<'_>> {
+fn told_at<F: Drop, I: Drop>(
+    mut readers: Vec<Reader<'_, F, I>>,
+    number: usize,
+) -> Option<Told<'_>> {
     let index = number.checked_sub(1)?;
     if index < readers.len() {
         Some(readers.swap_remove(index).into_inner().told())

@@ -33,15 +33,7 @@ pub fn run<
     O: Write + Drop,
     E: Write + Drop,
     T: Write + Drop,
->(
-    rt: &R,
-    words: &[S],
-    input: I,
-    output: O,
-    mut error: E,
-    terminal: T,
-    is_terminal: bool,
-) -> u8
+>(rt: &R, words: &[S], input: I, output: O, mut error: E, terminal: T, is_terminal: bool) -> u8
     ensures { result ≤ 3 }
 {
     let status = match task_of(rt.alloc(), words) {
@@ -112,11 +104,8 @@ fn report<E: Write>(error: &mut E, fault: &Fault<'_>) -> Status
     tell_fault(error, fault);
     match fault {
         Fault::IsInput(_) | Fault::IsThere(_) => Status::CommandLine,
-        Fault::Open(..)
-        | Fault::Read(_)
-        | Fault::Write(_)
-        | Fault::Output(..)
-        | Fault::Memory => Status::Fault,
+        Fault::Open(..) | Fault::Read(_) | Fault::Write(_) | Fault::Output(..) | Fault::Memory =>
+            Status::Fault,
     }
 }
 

@@ -64,7 +64,10 @@ impl<'p, R: Clock, T: Write> Progress<'p, R, T> {
                 let share = (bytes / (size / 100).max(1)).min(100);
                 write!(self.terminal, "\r{name}: {share} %, {lines} records\x1b[K")
             }
-            None => write!(self.terminal, "\r{name}: {bytes} bytes, {lines} records\x1b[K"),
+            None => write!(
+                self.terminal,
+                "\r{name}: {bytes} bytes, {lines} records\x1b[K"
+            ),
         };
         let _ = self.terminal.flush();
     }

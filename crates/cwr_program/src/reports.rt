@@ -5,21 +5,19 @@ ghost use Rattle.cwr_tools.specs.Format.Verdicts.{JudgesText};
 ghost use Rattle.cwr_tools.specs.Format.Watching.{SeesAccepted};
 ghost use Rattle.cwr_program.specs.Format.Endings.{EndsOnInput};
 ghost use Rattle.cwr_program.specs.Steps.Inputs.{remaining_of};
-ghost use Rattle.cwr_program.specs.Steps.Looks.{IsLook, JudgesOn, LooksAfter, LooksOnce, look_of, tells_findings};
+ghost use Rattle.cwr_program.specs.Steps.Looks.{IsLook, JudgesOn, LooksAfter, LooksOnce, judgement_in, look_of, tells_findings};
 
 use crate::endings::{Look, Status, Wanted, follows, status_of};
 use crate::faults::{Fault, Name, Told};
 use crate::file_lines::FileLines;
 use crate::inputs::{Input, shown_name};
-use crate::progress::Pace;
 use crate::outputs::{Gathered, gathered, told_of};
+use crate::progress::Pace;
 use cwr_encode::{Sink, SinkFault};
 use cwr_explain::{Trailing, explain, read_trailing};
 use cwr_fields::{Counted, Source, Target};
 use cwr_shape::Limits;
-use cwr_tools::{
-    ToolFault, Verdict, Watch, check_watched, json, put_verdict_line, show,
-};
+use cwr_tools::{ToolFault, Verdict, Watch, check_watched, json, put_verdict_line, show};
 use std::alloc::Global;
 use std::io;
 use std::io::{Read, Write};
@@ -136,6 +134,29 @@ fn tell<R: Source, W: Target + Drop>(
     }
 }
 
+/// What is made of an input with that outcome, where `found` says whether a finding came that is unwanted. Where nothing may follow the
+/// transmission, and the input failed there, that is its fault.
+fn judgement_of(
+    wanted: Wanted,
+    outcome: Result<Verdict, ToolFault>,
+    look: Look,
+    found: bool,
+) -> Result<Judgement, ToolFault>
+    ensures { result ≡ judgement_in wanted outcome look found }
+{
+    match outcome {
+        Ok(verdict) => match status_of(wanted, &verdict, look, found) {
+            Some(status) => Ok(Judgement {
+                verdict,
+                look,
+                status,
+            }),
+            None => Err(ToolFault::Reader),
+        },
+        Err(fault) => Err(fault),
+    }
+}
+
 /// Judges an input, and writes what is told of it. The writer comes back, and what is known of the input where it fails.
 pub(crate) fn judge_input<'a, F: Read + Drop, I: Read + Drop, P: Pace + Drop, W: Target + Drop>(
     asked: &Asked,
@@ -157,17 +178,7 @@ pub(crate) fn judge_input<'a, F: Read + Drop, I: Read + Drop, P: Pace + Drop, W:
         writer,
     );
     let told = reader.into_inner().told();
-    let judged = match outcome {
-        Ok(verdict) => match status_of(asked.wanted, &verdict, look, watch.found) {
-            Some(status) => Ok(Judgement {
-                verdict,
-                look,
-                status,
-            }),
-            None => Err(ToolFault::Reader),
-        },
-        Err(fault) => Err(fault),
-    };
+    let judged = judgement_of(asked.wanted, outcome, look, watch.found);
     (writer, judged, told)
 }
 
@@ -176,7 +187,10 @@ fn put_following<E: Write>(error: &mut E, name: Name<'_>, trailing: &Trailing) -
     let least = if trailing.is_all { "" } else { "at least " };
     match trailing.bytes {
         1 => write!(error, "cwr: {name}: 1 byte follows the transmission")?,
-        count => write!(error, "cwr: {name}: {least}{count} bytes follow the transmission")?,
+        count => write!(
+            error,
+            "cwr: {name}: {least}{count} bytes follow the transmission"
+        )?,
     }
     if trailing.begins == *b"HDR" {
         writeln!(error, ", the first of them look like another one (HDR)")
@@ -211,7 +225,10 @@ pub(crate) fn tell_aside<E: Write>(
         Telling::Findings | Telling::Records => tell_following(error, name, &judgement.look),
         Telling::Data { .. } => {
             // What standard error doesn't take is lost.
-            let _ = put_verdict_line(&judgement.verdict, &mut Sink::new(Counted::new(&mut *error)));
+            let _ = put_verdict_line(
+                &judgement.verdict,
+                &mut Sink::new(Counted::new(&mut *error)),
+            );
             tell_following(error, name, &judgement.look);
         }
     }
@@ -252,7 +269,14 @@ fn lines_on<'a, F: Read + Drop, I: Read + Drop, P: Pace + Drop, O: Write + Drop>
 }
 
 /// Reports on an input: writes what is told of it to standard output, and what isn't among those lines to standard error.
-pub(crate) fn report_input<'a, F: Read + Drop, I: Read + Drop, P: Pace + Drop, O: Write + Drop, E: Write>(
+pub(crate) fn report_input<
+    'a,
+    F: Read + Drop,
+    I: Read + Drop,
+    P: Pace + Drop,
+    O: Write + Drop,
+    E: Write,
+>(
     asked: &Asked,
     telling: Telling<'_>,
     input: Input<'a, F, I, P>,

@@ -4,8 +4,8 @@ use crate::endings::Status;
 use crate::faults::{Fault, Name, tell_fault};
 use crate::file_lines::FileLines;
 use crate::inputs::{open_input, shown_name};
-use crate::progress::Pace;
 use crate::outputs::{Gathered, gathered, told_of};
+use crate::progress::Pace;
 use crate::reports::{Asked, Judgement, judge_input, put_unwanted, tell_aside, telling_of};
 use cwr_encode::Sink;
 use cwr_fields::Target;
@@ -63,8 +63,9 @@ impl Sums {
             failed,
             ..
         } = self;
-        format!(in alloc; "FILES {files} good {good} refused {refused} truncated {truncated} failed {failed}\n")
-            .map_err(|_| Fault::Memory)
+        format!(in alloc;
+            "FILES {files} good {good} refused {refused} truncated {truncated} failed {failed}\n"
+        ).map_err(|_| Fault::Memory)
     }
 }
 

@@ -206,30 +206,30 @@ fn with_reading<'a>(alloc: Global, command: Command<'a>) -> Result<Command<'a>, 
 
 /// Adds the flag that wants no file replaced.
 fn with_new<'a>(alloc: Global, command: Command<'a>) -> Result<Command<'a>, AllocError> {
-    command.arg(flag(
-        alloc,
-        NEW,
-        "Refuses to replace a file that is there",
-    ))
+    command.arg(flag(alloc, NEW, "Refuses to replace a file that is there"))
 }
 
 /// A subcommand over one transmission, within the limits that its words give.
 fn over_one<'a>(alloc: Global, name: &'a str, about: &'a str) -> Result<Command<'a>, AllocError> {
-    let file = Arg::new(alloc, FILE).help("The transmission; without it standard input is read, as it is for -");
+    let file = Arg::new(alloc, FILE).help(
+        "The transmission; without it standard input is read, as it is for -",
+    );
     let command = Command::new(alloc, name).about(about);
     with_reading(alloc, command)?.arg(file)
 }
 
 /// A subcommand that judges transmissions.
 fn over_many<'a>(alloc: Global, name: &'a str, about: &'a str) -> Result<Command<'a>, AllocError> {
-    let files = Arg::new(alloc, FILE)
-        .num_args(1..)
-        .help("The transmissions; without one standard input is read, as it is for -");
+    let files = Arg::new(alloc, FILE).num_args(1..).help(
+        "The transmissions; without one standard input is read, as it is for -",
+    );
     let level = Arg::new(alloc, FAIL_ON)
         .long(FAIL_ON)
         .value_name("LEVEL")
         .value_parser(&LEVELS[..])
-        .help("Status 1 where a finding has that level or a worse one; F is the least, E the worst");
+        .help(
+            "Status 1 where a finding has that level or a worse one; F is the least, E the worst",
+        );
     let quiet = flag(alloc, QUIET, "Prints only what isn't good");
     let command = Command::new(alloc, name).about(about);
     with_reading(alloc, command)?
@@ -255,7 +255,9 @@ fn exporting<'a>(alloc: Global) -> Result<Command<'a>, AllocError> {
 
 /// The subcommand that reads JSON.
 fn importing<'a>(alloc: Global) -> Result<Command<'a>, AllocError> {
-    let file = Arg::new(alloc, FILE).help("The lines; without it standard input is read, as it is for -");
+    let file = Arg::new(alloc, FILE).help(
+        "The lines; without it standard input is read, as it is for -",
+    );
     let out = Arg::new(alloc, OUT)
         .short('o')
         .value_name(OUT)

@@ -74,3 +74,13 @@ JudgesOn limits wanted before (Err tool_faults.Reader) = Unit {0}
 JudgesOn limits wanted before (Err (tool_faults.Writer written)) = Unit {0}
 JudgesOn limits wanted before (Err tool_faults.Memory) = Unit {0}
 JudgesOn limits wanted before (Err fault) = ⊥
+
+-- a verdict with its status, or the input's fault where it has none
+abbrev pub judged_with : Verdict → Look → Option Status → Result Judgement ToolFault
+judged_with verdict look (Some status) = Ok (record { verdict = verdict; look = look; status = status })
+judged_with verdict look None = Err tool_faults.Reader
+
+-- what is made of an input with that outcome
+abbrev pub judgement_in : Wanted → Result Verdict ToolFault → Look → Bool → Result Judgement ToolFault
+judgement_in wanted (Ok verdict) look found = judged_with verdict look (status_in wanted verdict look found)
+judgement_in wanted (Err fault) look found = Err fault
