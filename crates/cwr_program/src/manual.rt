@@ -50,6 +50,13 @@ COMMANDS
        to: a record that is missing or stands twice, or a count that wasn't
        changed.
 
+       --quiet
+              Prints only what isn't good, and the sums.
+
+       --fail-on LEVEL
+              Status 1 where a finding has that level or a worse one: F, R, T,
+              G or E.
+
    cwr json [OPTIONS] [FILE]
        Writes the data of a transmission as lines of JSON to standard output,
        a line for each header, transaction and trailer. The verdict goes to

@@ -320,6 +320,8 @@ The last line on standard output:
   SPLIT outputs O transactions T             the parts are written
   JOINED inputs I groups G transactions T records R
                                              the result is written
+  FILES N good G refused R truncated T failed X
+                                             several files were judged
   input I: LIMIT records, groups or transaction
                                              the result would pass that limit with input I
 
