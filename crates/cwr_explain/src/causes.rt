@@ -302,11 +302,14 @@ impl Refused<'_> {
         alloc: Global,
         text: &mut String,
         limits: &Limits,
-        stage: Stage,
+        stage: Option<Stage>,
         cut: &CutLine<'_>,
     ) -> Result<(), AllocError> {
         match (self.refusal.reason, self.refused_field()) {
-            (Reason::UnknownKind | Reason::Misplaced, _) => add_coming(alloc, text, stage),
+            (Reason::UnknownKind | Reason::Misplaced, _) => match stage {
+                Some(stage) => add_coming(alloc, text, stage),
+                None => Ok(()),
+            },
             (Reason::Cell(fault), Some(place)) => self.add_cell_expected(text, &place, cut, fault),
             (Reason::Number { expected }, _) => self.add_number_expected(text, expected),
             (Reason::Limit(limit), _) => {
@@ -339,13 +342,13 @@ impl Refused<'_> {
         writeln!(text, "{words}")
     }
 
-    /// Adds all that is said of the refusal.
+    /// Adds all that is said of the refusal, where the records before have come to that stage.
     pub(crate) fn add(
         &self,
         alloc: Global,
         text: &mut String,
         limits: &Limits,
-        stage: Stage,
+        stage: Option<Stage>,
     ) -> Result<(), AllocError> {
         let again = line_again(self.line.bytes);
         let cut = again.cut();

@@ -7,13 +7,13 @@ ghost use Rattle.cwr_explain.specs.Format.Explained.{AddsWords, IsAnswerTo, Read
 ghost use Rattle.cwr_explain.specs.Steps.Explained.{Explains};
 
 use crate::causes::{Refused, add_trailing, add_truncated, kind_of};
-use crate::lines_at_end::{line_at_end, line_before};
+use crate::lines_at_end::{LineAtEnd, line_at_end, line_before};
 use crate::trailing::{Trailing, read_trailing};
 use cwr_decode::{LastRead, Refusal};
 use cwr_encode::Sink;
 use cwr_fields::{Source, Target};
 use cwr_layouts::LONGEST_LINE;
-use cwr_shape::Limits;
+use cwr_shape::{Limits, Stage};
 use cwr_tools::{ToolFault, Verdict, check_explained};
 use std::alloc::{AllocError, Global};
 
@@ -78,7 +78,32 @@ fn add_refused(
         kind: kind_of(line.bytes),
         is_too_long,
     };
-    refused.add(alloc, text, limits, last.stage)
+    refused.add(alloc, text, limits, Some(last.stage))
+}
+
+/// The lines that explain a fault of a line, where the records before have come to that stage, if that is known. Beside it stand the
+/// line before, where it is held, and whether the line has more bytes than are shown.
+pub fn explain_fault(
+    alloc: Global,
+    limits: &Limits,
+    name: &str,
+    fault: &Refusal,
+    line: LineAtEnd<'_>,
+    before: Option<&[u8]>,
+    is_too_long: bool,
+    stage: Option<Stage>,
+) -> Result<String, AllocError> {
+    let mut text = String::new(alloc);
+    let refused = Refused {
+        name,
+        refusal: fault,
+        line,
+        before,
+        kind: kind_of(line.bytes),
+        is_too_long,
+    };
+    refused.add(alloc, &mut text, limits, stage)?;
+    Ok(text)
 }
 
 /// The lines that explain a verdict.

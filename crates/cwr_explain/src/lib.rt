@@ -12,7 +12,7 @@ mod texts;
 mod trailing;
 mod wrong_numbers;
 
-pub use explaining::explain;
+pub use explaining::{explain, explain_fault};
 pub use lines_at_end::{LineAtEnd, line_at_end};
 pub use next_symbols::{coming, may_come};
 pub use trailing::{Trailing, read_trailing};

@@ -30,6 +30,11 @@ pub(crate) enum Report {
     Findings,
     /// The findings in each transaction, and under each the rule and the cells that it speaks of.
     Explained,
+    /// The findings in each transaction, and no line of a refusal.
+    UpToFault {
+        /// With the rule under each, and the cells that it speaks of.
+        explained: bool,
+    },
     /// Each record with its cells.
     Records,
     /// The data of each item.
@@ -137,12 +142,13 @@ fn put_found<W: Target>(
     Ok(())
 }
 
-/// Puts the lines of an item's findings, where it is the transaction of that sequence in the group of that ID.
+/// Puts the lines of an item's findings, where it is the transaction of that sequence in the group of that ID, and counts them.
 fn put_findings<W: Target>(
     alloc: Global,
     group: u32,
     sequence: u32,
     item: &Item,
+    told: &mut u64,
     sink: &mut Sink<W>,
 ) -> Result<(), ToolFault>
     requires { has_failed sink.old ≡ false }
@@ -154,6 +160,7 @@ fn put_findings<W: Target>(
     let Ok(found) = findings(alloc, transaction) else {
         return Err(ToolFault::Memory);
     };
+    *told = told.saturating_add(found.len() as u64);
     match put_found(group, sequence, found.as_slice(), sink) {
         Ok(()) => Ok(()),
         Err(fault) => Err(writer_fault(fault)),
@@ -161,13 +168,14 @@ fn put_findings<W: Target>(
 }
 
 /// Puts the lines of an item's findings and the lines under them, where it is the transaction of that sequence in the group of that
-/// ID. Its first record is on that line of the file.
+/// ID, and counts the findings. Its first record is on that line of the file.
 fn put_explained_findings<W: Target>(
     alloc: Global,
     group: u32,
     sequence: u32,
     first: u64,
     item: &Item,
+    told: &mut u64,
     sink: &mut Sink<W>,
 ) -> Result<(), ToolFault>
     requires unfailed { has_failed sink.old ≡ false }
@@ -180,7 +188,38 @@ fn put_explained_findings<W: Target>(
     let Ok(found) = findings(alloc, transaction) else {
         return Err(ToolFault::Memory);
     };
+    *told = told.saturating_add(found.len() as u64);
     match put_all_explained(group, sequence, first, transaction, found.as_slice(), sink) {
+        Ok(()) => Ok(()),
+        Err(fault) => Err(writer_fault(fault)),
+    }
+}
+
+/// Puts the lines of findings in the transaction of that sequence in the group of that ID, and counts them. Where they are explained,
+/// lines follow each, and the transaction's first record is on that line of the file.
+pub fn put_transaction_findings<W: Target>(
+    explained: bool,
+    alloc: Global,
+    group: u32,
+    sequence: u32,
+    first: u64,
+    transaction: &Transaction,
+    told: &mut u64,
+    sink: &mut Sink<W>,
+) -> Result<(), ToolFault>
+    requires unfailed { has_failed sink.old ≡ false }
+    requires few { first + length transaction.now ≤ 100000000 }
+{
+    let Ok(found) = findings(alloc, transaction) else {
+        return Err(ToolFault::Memory);
+    };
+    *told = told.saturating_add(found.len() as u64);
+    let put = if explained {
+        put_all_explained(group, sequence, first, transaction, found.as_slice(), sink)
+    } else {
+        put_found(group, sequence, found.as_slice(), sink)
+    };
+    match put {
         Ok(()) => Ok(()),
         Err(fault) => Err(writer_fault(fault)),
     }
@@ -204,7 +243,8 @@ fn notes_at(noted: bool, counts: &Totals, item: &Item) -> Option<Notes>
     })
 }
 
-/// Puts the lines of an item that comes after items with these numbers. Those of a record, and data, are made in the buffers.
+/// Puts the lines of an item that comes after items with these numbers. Those of a record, and data, are made in the buffers. The
+/// findings are counted.
 pub(crate) fn put_item<W: Target>(
     report: Report,
     alloc: Global,
@@ -212,6 +252,7 @@ pub(crate) fn put_item<W: Target>(
     item: &Item,
     lines: &mut RecordLines,
     text: &mut RecordText,
+    told: &mut u64,
     sink: &mut Sink<W>,
 ) -> Result<(), ToolFault>
     requires unfailed { has_failed sink.old ≡ false }
@@ -219,10 +260,33 @@ pub(crate) fn put_item<W: Target>(
     ensures { PutsLines W.contents W.failures ((lines_in report).take_memory item.now) (lines_at report counts.now item.now) result sink.old sink.new }
 {
     match report {
-        Report::Findings => put_findings(alloc, counts.groups, counts.in_group, item, sink),
+        Report::Findings => put_findings(alloc, counts.groups, counts.in_group, item, told, sink),
         Report::Explained => {
             let first = u64::from(counts.records) + 1;
-            put_explained_findings(alloc, counts.groups, counts.in_group, first, item, sink)
+            put_explained_findings(
+                alloc,
+                counts.groups,
+                counts.in_group,
+                first,
+                item,
+                told,
+                sink,
+            )
+        }
+        Report::UpToFault { explained: false } => {
+            put_findings(alloc, counts.groups, counts.in_group, item, told, sink)
+        }
+        Report::UpToFault { explained: true } => {
+            let first = u64::from(counts.records) + 1;
+            put_explained_findings(
+                alloc,
+                counts.groups,
+                counts.in_group,
+                first,
+                item,
+                told,
+                sink,
+            )
         }
         Report::Records => {
             match put_records(u64::from(counts.records) + 1, item, lines, sink) {

@@ -7,6 +7,7 @@ ghost use Rattle.cwr_tools.specs.Steps.Reports.{Reports};
 
 use crate::item_lines::Report;
 use crate::reporting::write_report;
+use crate::totals::HandedOut;
 use crate::verdicts::{ToolFault, Verdict};
 use cwr_fields::{Source, Target};
 use cwr_shape::Limits;
@@ -40,6 +41,7 @@ pub fn json<R: Source, W: Target + Drop>(
         limits,
         reader,
         &mut None,
+        &mut HandedOut::new(),
         writer,
     )
 }

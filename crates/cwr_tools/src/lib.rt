@@ -21,7 +21,8 @@ mod splitting;
 mod totals;
 mod verdicts;
 
-pub use checking::{check, check_explained};
+pub use checking::{CheckedFront, check, check_explained, check_up_to_fault};
+pub use item_lines::put_transaction_findings;
 pub use joining::join;
 pub use json_lines::json;
 pub use note_lines::level_words;
@@ -30,4 +31,5 @@ pub use outputs::{OutputFault, Outputs};
 pub use reporting::put_verdict_line;
 pub use showing::show;
 pub use splitting::split;
+pub use totals::{HandedOut, Totals};
 pub use verdicts::{JoinFault, JoinReport, SplitReport, ToolFault, Verdict};

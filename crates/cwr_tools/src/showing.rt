@@ -7,6 +7,7 @@ ghost use Rattle.cwr_tools.specs.Steps.Reports.{Reports};
 
 use crate::item_lines::Report;
 use crate::reporting::write_report;
+use crate::totals::HandedOut;
 use crate::verdicts::{ToolFault, Verdict};
 use cwr_fields::{Source, Target};
 use cwr_shape::Limits;
@@ -35,5 +36,13 @@ pub fn show<R: Source, W: Target + Drop>(
     // All that was written was handed on.
     ensures handed_on { OnOk result.1 (W.handed_on result.0 ≡ true) }
 {
-    write_report(Report::Records, alloc, limits, reader, &mut None, writer)
+    write_report(
+        Report::Records,
+        alloc,
+        limits,
+        reader,
+        &mut None,
+        &mut HandedOut::new(),
+        writer,
+    )
 }

@@ -1,5 +1,5 @@
 -- The lines of a report: those of each item, and the verdict's.
-use Rattle.std.specs.Prelude.{◌≡◌, ℕ, ◌+◌, Bool, false, nat_lt, length, List, [], ◌++◌, drop, Option, Some, IfSome, Result, Err}
+use Rattle.std.specs.Prelude.{◌≡◌, ℕ, ◌+◌, Bool, true, false, nat_lt, length, List, [], ◌++◌, drop, Option, Some, IfSome, Result, Err}
 use Rattle.std.specs.Io.KnownBytes.{Appends}
 use Rattle.cwr_fields.specs.Format.Failures.{one_more_failure}
 use Rattle.cwr_shape.specs.declared.limits.Limits.{Limits}
@@ -12,6 +12,7 @@ use Rattle.cwr_judge.specs.Format.Items.{value_items}
 use Rattle.cwr_json.specs.Format.Forms.{data_lines}
 use Rattle.cwr_levels.specs.Format.Findings.{findings}
 use Rattle.cwr_tools.specs.declared.verdicts.Verdict.{Verdict}
+use Rattle.cwr_tools.specs.declared.verdicts.Verdict.TheVariants.{Refused}
 use Rattle.cwr_tools.specs.declared.verdicts.ToolFault.{ToolFault}
 use Rattle.cwr_tools.specs.declared.verdicts.ToolFault.TheVariants.{Reader, Writer}
 use Rattle.cwr_tools.specs.Format.Texts.{check_lines, good_verdict, show_lines, verdict_line}
@@ -35,6 +36,16 @@ lines_of_findings = record { lines = check_lines; last = verdict_line; take_memo
 -- the same, and lines under each finding
 abbrev pub lines_of_explained : ItemLines
 lines_of_explained = record { lines = explained_lines; last = verdict_line; take_memory = has_findings }
+
+-- the verdict's line, where that is no refusal
+abbrev pub unrefused_line : Verdict → List ℕ
+unrefused_line (Refused refusal) = []
+unrefused_line verdict = verdict_line verdict
+
+-- the findings in each transaction, with lines under each where these are asked for, and no line of a refusal
+abbrev pub lines_up_to_fault : Bool → ItemLines
+lines_up_to_fault false = record { lines = check_lines; last = unrefused_line; take_memory = has_findings }
+lines_up_to_fault true = record { lines = explained_lines; last = unrefused_line; take_memory = has_findings }
 
 -- the records with their cells
 abbrev pub lines_of_records : ItemLines

@@ -1,0 +1,1 @@
+-- What is promised, in the words of the format.

@@ -1,0 +1,171 @@
+//! The lines that a reader still has.
+
+use arrayvec::ArrayVec;
+use cwr_explain::LineAtEnd;
+use cwr_fields::{Source, is_spaces};
+use cwr_layouts::{LONGEST_LINE, LineBuf, LineEnd};
+use cwr_tools::ToolFault;
+use memchr::memchr;
+
+const LF: u8 = b'\n';
+
+/// A line as it was read.
+#[derive(Drop)]
+pub(crate) struct RawLine {
+    /// Its bytes, without its line feed: of one that is too long the first 1,024.
+    bytes: ArrayVec<u8, LONGEST_LINE>,
+    /// Whether its line feed was read.
+    ended: bool,
+    /// Whether it has more bytes.
+    is_too_long: bool,
+    /// The bytes of the input before it.
+    offset: u64,
+    /// The bytes of the input up to its end.
+    end: u64,
+}
+
+impl RawLine {
+    /// The empty line at the start of an input.
+    pub fn new() -> RawLine {
+        RawLine {
+            bytes: ArrayVec::new(),
+            ended: false,
+            is_too_long: false,
+            offset: 0,
+            end: 0,
+        }
+    }
+
+    /// Begins the line after another one.
+    fn begin(&mut self, end: u64) {
+        self.bytes.truncate(0);
+        self.ended = false;
+        self.is_too_long = false;
+        self.offset = end;
+        self.end = end;
+    }
+
+    /// Adds bytes of the line.
+    fn add(&mut self, bytes: &[u8]) {
+        let room = LONGEST_LINE.saturating_sub(self.bytes.len());
+        if bytes.len() > room {
+            self.is_too_long = true;
+        }
+        let _fits = self
+            .bytes
+            .try_extend_from_slice(&bytes[..room.min(bytes.len())]);
+        self.end = self.end.saturating_add(bytes.len() as u64);
+    }
+
+    /// Adds its line feed.
+    fn end(&mut self) {
+        self.ended = true;
+        self.end = self.end.saturating_add(1);
+    }
+
+    /// Whether its line feed was read.
+    pub fn has_ended(&self) -> bool {
+        self.ended
+    }
+
+    /// Whether it has more than 1,024 bytes.
+    pub fn is_too_long(&self) -> bool {
+        self.is_too_long
+    }
+
+    /// Its bytes, at most 1,024. A carriage return at its end is counted.
+    pub fn as_slice(&self) -> &[u8] {
+        self.bytes.as_slice()
+    }
+
+    /// Whether nothing but spaces stands in it.
+    pub fn is_blank(&self) -> bool {
+        match self.bytes.as_slice() {
+            [front @ .., b'\r'] if !self.is_too_long => is_spaces(front),
+            bytes => is_spaces(bytes),
+        }
+    }
+
+    /// The line, as an explanation has it.
+    pub fn shown(&self) -> LineAtEnd<'_> {
+        LineAtEnd {
+            bytes: self.bytes.as_slice(),
+            ended: self.ended,
+            offset: self.offset,
+        }
+    }
+
+    /// The line once more in a line buffer, which cuts it into cells.
+    pub fn cut_into(&self, line: &mut LineBuf)
+        ensures { line.new.ended ≢ LineEnd.Open }
+    {
+        line.clear();
+        let mut taken = line.take(self.bytes.as_slice());
+        if self.is_too_long && matches!(taken.ended, LineEnd::Open) {
+            taken = line.take(b" ");
+        }
+        if matches!(taken.ended, LineEnd::Open) {
+            line.close();
+        }
+    }
+
+    /// Takes what the reader shows next. The answer is whether the line or the input has ended with that.
+    fn take_piece<R: Source>(&mut self, reader: &mut R) -> Result<bool, ToolFault> {
+        let Ok(piece) = reader.fill() else {
+            return Err(ToolFault::Reader);
+        };
+        if piece.is_empty() {
+            return Ok(true);
+        }
+        let feed = memchr(LF, piece);
+        let front = &piece[..feed.unwrap_or(piece.len())];
+        self.add(front);
+        let count = front.len();
+        match feed {
+            Some(_) => {
+                self.end();
+                reader.consume(count + 1);
+                Ok(true)
+            }
+            None => {
+                reader.consume(count);
+                Ok(false)
+            }
+        }
+    }
+
+    /// Takes what is left of the line, up to its line feed or the end of the input.
+    fn take_rest<R: Source>(&mut self, reader: &mut R) -> Result<(), ToolFault> {
+        for _ in 0..u64::MAX {
+            if self.take_piece(reader)? {
+                break;
+            }
+        }
+        Ok(())
+    }
+
+    /// The line that was read last, of which the reader may have more.
+    pub fn of_last<R: Source>(found: &LineAtEnd<'_>, reader: &mut R) -> Result<RawLine, ToolFault> {
+        let mut line = RawLine::new();
+        line.begin(found.offset);
+        line.add(found.bytes);
+        if found.ended {
+            line.end();
+        } else if line.bytes.len() == LONGEST_LINE {
+            line.take_rest(reader)?;
+        }
+        Ok(line)
+    }
+
+    /// Reads the line after another one. The answer is whether there is one.
+    pub fn read_after<R: Source>(&mut self, end: u64, reader: &mut R) -> Result<bool, ToolFault> {
+        self.begin(end);
+        self.take_rest(reader)?;
+        Ok(self.ended || !self.bytes.is_empty())
+    }
+
+    /// The bytes of the input up to its end.
+    pub fn end_offset(&self) -> u64 {
+        self.end
+    }
+}
