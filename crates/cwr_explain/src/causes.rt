@@ -30,6 +30,8 @@ pub(crate) struct Refused<'a> {
     pub kind: Option<Kind>,
     /// Whether it has more than 1,024 bytes.
     pub is_too_long: bool,
+    /// Whether the fault is the first that is explained of the line.
+    pub is_first: bool,
 }
 
 impl Refused<'_> {
@@ -335,6 +337,27 @@ impl Refused<'_> {
         }
     }
 
+    /// Adds that characters of several bytes have moved the cells behind them, where the line has as many bytes too many.
+    fn add_moved(&self, text: &mut String) -> Result<(), AllocError> {
+        let (Some(kind), true) = (self.kind, self.is_first) else {
+            return Ok(());
+        };
+        let bytes = self.without_return();
+        let more = bytes.len().saturating_sub(width(kind));
+        let continued = bytes
+            .iter()
+            .filter(|byte| matches!(**byte, 0x80..=0xBF))
+            .count();
+        if more == 0 || continued < more {
+            return Ok(());
+        }
+        add_label(text, "note")?;
+        writeln!(
+            text,
+            "the line has {more} bytes too many, and characters of several bytes (UTF-8): each moves the cells behind it"
+        )
+    }
+
     /// Adds the refusal's level.
     fn add_level(&self, text: &mut String) -> Result<(), AllocError> {
         let words = level_words(self.refusal.level);
@@ -359,6 +382,7 @@ impl Refused<'_> {
         self.add_expected(alloc, text, limits, stage, &cut)?;
         self.add_level(text)?;
         self.add_opening(text)?;
+        self.add_moved(text)?;
         add_returns(text, self.line.bytes)?;
         add_cut_off(text, &self.line, self.kind)
     }

@@ -77,12 +77,14 @@ fn add_refused(
         before: line_before(&last.bytes),
         kind: kind_of(line.bytes),
         is_too_long,
+        is_first: true,
     };
     refused.add(alloc, text, limits, Some(last.stage))
 }
 
 /// The lines that explain a fault of a line, where the records before have come to that stage, if that is known. Beside it stand the
-/// line before, where it is held, and whether the line has more bytes than are shown.
+/// line before, where it is held, whether the line has more bytes than are shown, and whether this is the first fault of the line that
+/// is explained: what is to be said of the whole line is said with that one.
 pub fn explain_fault(
     alloc: Global,
     limits: &Limits,
@@ -91,6 +93,7 @@ pub fn explain_fault(
     line: LineAtEnd<'_>,
     before: Option<&[u8]>,
     is_too_long: bool,
+    is_first: bool,
     stage: Option<Stage>,
 ) -> Result<String, AllocError> {
     let mut text = String::new(alloc);
@@ -101,6 +104,7 @@ pub fn explain_fault(
         before,
         kind: kind_of(line.bytes),
         is_too_long,
+        is_first,
     };
     refused.add(alloc, &mut text, limits, stage)?;
     Ok(text)

@@ -102,11 +102,11 @@ impl Judged {
         }
     }
 
-    /// The number of the last field at which something may be told: one past the last of the kind.
-    pub fn last_place(&self) -> u8 {
+    /// The number after the last field at which something may be told, which is one past the last of the kind.
+    pub fn places(&self) -> u8 {
         match self {
-            Judged::Unknown => 1,
-            Judged::Known(known) => fields(known.kind) + 1,
+            Judged::Unknown => 2,
+            Judged::Known(known) => fields(known.kind).saturating_add(2),
         }
     }
 

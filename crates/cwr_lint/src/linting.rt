@@ -1,19 +1,31 @@
 //! Every fault of a transmission in one pass.
 
+ghost use Rattle.std.specs.Prelude.{◌≡◌, ℕ, true, false, List, ◌++◌, IfOk, OnOk, IsSome};
+ghost use Rattle.std.specs.Option.{is_some};
+ghost use Rattle.std.specs.Io.KnownBytes.{Appends};
+ghost use Rattle.cwr_encode.specs.Steps.Sinks.{has_failed};
+ghost use Rattle.cwr_explain.specs.Format.Explained.{AddsWords, IsAnswerTo, TakesMore};
+ghost use Rattle.cwr_levels.specs.Format.ReportLines.{fault_line, faults_line};
+ghost use Rattle.cwr_tools.specs.Format.Reports.{CountsReaderFault, CountsWriterFault};
+ghost use Rattle.cwr_tools.specs.Format.Verdicts.{JudgesText};
+ghost use Rattle.cwr_lint.specs.Format.Told.{CountsReader, CountsWriter, IsTold};
+ghost use Rattle.cwr_lint.specs.Steps.Lints.{Lints, Tells};
+ghost use Rattle.cwr_lint.specs.Steps.Puts.{PutsAfter, PutsSome};
+
 use crate::findings::{after_line, put_ended};
 use crate::judging::Judged;
 use crate::raw_lines::RawLine;
 use crate::states::LintState;
 use cwr_decode::{LastRead, Refusal};
-use cwr_encode::{Sink, SinkFault};
+use cwr_encode::Sink;
 use cwr_explain::{explain_fault, line_at_end};
 use cwr_fields::{Source, Target};
 use cwr_layouts::{CutLine, LineBuf};
 use cwr_levels::{fault_line, faults_line, truncated_line};
 use cwr_shape::{Limits, level};
-use cwr_tools::{CheckedFront, ToolFault, Verdict, check_up_to_fault};
+use cwr_tools::{CheckedFront, HandedOut, ToolFault, Verdict, check_up_to_fault};
 use cwr_values::Transaction;
-use std::alloc::Global;
+use std::alloc::{AllocError, Global};
 
 /// A lint that goes on after the first fault.
 #[derive(Drop)]
@@ -36,25 +48,71 @@ fn shown(number: u64) -> u32 {
     u32::try_from(number).unwrap_or(u32::MAX)
 }
 
-/// The fault of a run whose writer failed.
-fn writer_fault(fault: SinkFault) -> ToolFault {
-    ToolFault::Writer {
-        written: fault.written,
+/// Puts the line of a fault.
+fn put_fault_line<W: Target>(fault: &Refusal, sink: &mut Sink<W>) -> Result<(), ToolFault>
+    requires { has_failed sink.old ≡ false }
+    ensures { PutsAfter W.contents W.failures (fault_line fault.now) result sink.old sink.new }
+{
+    match fault_line(fault, sink) {
+        Ok(()) => Ok(()),
+        Err(fault) => Err(ToolFault::Writer {
+            written: fault.written,
+        }),
+    }
+}
+
+/// Puts lines that explain a fault.
+fn put_words<W: Target>(words: &[u8], sink: &mut Sink<W>) -> Result<(), ToolFault>
+    requires { has_failed sink.old ≡ false }
+    ensures { PutsAfter W.contents W.failures words.now result sink.old sink.new }
+{
+    match sink.put(words) {
+        Ok(()) => Ok(()),
+        Err(fault) => Err(ToolFault::Writer {
+            written: fault.written,
+        }),
+    }
+}
+
+/// Puts how an input ended, of which so many lines were read: whether TRL was taken, and how many faults and findings it has.
+fn put_end<W: Target>(
+    is_over: bool,
+    faults: u64,
+    findings: u64,
+    lines: u64,
+    sink: &mut Sink<W>,
+) -> Result<(), ToolFault>
+    requires { has_failed sink.old ≡ false }
+    ensures { (more : List ℕ) × PutsAfter W.contents W.failures (more ++ faults_line faults findings lines) result sink.old sink.new }
+{
+    if !is_over {
+        if let Err(fault) = truncated_line(shown(lines), sink) {
+            return Err(ToolFault::Writer {
+                written: fault.written,
+            });
+        }
+    }
+    match faults_line(faults, findings, lines, sink) {
+        Ok(()) => Ok(()),
+        Err(fault) => Err(ToolFault::Writer {
+            written: fault.written,
+        }),
     }
 }
 
 impl LintRun<'_> {
-    /// Puts the line of a fault, and under it the lines that explain it, where they are asked for.
-    fn put_fault<W: Target>(
+    /// Puts the lines that explain a fault of a line, where they are asked for.
+    fn put_explanation<W: Target>(
         &self,
         fault: &Refusal,
         raw: &RawLine,
         before: Option<&RawLine>,
+        is_first: bool,
         sink: &mut Sink<W>,
-    ) -> Result<(), ToolFault> {
-        if let Err(fault) = fault_line(fault, sink) {
-            return Err(writer_fault(fault));
-        }
+    ) -> Result<(), ToolFault>
+        requires { has_failed sink.old ≡ false }
+        ensures { PutsSome W.contents W.failures result sink.old sink.new }
+    {
         let Some(name) = self.name else {
             return Ok(());
         };
@@ -66,15 +124,42 @@ impl LintRun<'_> {
             raw.shown(),
             before.map(|line| line.as_slice()),
             raw.is_too_long(),
+            is_first,
             self.state.stage,
         );
-        let Ok(text) = explained else {
-            return Err(ToolFault::Memory);
-        };
-        match sink.put(text.as_bytes()) {
-            Ok(()) => Ok(()),
-            Err(fault) => Err(writer_fault(fault)),
+        match explained {
+            Ok(text) => put_words(text.as_bytes(), sink),
+            Err(_) => Err(ToolFault::Memory),
         }
+    }
+
+    /// Puts the line of a fault, and under it the lines that explain it, where they are asked for.
+    fn put_fault<W: Target>(
+        &self,
+        fault: &Refusal,
+        raw: &RawLine,
+        before: Option<&RawLine>,
+        is_first: bool,
+        sink: &mut Sink<W>,
+    ) -> Result<(), ToolFault>
+        requires { has_failed sink.old ≡ false }
+        ensures { (more : List ℕ) × PutsAfter W.contents W.failures (fault_line fault.now ++ more) result sink.old sink.new }
+    {
+        match put_fault_line(fault, sink) {
+            Ok(()) => self.put_explanation(fault, raw, before, is_first, sink),
+            Err(fault) => Err(fault),
+        }
+    }
+
+    /// The fault at a field of the line that comes next, if it has one.
+    fn fault_at(&self, judged: &Judged, line: &CutLine<'_>, field: u8) -> Option<Refusal> {
+        let reason = judged.reason(line, field)?;
+        Some(Refusal {
+            rec: shown(self.state.lines.saturating_add(1)),
+            field,
+            level: level(line.kind(), field, &reason, self.state.place()),
+            reason,
+        })
     }
 
     /// Tells the faults of a line from a field on. The answer is how many they are.
@@ -86,37 +171,76 @@ impl LintRun<'_> {
         raw: &RawLine,
         before: Option<&RawLine>,
         sink: &mut Sink<W>,
-    ) -> Result<u64, ToolFault> {
+    ) -> Result<u64, ToolFault>
+        requires { has_failed sink.old ≡ false }
+        ensures { PutsSome W.contents W.failures result sink.old sink.new }
+    {
         let mut told: u64 = 0;
-        let rec = shown(self.state.lines.saturating_add(1));
-        for field in from..judged.last_place() + 1 {
-            let Some(reason) = judged.reason(line, field) else {
+        for field in from..judged.places() {
+            let Some(fault) = self.fault_at(judged, line, field) else {
                 continue;
             };
-            let fault = Refusal {
-                rec,
-                field,
-                level: level(line.kind(), field, &reason, self.state.place()),
-                reason,
-            };
-            self.put_fault(&fault, raw, before, sink)?;
+            let is_first = told == 0 && from == 1;
+            if let Err(stop) = self.put_fault(&fault, raw, before, is_first, sink) {
+                return Err(stop);
+            }
             told = told.saturating_add(1);
         }
         Ok(told)
     }
 
-    /// Goes on with a line that was judged.
-    fn step(&mut self, judged: &Judged, line: &CutLine<'_>, raw: &RawLine) {
+    /// Tells the findings of the transaction that a line ends, and the faults of the line from a field on. The answer is how many
+    /// faults they are.
+    fn tell_all<W: Target>(
+        &mut self,
+        judged: &Judged,
+        line: &CutLine<'_>,
+        from: u8,
+        raw: &RawLine,
+        before: Option<&RawLine>,
+        sink: &mut Sink<W>,
+    ) -> Result<u64, ToolFault>
+        requires { has_failed sink.old ≡ false }
+        ensures { PutsSome W.contents W.failures result sink.old sink.new }
+    {
+        let explained = self.name.is_some();
+        let alloc = self.alloc;
+        match put_ended(
+            explained,
+            alloc,
+            &self.state,
+            &self.open,
+            judged,
+            &mut self.findings,
+            sink,
+        ) {
+            Ok(()) => self.tell(judged, line, from, raw, before, sink),
+            Err(fault) => Err(fault),
+        }
+    }
+
+    /// Goes on with a line that was judged, and with which so many faults were told. It fails only for want of memory.
+    fn step(
+        &mut self,
+        judged: &Judged,
+        line: &CutLine<'_>,
+        is_good: bool,
+        is_blank: bool,
+    ) -> Result<(), AllocError> {
         match judged {
             Judged::Known(known) => {
                 self.state
                     .step(known.taken, known.misplaced, known.kind, line)
             }
-            Judged::Unknown => self.state.step_unknown(raw.is_blank()),
+            Judged::Unknown => self.state.step_unknown(is_blank),
         }
+        let in_step = self.state.stage.is_some();
+        let open = self.open.take();
+        self.open = after_line(self.alloc, open, judged, is_good, in_step, line)?;
+        Ok(())
     }
 
-    /// Tells the findings of the transaction that a line ends, and the faults of the line from a field on, and goes on with it.
+    /// Tells what is wrong with a line from a field on, and goes on with it.
     fn take<W: Target>(
         &mut self,
         line: &CutLine<'_>,
@@ -124,113 +248,161 @@ impl LintRun<'_> {
         raw: &RawLine,
         before: Option<&RawLine>,
         sink: &mut Sink<W>,
-    ) -> Result<(), ToolFault> {
+    ) -> Result<(), ToolFault>
+        requires { has_failed sink.old ≡ false }
+        ensures { PutsSome W.contents W.failures result sink.old sink.new }
+    {
         let judged = Judged::of(&self.state, line);
-        put_ended(
-            self.name.is_some(),
-            self.alloc,
-            &self.state,
-            &self.open,
-            &judged,
-            &mut self.findings,
-            sink,
-        )?;
-        let told = self.tell(&judged, line, from, raw, before, sink)?;
+        let told = match self.tell_all(&judged, line, from, raw, before, sink) {
+            Ok(told) => told,
+            Err(fault) => return Err(fault),
+        };
         self.faults = self.faults.saturating_add(told);
-        self.step(&judged, line, raw);
         let is_good = told == 0 && from == 1;
-        let in_step = self.state.stage.is_some();
-        self.open = after_line(
-            self.alloc,
-            self.open.take(),
-            &judged,
-            is_good,
-            in_step,
-            line,
-        )?;
-        Ok(())
+        match self.step(&judged, line, is_good, raw.is_blank()) {
+            Ok(()) => Ok(()),
+            Err(_) => Err(ToolFault::Memory),
+        }
     }
 
-    /// Puts how the input ended, and how many faults and findings it has.
-    fn end<W: Target>(&self, sink: &mut Sink<W>) -> Result<(), SinkFault> {
-        if !self.state.over {
-            truncated_line(shown(self.state.lines), sink)?;
+    /// Reads the line after this one, and tells what is wrong with it. The answer is whether there was one.
+    fn take_next<R: Source, W: Target>(
+        &mut self,
+        reader: &mut R,
+        before: &RawLine,
+        raw: &mut RawLine,
+        cut: &mut LineBuf,
+        sink: &mut Sink<W>,
+    ) -> Result<bool, ToolFault>
+        requires { has_failed sink.old ≡ false }
+        ensures puts { PutsSome W.contents W.failures result sink.old sink.new }
+        ensures taken { TakesMore (R.remaining reader.old) (R.remaining reader.new) }
+        ensures failures { CountsReader result (R.failures reader.old) (R.failures reader.new) }
+    {
+        if self.state.over || !before.has_ended() {
+            return Ok(false);
         }
-        faults_line(self.faults, self.findings, self.state.lines, sink)
+        match raw.read_after(before.end_offset(), reader) {
+            Ok(true) => {}
+            Ok(false) => return Ok(false),
+            Err(fault) => return Err(fault),
+        }
+        raw.cut_into(cut);
+        match self.take(&cut.cut(), 1, raw, Some(before), sink) {
+            Ok(()) => Ok(true),
+            Err(fault) => Err(fault),
+        }
     }
 
     /// Reads the lines after this one, up to TRL or the end, and tells what is wrong with each.
-    fn go_on<R: Source, W: Target>(
+    fn take_rest<R: Source, W: Target>(
         &mut self,
         reader: &mut R,
-        mut before: RawLine,
+        first: RawLine,
         cut: &mut LineBuf,
         sink: &mut Sink<W>,
-    ) -> Result<(), ToolFault> {
+    ) -> Result<(), ToolFault>
+        requires { has_failed sink.old ≡ false }
+        ensures puts { PutsSome W.contents W.failures result sink.old sink.new }
+        ensures taken { TakesMore (R.remaining reader.old) (R.remaining reader.new) }
+        ensures failures { CountsReader result (R.failures reader.old) (R.failures reader.new) }
+    {
+        let mut before = first;
         let mut raw = RawLine::new();
         for _ in 0..u64::MAX {
-            if self.state.over || !before.has_ended() {
-                break;
+            match self.take_next(reader, &before, &mut raw, cut, sink) {
+                Ok(true) => {}
+                Ok(false) => break,
+                Err(fault) => return Err(fault),
             }
-            if !raw.read_after(before.end_offset(), reader)? {
-                break;
-            }
-            raw.cut_into(cut);
-            self.take(&cut.cut(), 1, &raw, Some(&before), sink)?;
             (raw, before) = (before, raw);
         }
         Ok(())
     }
 
-    /// Tells the first fault, which a check has met, and all that come after it, and how many they are.
+    /// Tells the first fault, which a check has met at this line, and the others of the line and of those after it.
+    fn tell_from<R: Source, W: Target>(
+        &mut self,
+        refusal: &Refusal,
+        reader: &mut R,
+        raw: RawLine,
+        sink: &mut Sink<W>,
+    ) -> Result<(), ToolFault>
+        requires { has_failed sink.old ≡ false }
+        ensures puts { (more : List ℕ) × PutsAfter W.contents W.failures (fault_line refusal.now ++ more) result sink.old sink.new }
+        ensures taken { TakesMore (R.remaining reader.old) (R.remaining reader.new) }
+        ensures failures { CountsReader result (R.failures reader.old) (R.failures reader.new) }
+    {
+        let mut cut = LineBuf::new();
+        raw.cut_into(&mut cut);
+        if let Err(fault) = self.put_fault(refusal, &raw, None, true, sink) {
+            return Err(fault);
+        }
+        let from = refusal.field.saturating_add(1);
+        if let Err(fault) = self.take(&cut.cut(), from, &raw, None, sink) {
+            return Err(fault);
+        }
+        self.take_rest(reader, raw, &mut cut, sink)
+    }
+
+    /// Tells the first fault, which a check has met at the line that was read last, and all that come after it, and how many they
+    /// are.
     fn run<R: Source, W: Target>(
         &mut self,
         refusal: &Refusal,
         last: &LastRead,
         reader: &mut R,
         sink: &mut Sink<W>,
-    ) -> Result<(), ToolFault> {
-        let raw = RawLine::of_last(&line_at_end(&last.bytes), reader)?;
-        let mut cut = LineBuf::new();
-        raw.cut_into(&mut cut);
-        self.put_fault(refusal, &raw, None, sink)?;
-        self.take(
-            &cut.cut(),
-            refusal.field.saturating_add(1),
-            &raw,
-            None,
-            sink,
-        )?;
-        self.go_on(reader, raw, &mut cut, sink)?;
-        match self.end(sink) {
-            Ok(()) => Ok(()),
-            Err(fault) => Err(writer_fault(fault)),
+    ) -> Result<(), ToolFault>
+        requires { has_failed sink.old ≡ false }
+        ensures told { (text : List ℕ) × PutsAfter W.contents W.failures text result sink.old sink.new × OnOk result (IsTold refusal.now text) }
+        ensures taken { TakesMore (R.remaining reader.old) (R.remaining reader.new) }
+        ensures failures { CountsReader result (R.failures reader.old) (R.failures reader.new) }
+    {
+        let raw = match RawLine::of_last(&line_at_end(&last.bytes), reader) {
+            Ok(raw) => raw,
+            Err(fault) => return Err(fault),
+        };
+        match self.tell_from(refusal, reader, raw, sink) {
+            Ok(()) => put_end(
+                self.state.over,
+                self.faults,
+                self.findings,
+                self.state.lines,
+                sink,
+            ),
+            Err(fault) => Err(fault),
         }
     }
 }
 
 /// Goes on after the first fault, which a check has met and not told.
-fn go_on_after<R: Source, W: Target>(
+fn go_on<R: Source, W: Target>(
     alloc: Global,
     limits: Limits,
     name: Option<&str>,
     refusal: &Refusal,
-    front: &CheckedFront,
+    last: &LastRead,
+    handed_out: &HandedOut,
     reader: &mut R,
     writer: W,
-) -> (W, Result<(), ToolFault>) {
-    let Some(last) = &front.last else {
-        return (writer, Ok(()));
-    };
+) -> (W, Result<(), ToolFault>)
+    ensures told { OnOk result.1 ((text : List ℕ) × IsTold refusal.now text × Appends (W.contents writer) (W.contents result.0) text) }
+    ensures words { AddsWords W.contents writer result.0 }
+    ensures taken { TakesMore (R.remaining reader.old) (R.remaining reader.new) }
+    ensures reader_failures { CountsReader result.1 (R.failures reader.old) (R.failures reader.new) }
+    ensures writer_failures { CountsWriter result.1 (W.failures writer) (W.failures result.0) }
+    ensures handed_on { OnOk result.1 (W.handed_on result.0 ≡ true) }
+{
     let lines = u64::from(refusal.rec).saturating_sub(1);
     let mut lint = LintRun {
         alloc,
         limits,
         name,
-        state: LintState::at(last.stage, &front.handed_out.totals, lines),
+        state: LintState::at(last.stage, &handed_out.totals, lines),
         open: None,
         faults: 1,
-        findings: front.handed_out.findings,
+        findings: handed_out.findings,
     };
     let mut sink = Sink::new(writer);
     let told = lint.run(refusal, last, reader, &mut sink);
@@ -245,6 +417,44 @@ fn go_on_after<R: Source, W: Target>(
     }
 }
 
+/// Goes on after the first fault, which a check has met and not told, and answers the verdict.
+fn tell_faults<R: Source, W: Target>(
+    alloc: Global,
+    limits: Limits,
+    name: Option<&str>,
+    refusal: Refusal,
+    front: &CheckedFront,
+    reader: &mut R,
+    writer: W,
+) -> (W, Result<Verdict, ToolFault>)
+    requires { IsSome front.now.last }
+    ensures told { OnOk result.1 ((text : List ℕ) × IsTold refusal text × Appends (W.contents writer) (W.contents result.0) text) }
+    ensures words { AddsWords W.contents writer result.0 }
+    ensures taken { TakesMore (R.remaining reader.old) (R.remaining reader.new) }
+    ensures answered { IsAnswerTo (Verdict.Refused refusal) result.1 }
+    ensures reader_failures { CountsReaderFault result.1 (R.failures reader.old) (R.failures reader.new) }
+    ensures writer_failures { CountsWriterFault result.1 (W.failures writer) (W.failures result.0) }
+    ensures handed_on { OnOk result.1 (W.handed_on result.0 ≡ true) }
+{
+    let Some(last) = &front.last else {
+        unreachable!()
+    };
+    let (writer, told) = go_on(
+        alloc,
+        limits,
+        name,
+        &refusal,
+        last,
+        &front.handed_out,
+        reader,
+        writer,
+    );
+    match told {
+        Ok(()) => (writer, Ok(Verdict::Refused(refusal))),
+        Err(fault) => (writer, Err(fault)),
+    }
+}
+
 /// Reads a transmission up to its end, and tells every fault of it.
 ///
 /// Up to the first fault it is a check, and writes what `check` writes. In the place of a refusal it writes a line for each fault, the
@@ -256,15 +466,20 @@ pub fn lint<R: Source, W: Target + Drop>(
     name: Option<&str>,
     reader: &mut R,
     writer: W,
-) -> (W, Result<Verdict, ToolFault>) {
+) -> (W, Result<Verdict, ToolFault>)
+    ensures lints { Lints (is_some name) limits (R.remaining reader.old) (R.remaining reader.new) W.contents writer result.0 result.1 }
+    ensures tells { IfOk result.1 (Tells (is_some name) limits (R.remaining reader.old) (R.remaining reader.new) W.contents writer result.0) }
+    ensures judged { JudgesText limits (R.remaining reader.old) result.1 }
+    // No failure is passed over: a device failed only where that is the answer.
+    ensures reader_failures { CountsReaderFault result.1 (R.failures reader.old) (R.failures reader.new) }
+    ensures writer_failures { CountsWriterFault result.1 (W.failures writer) (W.failures result.0) }
+    // All that was written was handed on.
+    ensures handed_on { OnOk result.1 (W.handed_on result.0 ≡ true) }
+{
     let (writer, checked, front) = check_up_to_fault(alloc, limits, name.is_some(), reader, writer);
     match checked {
         Ok(Verdict::Refused(refusal)) => {
-            let (writer, told) = go_on_after(alloc, limits, name, &refusal, &front, reader, writer);
-            match told {
-                Ok(()) => (writer, Ok(Verdict::Refused(refusal))),
-                Err(fault) => (writer, Err(fault)),
-            }
+            tell_faults(alloc, limits, name, refusal, &front, reader, writer)
         }
         _ => (writer, checked),
     }

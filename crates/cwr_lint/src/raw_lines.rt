@@ -1,5 +1,8 @@
 //! The lines that a reader still has.
 
+ghost use Rattle.std.specs.Prelude.{◌≡◌, ◌≢◌};
+ghost use Rattle.cwr_explain.specs.Format.Explained.{ReadsOnly, TakesMore};
+
 use arrayvec::ArrayVec;
 use cwr_explain::LineAtEnd;
 use cwr_fields::{Source, is_spaces};
@@ -110,7 +113,10 @@ impl RawLine {
     }
 
     /// Takes what the reader shows next. The answer is whether the line or the input has ended with that.
-    fn take_piece<R: Source>(&mut self, reader: &mut R) -> Result<bool, ToolFault> {
+    fn take_piece<R: Source>(&mut self, reader: &mut R) -> Result<bool, ToolFault>
+        ensures taken { TakesMore (R.remaining reader.old) (R.remaining reader.new) }
+        ensures failures { ReadsOnly result (R.failures reader.old) (R.failures reader.new) }
+    {
         let Ok(piece) = reader.fill() else {
             return Err(ToolFault::Reader);
         };
@@ -135,33 +141,51 @@ impl RawLine {
     }
 
     /// Takes what is left of the line, up to its line feed or the end of the input.
-    fn take_rest<R: Source>(&mut self, reader: &mut R) -> Result<(), ToolFault> {
+    fn take_rest<R: Source>(&mut self, reader: &mut R) -> Result<(), ToolFault>
+        ensures taken { TakesMore (R.remaining reader.old) (R.remaining reader.new) }
+        ensures failures { ReadsOnly result (R.failures reader.old) (R.failures reader.new) }
+    {
         for _ in 0..u64::MAX {
-            if self.take_piece(reader)? {
-                break;
+            match self.take_piece(reader) {
+                Ok(true) => break,
+                Ok(false) => {}
+                Err(fault) => return Err(fault),
             }
         }
         Ok(())
     }
 
     /// The line that was read last, of which the reader may have more.
-    pub fn of_last<R: Source>(found: &LineAtEnd<'_>, reader: &mut R) -> Result<RawLine, ToolFault> {
+    pub fn of_last<R: Source>(found: &LineAtEnd<'_>, reader: &mut R) -> Result<RawLine, ToolFault>
+        ensures taken { TakesMore (R.remaining reader.old) (R.remaining reader.new) }
+        ensures failures { ReadsOnly result (R.failures reader.old) (R.failures reader.new) }
+    {
         let mut line = RawLine::new();
         line.begin(found.offset);
         line.add(found.bytes);
         if found.ended {
             line.end();
-        } else if line.bytes.len() == LONGEST_LINE {
-            line.take_rest(reader)?;
+            return Ok(line);
         }
-        Ok(line)
+        if line.bytes.len() < LONGEST_LINE {
+            return Ok(line);
+        }
+        match line.take_rest(reader) {
+            Ok(()) => Ok(line),
+            Err(fault) => Err(fault),
+        }
     }
 
     /// Reads the line after another one. The answer is whether there is one.
-    pub fn read_after<R: Source>(&mut self, end: u64, reader: &mut R) -> Result<bool, ToolFault> {
+    pub fn read_after<R: Source>(&mut self, end: u64, reader: &mut R) -> Result<bool, ToolFault>
+        ensures taken { TakesMore (R.remaining reader.old) (R.remaining reader.new) }
+        ensures failures { ReadsOnly result (R.failures reader.old) (R.failures reader.new) }
+    {
         self.begin(end);
-        self.take_rest(reader)?;
-        Ok(self.ended || !self.bytes.is_empty())
+        match self.take_rest(reader) {
+            Ok(()) => Ok(self.ended || !self.bytes.is_empty()),
+            Err(fault) => Err(fault),
+        }
     }
 
     /// The bytes of the input up to its end.

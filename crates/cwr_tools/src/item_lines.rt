@@ -1,6 +1,6 @@
 //! The lines of items, put to a sink.
 
-ghost use Rattle.std.specs.Prelude.{◌≡◌, ◌+◌, ◌≤◌, length, false, IfErr};
+ghost use Rattle.std.specs.Prelude.{◌≡◌, ◌+◌, ◌≤◌, length, true, false, IfErr};
 ghost use Rattle.cwr_encode.specs.Steps.Sinks.{Puts, has_failed, written_of};
 ghost use Rattle.cwr_judge.specs.Format.Items.{item_records};
 ghost use Rattle.cwr_values.specs.Format.Rows.{trailer};
@@ -8,7 +8,7 @@ ghost use Rattle.std.specs.List.{flat_map};
 ghost use Rattle.cwr_levels.specs.Format.ReportLines.{finding_line};
 ghost use Rattle.cwr_tools.specs.Format.Texts.{finding_lines_in, numbered_records, record_lines};
 ghost use Rattle.cwr_tools.specs.Format.FindingNotes.{explained_in};
-ghost use Rattle.cwr_tools.specs.Format.Reports.{ItemLines, has_findings};
+ghost use Rattle.cwr_tools.specs.Format.Reports.{ItemLines, has_findings, transaction_lines};
 ghost use Rattle.cwr_tools.specs.Steps.Reports.{PutsLines, lines_at, lines_in, notes_at};
 
 use crate::finding_notes::put_all_explained;
@@ -142,6 +142,28 @@ fn put_found<W: Target>(
     Ok(())
 }
 
+/// Puts the lines of findings in the transaction of that sequence in the group of that ID, and counts them.
+fn put_findings_in<W: Target>(
+    alloc: Global,
+    group: u32,
+    sequence: u32,
+    transaction: &Transaction,
+    told: &mut u64,
+    sink: &mut Sink<W>,
+) -> Result<(), ToolFault>
+    requires { has_failed sink.old ≡ false }
+    ensures { PutsLines W.contents W.failures (has_findings (Item.Transaction transaction.now)) (finding_lines_in group sequence (Item.Transaction transaction.now)) result sink.old sink.new }
+{
+    let Ok(found) = findings(alloc, transaction) else {
+        return Err(ToolFault::Memory);
+    };
+    *told = told.saturating_add(found.len() as u64);
+    match put_found(group, sequence, found.as_slice(), sink) {
+        Ok(()) => Ok(()),
+        Err(fault) => Err(writer_fault(fault)),
+    }
+}
+
 /// Puts the lines of an item's findings, where it is the transaction of that sequence in the group of that ID, and counts them.
 fn put_findings<W: Target>(
     alloc: Global,
@@ -154,14 +176,34 @@ fn put_findings<W: Target>(
     requires { has_failed sink.old ≡ false }
     ensures { PutsLines W.contents W.failures (has_findings item.now) (finding_lines_in group sequence item.now) result sink.old sink.new }
 {
-    let Item::Transaction(transaction) = item else {
-        return Ok(());
-    };
+    match item {
+        Item::Transaction(transaction) => {
+            put_findings_in(alloc, group, sequence, transaction, told, sink)
+        }
+        _ => Ok(()),
+    }
+}
+
+/// Puts the lines of findings in the transaction of that sequence in the group of that ID and the lines under them, and counts the
+/// findings. Its first record is on that line of the file.
+fn put_explained_in<W: Target>(
+    alloc: Global,
+    group: u32,
+    sequence: u32,
+    first: u64,
+    transaction: &Transaction,
+    told: &mut u64,
+    sink: &mut Sink<W>,
+) -> Result<(), ToolFault>
+    requires unfailed { has_failed sink.old ≡ false }
+    requires few { first + length transaction.now ≤ 100000000 }
+    ensures { PutsLines W.contents W.failures (has_findings (Item.Transaction transaction.now)) (explained_in group sequence first (Item.Transaction transaction.now)) result sink.old sink.new }
+{
     let Ok(found) = findings(alloc, transaction) else {
         return Err(ToolFault::Memory);
     };
     *told = told.saturating_add(found.len() as u64);
-    match put_found(group, sequence, found.as_slice(), sink) {
+    match put_all_explained(group, sequence, first, transaction, found.as_slice(), sink) {
         Ok(()) => Ok(()),
         Err(fault) => Err(writer_fault(fault)),
     }
@@ -182,16 +224,11 @@ fn put_explained_findings<W: Target>(
     requires few { first + length (item_records item.now) ≤ 100000000 }
     ensures { PutsLines W.contents W.failures (has_findings item.now) (explained_in group sequence first item.now) result sink.old sink.new }
 {
-    let Item::Transaction(transaction) = item else {
-        return Ok(());
-    };
-    let Ok(found) = findings(alloc, transaction) else {
-        return Err(ToolFault::Memory);
-    };
-    *told = told.saturating_add(found.len() as u64);
-    match put_all_explained(group, sequence, first, transaction, found.as_slice(), sink) {
-        Ok(()) => Ok(()),
-        Err(fault) => Err(writer_fault(fault)),
+    match item {
+        Item::Transaction(transaction) => {
+            put_explained_in(alloc, group, sequence, first, transaction, told, sink)
+        }
+        _ => Ok(()),
     }
 }
 
@@ -208,20 +245,12 @@ pub fn put_transaction_findings<W: Target>(
     sink: &mut Sink<W>,
 ) -> Result<(), ToolFault>
     requires unfailed { has_failed sink.old ≡ false }
-    requires few { first + length transaction.now ≤ 100000000 }
+    requires few { explained ≡ true → first + length transaction.now ≤ 100000000 }
+    ensures { PutsLines W.contents W.failures (has_findings (Item.Transaction transaction.now)) (transaction_lines explained group sequence first transaction.now) result sink.old sink.new }
 {
-    let Ok(found) = findings(alloc, transaction) else {
-        return Err(ToolFault::Memory);
-    };
-    *told = told.saturating_add(found.len() as u64);
-    let put = if explained {
-        put_all_explained(group, sequence, first, transaction, found.as_slice(), sink)
-    } else {
-        put_found(group, sequence, found.as_slice(), sink)
-    };
-    match put {
-        Ok(()) => Ok(()),
-        Err(fault) => Err(writer_fault(fault)),
+    match explained {
+        true => put_explained_in(alloc, group, sequence, first, transaction, told, sink),
+        false => put_findings_in(alloc, group, sequence, transaction, told, sink),
     }
 }
 

@@ -1,0 +1,66 @@
+-- A whole lint: a check up to the first fault, and what follows it.
+use Rattle.std.proofs.Common.{◌≡◌, ℕ, List, [], ◌++◌, Option, refl, sym, subst, ◌∙◌, append_assoc, append-nil}
+use Rattle.std.specs.Prelude.{Bool, true, false, Result, Ok, Err, IfOk, OnOk}
+use Rattle.std.specs.Io.KnownBytes.{Appends, Consumes}
+use Rattle.std.proofs.KnownBytes.{Appends-nil, Appends-trans, Consumes-nil}
+use Rattle.cwr_shape.specs.declared.limits.Limits.{Limits}
+use Rattle.cwr_judge.specs.declared.refusals.Refusal.{Refusal}
+use Rattle.cwr_explain.specs.Format.Explained.{AddsWords, IsAnswerAfter, IsAnswerTo, TakesMore}
+use Rattle.cwr_tools.specs.declared.verdicts.Verdict.{Verdict}
+use Rattle.cwr_tools.specs.declared.verdicts.Verdict.TheVariants.{Good, Refused, Truncated}
+use Rattle.cwr_tools.specs.declared.verdicts.ToolFault.{ToolFault}
+use Rattle.cwr_tools.specs.Format.Reports.{lines_checked, lines_up_to_fault}
+use Rattle.cwr_tools.specs.Steps.Reports.{Reports}
+use Rattle.cwr_lint.specs.Format.Told.{IsTold}
+use Rattle.cwr_lint.specs.Steps.Lints.{Lints, Tells}
+
+-- nothing follows a verdict that is no refusal: what was written is what a check writes
+pub tells_good : {W : Type 0} (explained : Bool) (limits : Limits) (before after : Option (List ℕ)) (contents : W → Option (List ℕ)) (old new : W) (groups transactions records : ℕ)
+    → Reports (lines_up_to_fault explained) limits before after contents old new (Ok (Good groups transactions records)) → Tells explained limits before after contents old new (Good groups transactions records)
+tells_good false limits before after contents old new groups transactions records h = h
+tells_good true limits before after contents old new groups transactions records h = h
+
+pub tells_truncated : {W : Type 0} (explained : Bool) (limits : Limits) (before after : Option (List ℕ)) (contents : W → Option (List ℕ)) (old new : W) (records : ℕ)
+    → Reports (lines_up_to_fault explained) limits before after contents old new (Ok (Truncated records)) → Tells explained limits before after contents old new (Truncated records)
+tells_truncated false limits before after contents old new records h = h
+tells_truncated true limits before after contents old new records h = h
+
+-- the faults follow
+pub tells_faults : {W : Type 0} (explained : Bool) (limits : Limits) (before left after : Option (List ℕ)) (contents : W → Option (List ℕ)) (old between new : W) (refusal : Refusal) (text : List ℕ)
+    → Reports (lines_up_to_fault explained) limits before left contents old between (Ok (Refused refusal)) → IsTold refusal text → Appends (contents between) (contents new) text → TakesMore left after
+    → Tells explained limits before after contents old new (Refused refusal)
+tells_faults explained limits before left after contents old between new refusal text h told written more = record {
+  given = h.0;
+  left = left;
+  stopped = h.1;
+  more = more.0;
+  taken = more.1;
+  text = text;
+  told = told;
+  written = subst (λ (l : List ℕ). Appends (contents old) (contents new) (l ++ text)) (append-nil ((lines_checked explained).lines h.0))
+      (Appends-trans (contents old) (contents between) (contents new) ((lines_checked explained).lines h.0 ++ []) text h.2 written);
+}
+
+-- where the answer is a verdict
+pub tells_after : {W : Type 0} (explained : Bool) (limits : Limits) (before left after : Option (List ℕ)) (contents : W → Option (List ℕ)) (old between new : W) (refusal : Refusal) (result : Result Verdict ToolFault)
+    → Reports (lines_up_to_fault explained) limits before left contents old between (Ok (Refused refusal))
+    → IsAnswerTo (Refused refusal) result → OnOk result ((text : List ℕ) × IsTold refusal text × Appends (contents between) (contents new) text) → TakesMore left after
+    → IfOk result (Tells explained limits before after contents old new)
+tells_after explained limits before left after contents old between new refusal (Ok verdict) h answered told more =
+    subst (Tells explained limits before after contents old new) (sym answered) (tells_faults explained limits before left after contents old between new refusal told.0 h told.1 told.2 more)
+tells_after explained limits before left after contents old between new refusal (Err fault) h answered told more = tt
+
+-- a check and words after it
+pub lints_after : {W : Type 0} (explained : Bool) (limits : Limits) (before left after : Option (List ℕ)) (contents : W → Option (List ℕ)) (old between new : W) (checked result : Result Verdict ToolFault)
+    → Reports (lines_up_to_fault explained) limits before left contents old between checked → AddsWords contents between new → TakesMore left after → IsAnswerAfter checked result → Lints explained limits before after contents old new result
+lints_after explained limits before left after contents old between new checked result r w t a = record {
+  between = between;
+  left = left;
+  checked = checked;
+  reported = r;
+  words = w.0;
+  written = w.1;
+  more = t.0;
+  taken = t.1;
+  answered = a;
+}
