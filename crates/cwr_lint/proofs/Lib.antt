@@ -1,2 +1,4 @@
+mod FaultsOfCells
 mod Puts
+mod Reads
 mod Tells

@@ -1,7 +1,9 @@
 //! What the cells of a line say.
 
-use cwr_fields::{Cell, Role, TransactionType, Word};
-use cwr_layouts::{CutLine, Kind};
+ghost use Rattle.cwr_lint.specs.Steps.CellFaults.{IsFaultAt};
+
+use cwr_fields::{Cell, CellFault, Role, TransactionType, Word, fits};
+use cwr_layouts::{CutLine, Kind, field};
 use cwr_shape::Symbol;
 
 /// The number in cell `j` of the line, if one stands there.
@@ -53,5 +55,25 @@ pub(crate) fn has_version(line: &CutLine<'_>) -> bool {
     match line.cell(5) {
         Some(cell) => cell == Word::Edi.text(),
         None => false,
+    }
+}
+
+/// The fault of cell `j` of the line, if it has one: it isn't one of its field's type. Derived cells are judged too, but for the number
+/// that belongs there. Where the kind is unknown or has no such field there is none.
+pub fn cell_fault(line: &CutLine<'_>, j: u8) -> Option<CellFault>
+    ensures { IsFaultAt line.now j result }
+{
+    let Some(kind) = line.kind() else {
+        return None;
+    };
+    let Some(place) = field(kind, j) else {
+        return None;
+    };
+    let Some(cell) = line.cell(j) else {
+        return None;
+    };
+    match fits(place.ty, cell) {
+        Ok(()) => None,
+        Err(fault) => Some(fault),
     }
 }

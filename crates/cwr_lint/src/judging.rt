@@ -1,10 +1,10 @@
 //! The faults of one line.
 
+use crate::cells::cell_fault;
 use crate::numbers::WrongNumbers;
 use crate::states::LintState;
 use crate::takings::{Taking, is_misplaced};
-use cwr_fields::fits;
-use cwr_layouts::{CutLine, Kind, field, fields};
+use cwr_layouts::{CutLine, Kind, fields};
 use cwr_shape::Reason;
 
 /// A line of a known kind, and what it is taken for.
@@ -20,8 +20,6 @@ pub(crate) struct Known {
     numbers: WrongNumbers,
     /// Whether its cells are told: where it is misplaced and something stands after it, it was cut by another kind's layout.
     has_cells: bool,
-    /// Whether its carried cells are known to be good.
-    is_good: bool,
     /// Whether what stands after its last field is bad.
     has_excess: bool,
 }
@@ -52,21 +50,17 @@ impl Known {
             misplaced,
             numbers,
             has_cells: !misplaced || !has_excess,
-            is_good: line.record().is_some(),
             has_excess,
         }
     }
 
     /// What is told of the cell in field `j`, from the second on.
     fn cell_reason(&self, line: &CutLine<'_>, j: u8) -> Option<Reason> {
-        let place = field(self.kind, j)?;
-        if !self.has_cells || (self.is_good && !place.derived) {
+        if !self.has_cells {
             return None;
         }
-        match fits(place.ty, line.cell(j)?) {
-            Ok(()) => None,
-            Err(fault) => Some(Reason::Cell(fault)),
-        }
+        let fault = cell_fault(line, j)?;
+        Some(Reason::Cell(fault))
     }
 
     /// What is told at field `j`: why, if anything.

@@ -13,4 +13,5 @@ mod states;
 mod steps;
 mod takings;
 
+pub use cells::cell_fault;
 pub use linting::lint;

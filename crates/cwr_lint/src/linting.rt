@@ -1,16 +1,16 @@
 //! Every fault of a transmission in one pass.
 
-ghost use Rattle.std.specs.Prelude.{◌≡◌, ℕ, true, false, List, ◌++◌, IfOk, OnOk, IsSome};
+ghost use Rattle.std.specs.Prelude.{◌≡◌, ℕ, true, false, List, IfOk, OnOk, IsSome};
 ghost use Rattle.std.specs.Option.{is_some};
-ghost use Rattle.std.specs.Io.KnownBytes.{Appends};
-ghost use Rattle.cwr_encode.specs.Steps.Sinks.{has_failed};
+ghost use Rattle.std.specs.Io.KnownBytes.{Appends, Keeps};
+ghost use Rattle.cwr_encode.specs.Steps.Sinks.{has_failed, writer_of};
 ghost use Rattle.cwr_explain.specs.Format.Explained.{AddsWords, IsAnswerTo, TakesMore};
 ghost use Rattle.cwr_levels.specs.Format.ReportLines.{fault_line, faults_line};
 ghost use Rattle.cwr_tools.specs.Format.Reports.{CountsReaderFault, CountsWriterFault};
 ghost use Rattle.cwr_tools.specs.Format.Verdicts.{JudgesText};
-ghost use Rattle.cwr_lint.specs.Format.Told.{CountsReader, CountsWriter, IsTold};
-ghost use Rattle.cwr_lint.specs.Steps.Lints.{Lints, Tells};
-ghost use Rattle.cwr_lint.specs.Steps.Puts.{PutsAfter, PutsSome};
+ghost use Rattle.cwr_lint.specs.Format.Told.{IsTold};
+ghost use Rattle.cwr_lint.specs.Steps.Lints.{EndsRun, Lints, Tells};
+ghost use Rattle.cwr_lint.specs.Steps.Puts.{BeginsWith, EndsWith, IsAny, PutsAfter, PutsSome, PutsSuch, ReadsAndPutsSuch};
 
 use crate::findings::{after_line, put_ended};
 use crate::judging::Judged;
@@ -74,7 +74,41 @@ fn put_words<W: Target>(words: &[u8], sink: &mut Sink<W>) -> Result<(), ToolFaul
     }
 }
 
-/// Puts how an input ended, of which so many lines were read: whether TRL was taken, and how many faults and findings it has.
+/// Puts that an input ended too early, after so many lines, unless it is over.
+fn put_truncated<W: Target>(is_over: bool, lines: u64, sink: &mut Sink<W>) -> Result<(), ToolFault>
+    requires { has_failed sink.old ≡ false }
+    ensures { PutsSome W.contents W.failures result sink.old sink.new }
+{
+    if is_over {
+        return Ok(());
+    }
+    match truncated_line(shown(lines), sink) {
+        Ok(()) => Ok(()),
+        Err(fault) => Err(ToolFault::Writer {
+            written: fault.written,
+        }),
+    }
+}
+
+/// Puts how many faults and findings an input has, in so many lines.
+fn put_faults_line<W: Target>(
+    faults: u64,
+    findings: u64,
+    lines: u64,
+    sink: &mut Sink<W>,
+) -> Result<(), ToolFault>
+    requires { has_failed sink.old ≡ false }
+    ensures { PutsAfter W.contents W.failures (faults_line faults findings lines) result sink.old sink.new }
+{
+    match faults_line(faults, findings, lines, sink) {
+        Ok(()) => Ok(()),
+        Err(fault) => Err(ToolFault::Writer {
+            written: fault.written,
+        }),
+    }
+}
+
+/// Puts how an input ended, of which so many lines were read, and how many faults and findings it has.
 fn put_end<W: Target>(
     is_over: bool,
     faults: u64,
@@ -83,20 +117,19 @@ fn put_end<W: Target>(
     sink: &mut Sink<W>,
 ) -> Result<(), ToolFault>
     requires { has_failed sink.old ≡ false }
-    ensures { (more : List ℕ) × PutsAfter W.contents W.failures (more ++ faults_line faults findings lines) result sink.old sink.new }
+    ensures { PutsSuch (EndsWith (faults_line faults findings lines)) W.contents W.failures result sink.old sink.new }
 {
-    if !is_over {
-        if let Err(fault) = truncated_line(shown(lines), sink) {
-            return Err(ToolFault::Writer {
-                written: fault.written,
-            });
-        }
+    match put_truncated(is_over, lines, sink) {
+        Ok(()) => put_faults_line(faults, findings, lines, sink),
+        Err(fault) => Err(fault),
     }
-    match faults_line(faults, findings, lines, sink) {
-        Ok(()) => Ok(()),
-        Err(fault) => Err(ToolFault::Writer {
-            written: fault.written,
-        }),
+}
+
+/// The bytes of a line, where it is held.
+fn bytes_of(line: Option<&RawLine>) -> Option<&[u8]> {
+    match line {
+        Some(line) => Some(line.as_slice()),
+        None => None,
     }
 }
 
@@ -122,7 +155,7 @@ impl LintRun<'_> {
             name,
             fault,
             raw.shown(),
-            before.map(|line| line.as_slice()),
+            bytes_of(before),
             raw.is_too_long(),
             is_first,
             self.state.stage,
@@ -143,7 +176,7 @@ impl LintRun<'_> {
         sink: &mut Sink<W>,
     ) -> Result<(), ToolFault>
         requires { has_failed sink.old ≡ false }
-        ensures { (more : List ℕ) × PutsAfter W.contents W.failures (fault_line fault.now ++ more) result sink.old sink.new }
+        ensures { PutsSuch (BeginsWith (fault_line fault.now)) W.contents W.failures result sink.old sink.new }
     {
         match put_fault_line(fault, sink) {
             Ok(()) => self.put_explanation(fault, raw, before, is_first, sink),
@@ -275,22 +308,21 @@ impl LintRun<'_> {
         sink: &mut Sink<W>,
     ) -> Result<bool, ToolFault>
         requires { has_failed sink.old ≡ false }
-        ensures puts { PutsSome W.contents W.failures result sink.old sink.new }
-        ensures taken { TakesMore (R.remaining reader.old) (R.remaining reader.new) }
-        ensures failures { CountsReader result (R.failures reader.old) (R.failures reader.new) }
+        ensures { ReadsAndPutsSuch IsAny (R.remaining reader.old) (R.remaining reader.new) (R.failures reader.old) (R.failures reader.new) W.contents W.failures result sink.old sink.new }
     {
         if self.state.over || !before.has_ended() {
             return Ok(false);
         }
         match raw.read_after(before.end_offset(), reader) {
-            Ok(true) => {}
-            Ok(false) => return Ok(false),
-            Err(fault) => return Err(fault),
-        }
-        raw.cut_into(cut);
-        match self.take(&cut.cut(), 1, raw, Some(before), sink) {
-            Ok(()) => Ok(true),
-            Err(fault) => Err(fault),
+            Ok(true) => {
+                raw.cut_into(cut);
+                match self.take(&cut.cut(), 1, raw, Some(before), sink) {
+                    Ok(()) => Ok(true),
+                    Err(fault) => Err(fault),
+                }
+            }
+            Ok(false) => Ok(false),
+            Err(_) => Err(ToolFault::Reader),
         }
     }
 
@@ -303,9 +335,7 @@ impl LintRun<'_> {
         sink: &mut Sink<W>,
     ) -> Result<(), ToolFault>
         requires { has_failed sink.old ≡ false }
-        ensures puts { PutsSome W.contents W.failures result sink.old sink.new }
-        ensures taken { TakesMore (R.remaining reader.old) (R.remaining reader.new) }
-        ensures failures { CountsReader result (R.failures reader.old) (R.failures reader.new) }
+        ensures { ReadsAndPutsSuch IsAny (R.remaining reader.old) (R.remaining reader.new) (R.failures reader.old) (R.failures reader.new) W.contents W.failures result sink.old sink.new }
     {
         let mut before = first;
         let mut raw = RawLine::new();
@@ -320,6 +350,27 @@ impl LintRun<'_> {
         Ok(())
     }
 
+    /// Tells the first fault, which a check has met at this line, and the others of the line.
+    fn take_first<W: Target>(
+        &mut self,
+        refusal: &Refusal,
+        raw: &RawLine,
+        cut: &mut LineBuf,
+        sink: &mut Sink<W>,
+    ) -> Result<(), ToolFault>
+        requires { has_failed sink.old ≡ false }
+        ensures { PutsSuch (BeginsWith (fault_line refusal.now)) W.contents W.failures result sink.old sink.new }
+    {
+        raw.cut_into(cut);
+        match self.put_fault(refusal, raw, None, true, sink) {
+            Ok(()) => {
+                let from = refusal.field.saturating_add(1);
+                self.take(&cut.cut(), from, raw, None, sink)
+            }
+            Err(fault) => Err(fault),
+        }
+    }
+
     /// Tells the first fault, which a check has met at this line, and the others of the line and of those after it.
     fn tell_from<R: Source, W: Target>(
         &mut self,
@@ -329,20 +380,36 @@ impl LintRun<'_> {
         sink: &mut Sink<W>,
     ) -> Result<(), ToolFault>
         requires { has_failed sink.old ≡ false }
-        ensures puts { (more : List ℕ) × PutsAfter W.contents W.failures (fault_line refusal.now ++ more) result sink.old sink.new }
-        ensures taken { TakesMore (R.remaining reader.old) (R.remaining reader.new) }
-        ensures failures { CountsReader result (R.failures reader.old) (R.failures reader.new) }
+        ensures { ReadsAndPutsSuch (BeginsWith (fault_line refusal.now)) (R.remaining reader.old) (R.remaining reader.new) (R.failures reader.old) (R.failures reader.new) W.contents W.failures result sink.old sink.new }
     {
         let mut cut = LineBuf::new();
-        raw.cut_into(&mut cut);
-        if let Err(fault) = self.put_fault(refusal, &raw, None, true, sink) {
-            return Err(fault);
+        match self.take_first(refusal, &raw, &mut cut, sink) {
+            Ok(()) => self.take_rest(reader, raw, &mut cut, sink),
+            Err(fault) => Err(fault),
         }
-        let from = refusal.field.saturating_add(1);
-        if let Err(fault) = self.take(&cut.cut(), from, &raw, None, sink) {
-            return Err(fault);
+    }
+
+    /// Tells the first fault, which a check has met at this line, and all that come after it, and how many they are.
+    fn tell_to_end<R: Source, W: Target>(
+        &mut self,
+        refusal: &Refusal,
+        reader: &mut R,
+        raw: RawLine,
+        sink: &mut Sink<W>,
+    ) -> Result<(), ToolFault>
+        requires { has_failed sink.old ≡ false }
+        ensures { ReadsAndPutsSuch (IsTold refusal.now) (R.remaining reader.old) (R.remaining reader.new) (R.failures reader.old) (R.failures reader.new) W.contents W.failures result sink.old sink.new }
+    {
+        match self.tell_from(refusal, reader, raw, sink) {
+            Ok(()) => put_end(
+                self.state.over,
+                self.faults,
+                self.findings,
+                self.state.lines,
+                sink,
+            ),
+            Err(fault) => Err(fault),
         }
-        self.take_rest(reader, raw, &mut cut, sink)
     }
 
     /// Tells the first fault, which a check has met at the line that was read last, and all that come after it, and how many they
@@ -355,43 +422,54 @@ impl LintRun<'_> {
         sink: &mut Sink<W>,
     ) -> Result<(), ToolFault>
         requires { has_failed sink.old ≡ false }
-        ensures told { (text : List ℕ) × PutsAfter W.contents W.failures text result sink.old sink.new × OnOk result (IsTold refusal.now text) }
-        ensures taken { TakesMore (R.remaining reader.old) (R.remaining reader.new) }
-        ensures failures { CountsReader result (R.failures reader.old) (R.failures reader.new) }
+        ensures { ReadsAndPutsSuch (IsTold refusal.now) (R.remaining reader.old) (R.remaining reader.new) (R.failures reader.old) (R.failures reader.new) W.contents W.failures result sink.old sink.new }
     {
-        let raw = match RawLine::of_last(&line_at_end(&last.bytes), reader) {
-            Ok(raw) => raw,
-            Err(fault) => return Err(fault),
-        };
-        match self.tell_from(refusal, reader, raw, sink) {
-            Ok(()) => put_end(
-                self.state.over,
-                self.faults,
-                self.findings,
-                self.state.lines,
-                sink,
-            ),
-            Err(fault) => Err(fault),
+        match RawLine::of_last(&line_at_end(&last.bytes), reader) {
+            Ok(raw) => self.tell_to_end(refusal, reader, raw, sink),
+            Err(_) => Err(ToolFault::Reader),
         }
     }
 }
 
-/// Goes on after the first fault, which a check has met and not told.
-fn go_on<R: Source, W: Target>(
+/// Hands on what was put, and answers how the run ended.
+fn finish<W: Target>(
+    refusal: Refusal,
+    told: Result<(), ToolFault>,
+    sink: Sink<W>,
+) -> (W, Result<Verdict, ToolFault>)
+    requires { OnOk told (has_failed sink ≡ false) }
+    ensures kept { Keeps (W.contents (writer_of sink)) (W.contents result.0) }
+    ensures answer { EndsRun refusal told (W.failures (writer_of sink)) (W.failures result.0) result.1 }
+    ensures handed_on { OnOk result.1 (W.handed_on result.0 ≡ true) }
+{
+    let written = sink.written();
+    let mut writer = sink.into_inner();
+    match told {
+        Err(fault) => (writer, Err(fault)),
+        Ok(()) => match writer.flush() {
+            Ok(()) => (writer, Ok(Verdict::Refused(refusal))),
+            Err(_) => (writer, Err(ToolFault::Writer { written })),
+        },
+    }
+}
+
+/// Goes on after the first fault, which a check has met and not told, and answers the verdict.
+fn tell_faults<R: Source, W: Target>(
     alloc: Global,
     limits: Limits,
     name: Option<&str>,
-    refusal: &Refusal,
+    refusal: Refusal,
     last: &LastRead,
     handed_out: &HandedOut,
     reader: &mut R,
     writer: W,
-) -> (W, Result<(), ToolFault>)
-    ensures told { OnOk result.1 ((text : List ℕ) × IsTold refusal.now text × Appends (W.contents writer) (W.contents result.0) text) }
+) -> (W, Result<Verdict, ToolFault>)
+    ensures told { OnOk result.1 ((text : List ℕ) × IsTold refusal text × Appends (W.contents writer) (W.contents result.0) text) }
     ensures words { AddsWords W.contents writer result.0 }
     ensures taken { TakesMore (R.remaining reader.old) (R.remaining reader.new) }
-    ensures reader_failures { CountsReader result.1 (R.failures reader.old) (R.failures reader.new) }
-    ensures writer_failures { CountsWriter result.1 (W.failures writer) (W.failures result.0) }
+    ensures answered { IsAnswerTo (Verdict.Refused refusal) result.1 }
+    ensures reader_failures { CountsReaderFault result.1 (R.failures reader.old) (R.failures reader.new) }
+    ensures writer_failures { CountsWriterFault result.1 (W.failures writer) (W.failures result.0) }
     ensures handed_on { OnOk result.1 (W.handed_on result.0 ≡ true) }
 {
     let lines = u64::from(refusal.rec).saturating_sub(1);
@@ -405,54 +483,8 @@ fn go_on<R: Source, W: Target>(
         findings: handed_out.findings,
     };
     let mut sink = Sink::new(writer);
-    let told = lint.run(refusal, last, reader, &mut sink);
-    let written = sink.written();
-    let mut writer = sink.into_inner();
-    match told {
-        Err(fault) => (writer, Err(fault)),
-        Ok(()) => match writer.flush() {
-            Ok(()) => (writer, Ok(())),
-            Err(_) => (writer, Err(ToolFault::Writer { written })),
-        },
-    }
-}
-
-/// Goes on after the first fault, which a check has met and not told, and answers the verdict.
-fn tell_faults<R: Source, W: Target>(
-    alloc: Global,
-    limits: Limits,
-    name: Option<&str>,
-    refusal: Refusal,
-    front: &CheckedFront,
-    reader: &mut R,
-    writer: W,
-) -> (W, Result<Verdict, ToolFault>)
-    requires { IsSome front.now.last }
-    ensures told { OnOk result.1 ((text : List ℕ) × IsTold refusal text × Appends (W.contents writer) (W.contents result.0) text) }
-    ensures words { AddsWords W.contents writer result.0 }
-    ensures taken { TakesMore (R.remaining reader.old) (R.remaining reader.new) }
-    ensures answered { IsAnswerTo (Verdict.Refused refusal) result.1 }
-    ensures reader_failures { CountsReaderFault result.1 (R.failures reader.old) (R.failures reader.new) }
-    ensures writer_failures { CountsWriterFault result.1 (W.failures writer) (W.failures result.0) }
-    ensures handed_on { OnOk result.1 (W.handed_on result.0 ≡ true) }
-{
-    let Some(last) = &front.last else {
-        unreachable!()
-    };
-    let (writer, told) = go_on(
-        alloc,
-        limits,
-        name,
-        &refusal,
-        last,
-        &front.handed_out,
-        reader,
-        writer,
-    );
-    match told {
-        Ok(()) => (writer, Ok(Verdict::Refused(refusal))),
-        Err(fault) => (writer, Err(fault)),
-    }
+    let told = lint.run(&refusal, last, reader, &mut sink);
+    finish(refusal, told, sink)
 }
 
 /// Reads a transmission up to its end, and tells every fault of it.
@@ -477,10 +509,36 @@ pub fn lint<R: Source, W: Target + Drop>(
     ensures handed_on { OnOk result.1 (W.handed_on result.0 ≡ true) }
 {
     let (writer, checked, front) = check_up_to_fault(alloc, limits, name.is_some(), reader, writer);
+    let CheckedFront { last, handed_out } = front;
     match checked {
-        Ok(Verdict::Refused(refusal)) => {
-            tell_faults(alloc, limits, name, refusal, &front, reader, writer)
-        }
-        _ => (writer, checked),
+        Ok(
+            Verdict::Good {
+                groups,
+                transactions,
+                records,
+            },
+        ) => (
+            writer,
+            Ok(Verdict::Good {
+                groups,
+                transactions,
+                records,
+            }),
+        ),
+        Ok(Verdict::Truncated { records }) => (writer, Ok(Verdict::Truncated { records })),
+        Ok(Verdict::Refused(refusal)) => match last {
+            Some(last) => tell_faults(
+                alloc,
+                limits,
+                name,
+                refusal,
+                &last,
+                &handed_out,
+                reader,
+                writer,
+            ),
+            None => unreachable!(),
+        },
+        Err(fault) => (writer, Err(fault)),
     }
 }

@@ -1,13 +1,13 @@
 //! The lines that a reader still has.
 
-ghost use Rattle.std.specs.Prelude.{◌≡◌, ◌≢◌};
-ghost use Rattle.cwr_explain.specs.Format.Explained.{ReadsOnly, TakesMore};
+ghost use Rattle.std.specs.Prelude.{◌≢◌, ◌≤◌, length};
+ghost use Rattle.cwr_encode.specs.Steps.Sinks.{CountsOn};
+ghost use Rattle.cwr_explain.specs.Format.Explained.{TakesMore};
 
 use arrayvec::ArrayVec;
 use cwr_explain::LineAtEnd;
-use cwr_fields::{Source, is_spaces};
+use cwr_fields::{DeviceFault, Source, is_spaces};
 use cwr_layouts::{LONGEST_LINE, LineBuf, LineEnd};
-use cwr_tools::ToolFault;
 use memchr::memchr;
 
 const LF: u8 = b'\n';
@@ -112,79 +112,87 @@ impl RawLine {
         }
     }
 
-    /// Takes what the reader shows next. The answer is whether the line or the input has ended with that.
-    fn take_piece<R: Source>(&mut self, reader: &mut R) -> Result<bool, ToolFault>
-        ensures taken { TakesMore (R.remaining reader.old) (R.remaining reader.new) }
-        ensures failures { ReadsOnly result (R.failures reader.old) (R.failures reader.new) }
+    /// Adds what a piece has of the line, its line feed counted: how many bytes, and whether the line or the input has ended with them.
+    fn add_piece(&mut self, piece: &[u8]) -> (usize, bool)
+        ensures { result.0 ≤ length piece.now }
     {
-        let Ok(piece) = reader.fill() else {
-            return Err(ToolFault::Reader);
-        };
-        if piece.is_empty() {
-            return Ok(true);
-        }
-        let feed = memchr(LF, piece);
-        let front = &piece[..feed.unwrap_or(piece.len())];
-        self.add(front);
-        let count = front.len();
-        match feed {
-            Some(_) => {
+        match memchr(LF, piece) {
+            Some(at) => {
+                self.add(&piece[..at]);
                 self.end();
-                reader.consume(count + 1);
-                Ok(true)
+                (at + 1, true)
             }
             None => {
-                reader.consume(count);
-                Ok(false)
+                self.add(piece);
+                (piece.len(), piece.is_empty())
             }
         }
     }
 
-    /// Takes what is left of the line, up to its line feed or the end of the input.
-    fn take_rest<R: Source>(&mut self, reader: &mut R) -> Result<(), ToolFault>
+    /// Takes what the reader shows next. The answer is whether the line or the input has ended with that.
+    fn take_piece<R: Source>(&mut self, reader: &mut R) -> Result<bool, DeviceFault>
         ensures taken { TakesMore (R.remaining reader.old) (R.remaining reader.new) }
-        ensures failures { ReadsOnly result (R.failures reader.old) (R.failures reader.new) }
+        ensures failures { CountsOn result (R.failures reader.old) (R.failures reader.new) }
+    {
+        let piece = match reader.fill() {
+            Ok(piece) => piece,
+            Err(_) => return Err(DeviceFault),
+        };
+        let (count, has_ended) = self.add_piece(piece);
+        reader.consume(count);
+        Ok(has_ended)
+    }
+
+    /// Takes what is left of the line, up to its line feed or the end of the input.
+    fn take_rest<R: Source>(&mut self, reader: &mut R) -> Result<(), DeviceFault>
+        ensures taken { TakesMore (R.remaining reader.old) (R.remaining reader.new) }
+        ensures failures { CountsOn result (R.failures reader.old) (R.failures reader.new) }
     {
         for _ in 0..u64::MAX {
             match self.take_piece(reader) {
                 Ok(true) => break,
                 Ok(false) => {}
-                Err(fault) => return Err(fault),
+                Err(_) => return Err(DeviceFault),
             }
         }
         Ok(())
     }
 
-    /// The line that was read last, of which the reader may have more.
-    pub fn of_last<R: Source>(found: &LineAtEnd<'_>, reader: &mut R) -> Result<RawLine, ToolFault>
-        ensures taken { TakesMore (R.remaining reader.old) (R.remaining reader.new) }
-        ensures failures { ReadsOnly result (R.failures reader.old) (R.failures reader.new) }
-    {
+    /// The line that was read last.
+    fn of_bytes(found: &LineAtEnd<'_>) -> RawLine {
         let mut line = RawLine::new();
         line.begin(found.offset);
         line.add(found.bytes);
         if found.ended {
             line.end();
-            return Ok(line);
         }
-        if line.bytes.len() < LONGEST_LINE {
+        line
+    }
+
+    /// The line that was read last, of which the reader may have more.
+    pub fn of_last<R: Source>(found: &LineAtEnd<'_>, reader: &mut R) -> Result<RawLine, DeviceFault>
+        ensures taken { TakesMore (R.remaining reader.old) (R.remaining reader.new) }
+        ensures failures { CountsOn result (R.failures reader.old) (R.failures reader.new) }
+    {
+        let mut line = RawLine::of_bytes(found);
+        if line.ended || line.bytes.len() < LONGEST_LINE {
             return Ok(line);
         }
         match line.take_rest(reader) {
             Ok(()) => Ok(line),
-            Err(fault) => Err(fault),
+            Err(_) => Err(DeviceFault),
         }
     }
 
     /// Reads the line after another one. The answer is whether there is one.
-    pub fn read_after<R: Source>(&mut self, end: u64, reader: &mut R) -> Result<bool, ToolFault>
+    pub fn read_after<R: Source>(&mut self, end: u64, reader: &mut R) -> Result<bool, DeviceFault>
         ensures taken { TakesMore (R.remaining reader.old) (R.remaining reader.new) }
-        ensures failures { ReadsOnly result (R.failures reader.old) (R.failures reader.new) }
+        ensures failures { CountsOn result (R.failures reader.old) (R.failures reader.new) }
     {
         self.begin(end);
         match self.take_rest(reader) {
             Ok(()) => Ok(self.ended || !self.bytes.is_empty()),
-            Err(fault) => Err(fault),
+            Err(_) => Err(DeviceFault),
         }
     }
 

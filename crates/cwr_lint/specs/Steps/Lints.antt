@@ -1,6 +1,7 @@
 -- What a whole lint has written and taken.
-use Rattle.std.specs.Prelude.{◌≡◌, ℕ, Bool, List, ◌++◌, Option, Result, Ok}
+use Rattle.std.specs.Prelude.{◌≡◌, ℕ, Bool, List, ◌++◌, Option, Result, Ok, Err}
 use Rattle.std.specs.Io.KnownBytes.{Appends, Consumes}
+use Rattle.cwr_fields.specs.Format.Failures.{one_more_failure}
 use Rattle.cwr_shape.specs.declared.limits.Limits.{Limits}
 use Rattle.cwr_judge.specs.declared.refusals.Refusal.{Refusal}
 use Rattle.cwr_values.specs.declared.items.Item.{Item}
@@ -9,6 +10,7 @@ use Rattle.cwr_explain.specs.Format.Explained.{IsAnswerAfter}
 use Rattle.cwr_tools.specs.declared.verdicts.Verdict.{Verdict}
 use Rattle.cwr_tools.specs.declared.verdicts.Verdict.TheVariants.{Refused}
 use Rattle.cwr_tools.specs.declared.verdicts.ToolFault.{ToolFault}
+use Rattle.cwr_tools.specs.declared.verdicts.ToolFault.TheVariants.{Writer}
 use Rattle.cwr_tools.specs.Format.Reports.{lines_checked, lines_up_to_fault}
 use Rattle.cwr_tools.specs.Steps.Reports.{Reports}
 use Rattle.cwr_tools.specs.Steps.Verdicts.{StopsAfter}
@@ -43,3 +45,11 @@ pub record TellsFaults {W : Type 0} (explained : Bool) (limits : Limits) (before
 abbrev pub Tells : {W : Type 0} → Bool → Limits → Option (List ℕ) → Option (List ℕ) → (W → Option (List ℕ)) → W → W → Verdict → Type 0
 Tells explained limits before after contents old new (Refused refusal) = TellsFaults explained limits before after contents old new refusal
 Tells explained limits before after contents old new verdict = Reports (lines_checked explained) limits before after contents old new (Ok verdict)
+
+-- A run that goes on after the refusal ends so: its fault is answered, and nothing more is done; or else the writer hands on what it has, and
+-- the refusal is answered, or the fault of the writer, which then counts one more failure.
+abbrev pub EndsRun : Refusal → Result (Unit {0}) ToolFault → ℕ → ℕ → Result Verdict ToolFault → Type 0
+EndsRun refusal (Err fault) old new result = (result ≡ Err fault) × (new ≡ old)
+EndsRun refusal (Ok u) old new (Ok verdict) = (verdict ≡ Refused refusal) × (new ≡ old)
+EndsRun refusal (Ok u) old new (Err (Writer written)) = new ≡ one_more_failure old
+EndsRun refusal (Ok u) old new (Err fault) = ⊥

@@ -1,0 +1,170 @@
+-- Texts that are put one after another, while bytes are taken from a reader.
+use Rattle.std.proofs.Common.{◌≡◌, ℕ, false, List, [], ◌++◌, Option, refl, sym, ap, subst, ◌∙◌, append_assoc, append-nil}
+use Rattle.std.specs.Prelude.{Result, Ok, Err, OnOk}
+use Rattle.std.specs.Io.KnownBytes.{Appends, Keeps}
+use Rattle.cwr_fields.specs.Format.Failures.{one_more_failure}
+use Rattle.cwr_encode.specs.declared.sinks.Sink.{Sink}
+use Rattle.cwr_encode.specs.Steps.Sinks.{HasWritten, has_failed, writer_of, written_of}
+use Rattle.cwr_encode.proofs.Ends.{all_written, appends_kept}
+use Rattle.cwr_judge.specs.declared.refusals.Refusal.{Refusal}
+use Rattle.cwr_explain.specs.Format.Explained.{AddsWords, IsAnswerTo, TakesMore}
+use Rattle.cwr_explain.proofs.WordsAfter.{no_more, takes_both}
+use Rattle.cwr_levels.specs.Format.ReportLines.{fault_line, faults_line}
+use Rattle.cwr_tools.specs.declared.verdicts.Verdict.{Verdict}
+use Rattle.cwr_tools.specs.declared.verdicts.ToolFault.{ToolFault}
+use Rattle.cwr_tools.specs.declared.verdicts.ToolFault.TheVariants as faults
+use Rattle.cwr_tools.specs.Format.Reports.{CountsReaderFault, CountsWriterFault}
+use Rattle.cwr_lint.specs.Format.Told.{IsTold}
+use Rattle.cwr_lint.specs.Steps.Puts.{BeginsWith, CountsBoth, CountsPut, EndsWith, IsAny, PutsAfter, PutsSome, PutsSuch, ReadsAndPuts, ReadsAndPutsSuch}
+use Rattle.cwr_lint.proofs.Puts.{always}
+
+-- what is put counts for both
+put_counts : {A : Type 0} (result : Result A ToolFault) (reader old new : ℕ) → CountsPut result old new → CountsBoth result reader reader old new
+put_counts (Ok x) reader old new h = (refl, h)
+put_counts (Err (faults.Writer written)) reader old new h = (refl, h)
+put_counts (Err faults.Memory) reader old new h = (refl, h)
+put_counts (Err faults.Reader) reader old new h = absurd h
+put_counts (Err (faults.Refused refusal)) reader old new h = absurd h
+put_counts (Err (faults.Truncated records)) reader old new h = absurd h
+put_counts (Err faults.Output) reader old new h = absurd h
+put_counts (Err (faults.Limit limit)) reader old new h = absurd h
+
+-- two calls count one after the other
+both_counts : {A B : Type 0} (x : A) (result : Result B ToolFault) (a b c d e f : ℕ) → CountsBoth (Ok x) a b d e → CountsBoth result b c e f → CountsBoth result a c d f
+both_counts x result a b c d e f p q =
+    subst (λ (n : ℕ). CountsBoth result n c d f) p.0 (subst (λ (n : ℕ). CountsBoth result b c n f) p.1 q)
+
+-- nothing is put, and nothing read
+pub nothing : {W A : Type 0} (left : Option (List ℕ)) (reader : ℕ) (contents : W → Option (List ℕ)) (failures : W → ℕ) (x : A) (sink : Sink W) → has_failed sink ≡ false → ReadsAndPuts left left reader reader contents failures [] (Ok x) sink sink
+nothing left reader contents failures x sink unfailed = record {
+  taken = no_more left;
+  written = λ start before h. subst (λ (l : List ℕ). HasWritten contents start l sink) (sym (append-nil before)) h;
+  unfailed = unfailed;
+  counts = (refl, refl);
+}
+
+-- bytes are read alone
+pub read_alone : {W A : Type 0} (left after : Option (List ℕ)) (reader read : ℕ) (contents : W → Option (List ℕ)) (failures : W → ℕ) (x : A) (sink : Sink W) → has_failed sink ≡ false → TakesMore left after → read ≡ reader → ReadsAndPuts left after reader read contents failures [] (Ok x) sink sink
+read_alone left after reader read contents failures x sink unfailed taken same = record {
+  taken = taken;
+  written = λ start before h. subst (λ (l : List ℕ). HasWritten contents start l sink) (sym (append-nil before)) h;
+  unfailed = unfailed;
+  counts = (same, refl);
+}
+
+-- the reader failed
+pub read_failed : {W A : Type 0} (left after : Option (List ℕ)) (reader read : ℕ) (contents : W → Option (List ℕ)) (failures : W → ℕ) (sink : Sink W) → TakesMore left after → read ≡ one_more_failure reader → ReadsAndPuts {A = A} left after reader read contents failures [] (Err faults.Reader) sink sink
+read_failed left after reader read contents failures sink taken more = record {
+  taken = taken;
+  written = λ start before h. subst (λ (l : List ℕ). HasWritten contents start l sink) (sym (append-nil before)) h;
+  unfailed = tt;
+  counts = (more, refl);
+}
+
+-- a text is put alone
+pub put_alone : {W A : Type 0} (left : Option (List ℕ)) (reader : ℕ) (contents : W → Option (List ℕ)) (failures : W → ℕ) (text : List ℕ) (result : Result A ToolFault) (old new : Sink W) → PutsAfter contents failures text result old new → ReadsAndPuts left left reader reader contents failures text result old new
+put_alone left reader contents failures text result old new p = record { taken = no_more left; written = p.written; unfailed = p.unfailed; counts = put_counts result reader _ _ p.counts }
+
+-- one after the other
+pub one_then : {W A B : Type 0} (left mid_left after : Option (List ℕ)) (reader mid_read read : ℕ) (contents : W → Option (List ℕ)) (failures : W → ℕ) (text more : List ℕ) (x : A) (result : Result B ToolFault) (old mid new : Sink W)
+    → ReadsAndPuts left mid_left reader mid_read contents failures text (Ok x) old mid → ReadsAndPuts mid_left after mid_read read contents failures more result mid new → ReadsAndPuts left after reader read contents failures (text ++ more) result old new
+one_then left mid_left after reader mid_read read contents failures text more x result old mid new p q = record {
+  taken = takes_both left mid_left after p.taken q.taken;
+  written = λ start before h. subst (λ (l : List ℕ). HasWritten contents start l new) (append_assoc before text more) (q.written start (before ++ text) (p.written start before h));
+  unfailed = q.unfailed;
+  counts = both_counts x result reader mid_read read _ _ _ p.counts q.counts;
+}
+
+-- the same with another answer
+pub other_ok : {W A B : Type 0} (left after : Option (List ℕ)) (reader read : ℕ) (contents : W → Option (List ℕ)) (failures : W → ℕ) (text : List ℕ) (x : A) (y : B) (old new : Sink W) → ReadsAndPuts left after reader read contents failures text (Ok x) old new → ReadsAndPuts left after reader read contents failures text (Ok y) old new
+other_ok left after reader read contents failures text x y old new p = record { taken = p.taken; written = p.written; unfailed = p.unfailed; counts = p.counts }
+
+err_counts : {A B : Type 0} (fault : ToolFault) (a b c d : ℕ) → CountsBoth {A} (Err fault) a b c d → CountsBoth {B} (Err fault) a b c d
+err_counts (faults.Writer written) a b c d h = h
+err_counts faults.Memory a b c d h = h
+err_counts faults.Reader a b c d h = h
+err_counts (faults.Refused refusal) a b c d h = absurd h
+err_counts (faults.Truncated records) a b c d h = absurd h
+err_counts faults.Output a b c d h = absurd h
+err_counts (faults.Limit limit) a b c d h = absurd h
+
+pub other_err : {W A B : Type 0} (left after : Option (List ℕ)) (reader read : ℕ) (contents : W → Option (List ℕ)) (failures : W → ℕ) (text : List ℕ) (fault : ToolFault) (old new : Sink W) → ReadsAndPuts {A = A} left after reader read contents failures text (Err fault) old new → ReadsAndPuts {A = B} left after reader read contents failures text (Err fault) old new
+other_err {A = A} {B = B} left after reader read contents failures text fault old new p = record { taken = p.taken; written = p.written; unfailed = tt; counts = err_counts {A} {B} fault _ _ _ _ p.counts }
+
+-- ---- what a run of these calls has told
+
+-- a first line, and more after it
+pub told_on : {W A B : Type 0} (left mid_left after : Option (List ℕ)) (reader mid_read read : ℕ) (contents : W → Option (List ℕ)) (failures : W → ℕ) (line : List ℕ) (x : A) (result : Result B ToolFault) (old mid new : Sink W)
+    → ReadsAndPutsSuch (BeginsWith line) left mid_left reader mid_read contents failures (Ok x) old mid → ReadsAndPutsSuch IsAny mid_left after mid_read read contents failures result mid new
+    → ReadsAndPutsSuch (BeginsWith line) left after reader read contents failures result old new
+told_on left mid_left after reader mid_read read contents failures line x result old mid new p q = (
+  p.0 ++ q.0,
+  one_then left mid_left after reader mid_read read contents failures p.0 q.0 x result old mid new p.1 q.1,
+  always result (BeginsWith line (p.0 ++ q.0)) (p.2.0 ++ q.0, ap (λ (l : List ℕ). l ++ q.0) p.2.1 ∙ append_assoc line p.2.0 q.0),
+)
+
+-- and a last line
+pub told_all : {W A B : Type 0} (left mid_left : Option (List ℕ)) (reader mid_read : ℕ) (contents : W → Option (List ℕ)) (failures : W → ℕ) (refusal : Refusal) (n m k : ℕ) (x : A) (result : Result B ToolFault) (old mid new : Sink W)
+    → ReadsAndPutsSuch (BeginsWith (fault_line refusal)) left mid_left reader mid_read contents failures (Ok x) old mid → PutsSuch (EndsWith (faults_line n m k)) contents failures result mid new
+    → ReadsAndPutsSuch (IsTold refusal) left mid_left reader mid_read contents failures result old new
+told_all {B = B} left mid_left reader mid_read contents failures refusal n m k x result old mid new p q = (
+  p.0 ++ q.0,
+  one_then left mid_left mid_left reader mid_read mid_read contents failures p.0 q.0 x result old mid new p.1 (put_alone mid_left mid_read contents failures q.0 result mid new q.1),
+  by result q.2,
+) where
+  by : (r : Result B ToolFault) → OnOk r (EndsWith (faults_line n m k) q.0) → OnOk r (IsTold refusal (p.0 ++ q.0))
+  by (Ok y) e = record {
+    more = p.2.0 ++ e.0;
+    faults = n;
+    findings = m;
+    records = k;
+    lines = ap (λ (l : List ℕ). l ++ q.0) p.2.1 ∙ append_assoc (fault_line refusal) p.2.0 q.0
+        ∙ ap (λ (l : List ℕ). fault_line refusal ++ l) (ap (λ (l : List ℕ). p.2.0 ++ l) e.1 ∙ sym (append_assoc p.2.0 e.0 (faults_line n m k)));
+  }
+  by (Err fault) e = tt
+
+-- ---- what the writer has then
+
+-- all of it
+pub all_told : {W : Type 0} (contents : W → Option (List ℕ)) (writer mid new : W) (text : List ℕ) (first sink : Sink W) → writer_of first ≡ writer → mid ≡ writer_of sink → Keeps (contents mid) (contents new) → has_failed sink ≡ false
+    → HasWritten contents (contents (writer_of first)) ([] ++ text) sink → Appends (contents writer) (contents new) text
+all_told {W = W} contents writer mid new text first sink same out kept unfailed h =
+    subst (λ (w : W). Appends (contents w) (contents new) text) same
+    (all_written contents (contents (writer_of first)) text text sink new (written_of sink) refl unfailed (subst (λ (w : W). Keeps (contents w) (contents new)) out kept) refl h).appended
+
+-- or some bytes
+pub some_told : {W : Type 0} (contents : W → Option (List ℕ)) (writer mid new : W) (text : List ℕ) (first sink : Sink W) → writer_of first ≡ writer → mid ≡ writer_of sink → Keeps (contents mid) (contents new)
+    → HasWritten contents (contents (writer_of first)) ([] ++ text) sink → AddsWords contents writer new
+some_told {W = W} contents writer mid new text first sink same out kept h = (
+  h.bytes,
+  subst (λ (w : W). Appends (contents w) (contents new) h.bytes) same (appends_kept (contents (writer_of first)) (contents (writer_of sink)) (contents new) h.bytes h.appended (subst (λ (w : W). Keeps (contents w) (contents new)) out kept)),
+)
+
+-- ---- the faults of a run, as those of a lint
+
+pub reader_counts : {A : Type 0} (fault : ToolFault) (a b c d : ℕ) → CountsBoth {A} (Err fault) a b c d → CountsReaderFault (Err fault) a b
+reader_counts (faults.Writer written) a b c d h = h.0
+reader_counts faults.Memory a b c d h = h.0
+reader_counts faults.Reader a b c d h = h.0
+reader_counts (faults.Refused refusal) a b c d h = absurd h
+reader_counts (faults.Truncated records) a b c d h = absurd h
+reader_counts faults.Output a b c d h = absurd h
+reader_counts (faults.Limit limit) a b c d h = absurd h
+
+pub writer_counts : {A : Type 0} (fault : ToolFault) (a b c d : ℕ) → CountsBoth {A} (Err fault) a b c d → CountsWriterFault (Err fault) c d
+writer_counts (faults.Writer written) a b c d h = h.1
+writer_counts faults.Memory a b c d h = h.1
+writer_counts faults.Reader a b c d h = h.1
+writer_counts (faults.Refused refusal) a b c d h = absurd h
+writer_counts (faults.Truncated records) a b c d h = absurd h
+writer_counts faults.Output a b c d h = absurd h
+writer_counts (faults.Limit limit) a b c d h = absurd h
+
+pub answers : {A : Type 0} (verdict : Verdict) (fault : ToolFault) (a b c d : ℕ) → CountsBoth {A} (Err fault) a b c d → IsAnswerTo verdict (Err fault)
+answers verdict (faults.Writer written) a b c d h = tt
+answers verdict faults.Memory a b c d h = tt
+answers verdict faults.Reader a b c d h = tt
+answers verdict (faults.Refused refusal) a b c d h = absurd h
+answers verdict (faults.Truncated records) a b c d h = absurd h
+answers verdict faults.Output a b c d h = absurd h
+answers verdict (faults.Limit limit) a b c d h = absurd h
