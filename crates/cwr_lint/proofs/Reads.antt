@@ -11,10 +11,12 @@ use Rattle.cwr_explain.specs.Format.Explained.{AddsWords, IsAnswerTo, TakesMore}
 use Rattle.cwr_explain.proofs.WordsAfter.{no_more, takes_both}
 use Rattle.cwr_levels.specs.Format.ReportLines.{fault_line, faults_line}
 use Rattle.cwr_tools.specs.declared.verdicts.Verdict.{Verdict}
+use Rattle.cwr_tools.specs.declared.verdicts.Verdict.TheVariants.{Refused}
 use Rattle.cwr_tools.specs.declared.verdicts.ToolFault.{ToolFault}
 use Rattle.cwr_tools.specs.declared.verdicts.ToolFault.TheVariants as faults
 use Rattle.cwr_tools.specs.Format.Reports.{CountsReaderFault, CountsWriterFault}
 use Rattle.cwr_lint.specs.Format.Told.{IsTold}
+use Rattle.cwr_lint.specs.Steps.Lints.{EndsRun}
 use Rattle.cwr_lint.specs.Steps.Puts.{BeginsWith, CountsBoth, CountsPut, EndsWith, IsAny, PutsAfter, PutsSome, PutsSuch, ReadsAndPuts, ReadsAndPutsSuch}
 use Rattle.cwr_lint.proofs.Puts.{always}
 
@@ -64,6 +66,16 @@ read_failed left after reader read contents failures sink taken more = record {
 -- a text is put alone
 pub put_alone : {W A : Type 0} (left : Option (List ℕ)) (reader : ℕ) (contents : W → Option (List ℕ)) (failures : W → ℕ) (text : List ℕ) (result : Result A ToolFault) (old new : Sink W) → PutsAfter contents failures text result old new → ReadsAndPuts left left reader reader contents failures text result old new
 put_alone left reader contents failures text result old new p = record { taken = no_more left; written = p.written; unfailed = p.unfailed; counts = put_counts result reader _ _ p.counts }
+
+-- bytes are read, and then a text is put
+pub then_put : {W A : Type 0} (left after : Option (List ℕ)) (reader read : ℕ) (contents : W → Option (List ℕ)) (failures : W → ℕ) (text : List ℕ) (result : Result A ToolFault) (old new : Sink W) → TakesMore left after → read ≡ reader → PutsAfter contents failures text result old new
+    → ReadsAndPuts left after reader read contents failures text result old new
+then_put left after reader read contents failures text result old new taken same p = record {
+  taken = taken;
+  written = p.written;
+  unfailed = p.unfailed;
+  counts = subst (λ (n : ℕ). CountsBoth result reader n (failures (writer_of old)) (failures (writer_of new))) (sym same) (put_counts result reader _ _ p.counts);
+}
 
 -- one after the other
 pub one_then : {W A B : Type 0} (left mid_left after : Option (List ℕ)) (reader mid_read read : ℕ) (contents : W → Option (List ℕ)) (failures : W → ℕ) (text more : List ℕ) (x : A) (result : Result B ToolFault) (old mid new : Sink W)
@@ -123,26 +135,9 @@ told_all {B = B} left mid_left reader mid_read contents failures refusal n m k x
   }
   by (Err fault) e = tt
 
--- ---- what the writer has then
-
--- all of it
-pub all_told : {W : Type 0} (contents : W → Option (List ℕ)) (writer mid new : W) (text : List ℕ) (first sink : Sink W) → writer_of first ≡ writer → mid ≡ writer_of sink → Keeps (contents mid) (contents new) → has_failed sink ≡ false
-    → HasWritten contents (contents (writer_of first)) ([] ++ text) sink → Appends (contents writer) (contents new) text
-all_told {W = W} contents writer mid new text first sink same out kept unfailed h =
-    subst (λ (w : W). Appends (contents w) (contents new) text) same
-    (all_written contents (contents (writer_of first)) text text sink new (written_of sink) refl unfailed (subst (λ (w : W). Keeps (contents w) (contents new)) out kept) refl h).appended
-
--- or some bytes
-pub some_told : {W : Type 0} (contents : W → Option (List ℕ)) (writer mid new : W) (text : List ℕ) (first sink : Sink W) → writer_of first ≡ writer → mid ≡ writer_of sink → Keeps (contents mid) (contents new)
-    → HasWritten contents (contents (writer_of first)) ([] ++ text) sink → AddsWords contents writer new
-some_told {W = W} contents writer mid new text first sink same out kept h = (
-  h.bytes,
-  subst (λ (w : W). Appends (contents w) (contents new) h.bytes) same (appends_kept (contents (writer_of first)) (contents (writer_of sink)) (contents new) h.bytes h.appended (subst (λ (w : W). Keeps (contents w) (contents new)) out kept)),
-)
-
 -- ---- the faults of a run, as those of a lint
 
-pub reader_counts : {A : Type 0} (fault : ToolFault) (a b c d : ℕ) → CountsBoth {A} (Err fault) a b c d → CountsReaderFault (Err fault) a b
+reader_counts : {A : Type 0} (fault : ToolFault) (a b c d : ℕ) → CountsBoth {A} (Err fault) a b c d → CountsReaderFault (Err fault) a b
 reader_counts (faults.Writer written) a b c d h = h.0
 reader_counts faults.Memory a b c d h = h.0
 reader_counts faults.Reader a b c d h = h.0
@@ -151,7 +146,7 @@ reader_counts (faults.Truncated records) a b c d h = absurd h
 reader_counts faults.Output a b c d h = absurd h
 reader_counts (faults.Limit limit) a b c d h = absurd h
 
-pub writer_counts : {A : Type 0} (fault : ToolFault) (a b c d : ℕ) → CountsBoth {A} (Err fault) a b c d → CountsWriterFault (Err fault) c d
+writer_counts : {A : Type 0} (fault : ToolFault) (a b c d : ℕ) → CountsBoth {A} (Err fault) a b c d → CountsWriterFault (Err fault) c d
 writer_counts (faults.Writer written) a b c d h = h.1
 writer_counts faults.Memory a b c d h = h.1
 writer_counts faults.Reader a b c d h = h.1
@@ -160,7 +155,7 @@ writer_counts (faults.Truncated records) a b c d h = absurd h
 writer_counts faults.Output a b c d h = absurd h
 writer_counts (faults.Limit limit) a b c d h = absurd h
 
-pub answers : {A : Type 0} (verdict : Verdict) (fault : ToolFault) (a b c d : ℕ) → CountsBoth {A} (Err fault) a b c d → IsAnswerTo verdict (Err fault)
+answers : {A : Type 0} (verdict : Verdict) (fault : ToolFault) (a b c d : ℕ) → CountsBoth {A} (Err fault) a b c d → IsAnswerTo verdict (Err fault)
 answers verdict (faults.Writer written) a b c d h = tt
 answers verdict faults.Memory a b c d h = tt
 answers verdict faults.Reader a b c d h = tt
@@ -168,3 +163,52 @@ answers verdict (faults.Refused refusal) a b c d h = absurd h
 answers verdict (faults.Truncated records) a b c d h = absurd h
 answers verdict faults.Output a b c d h = absurd h
 answers verdict (faults.Limit limit) a b c d h = absurd h
+
+-- ---- how a run ends
+
+-- all that was told is written
+pub ends_told : {W : Type 0} (contents : W → Option (List ℕ)) (start : Option (List ℕ)) (new : W) (refusal : Refusal) (text : List ℕ) (sink : Sink W) (told : Result (Unit {0}) ToolFault) (a b : ℕ) (result : Result Verdict ToolFault)
+    → OnOk told (IsTold refusal text) → OnOk told (has_failed sink ≡ false) → Keeps (contents (writer_of sink)) (contents new) → HasWritten contents start text sink → EndsRun refusal told a b result
+    → OnOk result ((it : List ℕ) × IsTold refusal it × Appends start (contents new) it)
+ends_told contents start new refusal text sink (Ok u) a b (Ok verdict) is unfailed kept h e = (text, is, (all_written contents start text text sink new (written_of sink) refl unfailed kept refl h).appended)
+ends_told contents start new refusal text sink (Ok u) a b (Err fault) is unfailed kept h e = tt
+ends_told contents start new refusal text sink (Err fault) a b result is unfailed kept h e =
+    subst (λ (r : Result Verdict ToolFault). OnOk r ((it : List ℕ) × IsTold refusal it × Appends start (contents new) it)) (sym e.0) tt
+
+-- some bytes are, however it ends
+pub ends_words : {W : Type 0} (contents : W → Option (List ℕ)) (writer new : W) (text : List ℕ) (sink : Sink W) → Keeps (contents (writer_of sink)) (contents new) → HasWritten contents (contents writer) text sink → AddsWords contents writer new
+ends_words contents writer new text sink kept h = (h.bytes, appends_kept (contents writer) (contents (writer_of sink)) (contents new) h.bytes h.appended kept)
+
+pub ends_reader : (refusal : Refusal) (told : Result (Unit {0}) ToolFault) (result : Result Verdict ToolFault) (reader read a b d : ℕ) → CountsBoth told reader read a b → EndsRun refusal told b d result → CountsReaderFault result reader read
+ends_reader refusal (Ok u) (Ok verdict) reader read a b d h e = h.0
+ends_reader refusal (Ok u) (Err (faults.Writer written)) reader read a b d h e = h.0
+ends_reader refusal (Ok u) (Err faults.Reader) reader read a b d h e = absurd e
+ends_reader refusal (Ok u) (Err faults.Memory) reader read a b d h e = absurd e
+ends_reader refusal (Ok u) (Err (faults.Refused other)) reader read a b d h e = absurd e
+ends_reader refusal (Ok u) (Err (faults.Truncated records)) reader read a b d h e = absurd e
+ends_reader refusal (Ok u) (Err faults.Output) reader read a b d h e = absurd e
+ends_reader refusal (Ok u) (Err (faults.Limit limit)) reader read a b d h e = absurd e
+ends_reader refusal (Err fault) result reader read a b d h e = subst (λ (r : Result Verdict ToolFault). CountsReaderFault r reader read) (sym e.0) (reader_counts {A = Unit {0}} fault reader read a b h)
+
+pub ends_writer : (refusal : Refusal) (told : Result (Unit {0}) ToolFault) (result : Result Verdict ToolFault) (reader read a b d : ℕ) → CountsBoth told reader read a b → EndsRun refusal told b d result → CountsWriterFault result a d
+ends_writer refusal (Ok u) (Ok verdict) reader read a b d h e = e.1 ∙ h.1
+ends_writer refusal (Ok u) (Err (faults.Writer written)) reader read a b d h e = e ∙ ap one_more_failure h.1
+ends_writer refusal (Ok u) (Err faults.Reader) reader read a b d h e = absurd e
+ends_writer refusal (Ok u) (Err faults.Memory) reader read a b d h e = absurd e
+ends_writer refusal (Ok u) (Err (faults.Refused other)) reader read a b d h e = absurd e
+ends_writer refusal (Ok u) (Err (faults.Truncated records)) reader read a b d h e = absurd e
+ends_writer refusal (Ok u) (Err faults.Output) reader read a b d h e = absurd e
+ends_writer refusal (Ok u) (Err (faults.Limit limit)) reader read a b d h e = absurd e
+ends_writer refusal (Err fault) result reader read a b d h e =
+    subst (λ (r : Result Verdict ToolFault). CountsWriterFault r a d) (sym e.0) (subst (λ (n : ℕ). CountsWriterFault (Err fault) a n) (sym e.1) (writer_counts {A = Unit {0}} fault reader read a b h))
+
+pub ends_answer : (refusal : Refusal) (told : Result (Unit {0}) ToolFault) (result : Result Verdict ToolFault) (reader read a b d : ℕ) → CountsBoth told reader read a b → EndsRun refusal told b d result → IsAnswerTo (Refused refusal) result
+ends_answer refusal (Ok u) (Ok verdict) reader read a b d h e = e.0
+ends_answer refusal (Ok u) (Err (faults.Writer written)) reader read a b d h e = tt
+ends_answer refusal (Ok u) (Err faults.Reader) reader read a b d h e = absurd e
+ends_answer refusal (Ok u) (Err faults.Memory) reader read a b d h e = absurd e
+ends_answer refusal (Ok u) (Err (faults.Refused other)) reader read a b d h e = absurd e
+ends_answer refusal (Ok u) (Err (faults.Truncated records)) reader read a b d h e = absurd e
+ends_answer refusal (Ok u) (Err faults.Output) reader read a b d h e = absurd e
+ends_answer refusal (Ok u) (Err (faults.Limit limit)) reader read a b d h e = absurd e
+ends_answer refusal (Err fault) result reader read a b d h e = subst (IsAnswerTo (Refused refusal)) (sym e.0) (answers {A = Unit {0}} (Refused refusal) fault reader read a b h)

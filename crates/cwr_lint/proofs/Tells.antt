@@ -64,3 +64,22 @@ lints_after explained limits before left after contents old between new checked 
   taken = t.1;
   answered = a;
 }
+
+-- nothing follows
+answer_same : (checked : Result Verdict ToolFault) → IsAnswerAfter checked checked
+answer_same (Ok verdict) = refl
+answer_same (Err fault) = refl
+
+pub lints_alone : {W : Type 0} (explained : Bool) (limits : Limits) (before after : Option (List ℕ)) (contents : W → Option (List ℕ)) (old new : W) (checked result : Result Verdict ToolFault)
+    → Reports (lines_up_to_fault explained) limits before after contents old new checked → checked ≡ result → Lints explained limits before after contents old new result
+lints_alone explained limits before after contents old new checked result h e = record {
+  between = new;
+  left = after;
+  checked = checked;
+  reported = h;
+  words = [];
+  written = Appends-nil (contents new);
+  more = [];
+  taken = Consumes-nil after;
+  answered = subst (IsAnswerAfter checked) e (answer_same checked);
+}

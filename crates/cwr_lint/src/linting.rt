@@ -437,7 +437,6 @@ fn finish<W: Target>(
     told: Result<(), ToolFault>,
     sink: Sink<W>,
 ) -> (W, Result<Verdict, ToolFault>)
-    requires { OnOk told (has_failed sink ≡ false) }
     ensures kept { Keeps (W.contents (writer_of sink)) (W.contents result.0) }
     ensures answer { EndsRun refusal told (W.failures (writer_of sink)) (W.failures result.0) result.1 }
     ensures handed_on { OnOk result.1 (W.handed_on result.0 ≡ true) }

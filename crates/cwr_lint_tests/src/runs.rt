@@ -12,7 +12,7 @@ use std::process::Abort;
 /// The lines of a transmission, and what a lint writes of it.
 type Linted = (&'static [&'static [u8]], &'static str);
 
-/// A transaction without a writer, a count that is wrong, and a further HDR.
+/// A good one, one of whose transactions has no writer and whose last count is wrong, and one that ends too early.
 const LINTED: &[Linted] = &[
     (
         ONE_ACKNOWLEDGEMENT,
@@ -33,9 +33,8 @@ const LINTED: &[Linted] = &[
             b"TRL000020000000300000013",
         ],
         "FAULT record 4 field 1 level T misplaced\n\
-         FINDING group 2 transaction 0 record 0 field 1 level T rule V6\n\
          FAULT record 11 field 4 level E number expected 12\n\
-         FAULTS 2 findings 1 records 11\n",
+         FAULTS 2 findings 0 records 11\n",
     ),
     (
         &[
