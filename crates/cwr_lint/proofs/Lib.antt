@@ -1,4 +1,4 @@
 mod FaultsOfCells
 mod Puts
-mod Reads
+mod TextsTold
 mod Tells

@@ -42,17 +42,17 @@ pub some_ok : {W A B : Type 0} (contents : W → Option (List ℕ)) (failures : 
 some_ok contents failures x y old new p = (p.0, put_ok contents failures x y p.0 old new p.1)
 
 -- the same fault
-err_counts : {A B : Type 0} (fault : ToolFault) (old new : ℕ) → CountsPut {A} (Err fault) old new → CountsPut {B} (Err fault) old new
-err_counts (faults.Writer written) old new h = h
-err_counts faults.Memory old new h = h
-err_counts faults.Reader old new h = absurd h
-err_counts (faults.Refused refusal) old new h = absurd h
-err_counts (faults.Truncated records) old new h = absurd h
-err_counts faults.Output old new h = absurd h
-err_counts (faults.Limit limit) old new h = absurd h
+err_counts : (A B : Type 0) (fault : ToolFault) (old new : ℕ) → CountsPut {A = A} (Err fault) old new → CountsPut {A = B} (Err fault) old new
+err_counts A B (faults.Writer written) old new h = h
+err_counts A B faults.Memory old new h = h
+err_counts A B faults.Reader old new h = absurd h
+err_counts A B (faults.Refused refusal) old new h = absurd h
+err_counts A B (faults.Truncated records) old new h = absurd h
+err_counts A B faults.Output old new h = absurd h
+err_counts A B (faults.Limit limit) old new h = absurd h
 
 pub put_err : {W A B : Type 0} (contents : W → Option (List ℕ)) (failures : W → ℕ) (fault : ToolFault) (text : List ℕ) (old new : Sink W) → PutsAfter {A = A} contents failures text (Err fault) old new → PutsAfter {A = B} contents failures text (Err fault) old new
-put_err {A = A} {B = B} contents failures fault text old new p = record { written = p.written; unfailed = tt; counts = err_counts {A} {B} fault _ _ p.counts }
+put_err {A = A} {B = B} contents failures fault text old new p = record { written = p.written; unfailed = tt; counts = err_counts A B fault _ _ p.counts }
 
 pub some_err : {W A B : Type 0} (contents : W → Option (List ℕ)) (failures : W → ℕ) (fault : ToolFault) (old new : Sink W) → PutsSome {A = A} contents failures (Err fault) old new → PutsSome {A = B} contents failures (Err fault) old new
 some_err {A = A} {B = B} contents failures fault old new p = (p.0, put_err {A = A} {B = B} contents failures fault p.0 old new p.1)

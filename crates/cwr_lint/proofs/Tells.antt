@@ -83,3 +83,40 @@ lints_alone explained limits before after contents old new checked result h e = 
   taken = Consumes-nil after;
   answered = subst (IsAnswerAfter checked) e (answer_same checked);
 }
+
+-- ---- where the test that is passed on says the same
+
+pub lints_at : {W : Type 0} (flag explained : Bool) (limits : Limits) (before after : Option (List ℕ)) (contents : W → Option (List ℕ)) (old new : W) (checked result : Result Verdict ToolFault)
+    → flag ≡ explained → Reports (lines_up_to_fault flag) limits before after contents old new checked → checked ≡ result → Lints explained limits before after contents old new result
+lints_at flag explained limits before after contents old new checked result same h e =
+    subst (λ (b : Bool). Lints b limits before after contents old new result) same (lints_alone flag limits before after contents old new checked result h e)
+
+pub good_at : {W : Type 0} (flag explained : Bool) (limits : Limits) (before after : Option (List ℕ)) (contents : W → Option (List ℕ)) (old new : W) (checked : Result Verdict ToolFault) (groups transactions records : ℕ)
+    → flag ≡ explained → Reports (lines_up_to_fault flag) limits before after contents old new checked → checked ≡ Ok (Good groups transactions records) → Tells explained limits before after contents old new (Good groups transactions records)
+good_at flag explained limits before after contents old new checked groups transactions records same h e =
+    subst (λ (b : Bool). Tells b limits before after contents old new (Good groups transactions records)) same
+    (tells_good flag limits before after contents old new groups transactions records (subst (Reports (lines_up_to_fault flag) limits before after contents old new) e h))
+
+pub truncated_at : {W : Type 0} (flag explained : Bool) (limits : Limits) (before after : Option (List ℕ)) (contents : W → Option (List ℕ)) (old new : W) (checked : Result Verdict ToolFault) (records : ℕ)
+    → flag ≡ explained → Reports (lines_up_to_fault flag) limits before after contents old new checked → checked ≡ Ok (Truncated records) → Tells explained limits before after contents old new (Truncated records)
+truncated_at flag explained limits before after contents old new checked records same h e =
+    subst (λ (b : Bool). Tells b limits before after contents old new (Truncated records)) same
+    (tells_truncated flag limits before after contents old new records (subst (Reports (lines_up_to_fault flag) limits before after contents old new) e h))
+
+pub refused_at : {W : Type 0} (flag explained : Bool) (limits : Limits) (before left after : Option (List ℕ)) (contents : W → Option (List ℕ)) (old between new : W) (refusal : Refusal) (checked result : Result Verdict ToolFault)
+    → flag ≡ explained → Reports (lines_up_to_fault flag) limits before left contents old between checked → checked ≡ Ok (Refused refusal)
+    → IsAnswerTo (Refused refusal) result → OnOk result ((text : List ℕ) × IsTold refusal text × Appends (contents between) (contents new) text) → TakesMore left after
+    → IfOk result (Tells explained limits before after contents old new)
+refused_at flag explained limits before left after contents old between new refusal checked result same h e answered told more =
+    subst (λ (b : Bool). IfOk result (Tells b limits before after contents old new)) same
+    (tells_after flag limits before left after contents old between new refusal result (subst (Reports (lines_up_to_fault flag) limits before left contents old between) e h) answered told more)
+
+pub faults_at : {W : Type 0} (flag explained : Bool) (limits : Limits) (before left after : Option (List ℕ)) (contents : W → Option (List ℕ)) (old between new : W) (refusal : Refusal) (checked result : Result Verdict ToolFault)
+    → flag ≡ explained → Reports (lines_up_to_fault flag) limits before left contents old between checked → checked ≡ Ok (Refused refusal) → AddsWords contents between new → TakesMore left after → IsAnswerTo (Refused refusal) result
+    → Lints explained limits before after contents old new result
+faults_at flag explained limits before left after contents old between new refusal checked result same h e words more answered =
+    subst (λ (b : Bool). Lints b limits before after contents old new result) same
+    (lints_after flag limits before left after contents old between new checked result h words more (subst (λ (r : Result Verdict ToolFault). IsAnswerAfter r result) (sym e) answered))
+
+pub known_ok : (checked : Result Verdict ToolFault) (v w : Verdict) → checked ≡ Ok v → v ≡ w → checked ≡ Ok w
+known_ok checked v w p q = subst (λ (x : Verdict). checked ≡ Ok x) q p

@@ -298,6 +298,24 @@ impl LintRun<'_> {
         }
     }
 
+    /// Tells what is wrong with a line that was read after another one.
+    fn take_read<W: Target>(
+        &mut self,
+        before: &RawLine,
+        raw: &RawLine,
+        cut: &mut LineBuf,
+        sink: &mut Sink<W>,
+    ) -> Result<bool, ToolFault>
+        requires { has_failed sink.old ≡ false }
+        ensures { PutsSome W.contents W.failures result sink.old sink.new }
+    {
+        raw.cut_into(cut);
+        match self.take(&cut.cut(), 1, raw, Some(before), sink) {
+            Ok(()) => Ok(true),
+            Err(fault) => Err(fault),
+        }
+    }
+
     /// Reads the line after this one, and tells what is wrong with it. The answer is whether there was one.
     fn take_next<R: Source, W: Target>(
         &mut self,
@@ -314,13 +332,7 @@ impl LintRun<'_> {
             return Ok(false);
         }
         match raw.read_after(before.end_offset(), reader) {
-            Ok(true) => {
-                raw.cut_into(cut);
-                match self.take(&cut.cut(), 1, raw, Some(before), sink) {
-                    Ok(()) => Ok(true),
-                    Err(fault) => Err(fault),
-                }
-            }
+            Ok(true) => self.take_read(before, raw, cut, sink),
             Ok(false) => Ok(false),
             Err(_) => Err(ToolFault::Reader),
         }
@@ -498,8 +510,8 @@ pub fn lint<R: Source, W: Target + Drop>(
     reader: &mut R,
     writer: W,
 ) -> (W, Result<Verdict, ToolFault>)
-    ensures lints { Lints (is_some name) limits (R.remaining reader.old) (R.remaining reader.new) W.contents writer result.0 result.1 }
-    ensures tells { IfOk result.1 (Tells (is_some name) limits (R.remaining reader.old) (R.remaining reader.new) W.contents writer result.0) }
+    ensures lints { Lints (is_some name.entry) limits (R.remaining reader.old) (R.remaining reader.new) W.contents writer result.0 result.1 }
+    ensures tells { IfOk result.1 (Tells (is_some name.entry) limits (R.remaining reader.old) (R.remaining reader.new) W.contents writer result.0) }
     ensures judged { JudgesText limits (R.remaining reader.old) result.1 }
     // No failure is passed over: a device failed only where that is the answer.
     ensures reader_failures { CountsReaderFault result.1 (R.failures reader.old) (R.failures reader.new) }

@@ -126,6 +126,20 @@ fn taking_of_header(
     }
 }
 
+/// What a GRT is taken for.
+fn taking_of_foot(state: &LintState, line: &CutLine<'_>) -> Taking {
+    match &state.group {
+        None => Taking::ClosesNone,
+        Some(group) => {
+            if is_other_grt(group, line) {
+                Taking::Other
+            } else {
+                Taking::ClosesGroup
+            }
+        }
+    }
+}
+
 impl Taking {
     /// What a line of the kind is taken for.
     pub fn of(state: &LintState, kind: Kind, line: &CutLine<'_>) -> Taking {
@@ -135,11 +149,7 @@ impl Taking {
             Kind::Hdr => Taking::OpensAnew,
             Kind::Grh if is_other_grh(line) => Taking::Other,
             Kind::Grh => Taking::OpensGroup,
-            Kind::Grt => match state.group {
-                None => Taking::ClosesNone,
-                Some(group) if is_other_grt(&group, line) => Taking::Other,
-                Some(_) => Taking::ClosesGroup,
-            },
+            Kind::Grt => taking_of_foot(state, line),
             Kind::Trl if is_other_trl(state, line) => Taking::Other,
             Kind::Trl => Taking::Ends,
             _ => match type_of_header(kind) {

@@ -1,10 +1,10 @@
 use Rattle.std.proofs.Common.{[], subst}
 use Rattle.cwr_tools.specs.Format.Reports.{CountsWriterFault}
-use Rattle.cwr_lint.proofs.Reads.{ends_answer, ends_reader, ends_told, ends_words, ends_writer}
+use Rattle.cwr_lint.proofs.TextsTold.{ends_answer, ends_reader, ends_told, ends_words, ends_writer}
 use Rattle.cwr_lint.proofs.linting.tell_faults.Goals as goal
 
-pub run-requires : goal.run-requires
-run-requires g c = c.new-sink.ensures.unfailed
+pub run-told-requires : goal.run-told-requires
+run-told-requires g c = c.new-sink.ensures.unfailed
 
 pub returns-clause-told : goal.returns-clause-told
 returns-clause-told g c = let told = c.run-told.ensures in

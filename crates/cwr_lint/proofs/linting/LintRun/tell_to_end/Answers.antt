@@ -1,4 +1,4 @@
-use Rattle.cwr_lint.proofs.Reads.{told_all}
+use Rattle.cwr_lint.proofs.TextsTold.{told_all}
 use Rattle.cwr_lint.proofs.linting.LintRun.tell_to_end.Goals as goal
 
 pub put_end-requires : goal.put_end-requires

@@ -91,17 +91,17 @@ one_then left mid_left after reader mid_read read contents failures text more x 
 pub other_ok : {W A B : Type 0} (left after : Option (List ℕ)) (reader read : ℕ) (contents : W → Option (List ℕ)) (failures : W → ℕ) (text : List ℕ) (x : A) (y : B) (old new : Sink W) → ReadsAndPuts left after reader read contents failures text (Ok x) old new → ReadsAndPuts left after reader read contents failures text (Ok y) old new
 other_ok left after reader read contents failures text x y old new p = record { taken = p.taken; written = p.written; unfailed = p.unfailed; counts = p.counts }
 
-err_counts : {A B : Type 0} (fault : ToolFault) (a b c d : ℕ) → CountsBoth {A} (Err fault) a b c d → CountsBoth {B} (Err fault) a b c d
-err_counts (faults.Writer written) a b c d h = h
-err_counts faults.Memory a b c d h = h
-err_counts faults.Reader a b c d h = h
-err_counts (faults.Refused refusal) a b c d h = absurd h
-err_counts (faults.Truncated records) a b c d h = absurd h
-err_counts faults.Output a b c d h = absurd h
-err_counts (faults.Limit limit) a b c d h = absurd h
+err_counts : (A B : Type 0) (fault : ToolFault) (a b c d : ℕ) → CountsBoth {A = A} (Err fault) a b c d → CountsBoth {A = B} (Err fault) a b c d
+err_counts A B (faults.Writer written) a b c d h = h
+err_counts A B faults.Memory a b c d h = h
+err_counts A B faults.Reader a b c d h = h
+err_counts A B (faults.Refused refusal) a b c d h = absurd h
+err_counts A B (faults.Truncated records) a b c d h = absurd h
+err_counts A B faults.Output a b c d h = absurd h
+err_counts A B (faults.Limit limit) a b c d h = absurd h
 
 pub other_err : {W A B : Type 0} (left after : Option (List ℕ)) (reader read : ℕ) (contents : W → Option (List ℕ)) (failures : W → ℕ) (text : List ℕ) (fault : ToolFault) (old new : Sink W) → ReadsAndPuts {A = A} left after reader read contents failures text (Err fault) old new → ReadsAndPuts {A = B} left after reader read contents failures text (Err fault) old new
-other_err {A = A} {B = B} left after reader read contents failures text fault old new p = record { taken = p.taken; written = p.written; unfailed = tt; counts = err_counts {A} {B} fault _ _ _ _ p.counts }
+other_err {A = A} {B = B} left after reader read contents failures text fault old new p = record { taken = p.taken; written = p.written; unfailed = tt; counts = err_counts A B fault _ _ _ _ p.counts }
 
 -- ---- what a run of these calls has told
 
@@ -131,38 +131,39 @@ told_all {B = B} left mid_left reader mid_read contents failures refusal n m k x
     findings = m;
     records = k;
     lines = ap (λ (l : List ℕ). l ++ q.0) p.2.1 ∙ append_assoc (fault_line refusal) p.2.0 q.0
-        ∙ ap (λ (l : List ℕ). fault_line refusal ++ l) (ap (λ (l : List ℕ). p.2.0 ++ l) e.1 ∙ sym (append_assoc p.2.0 e.0 (faults_line n m k)));
+        ∙ ap (λ (l : List ℕ). fault_line refusal ++ l) (ap (λ (l : List ℕ). p.2.0 ++ l) e.1 ∙ sym (append_assoc p.2.0 e.0 (faults_line n m k)))
+        ∙ sym (append_assoc (fault_line refusal) (p.2.0 ++ e.0) (faults_line n m k));
   }
   by (Err fault) e = tt
 
 -- ---- the faults of a run, as those of a lint
 
-reader_counts : {A : Type 0} (fault : ToolFault) (a b c d : ℕ) → CountsBoth {A} (Err fault) a b c d → CountsReaderFault (Err fault) a b
-reader_counts (faults.Writer written) a b c d h = h.0
-reader_counts faults.Memory a b c d h = h.0
-reader_counts faults.Reader a b c d h = h.0
-reader_counts (faults.Refused refusal) a b c d h = absurd h
-reader_counts (faults.Truncated records) a b c d h = absurd h
-reader_counts faults.Output a b c d h = absurd h
-reader_counts (faults.Limit limit) a b c d h = absurd h
+reader_counts : (A : Type 0) (fault : ToolFault) (a b c d : ℕ) → CountsBoth {A = A} (Err fault) a b c d → CountsReaderFault (Err fault) a b
+reader_counts A (faults.Writer written) a b c d h = h.0
+reader_counts A faults.Memory a b c d h = h.0
+reader_counts A faults.Reader a b c d h = h.0
+reader_counts A (faults.Refused refusal) a b c d h = absurd h
+reader_counts A (faults.Truncated records) a b c d h = absurd h
+reader_counts A faults.Output a b c d h = absurd h
+reader_counts A (faults.Limit limit) a b c d h = absurd h
 
-writer_counts : {A : Type 0} (fault : ToolFault) (a b c d : ℕ) → CountsBoth {A} (Err fault) a b c d → CountsWriterFault (Err fault) c d
-writer_counts (faults.Writer written) a b c d h = h.1
-writer_counts faults.Memory a b c d h = h.1
-writer_counts faults.Reader a b c d h = h.1
-writer_counts (faults.Refused refusal) a b c d h = absurd h
-writer_counts (faults.Truncated records) a b c d h = absurd h
-writer_counts faults.Output a b c d h = absurd h
-writer_counts (faults.Limit limit) a b c d h = absurd h
+writer_counts : (A : Type 0) (fault : ToolFault) (a b c d : ℕ) → CountsBoth {A = A} (Err fault) a b c d → CountsWriterFault (Err fault) c d
+writer_counts A (faults.Writer written) a b c d h = h.1
+writer_counts A faults.Memory a b c d h = h.1
+writer_counts A faults.Reader a b c d h = h.1
+writer_counts A (faults.Refused refusal) a b c d h = absurd h
+writer_counts A (faults.Truncated records) a b c d h = absurd h
+writer_counts A faults.Output a b c d h = absurd h
+writer_counts A (faults.Limit limit) a b c d h = absurd h
 
-answers : {A : Type 0} (verdict : Verdict) (fault : ToolFault) (a b c d : ℕ) → CountsBoth {A} (Err fault) a b c d → IsAnswerTo verdict (Err fault)
-answers verdict (faults.Writer written) a b c d h = tt
-answers verdict faults.Memory a b c d h = tt
-answers verdict faults.Reader a b c d h = tt
-answers verdict (faults.Refused refusal) a b c d h = absurd h
-answers verdict (faults.Truncated records) a b c d h = absurd h
-answers verdict faults.Output a b c d h = absurd h
-answers verdict (faults.Limit limit) a b c d h = absurd h
+answers : (A : Type 0) (verdict : Verdict) (fault : ToolFault) (a b c d : ℕ) → CountsBoth {A = A} (Err fault) a b c d → IsAnswerTo verdict (Err fault)
+answers A verdict (faults.Writer written) a b c d h = tt
+answers A verdict faults.Memory a b c d h = tt
+answers A verdict faults.Reader a b c d h = tt
+answers A verdict (faults.Refused refusal) a b c d h = absurd h
+answers A verdict (faults.Truncated records) a b c d h = absurd h
+answers A verdict faults.Output a b c d h = absurd h
+answers A verdict (faults.Limit limit) a b c d h = absurd h
 
 -- ---- how a run ends
 
@@ -188,7 +189,7 @@ ends_reader refusal (Ok u) (Err (faults.Refused other)) reader read a b d h e = 
 ends_reader refusal (Ok u) (Err (faults.Truncated records)) reader read a b d h e = absurd e
 ends_reader refusal (Ok u) (Err faults.Output) reader read a b d h e = absurd e
 ends_reader refusal (Ok u) (Err (faults.Limit limit)) reader read a b d h e = absurd e
-ends_reader refusal (Err fault) result reader read a b d h e = subst (λ (r : Result Verdict ToolFault). CountsReaderFault r reader read) (sym e.0) (reader_counts {A = Unit {0}} fault reader read a b h)
+ends_reader refusal (Err fault) result reader read a b d h e = subst (λ (r : Result Verdict ToolFault). CountsReaderFault r reader read) (sym e.0) (reader_counts (Unit {0}) fault reader read a b h)
 
 pub ends_writer : (refusal : Refusal) (told : Result (Unit {0}) ToolFault) (result : Result Verdict ToolFault) (reader read a b d : ℕ) → CountsBoth told reader read a b → EndsRun refusal told b d result → CountsWriterFault result a d
 ends_writer refusal (Ok u) (Ok verdict) reader read a b d h e = e.1 ∙ h.1
@@ -200,7 +201,7 @@ ends_writer refusal (Ok u) (Err (faults.Truncated records)) reader read a b d h 
 ends_writer refusal (Ok u) (Err faults.Output) reader read a b d h e = absurd e
 ends_writer refusal (Ok u) (Err (faults.Limit limit)) reader read a b d h e = absurd e
 ends_writer refusal (Err fault) result reader read a b d h e =
-    subst (λ (r : Result Verdict ToolFault). CountsWriterFault r a d) (sym e.0) (subst (λ (n : ℕ). CountsWriterFault (Err fault) a n) (sym e.1) (writer_counts {A = Unit {0}} fault reader read a b h))
+    subst (λ (r : Result Verdict ToolFault). CountsWriterFault r a d) (sym e.0) (subst (λ (n : ℕ). CountsWriterFault (Err fault) a n) (sym e.1) (writer_counts (Unit {0}) fault reader read a b h))
 
 pub ends_answer : (refusal : Refusal) (told : Result (Unit {0}) ToolFault) (result : Result Verdict ToolFault) (reader read a b d : ℕ) → CountsBoth told reader read a b → EndsRun refusal told b d result → IsAnswerTo (Refused refusal) result
 ends_answer refusal (Ok u) (Ok verdict) reader read a b d h e = e.0
@@ -211,4 +212,4 @@ ends_answer refusal (Ok u) (Err (faults.Refused other)) reader read a b d h e = 
 ends_answer refusal (Ok u) (Err (faults.Truncated records)) reader read a b d h e = absurd e
 ends_answer refusal (Ok u) (Err faults.Output) reader read a b d h e = absurd e
 ends_answer refusal (Ok u) (Err (faults.Limit limit)) reader read a b d h e = absurd e
-ends_answer refusal (Err fault) result reader read a b d h e = subst (IsAnswerTo (Refused refusal)) (sym e.0) (answers {A = Unit {0}} (Refused refusal) fault reader read a b h)
+ends_answer refusal (Err fault) result reader read a b d h e = subst (IsAnswerTo (Refused refusal)) (sym e.0) (answers (Unit {0}) (Refused refusal) fault reader read a b h)
