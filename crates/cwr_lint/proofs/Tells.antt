@@ -91,17 +91,23 @@ pub lints_at : {W : Type 0} (flag explained : Bool) (limits : Limits) (before af
 lints_at flag explained limits before after contents old new checked result same h e =
     subst (λ (b : Bool). Lints b limits before after contents old new result) same (lints_alone flag limits before after contents old new checked result h e)
 
-pub good_at : {W : Type 0} (flag explained : Bool) (limits : Limits) (before after : Option (List ℕ)) (contents : W → Option (List ℕ)) (old new : W) (checked : Result Verdict ToolFault) (groups transactions records : ℕ)
-    → flag ≡ explained → Reports (lines_up_to_fault flag) limits before after contents old new checked → checked ≡ Ok (Good groups transactions records) → Tells explained limits before after contents old new (Good groups transactions records)
-good_at flag explained limits before after contents old new checked groups transactions records same h e =
-    subst (λ (b : Bool). Tells b limits before after contents old new (Good groups transactions records)) same
-    (tells_good flag limits before after contents old new groups transactions records (subst (Reports (lines_up_to_fault flag) limits before after contents old new) e h))
+-- the verdict is no refusal
+abbrev pub IsUnrefused : Verdict → Type 0
+IsUnrefused (Good groups transactions records) = Unit {0}
+IsUnrefused (Refused refusal) = ⊥
+IsUnrefused (Truncated records) = Unit {0}
 
-pub truncated_at : {W : Type 0} (flag explained : Bool) (limits : Limits) (before after : Option (List ℕ)) (contents : W → Option (List ℕ)) (old new : W) (checked : Result Verdict ToolFault) (records : ℕ)
-    → flag ≡ explained → Reports (lines_up_to_fault flag) limits before after contents old new checked → checked ≡ Ok (Truncated records) → Tells explained limits before after contents old new (Truncated records)
-truncated_at flag explained limits before after contents old new checked records same h e =
-    subst (λ (b : Bool). Tells b limits before after contents old new (Truncated records)) same
-    (tells_truncated flag limits before after contents old new records (subst (Reports (lines_up_to_fault flag) limits before after contents old new) e h))
+tells_unrefused : {W : Type 0} (explained : Bool) (limits : Limits) (before after : Option (List ℕ)) (contents : W → Option (List ℕ)) (old new : W) (verdict : Verdict)
+    → IsUnrefused verdict → Reports (lines_up_to_fault explained) limits before after contents old new (Ok verdict) → Tells explained limits before after contents old new verdict
+tells_unrefused explained limits before after contents old new (Good groups transactions records) is h = tells_good explained limits before after contents old new groups transactions records h
+tells_unrefused explained limits before after contents old new (Refused refusal) is h = absurd is
+tells_unrefused explained limits before after contents old new (Truncated records) is h = tells_truncated explained limits before after contents old new records h
+
+pub unrefused_at : {W : Type 0} (flag explained : Bool) (limits : Limits) (before after : Option (List ℕ)) (contents : W → Option (List ℕ)) (old new : W) (checked : Result Verdict ToolFault) (verdict : Verdict)
+    → flag ≡ explained → Reports (lines_up_to_fault flag) limits before after contents old new checked → checked ≡ Ok verdict → IsUnrefused verdict → Tells explained limits before after contents old new verdict
+unrefused_at flag explained limits before after contents old new checked verdict same h e is =
+    subst (λ (b : Bool). Tells b limits before after contents old new verdict) same
+    (tells_unrefused flag limits before after contents old new verdict is (subst (Reports (lines_up_to_fault flag) limits before after contents old new) e h))
 
 pub refused_at : {W : Type 0} (flag explained : Bool) (limits : Limits) (before left after : Option (List ℕ)) (contents : W → Option (List ℕ)) (old between new : W) (refusal : Refusal) (checked result : Result Verdict ToolFault)
     → flag ≡ explained → Reports (lines_up_to_fault flag) limits before left contents old between checked → checked ≡ Ok (Refused refusal)

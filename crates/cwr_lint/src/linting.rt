@@ -522,34 +522,23 @@ pub fn lint<R: Source, W: Target + Drop>(
     let (writer, checked, front) = check_up_to_fault(alloc, limits, name.is_some(), reader, writer);
     let CheckedFront { last, handed_out } = front;
     match checked {
-        Ok(
-            Verdict::Good {
-                groups,
-                transactions,
-                records,
-            },
-        ) => (
-            writer,
-            Ok(Verdict::Good {
-                groups,
-                transactions,
-                records,
-            }),
-        ),
-        Ok(Verdict::Truncated { records }) => (writer, Ok(Verdict::Truncated { records })),
-        Ok(Verdict::Refused(refusal)) => match last {
-            Some(last) => tell_faults(
-                alloc,
-                limits,
-                name,
-                refusal,
-                &last,
-                &handed_out,
-                reader,
-                writer,
-            ),
-            None => unreachable!(),
-        },
         Err(fault) => (writer, Err(fault)),
+        Ok(verdict) => match verdict {
+            Verdict::Good { .. } => (writer, Ok(verdict)),
+            Verdict::Truncated { .. } => (writer, Ok(verdict)),
+            Verdict::Refused(refusal) => match last {
+                Some(last) => tell_faults(
+                    alloc,
+                    limits,
+                    name,
+                    refusal,
+                    &last,
+                    &handed_out,
+                    reader,
+                    writer,
+                ),
+                None => unreachable!(),
+            },
+        },
     }
 }

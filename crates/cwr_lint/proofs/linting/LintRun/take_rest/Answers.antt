@@ -1,5 +1,5 @@
 use Rattle.std.proofs.Common.{[], ◌++◌}
-use Rattle.std.specs.Prelude.{true, false, Ok, Err}
+use Rattle.std.specs.Prelude.{Ok, Err}
 use Rattle.cwr_lint.proofs.TextsTold.{nothing, one_then, other_err, other_ok}
 use Rattle.cwr_lint.proofs.linting.LintRun.take_rest.Goals as goal
 
@@ -13,14 +13,14 @@ pub loop-preserved : goal.loop-preserved
 loop-preserved g c = (
   c.loop.invariant.0 ++ c.in-Ok-true.ensures.0,
   one_then (g.R.Source.remaining c.args.reader.now) (g.R.Source.remaining c.loop.reader) (g.R.Source.remaining c.take_next.new.reader) (g.R.Source.failures c.args.reader.now) (g.R.Source.failures c.loop.reader) (g.R.Source.failures c.take_next.new.reader) g.W.Target.contents g.W.Target.failures c.loop.invariant.0 c.in-Ok-true.ensures.0 tt (Ok tt) c.args.sink.now c.loop.sink c.take_next.new.sink c.loop.invariant.1
-      (other_ok (g.R.Source.remaining c.loop.reader) (g.R.Source.remaining c.take_next.new.reader) (g.R.Source.failures c.loop.reader) (g.R.Source.failures c.take_next.new.reader) g.W.Target.contents g.W.Target.failures c.in-Ok-true.ensures.0 true tt c.loop.sink c.take_next.new.sink c.in-Ok-true.ensures.1),
+      (other_ok (g.R.Source.remaining c.loop.reader) (g.R.Source.remaining c.take_next.new.reader) (g.R.Source.failures c.loop.reader) (g.R.Source.failures c.take_next.new.reader) g.W.Target.contents g.W.Target.failures c.in-Ok-true.ensures.0 c.in-Ok-true.field-0 tt c.loop.sink c.take_next.new.sink c.in-Ok-true.ensures.1),
 )
 
 pub returns-in-Ok-false : goal.returns-in-Ok-false
 returns-in-Ok-false g c = (
   c.loop.invariant.0 ++ c.in-Ok-false.ensures.0,
   one_then (g.R.Source.remaining c.args.reader.now) (g.R.Source.remaining c.loop.reader) (g.R.Source.remaining c.take_next.new.reader) (g.R.Source.failures c.args.reader.now) (g.R.Source.failures c.loop.reader) (g.R.Source.failures c.take_next.new.reader) g.W.Target.contents g.W.Target.failures c.loop.invariant.0 c.in-Ok-false.ensures.0 tt (Ok tt) c.args.sink.now c.loop.sink c.take_next.new.sink c.loop.invariant.1
-      (other_ok (g.R.Source.remaining c.loop.reader) (g.R.Source.remaining c.take_next.new.reader) (g.R.Source.failures c.loop.reader) (g.R.Source.failures c.take_next.new.reader) g.W.Target.contents g.W.Target.failures c.in-Ok-false.ensures.0 false tt c.loop.sink c.take_next.new.sink c.in-Ok-false.ensures.1),
+      (other_ok (g.R.Source.remaining c.loop.reader) (g.R.Source.remaining c.take_next.new.reader) (g.R.Source.failures c.loop.reader) (g.R.Source.failures c.take_next.new.reader) g.W.Target.contents g.W.Target.failures c.in-Ok-false.ensures.0 c.in-Ok-false.field-0 tt c.loop.sink c.take_next.new.sink c.in-Ok-false.ensures.1),
   tt,
 )
 
