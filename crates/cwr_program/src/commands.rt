@@ -8,6 +8,7 @@ use crate::new_files::{NewFile, NumberedFiles, with_buffer};
 use cwr_encode::{Sink, SinkFault};
 use cwr_explain::explain;
 use cwr_fields::{Counted, Target};
+use cwr_lint::lint;
 use cwr_shape::Limits;
 use cwr_tools::{
     JoinFault, JoinReport, ToolFault, Verdict, check, join, json, put_join_outcome,
@@ -172,6 +173,20 @@ pub(crate) fn explain_input<'a, I: Read + Drop, O: Write + Drop>(
 {
     let lines = lines_to(alloc, output)?;
     ending(explain(alloc, limits, name, &mut Counted::new(input), lines).1)
+}
+
+/// Tells every fault of a transmission, and writes the lines to the output. Where the input's name is given they are explained.
+pub(crate) fn lint_input<'a, I: Read + Drop, O: Write + Drop>(
+    alloc: Global,
+    limits: Limits,
+    name: Option<&str>,
+    input: I,
+    output: O,
+) -> Result<Status, Fault<'a>>
+    ensures { EndsOnInput limits (I.remaining input) result }
+{
+    let lines = lines_to(alloc, output)?;
+    ending(lint(alloc, limits, name, &mut Counted::new(input), lines).1)
 }
 
 /// Hands on the lines that were put, where they could be.

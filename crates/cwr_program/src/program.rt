@@ -6,7 +6,7 @@ ghost use Rattle.cwr_program.specs.Format.Endings.{EndsOnInput, IsOfInput};
 
 use crate::commands::{
     Status, check_input, explain_input, export_input, import_file, import_input, join_files,
-    open_input, show_input, split_file,
+    lint_input, open_input, show_input, split_file,
 };
 use crate::faults::Fault;
 use clap::error::ErrorKind;
@@ -132,6 +132,24 @@ fn perform<'a, R: Files + AllocGlobal, I: Read + Drop, O: Write + Drop, E: Write
         Work::Explain(None) => explain_input(rt.alloc(), limits, STANDARD_INPUT, input, output),
         Work::Explain(Some(name)) => {
             explain_input(rt.alloc(), limits, name, open_input(rt, name)?, output)
+        }
+        Work::Lint {
+            file: None,
+            explained,
+        } => {
+            let name = if explained {
+                Some(STANDARD_INPUT)
+            } else {
+                None
+            };
+            lint_input(rt.alloc(), limits, name, input, output)
+        }
+        Work::Lint {
+            file: Some(file),
+            explained,
+        } => {
+            let name = if explained { Some(file) } else { None };
+            lint_input(rt.alloc(), limits, name, open_input(rt, file)?, output)
         }
         Work::Json {
             file: None,

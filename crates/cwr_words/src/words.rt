@@ -5,7 +5,7 @@ ghost use Rattle.std.specs.Str.{bytes_eq};
 ghost use Rattle.std.specs.Str.Parse.{digits_value, without_leading_plus};
 ghost use Rattle.clap.specs.Words.{found_of, has_subcommand, one_text};
 ghost use Rattle.cwr_shape.specs.Format.Ranges.{limit_values};
-ghost use Rattle.cwr_words.specs.Format.Words.{IsAskedBy, IsExportOf, IsImportOf, IsJoinOf, IsSplitOf, IsWorkOf};
+ghost use Rattle.cwr_words.specs.Format.Words.{IsAskedBy, IsExportOf, IsImportOf, IsJoinOf, IsLintOf, IsSplitOf, IsWorkOf};
 
 use clap::error::ErrorKind;
 use clap::{Arg, ArgAction, ArgMatches, Command, Error, value_parser};
@@ -23,6 +23,13 @@ pub enum Work<'a> {
     Show(Option<&'a str>),
     /// It is checked, and what is found is explained.
     Explain(Option<&'a str>),
+    /// Every fault of it is told.
+    Lint {
+        /// The name of the transmission's file, or none for that on standard input.
+        file: Option<&'a str>,
+        /// With an explanation of each.
+        explained: bool,
+    },
     /// Its data is written as JSON.
     Json {
         /// The name of the transmission's file, or none for that on standard input.
@@ -75,6 +82,9 @@ const SHOW: &str = "show";
 /// The name of the subcommand that explains.
 const EXPLAIN: &str = "explain";
 
+/// The name of the subcommand that tells every fault.
+const LINT: &str = "lint";
+
 /// The name of the subcommand that writes JSON.
 const JSON: &str = "json";
 
@@ -95,6 +105,9 @@ const NUMBER: &str = "N";
 
 /// The id of the flag that adds numbers.
 const NUMBERS: &str = "numbers";
+
+/// The id of the flag that asks for explanations.
+const EXPLAINED: &str = "explain";
 
 /// The id of the most bytes of a line.
 const LINE: &str = "line";
@@ -139,6 +152,20 @@ fn over_one<'a>(alloc: Global, name: &'a str, about: &'a str) -> Result<Command<
     let file = Arg::new(alloc, FILE).help("The transmission; without it standard input is read");
     let command = Command::new(alloc, name).about(about);
     with_limits(alloc, command)?.arg(file)
+}
+
+/// The subcommand that tells every fault.
+fn linting<'a>(alloc: Global) -> Result<Command<'a>, AllocError> {
+    let explained = Arg::new(alloc, EXPLAINED)
+        .long(EXPLAINED)
+        .action(ArgAction::SetTrue)
+        .help("Explains each fault and each finding");
+    over_one(
+        alloc,
+        LINT,
+        "Tells every fault of a transmission in one pass",
+    )?
+    .arg(explained)
 }
 
 /// The subcommand that writes JSON.
@@ -221,6 +248,9 @@ The last line on standard output:
   input I: LIMIT records, groups or transaction
                                              the result would pass that limit with input I
 
+In the place of REFUSED `cwr lint` writes a line for each fault, and then:
+  FAULTS F findings N records R              so many faults and findings were told, in R lines
+
 `cwr json` writes it to standard error, and the lines of JSON alone to standard output.
 
 `cwr write` writes to standard error:
@@ -240,6 +270,7 @@ Exit status: 0 good, 1 refused, truncated or a limit, 2 a wrong command line (or
 
 Examples: cwr check works.cwr
           cwr explain works.cwr
+          cwr lint --explain works.cwr
           cwr split -n 1000 works.cwr part-
           cwr join whole.cwr part-00000001 part-00000002";
 
@@ -260,6 +291,7 @@ fn command<'a>(alloc: Global) -> Result<Command<'a>, AllocError> {
             EXPLAIN,
             "Judges a transmission, and explains what is wrong with it",
         )?)?
+        .subcommand(linting(alloc)?)?
         .subcommand(exporting(alloc)?)?
         .subcommand(importing(alloc)?)?
         .subcommand(splitting(alloc)?)?
@@ -299,6 +331,16 @@ fn work_over<'a>(name: &str, given: &ArgMatches<'a>) -> Work<'a>
         Work::Explain(file)
     } else {
         Work::Check(file)
+    }
+}
+
+/// The work of a lint.
+fn lint_in<'a>(given: &ArgMatches<'a>) -> Work<'a>
+    ensures { IsLintOf (found_of given.now) result }
+{
+    Work::Lint {
+        file: given.get_str(FILE),
+        explained: given.get_flag(EXPLAINED),
     }
 }
 
@@ -358,6 +400,8 @@ fn work_in<'a>(
 {
     if name == SPLIT {
         Ok(split_in(given))
+    } else if name == LINT {
+        Ok(Some(lint_in(given)))
     } else if name == JSON {
         Ok(Some(export_in(given)))
     } else if name == WRITE {

@@ -14,7 +14,7 @@ use Rattle.cwr_write.specs.declared.writing.WriteFault.TheVariants as write_faul
 use Rattle.cwr_program.specs.declared.commands.Status.{Status}
 use Rattle.cwr_program.specs.declared.commands.Status.TheVariants as statuses
 use Rattle.cwr_words.specs.declared.words.Work.{Work}
-use Rattle.cwr_words.specs.declared.words.Work.TheVariants.{Check, Show, Explain, Json}
+use Rattle.cwr_words.specs.declared.words.Work.TheVariants.{Check, Show, Explain, Lint, Json}
 use Rattle.cwr_program.specs.declared.faults.Fault.{Fault}
 use Rattle.cwr_program.specs.declared.faults.Fault.TheVariants as faults
 
@@ -67,5 +67,6 @@ abbrev pub IsOfInput : Work → Type 0
 IsOfInput (Check None) = Unit {0}
 IsOfInput (Show None) = Unit {0}
 IsOfInput (Explain None) = Unit {0}
+IsOfInput (Lint None explained) = Unit {0}
 IsOfInput (Json None numbers) = Unit {0}
 IsOfInput work = ⊥

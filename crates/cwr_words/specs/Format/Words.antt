@@ -9,13 +9,14 @@ use Rattle.clap.specs.Words.{one_text, first_value, matched_of, raw_values, rows
 use Rattle.cwr_shape.specs.declared.limits.Limits.{Limits}
 use Rattle.cwr_words.specs.declared.words.Task.{Task}
 use Rattle.cwr_words.specs.declared.words.Work.{Work}
-use Rattle.cwr_words.specs.declared.words.Work.TheVariants.{Check, Show, Explain, Json, Write, Split, Join}
+use Rattle.cwr_words.specs.declared.words.Work.TheVariants.{Check, Show, Explain, Lint, Json, Write, Split, Join}
 
 -- a split into parts of so many transactions as N says, of the file FILE to files whose names begin with PREFIX
 abbrev pub IsSplitOf : Found → Work → Type 0
 IsSplitOf found (Check file) = ⊥
 IsSplitOf found (Show file) = ⊥
 IsSplitOf found (Explain file) = ⊥
+IsSplitOf found (Lint file explained) = ⊥
 IsSplitOf found (Json file numbers) = ⊥
 IsSplitOf found (Write file out line) = ⊥
 IsSplitOf found (Split transactions file prefix) =
@@ -26,6 +27,11 @@ IsSplitOf found (Join out files) = ⊥
 -- the flag of that id is given
 abbrev pub IsFlagOf : Found → List ℕ → Bool → Type 0
 IsFlagOf found id given = (one_text found id ≡ Some (codes "true") → given ≡ true) × (one_text found id ≡ Some (codes "false") → given ≡ false)
+
+-- every fault of the file FILE, explained where that flag is given
+abbrev pub IsLintOf : Found → Work → Type 0
+IsLintOf found (Lint file explained) = (option_map (λ f. f.now) file ≡ first_value found (codes "FILE")) × IsFlagOf found (codes "explain") explained
+IsLintOf found work = ⊥
 
 -- the data of the file FILE, with numbers where that flag is given
 abbrev pub IsExportOf : Found → Work → Type 0
@@ -44,12 +50,13 @@ abbrev pub IsJoinOf : Found → Work → Type 0
 IsJoinOf found (Join out files) = (first_value found (codes "OUT") ≡ Some out.now) × (option_map raw_values (matched_of found (codes "FILE")) ≡ Some (map (λ name. name.now) files.items))
 IsJoinOf found work = ⊥
 
--- Work of the subcommand of that name: one transmission is checked, shown, explained or written as JSON, that of the first file that FILE names, if
+-- Work of the subcommand of that name: one transmission is checked, shown, explained, linted or written as JSON, that of the first file that FILE names, if
 -- it names one; one is written from lines of JSON, one is split, or some are joined.
 abbrev pub IsWorkOf : List ℕ → Found → Work → Type 0
 IsWorkOf name found (Check file) = (bytes_eq name (codes "show") ≡ false) × (bytes_eq name (codes "explain") ≡ false) × (option_map (λ f. f.now) file ≡ first_value found (codes "FILE"))
 IsWorkOf name found (Show file) = (bytes_eq name (codes "show") ≡ true) × (option_map (λ f. f.now) file ≡ first_value found (codes "FILE"))
 IsWorkOf name found (Explain file) = (bytes_eq name (codes "explain") ≡ true) × (option_map (λ f. f.now) file ≡ first_value found (codes "FILE"))
+IsWorkOf name found (Lint file explained) = (bytes_eq name (codes "lint") ≡ true) × IsLintOf found (Lint file explained)
 IsWorkOf name found (Json file numbers) = (bytes_eq name (codes "json") ≡ true) × IsExportOf found (Json file numbers)
 IsWorkOf name found (Write file out line) = (bytes_eq name (codes "write") ≡ true) × IsImportOf found (Write file out line)
 IsWorkOf name found (Split transactions file prefix) = (bytes_eq name (codes "split") ≡ true) × IsSplitOf found (Split transactions file prefix)
