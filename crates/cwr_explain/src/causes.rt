@@ -35,6 +35,8 @@ pub(crate) struct Refused<'a> {
     pub is_too_long: bool,
     /// How the numbers after a wrong one go on, where they were looked at.
     pub ahead: Option<Ahead>,
+    /// Whether the fault is the first that is explained of the line.
+    pub is_first: bool,
 }
 
 impl Refused<'_> {
@@ -308,11 +310,14 @@ impl Refused<'_> {
         alloc: Global,
         text: &mut String,
         limits: &Limits,
-        stage: Stage,
+        stage: Option<Stage>,
         cut: &CutLine<'_>,
     ) -> Result<(), AllocError> {
         match (self.refusal.reason, self.refused_field()) {
-            (Reason::UnknownKind | Reason::Misplaced, _) => add_coming(alloc, text, stage),
+            (Reason::UnknownKind | Reason::Misplaced, _) => match stage {
+                Some(stage) => add_coming(alloc, text, stage),
+                None => Ok(()),
+            },
             (Reason::Cell(fault), Some(place)) => self.add_cell_expected(text, &place, cut, fault),
             (Reason::Number { expected }, _) => self.add_number_expected(text, expected),
             (Reason::Limit(limit), _) => {
@@ -345,13 +350,13 @@ impl Refused<'_> {
         writeln!(text, "{words}")
     }
 
-    /// Adds all that is said of the refusal.
+    /// Adds all that is said of the refusal, where the records before have come to that stage.
     pub(crate) fn add(
         &self,
         alloc: Global,
         text: &mut String,
         limits: &Limits,
-        stage: Stage,
+        stage: Option<Stage>,
     ) -> Result<(), AllocError> {
         let again = line_again(self.line.bytes);
         let cut = again.cut();
@@ -363,7 +368,7 @@ impl Refused<'_> {
         self.add_level(text)?;
         self.add_opening(text)?;
         add_version(text, self.kind, self.line.bytes)?;
-        if !self.is_too_long {
+        if self.is_first && !self.is_too_long {
             add_shift(text, self.kind, self.refusal.field, self.without_return())?;
         }
         add_returns(text, self.line.bytes)?;

@@ -15,7 +15,7 @@ use cwr_decode::{LastRead, Refusal};
 use cwr_encode::Sink;
 use cwr_fields::{Source, Target};
 use cwr_layouts::LONGEST_LINE;
-use cwr_shape::{Limits, Reason};
+use cwr_shape::{Limits, Reason, Stage};
 use cwr_tools::{ToolFault, Verdict, Watch, check_explained};
 use std::alloc::{AllocError, Global};
 
@@ -124,8 +124,38 @@ fn add_refused(
             Beyond::Numbers(ahead) => Some(ahead),
             Beyond::Trailing(_) | Beyond::GoesOn(_) | Beyond::Unasked => None,
         },
+        is_first: true,
     };
-    refused.add(alloc, text, limits, last.stage)
+    refused.add(alloc, text, limits, Some(last.stage))
+}
+
+/// The lines that explain a fault of a line, where the records before have come to that stage, if that is known. Beside it stand the
+/// line before, where it is held, whether the line has more bytes than are shown, and whether this is the first fault of the line that
+/// is explained: what is to be said of the whole line is said with that one.
+pub fn explain_fault(
+    alloc: Global,
+    limits: &Limits,
+    name: &str,
+    fault: &Refusal,
+    line: LineAtEnd<'_>,
+    before: Option<&[u8]>,
+    is_too_long: bool,
+    is_first: bool,
+    stage: Option<Stage>,
+) -> Result<String, AllocError> {
+    let mut text = String::new(alloc);
+    let refused = Refused {
+        name,
+        refusal: fault,
+        line,
+        before,
+        kind: kind_of(line.bytes),
+        is_too_long,
+        is_first,
+        ahead: None,
+    };
+    refused.add(alloc, &mut text, limits, stage)?;
+    Ok(text)
 }
 
 /// The lines that explain a verdict.

@@ -15,7 +15,7 @@ mod trailing;
 mod versions;
 mod wrong_numbers;
 
-pub use explaining::explain;
+pub use explaining::{explain, explain_fault};
 pub use lines_at_end::{LineAtEnd, line_at_end};
 pub use next_symbols::{coming, may_come};
 pub use trailing::{Trailing, read_trailing};

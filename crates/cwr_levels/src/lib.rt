@@ -14,8 +14,8 @@ mod walk;
 
 pub use named_cells::{PUBLISHER_SHARES, WRITER_SHARES, cell, is_of, is_owner, number_of};
 pub use report_lines::{
-    LONGEST_REPORT_LINE, finding_line, good_line, input_mark, joined_line, limit_line,
-    refusal_line, split_line, truncated_line,
+    LONGEST_REPORT_LINE, fault_line, faults_line, finding_line, good_line, input_mark, joined_line,
+    limit_line, refusal_line, split_line, truncated_line,
 };
 pub use rules::{Finding, Rule};
 pub use walk::findings;

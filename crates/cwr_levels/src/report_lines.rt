@@ -2,7 +2,7 @@
 
 ghost use Rattle.std.specs.Prelude.{◌≡◌, ◌+◌, ◌≤◌, ◌++◌, [], ◌∷◌, length, codes, decimal};
 ghost use Rattle.cwr_shape.specs.Format.ReasonTexts.{reason_text};
-ghost use Rattle.cwr_levels.specs.Format.ReportLines.{finding_line, good_line, input_mark, joined_line, limit_line, refusal_line, split_line, truncated_line, with_numbers};
+ghost use Rattle.cwr_levels.specs.Format.ReportLines.{fault_line, faults_line, finding_line, good_line, input_mark, joined_line, limit_line, refusal_line, split_line, truncated_line, with_numbers};
 ghost use Rattle.cwr_levels.specs.Steps.Putting.{PutsText};
 
 use crate::rules::Finding;
@@ -173,6 +173,36 @@ impl Line {
         line
     }
 
+    /// The line on one of several faults.
+    fn fault(fault: &Refusal) -> Line
+        ensures { result.text.items ≡ fault_line fault.now }
+    {
+        let mut line = Line::of(b"FAULT record ");
+        line.add_number(fault.rec.into());
+        line.add(b" field ");
+        line.add_number(fault.field.into());
+        line.add(b" level ");
+        line.add(fault.level.letter().as_bytes());
+        line.add(b" ");
+        line.add_reason(&fault.reason);
+        line.add(b"\n");
+        line
+    }
+
+    /// The line on an input that has so many faults and findings, in so many lines.
+    fn faults(faults: u64, findings: u64, records: u64) -> Line
+        ensures { result.text.items ≡ faults_line faults findings records }
+    {
+        let mut line = Line::of(b"FAULTS ");
+        line.add_number(faults);
+        line.add(b" findings ");
+        line.add_number(findings);
+        line.add(b" records ");
+        line.add_number(records);
+        line.add(b"\n");
+        line
+    }
+
     /// The line on a finding in a transaction, whose sequence this is, of the group with this ID.
     fn finding(group: u32, transaction: u32, finding: &Finding) -> Line
         ensures { result.text.items ≡ finding_line group transaction finding.now }
@@ -221,6 +251,27 @@ pub fn refusal_line<W: Target>(refusal: &Refusal, sink: &mut Sink<W>) -> Result<
     ensures short { length (refusal_line refusal.now) ≤ LONGEST_REPORT_LINE }
 {
     Line::refused(refusal).put(sink)
+}
+
+/// Puts the line on one of the faults of an input.
+pub fn fault_line<W: Target>(fault: &Refusal, sink: &mut Sink<W>) -> Result<(), SinkFault>
+    ensures puts { PutsText W.contents W.failures (fault_line fault.now) result sink.old sink.new }
+    ensures short { length (fault_line fault.now) ≤ LONGEST_REPORT_LINE }
+{
+    Line::fault(fault).put(sink)
+}
+
+/// Puts the line on an input that has so many faults and findings, in so many lines.
+pub fn faults_line<W: Target>(
+    faults: u64,
+    findings: u64,
+    records: u64,
+    sink: &mut Sink<W>,
+) -> Result<(), SinkFault>
+    ensures puts { PutsText W.contents W.failures (faults_line faults findings records) result sink.old sink.new }
+    ensures short { length (faults_line faults findings records) ≤ LONGEST_REPORT_LINE }
+{
+    Line::faults(faults, findings, records).put(sink)
 }
 
 /// Puts the line on a finding: `group` is the group's ID, from 1, and `transaction` its sequence in the group, from 0.

@@ -8,8 +8,9 @@ ghost use Rattle.cwr_program.specs.Format.Inputs.{are_standard};
 use crate::endings::{Status, Wanted};
 use crate::faults::{Fault, tell_fault};
 use crate::imports::{import_file, import_input};
-use crate::inputs::{DASH, Input, open_input};
+use crate::inputs::{DASH, Input, open_input, shown_name};
 use crate::joins::{Union, join_files};
+use crate::lints::lint_input;
 use crate::outputs::print_manual;
 use crate::progress::{Pace, Progress};
 use crate::reports::{Asked, Telling, report_input, telling_of};
@@ -174,6 +175,11 @@ fn perform<'a, R: Files + AllocGlobal, I: Read + Drop, P: Pace, O: Write + Drop,
         Work::Show(file) => {
             let input = open_input(rt, *file, &mut Some(standard), &mut *pace)?;
             return report_input(&asked, Telling::Records, input, output, error);
+        }
+        Work::Lint { file, explained } => {
+            let input = open_input(rt, *file, &mut Some(standard), &mut *pace)?;
+            let name = shown_name(file.unwrap_or(DASH));
+            return lint_input(&asked, explained.then_some(name), input, output);
         }
         Work::Json { file, numbers } => {
             let telling = Telling::Data { numbers: *numbers };

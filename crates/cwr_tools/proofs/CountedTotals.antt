@@ -26,7 +26,7 @@ pub record IsCount (c : Totals) (given : List Item) : Type 0 where
   pub records : c.records ≡ length (records_in given)
 
 -- none were handed out
-pub counts_none : (c : Totals) → c ≡ record { groups = 0; transactions = 0; in_group = 0; records = 0 } → IsCount c []
+pub counts_none : (c : Totals) → c ≡ record { groups = 0; transactions = 0; in_group = 0; before_group = 0; records = 0 } → IsCount c []
 counts_none c e = subst (λ (x : Totals). IsCount x []) (sym e) (record { groups = refl; transactions = refl; in_group = refl; records = refl })
 
 count_by-snoc : (p : Item → Bool) (given : List Item) (item : Item) → count_by p (given ++ item ∷ []) ≡ count_by p given + count_by p (item ∷ [])

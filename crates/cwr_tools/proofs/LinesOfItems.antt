@@ -88,6 +88,8 @@ pub lines_none : (report : Report) → (lines_in report).lines [] ≡ []
 unfolding check_lines data_lines explained_lines show_lines
 lines_none reports.Findings = refl
 lines_none reports.Explained = refl
+lines_none (reports.UpToFault false) = refl
+lines_none (reports.UpToFault true) = refl
 lines_none reports.Records = refl
 lines_none (reports.Data noted) = refl
 
@@ -98,6 +100,13 @@ lines_more reports.Findings c given item k =
     check_lines-snoc given item
     ∙ ap₂ (λ (group sequence : ℕ). check_lines given ++ finding_lines_in group sequence item) (sym k.groups) (sym k.in_group)
 lines_more reports.Explained c given item k =
+    explained_lines-snoc given item
+    ∙ ap₂ (λ (group sequence : ℕ). explained_lines given ++ explained_in group sequence (length (records_in given) + 1) item) (sym k.groups) (sym k.in_group)
+    ∙ ap (λ (n : ℕ). explained_lines given ++ explained_in c.groups c.in_group (n + 1) item) (sym k.records)
+lines_more (reports.UpToFault false) c given item k =
+    check_lines-snoc given item
+    ∙ ap₂ (λ (group sequence : ℕ). check_lines given ++ finding_lines_in group sequence item) (sym k.groups) (sym k.in_group)
+lines_more (reports.UpToFault true) c given item k =
     explained_lines-snoc given item
     ∙ ap₂ (λ (group sequence : ℕ). explained_lines given ++ explained_in group sequence (length (records_in given) + 1) item) (sym k.groups) (sym k.in_group)
     ∙ ap (λ (n : ℕ). explained_lines given ++ explained_in c.groups c.in_group (n + 1) item) (sym k.records)

@@ -4,11 +4,12 @@ ghost use Rattle.std.specs.Prelude.{◌≡◌, true, IfOk, OnOk, IsSomeAnd};
 ghost use Rattle.cwr_tools.specs.Format.Verdicts.{JudgesText};
 ghost use Rattle.cwr_tools.specs.Format.Watching.{SeesAccepted};
 ghost use Rattle.cwr_tools.specs.Steps.Verdicts.{IsReadLast};
-ghost use Rattle.cwr_tools.specs.Format.Reports.{CountsReaderFault, CountsWriterFault, JudgesAccepted, JudgesCanonical, lines_of_explained, lines_of_findings};
+ghost use Rattle.cwr_tools.specs.Format.Reports.{CountsReaderFault, CountsWriterFault, JudgesAccepted, JudgesCanonical, lines_of_explained, lines_of_findings, lines_up_to_fault};
 ghost use Rattle.cwr_tools.specs.Steps.Reports.{Reports};
 
 use crate::item_lines::Report;
 use crate::reporting::write_report;
+use crate::totals::HandedOut;
 use crate::verdicts::{ToolFault, Verdict};
 use crate::watch::Watch;
 use cwr_decode::LastRead;
@@ -69,6 +70,7 @@ pub fn check_watched<R: Source, W: Target + Drop>(
         reader,
         watch,
         &mut None,
+        &mut HandedOut::new(),
         writer,
     )
 }
@@ -102,7 +104,50 @@ pub fn check_explained<R: Source, W: Target + Drop>(
         reader,
         watch,
         &mut last,
+        &mut HandedOut::new(),
         writer,
     );
     (writer, outcome, last)
+}
+
+/// How far a check came.
+#[derive(Drop)]
+pub struct CheckedFront {
+    /// What was read last, where there is a verdict: the stage of the accepted records, and the last bytes that the reader lost,
+    /// of a refused line all.
+    pub last: Option<LastRead>,
+    /// What was handed out before.
+    pub handed_out: HandedOut,
+}
+
+/// Checks a transmission as `check` does, or where it is to be explained as `check_explained` does, and writes what that writes, but
+/// no line of a refusal: who goes on after that tells it. How far it came is answered too.
+pub fn check_up_to_fault<R: Source, W: Target + Drop>(
+    alloc: Global,
+    limits: Limits,
+    explained: bool,
+    reader: &mut R,
+    writer: W,
+) -> (W, Result<Verdict, ToolFault>, CheckedFront)
+    ensures reported { Reports (lines_up_to_fault explained) limits (R.remaining reader.old) (R.remaining reader.new) W.contents writer result.0 result.1 }
+    ensures judged { JudgesText limits (R.remaining reader.old) result.1 }
+    ensures reader_failures { CountsReaderFault result.1 (R.failures reader.old) (R.failures reader.new) }
+    ensures writer_failures { CountsWriterFault result.1 (W.failures writer) (W.failures result.0) }
+    // All that was written was handed on.
+    ensures handed_on { OnOk result.1 (W.handed_on result.0 ≡ true) }
+    ensures last { IfOk result.1 (λ verdict. IsSomeAnd result.2.last (IsReadLast limits (R.remaining reader.old) (R.remaining reader.new) verdict)) }
+{
+    let mut last = None;
+    let mut handed_out = HandedOut::new();
+    let (writer, outcome) = write_report(
+        Report::UpToFault { explained },
+        alloc,
+        limits,
+        reader,
+        &mut Watch::new(None),
+        &mut last,
+        &mut handed_out,
+        writer,
+    );
+    (writer, outcome, CheckedFront { last, handed_out })
 }

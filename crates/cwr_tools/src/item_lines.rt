@@ -1,6 +1,6 @@
 //! The lines of items, put to a sink.
 
-ghost use Rattle.std.specs.Prelude.{◌≡◌, ◌+◌, ◌≤◌, ◌∷◌, [], length, false, IfErr, OnOk};
+ghost use Rattle.std.specs.Prelude.{◌≡◌, ◌+◌, ◌≤◌, ◌∷◌, [], length, true, false, IfErr, OnOk};
 ghost use Rattle.cwr_encode.specs.Steps.Sinks.{Puts, has_failed, written_of};
 ghost use Rattle.cwr_judge.specs.Format.Items.{item_records};
 ghost use Rattle.cwr_values.specs.Format.Rows.{trailer};
@@ -8,7 +8,7 @@ ghost use Rattle.std.specs.List.{flat_map};
 ghost use Rattle.cwr_levels.specs.Format.ReportLines.{finding_line};
 ghost use Rattle.cwr_tools.specs.Format.Texts.{finding_lines_in, numbered_records, record_lines};
 ghost use Rattle.cwr_tools.specs.Format.FindingNotes.{explained_in};
-ghost use Rattle.cwr_tools.specs.Format.Reports.{ItemLines, has_findings};
+ghost use Rattle.cwr_tools.specs.Format.Reports.{ItemLines, has_findings, transaction_lines};
 ghost use Rattle.cwr_tools.specs.Format.Watching.{watched};
 ghost use Rattle.cwr_tools.specs.Steps.Reports.{PutsLines, lines_at, lines_in, notes_at};
 ghost use Rattle.cwr_tools.specs.Steps.Watching.{watched_by};
@@ -33,6 +33,11 @@ pub(crate) enum Report {
     Findings,
     /// The findings in each transaction, and under each the rule and the cells that it speaks of.
     Explained,
+    /// The findings in each transaction, and no line of a refusal.
+    UpToFault {
+        /// With the rule under each, and the cells that it speaks of.
+        explained: bool,
+    },
     /// Each record with its cells.
     Records,
     /// The data of each item.
@@ -140,40 +145,90 @@ fn put_found<W: Target>(
     Ok(())
 }
 
-/// Puts the lines of an item's findings, where it is the transaction of that sequence in the group of that ID.
-fn put_findings<W: Target>(
+/// Puts the lines of findings in the transaction of that sequence in the group of that ID, and counts them.
+fn put_findings_in<W: Target>(
     alloc: Global,
     group: u32,
     sequence: u32,
-    item: &Item,
+    transaction: &Transaction,
+    told: &mut u64,
     watch: &mut Watch,
     sink: &mut Sink<W>,
 ) -> Result<(), ToolFault>
     requires { has_failed sink.old ≡ false }
-    ensures puts { PutsLines W.contents W.failures (has_findings item.now) (finding_lines_in group sequence item.now) result sink.old sink.new }
-    ensures watched { OnOk result (watch.new ≡ watched watch.old (item.now ∷ [])) }
+    ensures watched { OnOk result (watch.new ≡ watched watch.old (Item.Transaction transaction.now ∷ [])) }
+    ensures puts { PutsLines W.contents W.failures (has_findings (Item.Transaction transaction.now)) (finding_lines_in group sequence (Item.Transaction transaction.now)) result sink.old sink.new }
 {
-    let Item::Transaction(transaction) = item else {
-        return Ok(());
-    };
     let Ok(found) = findings(alloc, transaction) else {
         return Err(ToolFault::Memory);
     };
     watch.see(found.as_slice());
+    *told = told.saturating_add(found.len() as u64);
     match put_found(group, sequence, found.as_slice(), sink) {
         Ok(()) => Ok(()),
         Err(fault) => Err(writer_fault(fault)),
     }
 }
 
+/// Puts the lines of an item's findings, where it is the transaction of that sequence in the group of that ID, and counts them.
+fn put_findings<W: Target>(
+    alloc: Global,
+    group: u32,
+    sequence: u32,
+    item: &Item,
+    told: &mut u64,
+    watch: &mut Watch,
+    sink: &mut Sink<W>,
+) -> Result<(), ToolFault>
+    requires { has_failed sink.old ≡ false }
+    ensures watched { OnOk result (watch.new ≡ watched watch.old (item.now ∷ [])) }
+    ensures puts { PutsLines W.contents W.failures (has_findings item.now) (finding_lines_in group sequence item.now) result sink.old sink.new }
+{
+    match item {
+        Item::Transaction(transaction) => {
+            put_findings_in(alloc, group, sequence, transaction, told, watch, sink)
+        }
+        _ => Ok(()),
+    }
+}
+
+/// Puts the lines of findings in the transaction of that sequence in the group of that ID and the lines under them, and counts the
+/// findings. Its first record is on that line of the file.
+fn put_explained_in<W: Target>(
+    alloc: Global,
+    group: u32,
+    sequence: u32,
+    first: u64,
+    transaction: &Transaction,
+    told: &mut u64,
+    watch: &mut Watch,
+    sink: &mut Sink<W>,
+) -> Result<(), ToolFault>
+    requires unfailed { has_failed sink.old ≡ false }
+    requires few { first + length transaction.now ≤ 100000000 }
+    ensures watched { OnOk result (watch.new ≡ watched watch.old (Item.Transaction transaction.now ∷ [])) }
+    ensures puts { PutsLines W.contents W.failures (has_findings (Item.Transaction transaction.now)) (explained_in group sequence first (Item.Transaction transaction.now)) result sink.old sink.new }
+{
+    let Ok(found) = findings(alloc, transaction) else {
+        return Err(ToolFault::Memory);
+    };
+    watch.see(found.as_slice());
+    *told = told.saturating_add(found.len() as u64);
+    match put_all_explained(group, sequence, first, transaction, found.as_slice(), sink) {
+        Ok(()) => Ok(()),
+        Err(fault) => Err(writer_fault(fault)),
+    }
+}
+
 /// Puts the lines of an item's findings and the lines under them, where it is the transaction of that sequence in the group of that
-/// ID. Its first record is on that line of the file.
+/// ID, and counts the findings. Its first record is on that line of the file.
 fn put_explained_findings<W: Target>(
     alloc: Global,
     group: u32,
     sequence: u32,
     first: u64,
     item: &Item,
+    told: &mut u64,
     watch: &mut Watch,
     sink: &mut Sink<W>,
 ) -> Result<(), ToolFault>
@@ -182,16 +237,34 @@ fn put_explained_findings<W: Target>(
     ensures puts { PutsLines W.contents W.failures (has_findings item.now) (explained_in group sequence first item.now) result sink.old sink.new }
     ensures watched { OnOk result (watch.new ≡ watched watch.old (item.now ∷ [])) }
 {
-    let Item::Transaction(transaction) = item else {
-        return Ok(());
-    };
-    let Ok(found) = findings(alloc, transaction) else {
-        return Err(ToolFault::Memory);
-    };
-    watch.see(found.as_slice());
-    match put_all_explained(group, sequence, first, transaction, found.as_slice(), sink) {
-        Ok(()) => Ok(()),
-        Err(fault) => Err(writer_fault(fault)),
+    match item {
+        Item::Transaction(transaction) => {
+            put_explained_in(alloc, group, sequence, first, transaction, told, watch, sink)
+        }
+        _ => Ok(()),
+    }
+}
+
+/// Puts the lines of findings in the transaction of that sequence in the group of that ID, and counts them. Where they are explained,
+/// lines follow each, and the transaction's first record is on that line of the file.
+pub fn put_transaction_findings<W: Target>(
+    explained: bool,
+    alloc: Global,
+    group: u32,
+    sequence: u32,
+    first: u64,
+    transaction: &Transaction,
+    told: &mut u64,
+    sink: &mut Sink<W>,
+) -> Result<(), ToolFault>
+    requires unfailed { has_failed sink.old ≡ false }
+    requires few { explained ≡ true → first + length transaction.now ≤ 100000000 }
+    ensures { PutsLines W.contents W.failures (has_findings (Item.Transaction transaction.now)) (transaction_lines explained group sequence first transaction.now) result sink.old sink.new }
+{
+    let mut watch = Watch::new(None);
+    match explained {
+        true => put_explained_in(alloc, group, sequence, first, transaction, told, &mut watch, sink),
+        false => put_findings_in(alloc, group, sequence, transaction, told, &mut watch, sink),
     }
 }
 
@@ -214,7 +287,7 @@ fn notes_at(noted: bool, counts: &Totals, item: &Item) -> Option<Notes>
 }
 
 /// Puts the lines of an item that comes after items with these numbers. Those of a record, and data, are made in the buffers. The
-/// watch sees the findings that are told.
+/// findings are counted, and the watch sees them.
 pub(crate) fn put_item<W: Target>(
     report: Report,
     alloc: Global,
@@ -222,6 +295,7 @@ pub(crate) fn put_item<W: Target>(
     item: &Item,
     lines: &mut RecordLines,
     text: &mut RecordText,
+    told: &mut u64,
     watch: &mut Watch,
     sink: &mut Sink<W>,
 ) -> Result<(), ToolFault>
@@ -231,7 +305,7 @@ pub(crate) fn put_item<W: Target>(
     ensures puts { PutsLines W.contents W.failures ((lines_in report).take_memory item.now) (lines_at report counts.now item.now) result sink.old sink.new }
 {
     match report {
-        Report::Findings => put_findings(alloc, counts.groups, counts.in_group, item, watch, sink),
+        Report::Findings => put_findings(alloc, counts.groups, counts.in_group, item, told, watch, sink),
         Report::Explained => {
             let first = u64::from(counts.records) + 1;
             put_explained_findings(
@@ -240,6 +314,23 @@ pub(crate) fn put_item<W: Target>(
                 counts.in_group,
                 first,
                 item,
+                told,
+                watch,
+                sink,
+            )
+        }
+        Report::UpToFault { explained: false } => {
+            put_findings(alloc, counts.groups, counts.in_group, item, told, watch, sink)
+        }
+        Report::UpToFault { explained: true } => {
+            let first = u64::from(counts.records) + 1;
+            put_explained_findings(
+                alloc,
+                counts.groups,
+                counts.in_group,
+                first,
+                item,
+                told,
                 watch,
                 sink,
             )

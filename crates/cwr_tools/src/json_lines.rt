@@ -7,6 +7,7 @@ ghost use Rattle.cwr_tools.specs.Steps.Reports.{Reports};
 
 use crate::item_lines::Report;
 use crate::reporting::write_report;
+use crate::totals::HandedOut;
 use crate::verdicts::{ToolFault, Verdict};
 use crate::watch::Watch;
 use cwr_fields::{Source, Target};
@@ -42,6 +43,7 @@ pub fn json<R: Source, W: Target + Drop>(
         reader,
         &mut Watch::new(None),
         &mut None,
+        &mut HandedOut::new(),
         writer,
     )
 }

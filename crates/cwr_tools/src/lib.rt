@@ -22,7 +22,8 @@ mod totals;
 mod verdicts;
 mod watch;
 
-pub use checking::{check, check_explained, check_watched};
+pub use checking::{CheckedFront, check, check_explained, check_up_to_fault, check_watched};
+pub use item_lines::put_transaction_findings;
 pub use joining::join;
 pub use json_lines::json;
 pub use note_lines::level_words;
@@ -31,5 +32,6 @@ pub use outputs::{OutputFault, Outputs};
 pub use reporting::put_verdict_line;
 pub use showing::show;
 pub use splitting::split;
+pub use totals::{HandedOut, Totals};
 pub use verdicts::{JoinFault, JoinReport, SplitReport, ToolFault, Verdict};
 pub use watch::Watch;

@@ -10,13 +10,13 @@ ghost use Rattle.cwr_levels.specs.Steps.Putting.{PutsText};
 ghost use Rattle.cwr_tools.specs.Format.Texts.{verdict_line};
 ghost use Rattle.cwr_tools.specs.Format.Verdicts.{IsVerdictOf};
 ghost use Rattle.cwr_tools.specs.Steps.Verdicts.{IsReadLast};
-ghost use Rattle.cwr_tools.specs.Format.Reports.{CountsReaderFault, CountsWriterFault};
-ghost use Rattle.cwr_tools.specs.Steps.Reports.{PutsReport, Reports, lines_in};
+ghost use Rattle.cwr_tools.specs.Format.Reports.{CountsReaderFault, CountsWriterFault, unrefused_line};
+ghost use Rattle.cwr_tools.specs.Steps.Reports.{PutsReport, Reports, holds_last, lines_in};
 ghost use Rattle.cwr_tools.specs.Steps.Watching.{WatchesRun};
 
 use crate::item_lines::{Report, put_item, writer_fault};
 use crate::record_lines::RecordLines;
-use crate::totals::Totals;
+use crate::totals::{HandedOut, Totals};
 use crate::verdicts::{ToolFault, Verdict};
 use crate::watch::Watch;
 use cwr_decode::{LastRead, ReadFault, Reading};
@@ -39,7 +39,7 @@ fn verdict_of(fault: ReadFault) -> Result<Verdict, ToolFault>
     }
 }
 
-/// A reading of a transmission for a report. The last bytes are held for one that explains.
+/// A reading of a transmission for a report. The last bytes are held for one that explains or goes on after a fault.
 fn begin_reading<'a, R: Source>(
     report: Report,
     alloc: Global,
@@ -52,10 +52,12 @@ fn begin_reading<'a, R: Source>(
     ensures limits { limits_of result.decoder ≡ limits }
     ensures open { final_answer result.decoder ≡ None }
     ensures fresh { has_ended result.decoder ≡ false }
-    ensures last { report ≡ Report.Explained → AreHeld [] result.last }
+    ensures last { holds_last report ≡ true → AreHeld [] result.last }
 {
     match report {
-        Report::Explained => Reading::holding_last(alloc, limits, reader),
+        Report::Explained | Report::UpToFault { .. } => Reading::holding_last(
+            alloc, limits, reader,
+        ),
         Report::Findings | Report::Records | Report::Data { .. } => Reading::new(
             alloc, limits, reader,
         ),
@@ -63,7 +65,8 @@ fn begin_reading<'a, R: Source>(
 }
 
 /// Reads a transmission item by item, up to its end or to where it is refused or ends too early, and puts the lines of
-/// each item. Then `last` gets what was read last, of a report that explains. The watch sees the findings that are told.
+/// each item. Then `last` gets what was read last, where that is held, and `handed_out` says what was handed out. The watch sees the
+/// findings that are told.
 fn put_items<R: Source, W: Target>(
     report: Report,
     alloc: Global,
@@ -71,6 +74,7 @@ fn put_items<R: Source, W: Target>(
     reader: &mut R,
     watch: &mut Watch,
     last: &mut Option<LastRead>,
+    handed_out: &mut HandedOut,
     sink: &mut Sink<W>,
 ) -> Result<Verdict, ToolFault>
     requires unfailed { has_failed sink.old ≡ false }
@@ -78,7 +82,7 @@ fn put_items<R: Source, W: Target>(
     ensures puts { PutsReport (lines_in report) (λ verdict. []) limits (R.remaining reader.old) (R.remaining reader.new) W.contents W.failures result sink.old sink.new }
     ensures failures { CountsReaderFault result (R.failures reader.old) (R.failures reader.new) }
     ensures watched { IfOk result (WatchesRun report limits (R.remaining reader.old) (R.remaining reader.new) watch.old watch.new) }
-    ensures last { report ≡ Report.Explained → IfOk result (λ verdict. IsSomeAnd last.new (IsReadLast limits (R.remaining reader.old) (R.remaining reader.new) verdict)) }
+    ensures last { holds_last report ≡ true → IfOk result (λ verdict. IsSomeAnd last.new (IsReadLast limits (R.remaining reader.old) (R.remaining reader.new) verdict)) }
 {
     let mut reading = begin_reading(report, alloc, limits, reader);
     let mut counts = Totals::new();
@@ -88,16 +92,26 @@ fn put_items<R: Source, W: Target>(
         match reading.next_item() {
             Ok(Some(item)) => {
                 put_item(
-                    report, alloc, &counts, &item, &mut lines, &mut text, watch, sink,
+                    report,
+                    alloc,
+                    &counts,
+                    &item,
+                    &mut lines,
+                    &mut text,
+                    &mut handed_out.findings,
+                    watch,
+                    sink,
                 )?;
                 counts.count(&item);
             }
             Ok(None) => {
                 *last = reading.last_read();
+                handed_out.totals = counts;
                 return Ok(counts.good());
             }
             Err(fault) => {
                 *last = reading.last_read();
+                handed_out.totals = counts;
                 return verdict_of(fault);
             }
         }
@@ -119,6 +133,18 @@ pub fn put_verdict_line<W: Target>(verdict: &Verdict, sink: &mut Sink<W>) -> Res
     }
 }
 
+/// Puts the same of a text that isn't refused, and nothing of one that is.
+fn put_unrefused_line<W: Target>(verdict: &Verdict, sink: &mut Sink<W>) -> Result<(), SinkFault>
+    requires { has_failed sink.old ≡ false }
+    ensures { PutsText W.contents W.failures (unrefused_line verdict.now) result sink.old sink.new }
+{
+    match verdict {
+        Verdict::Good { .. } => put_verdict_line(verdict, sink),
+        Verdict::Refused(_) => Ok(()),
+        Verdict::Truncated { .. } => put_verdict_line(verdict, sink),
+    }
+}
+
 /// Puts what stands for the verdict after the lines of items.
 fn put_verdict<W: Target>(
     report: Report,
@@ -131,13 +157,14 @@ fn put_verdict<W: Target>(
     match report {
         Report::Findings => put_verdict_line(verdict, sink),
         Report::Explained => put_verdict_line(verdict, sink),
+        Report::UpToFault { .. } => put_unrefused_line(verdict, sink),
         Report::Records => put_verdict_line(verdict, sink),
         Report::Data { .. } => Ok(()),
     }
 }
 
-/// Reads a transmission, and puts the lines of its items and what stands for the verdict. Then `last` gets what was read last, of a
-/// report that explains.
+/// Reads a transmission, and puts the lines of its items and what stands for the verdict. Then `last` gets what was read last, where
+/// that is held, and `handed_out` says what was handed out.
 fn put_report<R: Source, W: Target>(
     report: Report,
     alloc: Global,
@@ -145,6 +172,7 @@ fn put_report<R: Source, W: Target>(
     reader: &mut R,
     watch: &mut Watch,
     last: &mut Option<LastRead>,
+    handed_out: &mut HandedOut,
     sink: &mut Sink<W>,
 ) -> Result<Verdict, ToolFault>
     requires unfailed { has_failed sink.old ≡ false }
@@ -152,9 +180,9 @@ fn put_report<R: Source, W: Target>(
     ensures puts { PutsReport (lines_in report) (lines_in report).last limits (R.remaining reader.old) (R.remaining reader.new) W.contents W.failures result sink.old sink.new }
     ensures failures { CountsReaderFault result (R.failures reader.old) (R.failures reader.new) }
     ensures watched { IfOk result (WatchesRun report limits (R.remaining reader.old) (R.remaining reader.new) watch.old watch.new) }
-    ensures last { report ≡ Report.Explained → IfOk result (λ verdict. IsSomeAnd last.new (IsReadLast limits (R.remaining reader.old) (R.remaining reader.new) verdict)) }
+    ensures last { holds_last report ≡ true → IfOk result (λ verdict. IsSomeAnd last.new (IsReadLast limits (R.remaining reader.old) (R.remaining reader.new) verdict)) }
 {
-    let verdict = put_items(report, alloc, limits, reader, watch, last, sink)?;
+    let verdict = put_items(report, alloc, limits, reader, watch, last, handed_out, sink)?;
     match put_verdict(report, &verdict, sink) {
         Ok(()) => Ok(verdict),
         Err(fault) => Err(writer_fault(fault)),
@@ -162,7 +190,7 @@ fn put_report<R: Source, W: Target>(
 }
 
 /// Reads a transmission, and writes the lines of its items and what stands for the verdict, which it has the writer hand on.
-/// The writer comes back, and `last` gets what was read last, of a report that explains.
+/// The writer comes back, `last` gets what was read last, where that is held, and `handed_out` says what was handed out.
 pub(crate) fn write_report<R: Source, W: Target>(
     report: Report,
     alloc: Global,
@@ -170,6 +198,7 @@ pub(crate) fn write_report<R: Source, W: Target>(
     reader: &mut R,
     watch: &mut Watch,
     last: &mut Option<LastRead>,
+    handed_out: &mut HandedOut,
     writer: W,
 ) -> (W, Result<Verdict, ToolFault>)
     ensures reported { Reports (lines_in report) limits (R.remaining reader.old) (R.remaining reader.new) W.contents writer result.0 result.1 }
@@ -177,10 +206,10 @@ pub(crate) fn write_report<R: Source, W: Target>(
     ensures writer_failures { CountsWriterFault result.1 (W.failures writer) (W.failures result.0) }
     ensures handed_on { OnOk result.1 (W.handed_on result.0 ≡ true) }
     ensures watched { IfOk result.1 (WatchesRun report limits (R.remaining reader.old) (R.remaining reader.new) watch.old watch.new) }
-    ensures last { report ≡ Report.Explained → IfOk result.1 (λ verdict. IsSomeAnd last.new (IsReadLast limits (R.remaining reader.old) (R.remaining reader.new) verdict)) }
+    ensures last { holds_last report ≡ true → IfOk result.1 (λ verdict. IsSomeAnd last.new (IsReadLast limits (R.remaining reader.old) (R.remaining reader.new) verdict)) }
 {
     let mut sink = Sink::new(writer);
-    let put = put_report(report, alloc, limits, reader, watch, last, &mut sink);
+    let put = put_report(report, alloc, limits, reader, watch, last, handed_out, &mut sink);
     let written = sink.written();
     let mut writer = sink.into_inner();
     match put {

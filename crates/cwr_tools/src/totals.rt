@@ -7,25 +7,50 @@ ghost use Rattle.cwr_tools.specs.Steps.Verdicts.{totals_with};
 use crate::verdicts::Verdict;
 use cwr_values::Item;
 
+/// What a run has handed out.
+#[derive(Clone, Copy, Debug)]
+pub struct HandedOut {
+    /// The numbers of the items.
+    pub totals: Totals,
+    /// The lines of findings that were put. It stays at `u64::MAX`.
+    pub findings: u64,
+}
+
+impl HandedOut {
+    /// Nothing was handed out.
+    pub(crate) fn new() -> Self {
+        HandedOut {
+            totals: Totals::new(),
+            findings: 0,
+        }
+    }
+}
+
 /// How many groups, transactions and records were handed out.
 #[derive(Clone, Copy, Debug)]
-pub(crate) struct Totals {
-    pub(crate) groups: u32,
-    pub(crate) transactions: u32,
+pub struct Totals {
+    /// The groups that were opened.
+    pub groups: u32,
+    /// The transactions.
+    pub transactions: u32,
     /// The transactions since the last GRH.
-    pub(crate) in_group: u32,
-    pub(crate) records: u32,
+    pub in_group: u32,
+    /// The records before the last GRH.
+    pub before_group: u32,
+    /// All records.
+    pub records: u32,
 }
 
 impl Totals {
     /// Nothing was handed out.
     pub(crate) fn new() -> Self
-        ensures { result ≡ record { groups = 0; transactions = 0; in_group = 0; records = 0 } }
+        ensures { result ≡ record { groups = 0; transactions = 0; in_group = 0; before_group = 0; records = 0 } }
     {
         Totals {
             groups: 0,
             transactions: 0,
             in_group: 0,
+            before_group: 0,
             records: 0,
         }
     }
@@ -43,6 +68,7 @@ impl Totals {
             Item::GroupOpened(_) => {
                 self.groups += 1;
                 self.in_group = 0;
+                self.before_group = self.records;
                 self.records += 1;
             }
             Item::Transaction(transaction) => {

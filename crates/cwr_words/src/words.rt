@@ -5,7 +5,7 @@ ghost use Rattle.std.specs.Str.{bytes_eq};
 ghost use Rattle.std.specs.Str.Parse.{digits_value, without_leading_plus};
 ghost use Rattle.clap.specs.Words.{found_of, has_subcommand, one_text};
 ghost use Rattle.cwr_shape.specs.Format.Ranges.{limit_values};
-ghost use Rattle.cwr_words.specs.Format.Words.{AreNamesOf, IsAskedBy, IsExportOf, IsImportOf, IsJoinOf, IsJudgingOf, IsPlainCheck, IsSplitOf, IsWorkOf, level_named};
+ghost use Rattle.cwr_words.specs.Format.Words.{AreNamesOf, IsAskedBy, IsExportOf, IsImportOf, IsJoinOf, IsJudgingOf, IsLintOf, IsPlainCheck, IsSplitOf, IsWorkOf, level_named};
 
 use clap::error::ErrorKind;
 use clap::{Arg, ArgAction, ArgMatches, Command, Error, value_parser};
@@ -34,6 +34,13 @@ pub enum Work<'a> {
     Show(Option<&'a str>),
     /// They are checked, and what is found is explained.
     Explain(Judging<'a>),
+    /// Every fault of one is told.
+    Lint {
+        /// The name of the transmission's file, or none for that on standard input.
+        file: Option<&'a str>,
+        /// With an explanation of each.
+        explained: bool,
+    },
     /// The data of one is written as JSON.
     Json {
         /// The name of the transmission's file, or none for that on standard input.
@@ -96,6 +103,9 @@ const SHOW: &str = "show";
 /// The name of the subcommand that explains.
 const EXPLAIN: &str = "explain";
 
+/// The name of the subcommand that tells every fault.
+const LINT: &str = "lint";
+
 /// The name of the subcommand that writes JSON.
 const JSON: &str = "json";
 
@@ -119,6 +129,9 @@ const NUMBER: &str = "N";
 
 /// The id of the flag that adds numbers.
 const NUMBERS: &str = "numbers";
+
+/// The id of the flag that asks for explanations.
+const EXPLAINED: &str = "explain";
 
 /// The id of the flag that leaves out what is good.
 const QUIET: &str = "quiet";
@@ -238,6 +251,19 @@ fn over_many<'a>(alloc: Global, name: &'a str, about: &'a str) -> Result<Command
         .arg(files)
 }
 
+/// The subcommand that tells every fault.
+fn linting<'a>(alloc: Global) -> Result<Command<'a>, AllocError> {
+    let explained = flag(alloc, EXPLAINED, "Explains each fault and each finding");
+    let file = Arg::new(alloc, FILE).help(
+        "The transmission; without it standard input is read, as it is for -",
+    );
+    let command =
+        Command::new(alloc, LINT).about("Tells every fault of a transmission in one pass");
+    with_progress(alloc, with_limits(alloc, command)?)?
+        .arg(explained)?
+        .arg(file)
+}
+
 /// The subcommand that writes JSON.
 fn exporting<'a>(alloc: Global) -> Result<Command<'a>, AllocError> {
     let numbers = flag(
@@ -325,6 +351,9 @@ The last line on standard output:
   input I: LIMIT records, groups or transaction
                                              the result would pass that limit with input I
 
+In the place of REFUSED `cwr lint` writes a line for each fault, and then:
+  FAULTS F findings N records R              so many faults and findings were told, in R lines
+
 `cwr json` writes it to standard error, and the lines of JSON alone to standard output.
 
 `cwr write` writes to standard error:
@@ -344,6 +373,7 @@ Exit status: 0 good, 1 refused, truncated or a limit, 2 a wrong command line (or
 
 Examples: cwr check works.cwr
           cwr explain works.cwr
+          cwr lint --explain works.cwr
           cwr split -n 1000 works.cwr part-
           cwr join whole.cwr part-00000001 part-00000002";
 
@@ -364,6 +394,7 @@ fn command<'a>(alloc: Global) -> Result<Command<'a>, AllocError> {
             EXPLAIN,
             "Judges transmissions, and explains what is wrong with them",
         )?)?
+        .subcommand(linting(alloc)?)?
         .subcommand(exporting(alloc)?)?
         .subcommand(importing(alloc)?)?
         .subcommand(splitting(alloc)?)?
@@ -431,6 +462,16 @@ fn judging_in<'a>(alloc: Global, given: &ArgMatches<'a>) -> Result<Judging<'a>, 
     })
 }
 
+/// The work of a lint.
+fn lint_in<'a>(given: &ArgMatches<'a>) -> Work<'a>
+    ensures { IsLintOf (found_of given.now) result }
+{
+    Work::Lint {
+        file: given.get_str(FILE),
+        explained: given.get_flag(EXPLAINED),
+    }
+}
+
 /// The work of an export.
 fn export_in<'a>(given: &ArgMatches<'a>) -> Work<'a>
     ensures { IsExportOf (found_of given.now) result }
@@ -489,6 +530,8 @@ fn work_in<'a>(
 {
     if name == SPLIT {
         Ok(split_in(given))
+    } else if name == LINT {
+        Ok(Some(lint_in(given)))
     } else if name == JSON {
         Ok(Some(export_in(given)))
     } else if name == WRITE {

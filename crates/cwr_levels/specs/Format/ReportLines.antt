@@ -26,6 +26,14 @@ rule_text V11 = codes "V11"
 abbrev pub refusal_line : Refusal → List ℕ
 refusal_line r = codes "REFUSED " ++ refusal_text r ++ 10 ∷ []
 
+-- the line on one of several faults
+abbrev pub fault_line : Refusal → List ℕ
+fault_line r = codes "FAULT " ++ refusal_text r ++ 10 ∷ []
+
+-- the line on a text that has so many faults and findings, in so many lines
+abbrev pub faults_line : ℕ → ℕ → ℕ → List ℕ
+faults_line faults findings records = codes "FAULTS " ++ decimal faults ++ codes " findings " ++ decimal findings ++ codes " records " ++ decimal records ++ 10 ∷ []
+
 -- the line on a text that ends too early
 abbrev pub truncated_line : ℕ → List ℕ
 truncated_line records = codes "TRUNCATED records " ++ decimal records ++ 10 ∷ []

@@ -1,7 +1,8 @@
 -- The lines of a report: those of each item, and the verdict's.
-use Rattle.std.specs.Prelude.{◌≡◌, ℕ, ◌+◌, Bool, false, nat_lt, length, List, [], ◌++◌, drop, Option, Some, IfSome, Result, Err}
+use Rattle.std.specs.Prelude.{◌≡◌, ℕ, ◌+◌, Bool, true, false, nat_lt, length, List, [], ◌++◌, drop, Option, Some, IfSome, Result, Err}
 use Rattle.std.specs.Io.KnownBytes.{Appends}
 use Rattle.cwr_fields.specs.Format.Failures.{one_more_failure}
+use Rattle.cwr_layouts.specs.Format.Records.{RecordValue}
 use Rattle.cwr_shape.specs.declared.limits.Limits.{Limits}
 use Rattle.cwr_values.specs.declared.items.Item.{Item}
 use Rattle.cwr_values.specs.declared.items.Item.TheVariants.{Transaction}
@@ -12,10 +13,11 @@ use Rattle.cwr_judge.specs.Format.Items.{value_items}
 use Rattle.cwr_json.specs.Format.Forms.{data_lines}
 use Rattle.cwr_levels.specs.Format.Findings.{findings}
 use Rattle.cwr_tools.specs.declared.verdicts.Verdict.{Verdict}
+use Rattle.cwr_tools.specs.declared.verdicts.Verdict.TheVariants.{Refused}
 use Rattle.cwr_tools.specs.declared.verdicts.ToolFault.{ToolFault}
 use Rattle.cwr_tools.specs.declared.verdicts.ToolFault.TheVariants.{Reader, Writer}
-use Rattle.cwr_tools.specs.Format.Texts.{check_lines, good_verdict, show_lines, verdict_line}
-use Rattle.cwr_tools.specs.Format.FindingNotes.{explained_lines}
+use Rattle.cwr_tools.specs.Format.Texts.{check_lines, finding_lines_in, good_verdict, show_lines, verdict_line}
+use Rattle.cwr_tools.specs.Format.FindingNotes.{explained_in, explained_lines}
 
 -- the lines of items, in order, what stands after them for the verdict, and for which items they take memory
 pub record ItemLines : Type 0 where
@@ -35,6 +37,25 @@ lines_of_findings = record { lines = check_lines; last = verdict_line; take_memo
 -- the same, and lines under each finding
 abbrev pub lines_of_explained : ItemLines
 lines_of_explained = record { lines = explained_lines; last = verdict_line; take_memory = has_findings }
+
+-- the verdict's line, where that is no refusal
+abbrev pub unrefused_line : Verdict → List ℕ
+unrefused_line (Refused refusal) = []
+unrefused_line verdict = verdict_line verdict
+
+-- the findings in each transaction, with lines under each where these are asked for
+abbrev pub lines_checked : Bool → ItemLines
+lines_checked false = lines_of_findings
+lines_checked true = lines_of_explained
+
+-- the same, and no line of a refusal
+abbrev pub lines_up_to_fault : Bool → ItemLines
+lines_up_to_fault explained = record { lines = (lines_checked explained).lines; last = unrefused_line; take_memory = has_findings }
+
+-- the lines of findings in a transaction, of that sequence in the group of that ID, whose first record is on line n of the file
+abbrev pub transaction_lines : Bool → ℕ → ℕ → ℕ → List RecordValue → List ℕ
+transaction_lines false group sequence n t = finding_lines_in group sequence (Transaction t)
+transaction_lines true group sequence n t = explained_in group sequence n (Transaction t)
 
 -- the records with their cells
 abbrev pub lines_of_records : ItemLines

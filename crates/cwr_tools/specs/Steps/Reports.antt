@@ -22,7 +22,7 @@ use Rattle.cwr_tools.specs.declared.item_lines.Report.TheVariants as reports
 use Rattle.cwr_tools.specs.Format.Texts.{finding_lines_in, numbered_records}
 use Rattle.cwr_tools.specs.Format.FindingNotes.{explained_in}
 use Rattle.cwr_tools.specs.Steps.Verdicts.{StopsAfter, IsRightVerdict}
-use Rattle.cwr_tools.specs.Format.Reports.{ItemLines, lines_of_findings, lines_of_data, lines_of_explained, lines_of_records, text_on}
+use Rattle.cwr_tools.specs.Format.Reports.{ItemLines, lines_of_findings, lines_of_data, lines_of_explained, lines_of_records, lines_up_to_fault, text_on}
 
 -- ---- what a whole run has written
 
@@ -58,8 +58,15 @@ Reports of limits before after contents old new (Err fault) = ⊥
 abbrev pub lines_in : Report → ItemLines
 lines_in reports.Findings = lines_of_findings
 lines_in reports.Explained = lines_of_explained
+lines_in (reports.UpToFault explained) = lines_up_to_fault explained
 lines_in reports.Records = lines_of_records
 lines_in (reports.Data noted) = lines_of_data noted
+
+-- the last bytes that are read are held
+abbrev pub holds_last : Report → Bool
+holds_last reports.Explained = true
+holds_last (reports.UpToFault explained) = true
+holds_last report = false
 
 -- the notes of an item that comes after items with these numbers
 abbrev pub notes_at : Bool → Totals → Item → Option Notes
@@ -70,6 +77,8 @@ notes_at true counts item = Some (record { group = counts.groups + (if opens_gro
 abbrev pub lines_at : Report → Totals → Item → List ℕ
 lines_at reports.Findings counts item = finding_lines_in counts.groups counts.in_group item
 lines_at reports.Explained counts item = explained_in counts.groups counts.in_group (counts.records + 1) item
+lines_at (reports.UpToFault false) counts item = finding_lines_in counts.groups counts.in_group item
+lines_at (reports.UpToFault true) counts item = explained_in counts.groups counts.in_group (counts.records + 1) item
 lines_at reports.Records counts item = numbered_records (counts.records + 1) (item_records item)
 lines_at (reports.Data noted) counts item = item_line (notes_at noted counts item) item
 

@@ -22,6 +22,7 @@ totals_with c item = record {
   groups = c.groups + count_by opens_group (item ∷ []);
   transactions = c.transactions + count_by is_transaction (item ∷ []);
   in_group = if opens_group item then 0 else c.in_group + count_by is_transaction (item ∷ []);
+  before_group = if opens_group item then c.records else c.before_group;
   records = c.records + length (item_records item);
 }
 

@@ -13,6 +13,7 @@ use Rattle.cwr_tools.specs.Steps.Verdicts.{IsRightVerdict}
 abbrev pub watched_by : Report → Watch → List Item → Watch
 watched_by reports.Findings watch items = watched watch items
 watched_by reports.Explained watch items = watched watch items
+watched_by (reports.UpToFault explained) watch items = watched watch items
 watched_by reports.Records watch items = watch
 watched_by (reports.Data noted) watch items = watch
 

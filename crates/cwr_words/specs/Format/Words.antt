@@ -13,7 +13,7 @@ use Rattle.cwr_shape.specs.Format.Ranges.{limit_values}
 use Rattle.cwr_words.specs.declared.words.Judging.{Judging}
 use Rattle.cwr_words.specs.declared.words.Task.{Task}
 use Rattle.cwr_words.specs.declared.words.Work.{Work}
-use Rattle.cwr_words.specs.declared.words.Work.TheVariants.{Check, Show, Explain, Json, Write, Split, Join, Manual}
+use Rattle.cwr_words.specs.declared.words.Work.TheVariants.{Check, Show, Explain, Lint, Json, Write, Split, Join, Manual}
 
 -- the flag of that id is given
 abbrev pub IsFlagOf : Found → List ℕ → Bool → Type 0
@@ -53,6 +53,7 @@ abbrev pub IsSplitOf : Found → Work → Type 0
 IsSplitOf found (Check judging) = ⊥
 IsSplitOf found (Show file) = ⊥
 IsSplitOf found (Explain judging) = ⊥
+IsSplitOf found (Lint file explained) = ⊥
 IsSplitOf found (Json file numbers) = ⊥
 IsSplitOf found (Write file out line) = ⊥
 IsSplitOf found (Split transactions file prefix only_new) =
@@ -60,6 +61,11 @@ IsSplitOf found (Split transactions file prefix only_new) =
     × (first_value found (codes "FILE") ≡ Some file.now) × (first_value found (codes "PREFIX") ≡ Some prefix.now) × IsFlagOf found (codes "new") only_new
 IsSplitOf found (Join out files only_new) = ⊥
 IsSplitOf found Manual = ⊥
+
+-- every fault of the file FILE, explained where that flag is given
+abbrev pub IsLintOf : Found → Work → Type 0
+IsLintOf found (Lint file explained) = (option_map (λ f. f.now) file ≡ first_value found (codes "FILE")) × IsFlagOf found (codes "explain") explained
+IsLintOf found work = ⊥
 
 -- the data of the file FILE, with numbers where that flag is given
 abbrev pub IsExportOf : Found → Work → Type 0
@@ -79,13 +85,14 @@ IsJoinOf found (Join out files only_new) =
     (first_value found (codes "OUT") ≡ Some out.now) × AreNamesOf found (map (λ name. name.now) files.items) × IsFlagOf found (codes "new") only_new
 IsJoinOf found work = ⊥
 
--- Work of the subcommand of that name: transmissions are checked or explained; one is shown or written as JSON, that of the first file that
+-- Work of the subcommand of that name: transmissions are checked or explained; one is shown, linted or written as JSON, that of the first file that
 -- FILE names, if it names one; one is written from lines of JSON, one is split, some are joined, or the manual
 -- is printed.
 abbrev pub IsWorkOf : List ℕ → Found → Work → Type 0
 IsWorkOf name found (Check judging) = (bytes_eq name (codes "show") ≡ false) × (bytes_eq name (codes "explain") ≡ false) × IsJudgingOf found judging
 IsWorkOf name found (Show file) = (bytes_eq name (codes "show") ≡ true) × (option_map (λ f. f.now) file ≡ first_value found (codes "FILE"))
 IsWorkOf name found (Explain judging) = (bytes_eq name (codes "explain") ≡ true) × IsJudgingOf found judging
+IsWorkOf name found (Lint file explained) = (bytes_eq name (codes "lint") ≡ true) × IsLintOf found (Lint file explained)
 IsWorkOf name found (Json file numbers) = (bytes_eq name (codes "json") ≡ true) × IsExportOf found (Json file numbers)
 IsWorkOf name found (Write file out line) = (bytes_eq name (codes "write") ≡ true) × IsImportOf found (Write file out line)
 IsWorkOf name found (Split transactions file prefix only_new) = (bytes_eq name (codes "split") ≡ true) × IsSplitOf found (Split transactions file prefix only_new)

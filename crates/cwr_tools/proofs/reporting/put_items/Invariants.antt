@@ -1,5 +1,5 @@
-use Rattle.std.proofs.Common.{◌≡◌, ◌+◌, ◌-◌}
-use Rattle.cwr_tools.specs.declared.item_lines.Report.TheVariants.{Explained}
+use Rattle.std.proofs.Common.{◌≡◌, ◌+◌, ◌-◌, true}
+use Rattle.cwr_tools.specs.Steps.Reports.{holds_last}
 use Rattle.cwr_tools.proofs.LastReported.{HoldsRead}
 use Rattle.cwr_tools.proofs.ReportsOn.{IsReporting}
 use Rattle.cwr_tools.proofs.WatchedRuns.{IsWatching}
@@ -10,7 +10,7 @@ invariant-items g l = record {
   reporting : IsReporting l.report l.fn.limits l.reading.decoder (g.R.Source.remaining l.fn.reader) (g.R.Source.remaining l.reading.reader.now) g.W.Target.contents g.W.Target.failures l.counts l.fn.sink l.sink;
   watching : IsWatching l.report l.fn.limits l.reading.decoder (g.R.Source.remaining l.fn.reader) (g.R.Source.remaining l.reading.reader.now) l.counts l.fn.watch l.watch;
   failures : g.R.Source.failures l.reading.reader.now ≡ g.R.Source.failures l.fn.reader;
-  last : l.report ≡ Explained → HoldsRead (g.R.Source.remaining l.fn.reader) (g.R.Source.remaining l.reading.reader.now) l.reading.last;
+  last : holds_last l.report ≡ true → HoldsRead (g.R.Source.remaining l.fn.reader) (g.R.Source.remaining l.reading.reader.now) l.reading.last;
   same : l.reading.reader.ghost_name ≡ l.initial.reading.reader.ghost_name;
 }
 

@@ -1,0 +1,4 @@
+mod FaultsOfCells
+mod Puts
+mod TextsTold
+mod Tells

@@ -1,0 +1,29 @@
+use Rattle.std.proofs.Common.{[], subst}
+use Rattle.cwr_tools.specs.Format.Reports.{CountsWriterFault}
+use Rattle.cwr_lint.proofs.TextsTold.{ends_answer, ends_reader, ends_told, ends_words, ends_writer}
+use Rattle.cwr_lint.proofs.linting.tell_faults.Goals as goal
+
+pub run-told-requires : goal.run-told-requires
+run-told-requires g c = c.new-sink.ensures.unfailed
+
+pub returns-clause-told : goal.returns-clause-told
+returns-clause-told g c = let told = c.run-told.ensures in
+    ends_told g.W.Target.contents (g.W.Target.contents c.args.writer) c.finish.result.0 c.args.refusal told.0 c.run-told.new.sink c.run-told.result _ _ c.finish.result.1 told.2 told.1.unfailed c.finish.ensures.kept (told.1.written (g.W.Target.contents c.args.writer) [] c.new-sink.ensures.empty) c.finish.ensures.answer
+
+pub returns-clause-words : goal.returns-clause-words
+returns-clause-words g c = let told = c.run-told.ensures in
+    ends_words g.W.Target.contents c.args.writer c.finish.result.0 told.0 c.run-told.new.sink c.finish.ensures.kept (told.1.written (g.W.Target.contents c.args.writer) [] c.new-sink.ensures.empty)
+
+pub returns-clause-taken : goal.returns-clause-taken
+returns-clause-taken g c = c.run-told.ensures.1.taken
+
+pub returns-clause-answered : goal.returns-clause-answered
+returns-clause-answered g c = ends_answer c.args.refusal c.run-told.result c.finish.result.1 _ _ _ _ _ c.run-told.ensures.1.counts c.finish.ensures.answer
+
+pub returns-clause-reader_failures : goal.returns-clause-reader_failures
+returns-clause-reader_failures g c = ends_reader c.args.refusal c.run-told.result c.finish.result.1 _ _ _ _ _ c.run-told.ensures.1.counts c.finish.ensures.answer
+
+pub returns-clause-writer_failures : goal.returns-clause-writer_failures
+returns-clause-writer_failures g c =
+    subst (λ (w : _). CountsWriterFault c.finish.result.1 (g.W.Target.failures w) (g.W.Target.failures c.finish.result.0)) c.new-sink.ensures.writer
+    (ends_writer c.args.refusal c.run-told.result c.finish.result.1 _ _ _ _ _ c.run-told.ensures.1.counts c.finish.ensures.answer)

@@ -1,0 +1,55 @@
+-- What a whole lint has written and taken.
+use Rattle.std.specs.Prelude.{◌≡◌, ℕ, Bool, List, ◌++◌, Option, Result, Ok, Err}
+use Rattle.std.specs.Io.KnownBytes.{Appends, Consumes}
+use Rattle.cwr_fields.specs.Format.Failures.{one_more_failure}
+use Rattle.cwr_shape.specs.declared.limits.Limits.{Limits}
+use Rattle.cwr_judge.specs.declared.refusals.Refusal.{Refusal}
+use Rattle.cwr_values.specs.declared.items.Item.{Item}
+use Rattle.cwr_decode.specs.declared.readings.ReadFault.TheVariants as read_faults
+use Rattle.cwr_explain.specs.Format.Explained.{IsAnswerAfter}
+use Rattle.cwr_tools.specs.declared.verdicts.Verdict.{Verdict}
+use Rattle.cwr_tools.specs.declared.verdicts.Verdict.TheVariants.{Refused}
+use Rattle.cwr_tools.specs.declared.verdicts.ToolFault.{ToolFault}
+use Rattle.cwr_tools.specs.declared.verdicts.ToolFault.TheVariants.{Writer}
+use Rattle.cwr_tools.specs.Format.Reports.{lines_checked, lines_up_to_fault}
+use Rattle.cwr_tools.specs.Steps.Reports.{Reports}
+use Rattle.cwr_tools.specs.Steps.Verdicts.{StopsAfter}
+use Rattle.cwr_lint.specs.Format.Told.{IsTold}
+
+-- First a check is made, and what it writes is written, but no line of a refusal: with all that is said of a check of these bytes. Then
+-- words follow it; after a fault of the check there are none. More bytes may be taken from the reader.
+pub record Lints {W : Type 0} (explained : Bool) (limits : Limits) (before after : Option (List ℕ)) (contents : W → Option (List ℕ)) (old new : W) (result : Result Verdict ToolFault) : Type 0 where
+  pub between : W
+  pub left : Option (List ℕ)
+  pub checked : Result Verdict ToolFault
+  pub reported : Reports (lines_up_to_fault explained) limits before left contents old between checked
+  pub words : List ℕ
+  pub written : Appends (contents between) (contents new) words
+  pub more : List ℕ
+  pub taken : Consumes left after more
+  pub answered : IsAnswerAfter checked result
+
+-- the text was refused so, after these items, and their lines were written and then what is told
+pub record TellsFaults {W : Type 0} (explained : Bool) (limits : Limits) (before after : Option (List ℕ)) (contents : W → Option (List ℕ)) (old new : W) (refusal : Refusal) : Type 0 where
+  pub given : List Item
+  pub left : Option (List ℕ)
+  pub stopped : StopsAfter limits (read_faults.Refused refusal) before left given
+  pub more : List ℕ
+  pub taken : Consumes left after more
+  pub text : List ℕ
+  pub told : IsTold refusal text
+  pub written : Appends (contents old) (contents new) ((lines_checked explained).lines given ++ text)
+
+-- Of a text that is refused the faults are told, and the refusal first. Of any other what a check writes is written, and nothing else: the
+-- findings of the items, and the line of the verdict.
+abbrev pub Tells : {W : Type 0} → Bool → Limits → Option (List ℕ) → Option (List ℕ) → (W → Option (List ℕ)) → W → W → Verdict → Type 0
+Tells explained limits before after contents old new (Refused refusal) = TellsFaults explained limits before after contents old new refusal
+Tells explained limits before after contents old new verdict = Reports (lines_checked explained) limits before after contents old new (Ok verdict)
+
+-- A run that goes on after the refusal ends so: its fault is answered, and nothing more is done; or else the writer hands on what it has, and
+-- the refusal is answered, or the fault of the writer, which then counts one more failure.
+abbrev pub EndsRun : Refusal → Result (Unit {0}) ToolFault → ℕ → ℕ → Result Verdict ToolFault → Type 0
+EndsRun refusal (Err fault) old new result = (result ≡ Err fault) × (new ≡ old)
+EndsRun refusal (Ok u) old new (Ok verdict) = (verdict ≡ Refused refusal) × (new ≡ old)
+EndsRun refusal (Ok u) old new (Err (Writer written)) = new ≡ one_more_failure old
+EndsRun refusal (Ok u) old new (Err fault) = ⊥

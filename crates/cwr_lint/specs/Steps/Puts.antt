@@ -1,0 +1,59 @@
+-- What the steps of a lint put to a sink and take from a reader.
+use Rattle.std.specs.Prelude.{◌≡◌, ℕ, false, List, ◌++◌, Option, Result, Ok, Err, OnOk}
+use Rattle.cwr_fields.specs.Format.Failures.{one_more_failure}
+use Rattle.cwr_encode.specs.declared.sinks.Sink.{Sink}
+use Rattle.cwr_encode.specs.Steps.Sinks.{HasWritten, has_failed, writer_of}
+use Rattle.cwr_explain.specs.Format.Explained.{TakesMore}
+use Rattle.cwr_tools.specs.declared.verdicts.ToolFault.{ToolFault}
+use Rattle.cwr_tools.specs.declared.verdicts.ToolFault.TheVariants.{Reader, Writer, Memory}
+
+-- a writer's failures count one more where its fault is answered, and else they stay; but for memory no other fault is answered
+abbrev pub CountsPut : {A : Type 0} → Result A ToolFault → ℕ → ℕ → Type 0
+CountsPut (Ok x) old new = new ≡ old
+CountsPut (Err (Writer written)) old new = new ≡ one_more_failure old
+CountsPut (Err Memory) old new = new ≡ old
+CountsPut (Err fault) old new = ⊥
+
+-- Whatever text was put so far, that text followed by this one is now put: it is written whole, or after a fault its first bytes are.
+pub record PutsAfter {W A : Type 0} (contents : W → Option (List ℕ)) (failures : W → ℕ) (text : List ℕ) (result : Result A ToolFault) (old new : Sink W) : Type 0 where
+  pub written : (start : Option (List ℕ)) (before : List ℕ) → HasWritten contents start before old → HasWritten contents start (before ++ text) new
+  pub unfailed : OnOk result (has_failed new ≡ false)
+  pub counts : CountsPut result (failures (writer_of old)) (failures (writer_of new))
+
+-- some text is put
+abbrev pub PutsSome : {W A : Type 0} → (W → Option (List ℕ)) → (W → ℕ) → Result A ToolFault → Sink W → Sink W → Type 0
+PutsSome contents failures result old new = (text : List ℕ) × PutsAfter contents failures text result old new
+
+-- such a text is put
+abbrev pub PutsSuch : {W A : Type 0} → (List ℕ → Type 0) → (W → Option (List ℕ)) → (W → ℕ) → Result A ToolFault → Sink W → Sink W → Type 0
+PutsSuch P contents failures result old new = (text : List ℕ) × PutsAfter contents failures text result old new × OnOk result (P text)
+
+-- the text begins with the line, or ends with it
+abbrev pub BeginsWith : List ℕ → List ℕ → Type 0
+BeginsWith line text = (more : List ℕ) × (text ≡ line ++ more)
+
+abbrev pub EndsWith : List ℕ → List ℕ → Type 0
+EndsWith line text = (more : List ℕ) × (text ≡ more ++ line)
+
+-- the failures of a reader and of a writer: only that of the one whose fault is answered counts one more
+abbrev pub CountsBoth : {A : Type 0} → Result A ToolFault → ℕ → ℕ → ℕ → ℕ → Type 0
+CountsBoth (Ok x) reader read writer wrote = (read ≡ reader) × (wrote ≡ writer)
+CountsBoth (Err Reader) reader read writer wrote = (read ≡ one_more_failure reader) × (wrote ≡ writer)
+CountsBoth (Err (Writer written)) reader read writer wrote = (read ≡ reader) × (wrote ≡ one_more_failure writer)
+CountsBoth (Err Memory) reader read writer wrote = (read ≡ reader) × (wrote ≡ writer)
+CountsBoth (Err fault) reader read writer wrote = ⊥
+
+-- a text is put after those before, and bytes are taken from a reader
+pub record ReadsAndPuts {W A : Type 0} (left after : Option (List ℕ)) (reader read : ℕ) (contents : W → Option (List ℕ)) (failures : W → ℕ) (text : List ℕ) (result : Result A ToolFault) (old new : Sink W) : Type 0 where
+  pub taken : TakesMore left after
+  pub written : (start : Option (List ℕ)) (before : List ℕ) → HasWritten contents start before old → HasWritten contents start (before ++ text) new
+  pub unfailed : OnOk result (has_failed new ≡ false)
+  pub counts : CountsBoth result reader read (failures (writer_of old)) (failures (writer_of new))
+
+-- such a text
+abbrev pub ReadsAndPutsSuch : {W A : Type 0} → (List ℕ → Type 0) → Option (List ℕ) → Option (List ℕ) → ℕ → ℕ → (W → Option (List ℕ)) → (W → ℕ) → Result A ToolFault → Sink W → Sink W → Type 0
+ReadsAndPutsSuch P left after reader read contents failures result old new = (text : List ℕ) × ReadsAndPuts left after reader read contents failures text result old new × OnOk result (P text)
+
+-- any text
+abbrev pub IsAny : List ℕ → Type 0
+IsAny text = Unit {0}

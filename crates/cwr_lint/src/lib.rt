@@ -1,0 +1,17 @@
+//! Every fault of a transmission in one pass: a check up to the first fault, and from there on a lint.
+#![tactic(auto)]
+
+mod cells;
+mod findings;
+mod following;
+mod front;
+mod judging;
+mod linting;
+mod numbers;
+mod raw_lines;
+mod states;
+mod steps;
+mod takings;
+
+pub use cells::cell_fault;
+pub use linting::lint;

@@ -1,0 +1,99 @@
+//! Tests of what a lint writes and answers.
+
+use crate::devices::{Bounded, FailsAfter};
+use cwr_fields::Counted;
+use cwr_lint::lint;
+use cwr_shape::Limits;
+use cwr_tools::{ToolFault, Verdict};
+use cwr_worked::lines::*;
+use cwr_worked::texts::{ONE_ACKNOWLEDGEMENT, canonical};
+use std::process::Abort;
+
+/// The lines of a transmission, and what a lint writes of it.
+type Linted = (&'static [&'static [u8]], &'static str);
+
+/// A good one, one of whose transactions has no writer and whose last count is wrong, and one that ends too early.
+const LINTED: &[Linted] = &[
+    (
+        ONE_ACKNOWLEDGEMENT,
+        "GOOD groups 1 transactions 1 records 5\n",
+    ),
+    (
+        &[
+            HDR,
+            GRH_NWR,
+            NWR_0,
+            b"GRT000010000000100000004",
+            GRH_REV_2,
+            REV_0,
+            SWR_0_1,
+            REV_1,
+            SWR_1_1,
+            b"GRT000020000000200000006",
+            b"TRL000020000000300000013",
+        ],
+        "FAULT record 4 field 1 level T misplaced\n\
+         FAULT record 11 field 4 level E number expected 12\n\
+         FAULTS 2 findings 0 records 11\n",
+    ),
+    (
+        &[
+            HDR,
+            GRH_ACK,
+            ACK_0,
+            b"XYZ",
+            ACK_1,
+            b"GRT000010000000200000005",
+        ],
+        "FAULT record 4 field 1 level T unknown kind\n\
+         TRUNCATED records 6\n\
+         FAULTS 1 findings 0 records 6\n",
+    ),
+];
+
+/// What a lint of a text writes to a writer of so much room, and what it answers, where the reader fails after so many reads.
+fn linted(
+    rt: &(impl Abort + AllocGlobal),
+    text: &[u8],
+    reads: usize,
+    room: usize,
+) -> (Vec<u8>, Result<Verdict, ToolFault>) {
+    let limits = Limits::new(99_999_999, 99_999, 999_999).expect(&rt, "largest limits");
+    let mut reader = Counted::new(FailsAfter { left: text, reads });
+    let writer = Counted::new(Bounded {
+        text: Vec::new(rt.alloc()),
+        room,
+    });
+    let (writer, answer) = lint(rt.alloc(), limits, None, &mut reader, writer);
+    (writer.into_inner().text, answer)
+}
+
+/// The text of a row.
+fn text_of(rt: &(impl Abort + AllocGlobal), row: usize) -> Vec<u8> {
+    canonical(rt.alloc(), LINTED[row % 3].0).expect(&rt, "memory for a text")
+}
+
+#[test]
+fn each_fault_is_told(rt: HostRuntime) {
+    for (row, (_, wanted)) in LINTED.iter().enumerate() {
+        let text = text_of(&rt, row);
+        let (written, _) = linted(&rt, text.as_slice(), usize::MAX, 9999);
+        assert!(rt; written.as_slice() == wanted.as_bytes(), "row {row}");
+    }
+}
+
+#[test]
+fn each_device_that_fails_is_answered(rt: HostRuntime) {
+    let text = text_of(&rt, 1);
+    for reads in 0..15 {
+        let (_, answer) = linted(&rt, text.as_slice(), reads, 9999);
+        assert!(rt; answer == Err(ToolFault::Reader), "after {reads} reads");
+    }
+    for room in 0..60 {
+        let (_, answer) = linted(&rt, text.as_slice(), usize::MAX, room);
+        assert!(rt;
+            matches!(answer, Err(ToolFault::Writer { .. })),
+            "in room for {room}"
+        );
+    }
+}
