@@ -57,6 +57,15 @@ COMMANDS
               Status 1 where a finding has that level or a worse one: F, R, T,
               G or E.
 
+   cwr lint [OPTIONS] [FILE]
+       Tells every fault of a transmission in one pass, where `cwr check`
+       stops at the first. Each has a line, by record and then by field, and
+       so has each finding. A line with their numbers is last. Where there is
+       no fault it prints what `cwr check` prints.
+
+       --explain
+              Explains each fault and each finding.
+
    cwr json [OPTIONS] [FILE]
        Writes the data of a transmission as lines of JSON to standard output,
        a line for each header, transaction and trailer. The verdict goes to
@@ -172,10 +181,13 @@ OUTPUT
               The result would pass that limit with input I. Before `REFUSED`
               and `TRUNCATED`, too, `cwr join` writes the number of the input.
 
+       FAULTS F findings N records R
+              `cwr lint` told so many faults and findings, in R lines.
+
        FILES N good G refused R truncated T failed X
               Several files were judged.
 
-       Before it `cwr check` and `cwr explain` write the findings:
+       Before it `cwr check`, `cwr explain` and `cwr lint` write the findings:
 
        FINDING group G transaction T record S field F level L rule V
               A rule of the format is broken in that record. The group is
