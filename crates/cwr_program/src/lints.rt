@@ -16,13 +16,7 @@ use cwr_tools::{ToolFault, Verdict};
 use std::io::{Read, Write};
 
 /// Tells every fault of an input, and writes the lines to standard output. Where its name is given they are explained.
-pub(crate) fn lint_input<
-    'a,
-    F: Read + Drop,
-    I: Read + Drop,
-    P: Pace + Drop,
-    O: Write + Drop,
->(
+pub(crate) fn lint_input<'a, F: Read + Drop, I: Read + Drop, P: Pace + Drop, O: Write + Drop>(
     asked: &Asked,
     name: Option<&str>,
     input: Input<'a, F, I, P>,

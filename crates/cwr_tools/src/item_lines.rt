@@ -239,7 +239,16 @@ fn put_explained_findings<W: Target>(
 {
     match item {
         Item::Transaction(transaction) => {
-            put_explained_in(alloc, group, sequence, first, transaction, told, watch, sink)
+            put_explained_in(
+                alloc,
+                group,
+                sequence,
+                first,
+                transaction,
+                told,
+                watch,
+                sink,
+            )
         }
         _ => Ok(()),
     }
@@ -263,7 +272,16 @@ pub fn put_transaction_findings<W: Target>(
 {
     let mut watch = Watch::new(None);
     match explained {
-        true => put_explained_in(alloc, group, sequence, first, transaction, told, &mut watch, sink),
+        true => put_explained_in(
+            alloc,
+            group,
+            sequence,
+            first,
+            transaction,
+            told,
+            &mut watch,
+            sink,
+        ),
         false => put_findings_in(alloc, group, sequence, transaction, told, &mut watch, sink),
     }
 }
@@ -305,7 +323,15 @@ pub(crate) fn put_item<W: Target>(
     ensures puts { PutsLines W.contents W.failures ((lines_in report).take_memory item.now) (lines_at report counts.now item.now) result sink.old sink.new }
 {
     match report {
-        Report::Findings => put_findings(alloc, counts.groups, counts.in_group, item, told, watch, sink),
+        Report::Findings => put_findings(
+            alloc,
+            counts.groups,
+            counts.in_group,
+            item,
+            told,
+            watch,
+            sink,
+        ),
         Report::Explained => {
             let first = u64::from(counts.records) + 1;
             put_explained_findings(
@@ -320,7 +346,15 @@ pub(crate) fn put_item<W: Target>(
             )
         }
         Report::UpToFault { explained: false } => {
-            put_findings(alloc, counts.groups, counts.in_group, item, told, watch, sink)
+            put_findings(
+                alloc,
+                counts.groups,
+                counts.in_group,
+                item,
+                told,
+                watch,
+                sink,
+            )
         }
         Report::UpToFault { explained: true } => {
             let first = u64::from(counts.records) + 1;

@@ -209,7 +209,9 @@ pub(crate) fn write_report<R: Source, W: Target>(
     ensures last { holds_last report ≡ true → IfOk result.1 (λ verdict. IsSomeAnd last.new (IsReadLast limits (R.remaining reader.old) (R.remaining reader.new) verdict)) }
 {
     let mut sink = Sink::new(writer);
-    let put = put_report(report, alloc, limits, reader, watch, last, handed_out, &mut sink);
+    let put = put_report(
+        report, alloc, limits, reader, watch, last, handed_out, &mut sink,
+    );
     let written = sink.written();
     let mut writer = sink.into_inner();
     match put {

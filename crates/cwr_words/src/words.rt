@@ -257,8 +257,9 @@ fn linting<'a>(alloc: Global) -> Result<Command<'a>, AllocError> {
     let file = Arg::new(alloc, FILE).help(
         "The transmission; without it standard input is read, as it is for -",
     );
-    let command =
-        Command::new(alloc, LINT).about("Tells every fault of a transmission in one pass");
+    let command = Command::new(alloc, LINT).about(
+        "Tells every fault of a transmission in one pass",
+    );
     with_progress(alloc, with_limits(alloc, command)?)?
         .arg(explained)?
         .arg(file)
