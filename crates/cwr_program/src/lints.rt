@@ -4,7 +4,7 @@ ghost use Rattle.std.specs.Prelude.{◌≡◌, false, None};
 ghost use Rattle.cwr_program.specs.Format.Endings.{EndsOnInput};
 ghost use Rattle.cwr_program.specs.Steps.Inputs.{remaining_of};
 
-use crate::endings::Status;
+use crate::endings::{Status, plain_status};
 use crate::faults::{Fault, Name};
 use crate::inputs::Input;
 use crate::outputs::{gathered, told_of};
@@ -12,7 +12,7 @@ use crate::progress::Pace;
 use crate::reports::Asked;
 use cwr_fields::Counted;
 use cwr_lint::lint;
-use cwr_tools::{ToolFault, Verdict};
+use cwr_tools::ToolFault;
 use std::io::{Read, Write};
 
 /// Tells every fault of an input, and writes the lines to standard output. Where its name is given they are explained.
@@ -30,8 +30,7 @@ pub(crate) fn lint_input<'a, F: Read + Drop, I: Read + Drop, P: Pace + Drop, O: 
     let mut reader = Counted::new(input);
     let (lines, outcome) = lint(asked.alloc, asked.limits, name, &mut reader, lines);
     match outcome {
-        Ok(Verdict::Good { .. }) => Ok(Status::Good),
-        Ok(Verdict::Refused(_) | Verdict::Truncated { .. }) => Ok(Status::Refused),
+        Ok(verdict) => Ok(plain_status(&verdict)),
         Err(ToolFault::Reader) => Err(Fault::Read(reader.into_inner().told())),
         Err(ToolFault::Writer { .. }) => Err(Fault::Write(told_of(lines))),
         Err(_) => Err(Fault::Memory),

@@ -84,3 +84,9 @@ judged_with verdict look None = Err tool_faults.Reader
 abbrev pub judgement_in : Wanted → Result Verdict ToolFault → Look → Bool → Result Judgement ToolFault
 judgement_in wanted (Ok verdict) look found = judged_with verdict look (status_in wanted verdict look found)
 judgement_in wanted (Err fault) look found = Err fault
+
+-- the status of a verdict, where nothing else is wanted
+abbrev pub plain_status : Verdict → Status
+plain_status (Good groups transactions records) = statuses.Good
+plain_status (Refused refusal) = statuses.Refused
+plain_status (Truncated records) = statuses.Refused
