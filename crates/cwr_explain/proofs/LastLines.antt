@@ -1,10 +1,10 @@
 -- A text ends with one line at most, and the last bytes of a text show it.
-use Rattle.std.proofs.Common.{◌≡◌, ◌≢◌, ℕ, ◌+◌, ◌-◌, ◌<◌, ◌≤◌, Bool, true, false, List, [], ◌∷◌, ◌++◌, length, take, drop, refl, sym, ap, ap₂, subst, ◌∙◌, arith, inl, inr, append_assoc, append-nil}
-use Rattle.std.specs.Prelude.{◌⊎◌, ◌||◌, ◌==◌, ◌^◌, min, IsFalse}
+use Rattle.std.proofs.Common.{◌≡◌, ◌≢◌, ℕ, ◌+◌, ◌-◌, ◌<◌, ◌≤◌, Bool, true, false, List, [], ◌∷◌, ◌++◌, length, take, drop, refl, sym, ap, subst, ◌∙◌, arith, inl, inr, append_assoc, append-nil}
+use Rattle.std.specs.Prelude.{◌⊎◌, ◌||◌, ◌==◌, ◌^◌, min, IsFalse, Option, None, Some, IfSome}
 use Rattle.std.specs.List.{list_any}
 use Rattle.std.proofs.lemmas.Bool.{false≢true, true≢false}
 use Rattle.std.proofs.lemmas.List.{append_cancel_right, drop-append-le, length-append, length-drop, length-take-le, nil_from_length, take_all, take-append-drop}
-use Rattle.std.proofs.Math.Seq.{drop-append_seam, take-append_seam}
+use Rattle.std.proofs.Math.Seq.{drop-append_seam}
 use Rattle.cwr_layouts.specs.declared.lines.LineEnd.{LineEnd}
 use Rattle.cwr_layouts.specs.declared.lines.LineEnd.TheVariants as line_ends
 use Rattle.cwr_layouts.specs.Format.Lines.{is_lf}
@@ -130,7 +130,7 @@ pub found_ended : (read front line text : List ℕ) (last : LastBytes) (found : 
     → found.offset ≡ bytes_read last - length found.bytes.now - 1 → IsFound read front line found
 found_ended read front line text last found held ends whole h offset =
     found_is read front line held.before text 1 last found held h (held_ended read front line text found.bytes.now last held ends whole h)
-        (omega (arith, ap length (read_with_feed read text last held whole), length-append (held.before ++ text) (10 ∷ []))) offset
+    (omega (arith, ap length (read_with_feed read text last held whole), length-append (held.before ++ text) (10 ∷ []))) offset
 
 -- without one, too
 pub held_open : (read front line found : List ℕ) (last : LastBytes) → (held : HoldsLast read last) → EndsWithLine read front line → ((xs : List ℕ) → last_held last ≢ xs ++ 10 ∷ []) → (h : IsAfterFeed (last_held last) found)
@@ -157,19 +157,8 @@ found_open read front line last found held ends other h offset =
 
 -- ---- the line before
 
--- what stands before the last line of a text is all but that line
-pub last_split : (text front line : List ℕ) → IsAfterFeed text line → front ≡ take (length text - length line) text → IsLastLine text front line
-last_split text front line h is = record {
-  split = h.split ∙ ap (λ (l : List ℕ). l ++ line) (sym same);
-  no_lf = h.no_lf;
-  begins = subst IsBeforeLine (sym same) h.begins;
-}
-  where
-    same : front ≡ h.front
-    same = is ∙ ap₂ (λ (n : ℕ) (l : List ℕ). take n l) (omega (arith, ap length h.split, length-append h.front line)) h.split ∙ take-append_seam h.front line
-
-after_of : {text front line : List ℕ} → IsLastLine text front line → IsAfterFeed text line
-after_of {text} {front} {line} h = record { front = front; split = h.split; no_lf = h.no_lf; begins = h.begins }
+abbrev pub after_of : (text front line : List ℕ) → IsLastLine text front line → IsAfterFeed text line
+after_of text front line h = record { front = front; split = h.split; no_lf = h.no_lf; begins = h.begins }
 
 -- the last of lines that are held is the last of all that were read
 pub line_held : (before lines line : List ℕ) (is_all : Bool) → EndsInLine lines is_all line → (is_all ≡ true → before ≡ []) → EndsInLine (before ++ lines) true line
@@ -195,11 +184,25 @@ none_before read last held is = nil_from_length held.before (omega (arith, ap le
 pub before_ended : (read front line text lines found : List ℕ) (last : LastBytes) (is_all : Bool) (before : List ℕ) → HoldsLast read last → EndsWithLine read front line → last_held last ≡ text ++ 10 ∷ [] → IsLastLine text lines found
     → EndsInLine lines is_all before → (is_all ≡ true → read ≡ last_held last) → EndsInLine front true before
 before_ended read front line text lines found last is_all before held ends whole h b all =
-    subst (λ (l : List ℕ). EndsInLine l true before) (held_ended read front line text found last held ends whole (after_of h)).0
-        (line_held held.before lines before is_all b (λ e. none_before read last held (all e)))
+    subst (λ (l : List ℕ). EndsInLine l true before) (held_ended read front line text found last held ends whole (after_of text lines found h)).0
+    (line_held held.before lines before is_all b (λ e. none_before read last held (all e)))
 
 pub before_open : (read front line lines found : List ℕ) (last : LastBytes) (is_all : Bool) (before : List ℕ) → HoldsLast read last → EndsWithLine read front line → ((xs : List ℕ) → last_held last ≢ xs ++ 10 ∷ [])
     → IsLastLine (last_held last) lines found → EndsInLine lines is_all before → (is_all ≡ true → read ≡ last_held last) → EndsInLine front true before
 before_open read front line lines found last is_all before held ends other h b all =
-    subst (λ (l : List ℕ). EndsInLine l true before) (held_open read front line found last held ends other (after_of h)).0
-        (line_held held.before lines before is_all b (λ e. none_before read last held (all e)))
+    subst (λ (l : List ℕ). EndsInLine l true before) (held_open read front line found last held ends other (after_of (last_held last) lines found h)).0
+    (line_held held.before lines before is_all b (λ e. none_before read last held (all e)))
+
+map_some : {A : Type 0} {P Q : A → Type 0} (o : Option A) → ((x : A) → P x → Q x) → IfSome o P → IfSome o Q
+map_some None f h = tt
+map_some (Some x) f h = f x h
+
+-- the line before was found
+pub before_found : {A : Type 0} (view : A → List ℕ) (o : Option A) (read front line bytes text lines found : List ℕ) (last : LastBytes) (ended is_all : Bool) → HoldsLast read last → EndsWithLine read front line → bytes ≡ last_held last
+    → (ended ≡ true → bytes ≡ text ++ 10 ∷ []) → (ended ≡ false → text ≡ bytes) → (ended ≡ false → (xs : List ℕ) → bytes ≢ xs ++ 10 ∷ []) → IsLastLine text lines found → (is_all ≡ true → read ≡ last_held last)
+    → IfSome o (λ x. EndsInLine lines is_all (view x)) → IfSome o (λ x. EndsInLine front true (view x))
+before_found view o read front line bytes text lines found last ended is_all held ends same fed whole other h all = map_some o (λ x b. by ended fed whole other (view x) b)
+  where
+    by : (e : Bool) → (e ≡ true → bytes ≡ text ++ 10 ∷ []) → (e ≡ false → text ≡ bytes) → (e ≡ false → (xs : List ℕ) → bytes ≢ xs ++ 10 ∷ []) → (before : List ℕ) → EndsInLine lines is_all before → EndsInLine front true before
+    by true f p q before b = before_ended read front line text lines found last is_all before held ends (sym same ∙ f refl) h b all
+    by false f p q before b = before_open read front line lines found last is_all before held ends (λ xs e. q refl xs (same ∙ e)) (subst (λ (l : List ℕ). IsLastLine l lines found) (p refl ∙ same) h) b all
