@@ -74,7 +74,7 @@ async function open(file) {
     showFaults();
     await showOutline();
     size();
-    by("scroll").scrollTop = 0;
+    by("scroll").scrollTo(0, 0);
     if (answer.told.length > 0) await go(answer.told[0].line, answer.told[0].field);
     else await go(0, 1);
   } catch (fault) {
@@ -192,7 +192,7 @@ function tellField() {
       made("dt", { textContent: WORDS.value }), made("dd", { textContent: held === "" ? WORDS.blank : held }),
       made("dt", { textContent: WORDS.mayHold }), made("dd", { textContent: `${may} (${WORDS.bytes(field.start + 1, field.start + field.width)})` }),
     );
-    if (field.derived) list.append(made("dd", { textContent: WORDS.derived }));
+    if (field.derived && state.field > 1) list.append(made("dd", { textContent: WORDS.derived }));
     part.push(list);
   }
   for (const it of state.marks.get(state.line) ?? []) {
@@ -205,6 +205,7 @@ function tellField() {
 
 // ---- a work
 
+const RIGHTS = ["pr", "mr", "sr"];
 const share = (cells, right) => Number(cells[`${right} share`] || 0);
 const percent = (hundredths) => (hundredths / 100).toLocaleString("en");
 
@@ -229,7 +230,7 @@ function bar(right, parties) {
 
 function names(title, parties) {
   if (parties.length === 0) return [];
-  const items = parties.map((it) => made("li", { textContent: `${person(it)}: ${["pr", "mr", "sr"].map((right) => percent(share(it.cells, right))).join(" / ")} %` }));
+  const items = parties.map((it) => made("li", { textContent: `${person(it)}: ${RIGHTS.map((right) => percent(share(it.cells, right))).join(" / ")} %` }));
   return [made("h2", { textContent: title }), made("ul", {}, ...items)];
 }
 
@@ -242,7 +243,10 @@ async function tellWork() {
   const title = head.title || head["creation title"] || head["submitter agreement number"] || "";
   const ids = [head["submitter work number"] || head["submitter creation number"], head.iswc, head["transaction status"]].filter(Boolean).join(" · ");
   const part = [made("h2", { textContent: `${kind} ${title}` }), made("p", { textContent: [WORDS.group(group), ids].filter(Boolean).join(" · ") })];
-  if (writers.length + publishers.length > 0) part.push(...["pr", "mr", "sr"].map((right) => bar(right, [...writers, ...publishers])));
+  const parties = [...writers, ...publishers];
+  const given = RIGHTS.filter((right) => parties.some((it) => share(it.cells, right) > 0));
+  part.push(...given.map((right) => bar(right, parties)));
+  if (parties.length > 0 && given.length === 0) part.push(made("p", { textContent: WORDS.noShares }));
   part.push(...names(WORDS.writers, writers), ...names(WORDS.publishers, publishers));
   const messages = others.filter((it) => it.kind === "MSG").map((it) => made("li", { textContent: `${it.cells["message level"]} ${it.cells["message text"]}` }));
   if (messages.length > 0) part.push(made("h2", { textContent: WORDS.messages }), made("ul", {}, ...messages));

@@ -56,6 +56,7 @@ const WORDS = {
   writers: "Writers",
   publishers: "Publishers",
   rights: { pr: "Performing", mr: "Mechanical", sr: "Synchronisation" },
+  noShares: "No shares are given.",
   sum: (right, percent) => `${right}: ${percent} % in all`,
   statuses: "Acknowledgements by status",
   messages: "Messages",

@@ -67,11 +67,11 @@ function read(report) {
   const told = [];
   let last = "";
   for (const row of report.split("\n")) {
-    if (row.startsWith("  ") && told.length > 0) {
-      told[told.length - 1].notes.push(row.slice(2));
+    if (row.startsWith("  ")) {
+      if (last === "") told[told.length - 1]?.notes.push(row.slice(2));
       continue;
     }
-    const fault = /^(?:FAULT|REFUSED) record (\d+) field (\d+) level (.) (.*)$/.exec(row);
+    const fault = /^FAULT record (\d+) field (\d+) level (.) (.*)$/.exec(row);
     const finding = /^FINDING group (\d+) transaction (\d+) record (\d+) field (\d+) level (.) rule (V\d+)$/.exec(row);
     if (fault) told.push({ line: fault[1] - 1, field: +fault[2], level: fault[3], words: fault[4], notes: [], fault: true });
     else if (finding) told.push(found(finding));
