@@ -3,3 +3,4 @@ pub mod FilledDrafts
 pub mod KeysOfNames
 pub mod TakenLines
 pub mod ToldMembers
+mod ItemsRead
