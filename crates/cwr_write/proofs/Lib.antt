@@ -4,3 +4,4 @@ pub mod KeysOfNames
 pub mod TakenLines
 pub mod ToldMembers
 mod ItemsRead
+mod LinesTaken

@@ -1,4 +1,4 @@
-use Rattle.std.proofs.Common.{◌<◌, length, sym, subst, arith, ◌∙◌}
+use Rattle.std.proofs.Common.{◌<◌, length, sym, arith, ◌∙◌}
 use Rattle.cwr_write.proofs.ItemsRead.{none_said}
 use Rattle.cwr_write.proofs.items.first_said.Goals as goal
 

@@ -1,4 +1,4 @@
-use Rattle.std.proofs.Common.{◌≡◌, ◌≤◌, ℕ, ◌-◌, drop, length}
+use Rattle.std.proofs.Common.{◌≡◌, ◌≤◌, ◌-◌, drop, length}
 use Rattle.json.specs.Value.{members_view}
 use Rattle.cwr_json.specs.Format.Forms.{told}
 use Rattle.cwr_write.proofs.items.first_said.Given as goal
