@@ -3,3 +3,5 @@ pub mod FilledDrafts
 pub mod KeysOfNames
 pub mod TakenLines
 pub mod ToldMembers
+mod ItemsRead
+mod LinesTaken

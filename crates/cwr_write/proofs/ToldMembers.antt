@@ -43,7 +43,7 @@ told_more {A = A} items i m h e =
 suc_is : (n : ℕ) → suc n ≡ n + 1
 suc_is n = omega arith
 
-told_from : {A : Type 0} (items : List (Bor (List ℕ) × Value A)) (i : ℕ) (m : Bor (List ℕ) × Value A) → i < length items → m ≡ get_or items i m
+pub told_from : {A : Type 0} (items : List (Bor (List ℕ) × Value A)) (i : ℕ) (m : Bor (List ℕ) × Value A) → i < length items → m ≡ get_or items i m
     → told (members_view (drop i items)) ≡ cond (says m.0.now (value_view m.1)) (member m.0.now (value_view m.1) (told (members_view (drop (i + 1) items)))) (told (members_view (drop (i + 1) items)))
 unfolding told
 told_from {A = A} items i m h e =

@@ -1,7 +1,11 @@
 //! From the value of a line to an item, and to an encoder.
 
-ghost use Rattle.std.specs.Prelude.{◌≡◌, IfErr, false};
+ghost use Rattle.std.specs.Prelude.{◌≡◌, ◌≤◌, ◌<◌, length, drop, IfOk, IfErr, false};
+ghost use Rattle.json.specs.Value.{items_view, members_view, value_view};
+ghost use Rattle.cwr_judge.specs.Format.Items.{item_records};
+ghost use Rattle.cwr_json.specs.Format.Forms.{AreRecordsData, IsItemData, records_key, told};
 ghost use Rattle.cwr_encode.specs.Steps.Encoders.{AddsRecords, encoder_limits, is_stopped};
+ghost use Rattle.cwr_write.specs.Steps.Members.{IsAlone, IsDataAt, IsOnlyAt, SaysAt};
 ghost use Rattle.cwr_write.specs.Steps.Taking.{IsFaultOf, IsOwn, given_records};
 
 use crate::records::{MemberList, of_record, record_of, says};
@@ -27,24 +31,40 @@ pub(crate) enum ItemFault {
     },
 }
 
-/// Where the list of records stands among a line's members: they have no other that says something.
-fn list_in(members: &MemberList<'_>) -> Result<usize, LineFault> {
-    let mut found: Option<usize> = None;
-    for i in 0..members.len() {
-        let member = &members[i];
+/// The first member from that one on that says something, or how many there are.
+fn first_said(members: &MemberList<'_>, from: usize) -> usize
+    requires { from ≤ length members.now.items }
+    ensures bounds { (from ≤ result) × (result ≤ length members.now.items) }
+    ensures same { told (members_view (drop from members.now.items)) ≡ told (members_view (drop result members.now.items)) }
+    ensures said { result < length members.now.items → SaysAt members.now.items result }
+{
+    let mut at = from;
+    while at < members.len() {
+        let member = &members[at];
         if says(member.0, &member.1) {
-            if member.0 != "records" {
-                return Err(of_key(member.0, Why::UnknownKey));
-            }
-            if found.is_some() {
-                return Err(of_key(member.0, Why::Repeated));
-            }
-            found = Some(i);
+            return at;
         }
+        at += 1;
     }
-    match found {
-        Some(at) => Ok(at),
-        None => Err(of_key("records", Why::Missing)),
+    at
+}
+
+/// Where the list of records stands among a line's members: they have no other that says something.
+fn list_in(members: &MemberList<'_>) -> Result<usize, LineFault>
+    ensures { IfOk result (IsOnlyAt members.now.items records_key) }
+{
+    let at = first_said(members, 0);
+    let Some(member) = members.get(at) else {
+        return Err(of_key("records", Why::Missing));
+    };
+    if member.0 != "records" {
+        return Err(of_key(member.0, Why::UnknownKey));
+    }
+    let more = first_said(members, at + 1);
+    match members.get(more) {
+        None => Ok(at),
+        Some(other) if other.0 != "records" => Err(of_key(other.0, Why::UnknownKey)),
+        Some(other) => Err(of_key(other.0, Why::Repeated)),
     }
 }
 
@@ -69,7 +89,10 @@ fn transaction_of(
     values: &[Value<'_>],
     first: &Record,
 ) -> Result<Transaction, ItemFault>
-    ensures { IfErr result IsOwn }
+    requires some { 0 < length values.now }
+    requires first { IsDataAt values.now 0 first.now }
+    ensures ok { IfOk result (λ transaction. AreRecordsData (items_view values.now) transaction) }
+    ensures err { IfErr result IsOwn }
 {
     let mut transaction = match Transaction::new(alloc, first.view()) {
         Ok(transaction) => transaction,
@@ -90,8 +113,12 @@ fn transaction_of(
 }
 
 /// The item that is one record.
-fn item_alone(kind: Kind, values: &[Value<'_>], record: Record) -> Result<Item, ItemFault>
-    ensures { IfErr result IsOwn }
+fn item_alone(kind: Kind, values: &[Value<'_>], first: Record) -> Result<Item, ItemFault>
+    requires some { 0 < length values.now }
+    requires kind { (first.kind ≡ kind) × IsAlone kind }
+    requires data { IsDataAt values.now 0 first }
+    ensures ok { IfOk result (λ item. AreRecordsData (items_view values.now) (item_records item)) }
+    ensures err { IfErr result IsOwn }
 {
     if values.len() > 1 {
         // What is wrong with the second record itself comes first.
@@ -101,16 +128,17 @@ fn item_alone(kind: Kind, values: &[Value<'_>], record: Record) -> Result<Item, 
         }));
     }
     Ok(match kind {
-        Kind::Hdr => Item::Opened(record),
-        Kind::Grh => Item::GroupOpened(record),
-        Kind::Grt => Item::GroupClosed(record),
+        Kind::Hdr => Item::Opened(first),
+        Kind::Grh => Item::GroupOpened(first),
+        Kind::Grt => Item::GroupClosed(first),
         _ => Item::Ended,
     })
 }
 
 /// The item that values are.
 fn item_of(alloc: Global, values: &[Value<'_>]) -> Result<Item, ItemFault>
-    ensures { IfErr result IsOwn }
+    ensures ok { IfOk result (λ item. AreRecordsData (items_view values.now) (item_records item)) }
+    ensures err { IfErr result IsOwn }
 {
     let Some(first) = values.first() else {
         return Err(ItemFault::Line(of_key("records", Why::Empty)));
@@ -131,7 +159,8 @@ fn item_of(alloc: Global, values: &[Value<'_>]) -> Result<Item, ItemFault>
 
 /// The item that the value of a line is.
 pub(crate) fn item_in(alloc: Global, value: &Value<'_>) -> Result<Item, ItemFault>
-    ensures { IfErr result IsOwn }
+    ensures ok { IfOk result (λ item. IsItemData (value_view value.now) (item_records item)) }
+    ensures err { IfErr result IsOwn }
 {
     let Value::Object(members) = value else {
         return Err(ItemFault::Line(of_line(Why::NotAnObject)));

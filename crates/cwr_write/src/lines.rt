@@ -1,10 +1,17 @@
 //! Lines of an input.
 
-ghost use Rattle.std.specs.Prelude.{◌<◌, length, IfSome};
+ghost use Rattle.std.specs.Prelude.{◌≡◌, ◌<◌, ◌++◌, length, take, slice_index, IfOk, IsFalse, MatchOption, OnOk};
+ghost use Rattle.std.specs.List.{list_any};
+ghost use Rattle.cwr_layouts.specs.Format.Lines.{is_lf};
+ghost use Rattle.cwr_write.specs.Format.Imports.{is_blank_line};
+ghost use Rattle.cwr_write.specs.Steps.Lines.{TakesLineOf, TakesPart};
 ghost use Rattle.cwr_write.specs.Steps.Taking.{CountsReading, IsUnfailed};
 
 use cwr_fields::Source;
 use std::alloc::Global;
+
+/// The byte that ends a line.
+const LF: u8 = b'\n';
 
 /// Why no line was read.
 #[derive(Clone, Copy, Debug)]
@@ -19,14 +26,15 @@ pub(crate) enum ReadFault {
 
 /// Where the first line feed stands.
 fn line_feed(piece: &[u8]) -> Option<usize>
-    ensures { IfSome result (λ at. at < length piece.now) }
+    ensures { MatchOption result (IsFalse (list_any is_lf piece.now)) (λ at. (at < length piece.now) × IsFalse (list_any is_lf (take at piece.now)) × (slice_index piece.now at ≡ 10)) }
 {
-    memchr::memchr(b'\n', piece)
+    memchr::memchr(LF, piece)
 }
 
 /// Adds bytes to a line, which may have so many.
 fn add(line: &mut Vec<u8>, bytes: &[u8], most: usize) -> Result<(), ReadFault>
-    ensures { IsUnfailed result }
+    ensures unfailed { IsUnfailed result }
+    ensures added { OnOk result (line.new.items ≡ line.old.items ++ bytes.now) }
 {
     if bytes.len() > most.saturating_sub(line.len()) {
         return Err(ReadFault::TooLong);
@@ -43,7 +51,8 @@ fn take_piece<R: Source>(
     line: &mut Vec<u8>,
     most: usize,
 ) -> Result<Option<bool>, ReadFault>
-    ensures { CountsReading result (R.failures reader.old) (R.failures reader.new) }
+    ensures failures { CountsReading result (R.failures reader.old) (R.failures reader.new) }
+    ensures taken { IfOk result (λ ended. TakesPart (R.remaining reader.old) (R.remaining reader.new) line.old.items line.new.items ended) }
 {
     let piece = match reader.fill() {
         Ok(piece) => piece,
@@ -67,13 +76,14 @@ fn take_piece<R: Source>(
     }
 }
 
-/// Reads the next line, without its line feed. It may have so many bytes. `false` at the end of the input.
+/// Reads the next line, without its line feed. It may have so many bytes. `false` at the end of the input, where no line is left.
 pub(crate) fn next_line<R: Source>(
     reader: &mut R,
     line: &mut Vec<u8>,
     most: usize,
 ) -> Result<bool, ReadFault>
-    ensures { CountsReading result (R.failures reader.old) (R.failures reader.new) }
+    ensures failures { CountsReading result (R.failures reader.old) (R.failures reader.new) }
+    ensures taken { IfOk result (TakesLineOf (R.remaining reader.old) (R.remaining reader.new) line.new.items) }
 {
     line.clear();
     for _ in 0..u64::MAX {
@@ -83,11 +93,13 @@ pub(crate) fn next_line<R: Source>(
             None => return Ok(!line.is_empty()),
         }
     }
-    Ok(false)
+    Err(ReadFault::TooLong)
 }
 
 /// Whether a line says nothing.
-pub(crate) fn is_blank(line: &[u8]) -> bool {
+pub(crate) fn is_blank(line: &[u8]) -> bool
+    ensures { result ≡ is_blank_line line.now }
+{
     for b in line {
         if *b != b' ' && *b != b'\t' && *b != b'\r' {
             return false;

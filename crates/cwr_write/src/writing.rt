@@ -1,10 +1,10 @@
 //! From lines of JSON to a transmission.
 
-ghost use Rattle.std.specs.Prelude.{◌≡◌, IfOk, OnOk, ℕ, List, [], Option, false};
+ghost use Rattle.std.specs.Prelude.{◌≡◌, ◌≢◌, IfOk, OnOk, ℕ, List, [], Option, false};
 ghost use Rattle.cwr_encode.specs.Steps.Encoders.{AddsRecords, Encodes, encoder_limits, is_stopped, target_of};
 ghost use Rattle.cwr_encode.specs.Steps.Finishing.{FinishesWriting};
-ghost use Rattle.cwr_write.specs.Format.Imports.{CountsReaderFault, CountsWriterFault, WritesWhole};
-ghost use Rattle.cwr_write.specs.Steps.Taking.{IsNoWriter, NoReader, IsRunFaultOf, IsUnreadFault, TakesLine, TakesLines, given_records};
+ghost use Rattle.cwr_write.specs.Format.Imports.{CountsReaderFault, CountsWriterFault, SaysItem, WritesWhole};
+ghost use Rattle.cwr_write.specs.Steps.Taking.{EndsWith, IsNoWriter, IsReachedWith, NoReader, IsRunFaultOf, IsUnreadFault, TakesLine, TakesLines, given_records};
 
 use crate::items::{ItemFault, encode_fault, item_in, write_item};
 use crate::lines::{ReadFault, is_blank, next_line};
@@ -81,7 +81,9 @@ enum Reached {
 }
 
 /// How far the lines have come with the item.
-fn reached_with(item: &Item) -> Reached {
+fn reached_with(item: &Item) -> Reached
+    ensures { IsReachedWith item.now result }
+{
     match item {
         Item::Opened(_) => Reached::Opening,
         Item::GroupOpened(_) | Item::Transaction(_) => Reached::Begun,
@@ -92,7 +94,8 @@ fn reached_with(item: &Item) -> Reached {
 
 /// Judges the line of TRL, which comes after a group.
 fn judge_end(reached: Reached) -> Result<(), EncodeFault>
-    ensures { IsNoWriter result }
+    ensures unfailed { IsNoWriter result }
+    ensures more { OnOk result (reached ≢ Reached.End) }
 {
     match reached {
         Reached::GroupFoot => Ok(()),
@@ -110,6 +113,7 @@ fn take_item<W: Target>(
     requires { is_stopped encoder.old ≡ false }
     ensures adds { AddsRecords W.contents W.failures (given_records item.now) result encoder.old encoder.new }
     ensures limits { encoder_limits encoder.new ≡ encoder_limits encoder.old }
+    ensures more { OnOk result (reached ≢ Reached.End) }
 {
     match (item, reached) {
         (_, Reached::End) => Err(EncodeFault::OutOfOrder),
@@ -125,7 +129,7 @@ fn taken<W: Target>(
     encoder: &mut Encoder<W>,
 ) -> Result<Reached, ItemFault>
     requires { is_stopped encoder.old ≡ false }
-    ensures takes { TakesLine W.contents W.failures result encoder.old encoder.new }
+    ensures takes { TakesLine (λ i. i ≡ item.now) reached W.contents W.failures result encoder.old encoder.new }
     ensures limits { encoder_limits encoder.new ≡ encoder_limits encoder.old }
 {
     match take_item(item, reached, encoder) {
@@ -143,7 +147,7 @@ fn take_line<W: Target>(
     encoder: &mut Encoder<W>,
 ) -> Result<Reached, ItemFault>
     requires { is_stopped encoder.old ≡ false }
-    ensures takes { TakesLine W.contents W.failures result encoder.old encoder.new }
+    ensures takes { TakesLine (SaysItem line.now) reached W.contents W.failures result encoder.old encoder.new }
     ensures limits { encoder_limits encoder.new ≡ encoder_limits encoder.old }
 {
     let value = match Value::from_slice(alloc, line, scratch) {
@@ -182,6 +186,16 @@ fn unread_at(line: u64, fault: ReadFault) -> WriteFault
     }
 }
 
+/// How so many lines end: well where the last item is TRL.
+fn ended_with(lines: u64, reached: Reached) -> Result<u64, WriteFault>
+    ensures { EndsWith reached result }
+{
+    match reached {
+        Reached::End => Ok(lines),
+        Reached::Begun | Reached::Opening | Reached::GroupFoot => Err(WriteFault::Early { lines }),
+    }
+}
+
 /// Takes all lines, up to TRL's and what follows that. The answer is how many there are.
 fn take_lines<R: Source, W: Target>(
     alloc: Global,
@@ -190,7 +204,7 @@ fn take_lines<R: Source, W: Target>(
     encoder: &mut Encoder<W>,
 ) -> Result<u64, WriteFault>
     requires { is_stopped encoder.old ≡ false }
-    ensures takes { TakesLines W.contents W.failures result encoder.old encoder.new }
+    ensures takes { TakesLines (R.remaining reader.old) W.contents W.failures result encoder.old encoder.new }
     ensures reads { CountsReaderFault result (R.failures reader.old) (R.failures reader.new) }
     ensures limits { encoder_limits encoder.new ≡ encoder_limits encoder.old }
 {
@@ -201,19 +215,14 @@ fn take_lines<R: Source, W: Target>(
         let number = before + 1;
         match next_line(reader, &mut line, most) {
             Ok(true) => {}
-            Ok(false) => {
-                return if reached == Reached::End {
-                    Ok(before)
-                } else {
-                    Err(WriteFault::Early { lines: before })
-                };
-            }
+            Ok(false) => return ended_with(before, reached),
             Err(fault) => return Err(unread_at(number, fault)),
         }
-        if is_blank(line.as_slice()) {
+        let text = line.as_slice();
+        if is_blank(text) {
             continue;
         }
-        match take_line(alloc, line.as_slice(), &mut scratch, reached, encoder) {
+        match take_line(alloc, text, &mut scratch, reached, encoder) {
             Ok(next) => reached = next,
             Err(fault) => return Err(fault_at(number, fault)),
         }
@@ -233,7 +242,7 @@ pub fn write<R: Source, W: Target>(
     reader: &mut R,
     writer: W,
 ) -> (W, Result<Written, WriteFault>)
-    ensures written { IfOk result.1 (λ w. WritesWhole limits W.contents writer result.0 w.bytes) }
+    ensures written { IfOk result.1 (λ w. WritesWhole limits (R.remaining reader.old) W.contents writer result.0 w.bytes) }
     ensures failures { CountsWriterFault result.1 (W.failures writer) (W.failures result.0) }
     ensures reads { CountsReaderFault result.1 (R.failures reader.old) (R.failures reader.new) }
 {

@@ -1,8 +1,10 @@
-use Rattle.cwr_write.proofs.TakenLines.{taken_fault}
+use Rattle.std.proofs.Common.{◌≡◌, refl}
+use Rattle.cwr_write.proofs.TakenLines.{goes_on, taken_fault}
 use Rattle.cwr_write.proofs.writing.taken.Goals as goal
 
 pub returns-in-Err-clause-takes : goal.returns-in-Err-clause-takes
-returns-in-Err-clause-takes g c = taken_fault g.W.Target.contents g.W.Target.failures _ c.in-Err.fault c.encode_fault.result c.args.encoder.now c.take_item.new.encoder c.in-Err.ensures.adds c.encode_fault.ensures
+returns-in-Err-clause-takes g c = taken_fault (λ i. i ≡ c.args.item.now) c.args.reached g.W.Target.contents g.W.Target.failures _ c.in-Err.fault c.encode_fault.result c.args.encoder.now c.take_item.new.encoder c.in-Err.ensures.adds c.encode_fault.ensures
 
 pub returns-in-Ok-clause-takes : goal.returns-in-Ok-clause-takes
-returns-in-Ok-clause-takes g c = (c.args.item.now, c.in-Ok.ensures.adds.0, c.in-Ok.ensures.adds.1, c.in-Ok.ensures.adds.2)
+returns-in-Ok-clause-takes g c =
+    (c.args.item.now, refl, goes_on c.args.item.now c.args.reached c.reached_with.result c.in-Ok.ensures.more c.reached_with.ensures, c.in-Ok.ensures.adds.0, c.in-Ok.ensures.adds.1, c.in-Ok.ensures.adds.2)

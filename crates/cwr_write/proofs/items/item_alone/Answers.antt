@@ -1,0 +1,19 @@
+use Rattle.std.proofs.Common.{[], ◌∷◌, sym, subst, arith, ◌∙◌}
+use Rattle.json.specs.Value.{items_view}
+use Rattle.cwr_values.specs.declared.items.Item.{Item}
+use Rattle.cwr_judge.specs.Format.Items.{item_records}
+use Rattle.cwr_json.specs.Format.Forms.{AreRecordsData}
+use Rattle.cwr_write.proofs.ItemsRead.{alone_trailer, data_all, data_first, data_of_trailer}
+use Rattle.cwr_write.proofs.items.item_alone.Goals as goal
+use Rattle.cwr_write.proofs.items.item_alone.Goals.{in-Hdr, in-Grh, in-Grt, in_default}
+
+pub returns-clause-ok : goal.returns-clause-ok
+returns-clause-ok c =
+    let whole = data_all c.args.values.now 1 (c.args.first ∷ []) (omega (arith, c.if-values-gt1.false)) (data_first c.args.values.now c.args.first c.requires.data) in
+    elim c.match-kind.branch [
+      | in-Hdr w ↦ subst (λ (i : Item). AreRecordsData (items_view c.args.values.now) (item_records i)) (sym w.result-is) whole
+      | in-Grh w ↦ subst (λ (i : Item). AreRecordsData (items_view c.args.values.now) (item_records i)) (sym w.result-is) whole
+      | in-Grt w ↦ subst (λ (i : Item). AreRecordsData (items_view c.args.values.now) (item_records i)) (sym w.result-is) whole
+      | in_default w ↦ subst (λ (i : Item). AreRecordsData (items_view c.args.values.now) (item_records i)) (sym w.result-is)
+          (data_of_trailer c.args.values.now c.args.first c.requires.data (c.requires.kind.0 ∙ alone_trailer c.args.kind c.requires.kind.1 w.in_default.not-Hdr w.in_default.not-Grh w.in_default.not-Grt) whole)
+    ]
