@@ -190,7 +190,7 @@ impl LintRun<'_> {
         Some(Refusal {
             rec: shown(self.state.lines.saturating_add(1)),
             field,
-            level: level(line.kind(), field, &reason, self.state.place()),
+            level: level(line.kind(), field, &reason, self.state.scope()),
             reason,
         })
     }
