@@ -1,0 +1,12 @@
+mod PutElements
+mod EntriesPut
+mod LinesAtFront
+mod CarriedLines
+mod CountedItems
+mod ReadItems
+mod IndexedText
+mod WrittenRecords
+mod WrittenLines
+mod ListedFindings
+mod ReportedTexts
+mod BlankTexts
