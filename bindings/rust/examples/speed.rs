@@ -1,0 +1,29 @@
+//! `speed FILE TURNS`: the least seconds of so many runs of this crate's calls over a file.
+
+use std::time::Instant;
+
+fn least<T>(turns: u32, mut call: impl FnMut() -> T) -> f64 {
+    (0..turns)
+        .map(|_| {
+            let start = Instant::now();
+            let _ = call();
+            start.elapsed().as_secs_f64()
+        })
+        .fold(f64::INFINITY, f64::min)
+}
+
+fn main() -> Result<(), Box<dyn std::error::Error>> {
+    let mut words = std::env::args().skip(1);
+    let text = std::fs::read(words.next().ok_or("a file is wanted")?)?;
+    let turns = words.next().map_or(Ok(3), |it| it.parse())?;
+    let document = cwr::Document::read(&text)?;
+    let fields = cwr::fields("NWR");
+    let title = fields.iter().find(|it| it.name == "title").ok_or("no title")?;
+    println!("Rust: check\t{}", least(turns, || cwr::check(&text, &cwr::Limits::NONE)));
+    println!("Rust: Document::read\t{}", least(turns, || cwr::Document::read(&text)));
+    println!("Rust: the titles of all works\t{}", least(turns, || {
+        document.records().filter(|it| it.line().starts_with(b"NWR")).map(|it| it.cell(title).len()).sum::<usize>()
+    }));
+    println!("Rust: write(records)\t{}", least(turns, || cwr::write(document.records(), &cwr::Limits::NONE)));
+    Ok(())
+}
