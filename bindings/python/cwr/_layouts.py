@@ -76,6 +76,18 @@ def by_name(kind: str):
 
 
 @functools.lru_cache(maxsize=None)
+def places(kind: str):
+    """Where the fields of a kind begin and end, by name."""
+    return {it.name: (it.start, it.start + it.width) for it in layout(kind)}
+
+
+@functools.lru_cache(maxsize=None)
+def carried(kind: str):
+    """The names of the fields that aren't computed, and where they begin and end, in order."""
+    return [(it.name, it.start, it.start + it.width) for it in layout(kind) if not it.derived]
+
+
+@functools.lru_cache(maxsize=None)
 def blank(kind: str) -> bytes:
     """The line of a record of the kind in which nothing was set."""
     letters = kind.encode("latin-1", "replace")

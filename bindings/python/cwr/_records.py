@@ -3,7 +3,7 @@ import datetime
 from decimal import Decimal
 from typing import Dict, Iterator, List, Mapping, Optional, Union
 
-from ._layouts import Field, Type, blank, by_name, layout
+from ._layouts import Field, Type, blank, by_name, carried, layout, places
 
 Value = Union[str, int, bool, Decimal, datetime.date, datetime.time, datetime.timedelta]
 """A cell as Python has it: see `Record.value`."""
@@ -85,8 +85,8 @@ class Record(Mapping[str, str]):
         return self
 
     def __getitem__(self, name: str) -> str:
-        field = by_name(self.kind)[name]
-        return self.line[field.start : field.start + field.width].decode("latin-1").rstrip(" ")
+        start, end = places(self.kind)[name]
+        return self.line[start:end].decode("latin-1").rstrip(" ")
 
     def value(self, name: str) -> Optional[Value]:
         """The cell as a value, by its field's type; `None` where it is blank.
@@ -115,7 +115,8 @@ class Record(Mapping[str, str]):
     @property
     def fields(self) -> Dict[str, str]:
         """The cells that aren't blank and aren't computed, by name."""
-        return {it.name: cell for it in layout(self.kind) if not it.derived and (cell := self[it.name])}
+        text = self.line.decode("latin-1")
+        return {name: cell for name, start, end in carried(self.kind) if (cell := text[start:end].rstrip(" "))}
 
     @property
     def values_by_name(self) -> Dict[str, Value]:
