@@ -10,49 +10,44 @@ import argparse
 import os
 import sys
 import time
-from collections import defaultdict
 from concurrent.futures import ProcessPoolExecutor
 from decimal import Decimal
-from typing import Dict, List, NamedTuple, Tuple
+from typing import Dict, List, Tuple
 
 import cwr
 
 
-class Held(NamedTuple):
-    """What a publisher holds: in how many works, and the sums of its shares in percent."""
-
-    works: int = 0
-    performing: Decimal = Decimal(0)
-    mechanical: Decimal = Decimal(0)
-    synchronization: Decimal = Decimal(0)
-
-    def plus(self, other: "Held") -> "Held":
-        return Held(*(one + more for one, more in zip(self, other)))
-
-
+# What a publisher holds: in how many works, and the sums of its performing, mechanical and synchronization shares in percent.
+Held = Tuple[int, Decimal, Decimal, Decimal]
 Table = Dict[str, Held]
+
+NOTHING: Held = (0, Decimal(0), Decimal(0), Decimal(0))
+
+
+def add(held: Table, name: str, more: Held) -> None:
+    """Adds what a publisher holds to a table."""
+    held[name] = tuple(map(sum, zip(held.get(name, NOTHING), more)))
 
 
 def summary(path: str) -> Tuple[str, str, Table]:
     """A file's name, the line of its verdict, and its table of publishers. Of a file that isn't good the table is empty."""
     document = cwr.Document(path)
-    held: Table = defaultdict(Held)
+    held: Table = {}
     if document:
         for transaction in document:
             for record in transaction.of_kind("SPU"):
                 shares = (record.value(name) or Decimal(0) for name in ("pr share", "mr share", "sr share"))
-                name = record["publisher name"]
-                held[name] = held[name].plus(Held(1, *shares))
-    return path, str(document.verdict), dict(held)
+                add(held, record["publisher name"], (1, *shares))
+    return path, str(document.verdict), held
 
 
 def together(tables) -> Table:
     """The sums of tables."""
-    held: Table = defaultdict(Held)
+    held: Table = {}
     for table in tables:
         for name, more in table.items():
-            held[name] = held[name].plus(more)
-    return dict(held)
+            add(held, name, more)
+    return held
 
 
 def part(paths: List[str]):
@@ -111,8 +106,8 @@ def main():
     for path, verdict in verdicts:
         if not verdict.startswith("GOOD"):
             print(f"{path}: {verdict}")
-    for name, held in sorted(together(table for _, table in found).items()):
-        print(f"{name}: works {held.works} pr {held.performing} mr {held.mechanical} sr {held.synchronization}")
+    for name, (works, performing, mechanical, synchronization) in sorted(together(table for _, table in found).items()):
+        print(f"{name}: works {works} pr {performing} mr {mechanical} sr {synchronization}")
     print(f"FILES {len(verdicts)} good {sum(verdict.startswith('GOOD') for _, verdict in verdicts)}")
 
 
