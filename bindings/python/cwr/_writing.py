@@ -5,6 +5,7 @@ from typing import Iterable, Optional, Union
 
 from . import _library
 from ._documents import NO_LIMITS, Limits, limits_of
+from ._layouts import KINDS, blank
 from ._records import Record, Transaction
 from ._texts import Text
 from ._verdicts import LIMITS, WriteError, told
@@ -14,7 +15,8 @@ _FAULTS = ("", "carries no record", "can't come there", "is of another kind than
 
 
 def _report(what, source, limits, name):
-    text, raw, size = Text(source), _library.Verdict(), 1 << 16
+    text, raw = Text(source), _library.Verdict()
+    size = (2 * text.size if what in (_SHOW, _JSON, _NUMBERED_JSON) else 0) + 65_536
     named = (text.name if name is None else name).encode("utf-8", "surrogateescape")
     while True:
         memory = _library.room(size)
@@ -53,8 +55,8 @@ def to_json(source, limits: Limits = NO_LIMITS, numbers: bool = False) -> str:
     return _report(_NUMBERED_JSON if numbers else _JSON, source, limits, None).decode("utf-8")
 
 
-def _written(call, text, limits):
-    told_of, size = _library.Written(), len(text) + len(text) // 4 + 4096
+def _written(call, text, size, limits):
+    told_of = _library.Written()
     while True:
         memory = _library.room(size)
         count = call(text, len(text), *limits_of(limits), memory, size, ctypes.byref(told_of))
@@ -86,7 +88,9 @@ def write(records: Iterable[Union[Record, Transaction]], path=None, limits: Limi
     lines = []
     for it in records:
         lines.extend(record.line for record in ([it] if isinstance(it, Record) else it))
-    found, text = _written(_library.write, b"".join(line + b"\n" for line in lines), limits)
+    widths = {kind.encode("ascii"): len(blank(kind)) + 2 for kind in KINDS}
+    size = sum(widths.get(line[:3], 0) for line in lines) + 4096
+    found, text = _written(_library.write, b"".join(line + b"\n" for line in lines), size, limits)
     if found.ending:
         words = _FAULTS[found.ending] + (LIMITS[found.detail] if found.ending == 5 else "")
         where = f"record {found.line}" if found.line else "the end of the records"
@@ -100,7 +104,8 @@ def from_json(text: Union[str, bytes], path=None, limits: Limits = NO_LIMITS) ->
 
     Raises `WriteError`, which says at which line and why.
     """
-    found, told_text = _written(_library.write_json, text.encode("utf-8") if isinstance(text, str) else bytes(text), limits)
+    lines = text.encode("utf-8") if isinstance(text, str) else bytes(text)
+    found, told_text = _written(_library.write_json, lines, 2 * len(lines) + 4096, limits)
     if found.ending:
         raise WriteError(told_text.decode("utf-8", "replace").strip(), found.line)
     return _put(told_text, path)

@@ -1,13 +1,17 @@
-//! `speed FILE TURNS`: the least seconds of so many runs of this crate's calls over a file.
+//! `speed FILE TURNS`: the least processor seconds of so many runs of this crate's calls over a file.
 
-use std::time::Instant;
+/// The seconds this process was on a processor, as Linux tells them.
+fn seconds() -> f64 {
+    let told = std::fs::read_to_string("/proc/self/schedstat").unwrap_or_default();
+    told.split(' ').next().and_then(|it| it.parse::<f64>().ok()).map_or(f64::NAN, |it| it / 1e9)
+}
 
 fn least<T>(turns: u32, mut call: impl FnMut() -> T) -> f64 {
     (0..turns)
         .map(|_| {
-            let start = Instant::now();
+            let start = seconds();
             let _ = call();
-            start.elapsed().as_secs_f64()
+            seconds() - start
         })
         .fold(f64::INFINITY, f64::min)
 }

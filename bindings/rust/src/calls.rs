@@ -131,7 +131,8 @@ pub(crate) fn check(text: &[u8], limits: &Limits) -> RawVerdict {
     verdict
 }
 
-/// Calls again with more room as long as there is more to write than that, from a first guess on.
+/// Calls again with more room as long as there is more to write than that, from a first guess on. Who calls guesses so that
+/// nearly every time one call does.
 fn grown<T: Clone + Default>(first: usize, mut call: impl FnMut(&mut [T]) -> usize) -> Result<Vec<T>, Error> {
     let mut room: Vec<T> = Vec::new();
     let mut size = first;
@@ -187,9 +188,9 @@ pub(crate) fn index(text: &[u8], limits: &Limits, first: usize) -> Result<(Vec<L
     Ok((found, verdict))
 }
 
-pub(crate) fn report(what: u32, text: &[u8], limits: &Limits, name: &str) -> Result<(Vec<u8>, RawVerdict), Error> {
+pub(crate) fn report(what: u32, text: &[u8], limits: &Limits, name: &str, first: usize) -> Result<(Vec<u8>, RawVerdict), Error> {
     let mut verdict = RawVerdict::default();
-    let made = grown(4096, |room| {
+    let made = grown(first, |room| {
         // Safety: see the head of this module.
         unsafe {
             c::cwr_report(
@@ -239,10 +240,10 @@ pub(crate) fn blank(kind: &[u8]) -> Vec<u8> {
     small(|room| unsafe { c::cwr_blank(kind.as_ptr(), kind.len(), room.as_mut_ptr(), room.len()) })
 }
 
-pub(crate) fn write(lines: &[u8], limits: &Limits, is_json: bool) -> Result<(Vec<u8>, RawWritten), Error> {
+pub(crate) fn write(lines: &[u8], limits: &Limits, is_json: bool, first: usize) -> Result<(Vec<u8>, RawWritten), Error> {
     let mut told = RawWritten::default();
     let call = if is_json { c::cwr_write_json } else { c::cwr_write };
-    let made = grown(lines.len() + lines.len() / 4 + 4096, |room| {
+    let made = grown(first, |room| {
         // Safety: see the head of this module.
         unsafe {
             call(

@@ -30,7 +30,11 @@ pub enum Report {
 /// [`Error::Memory`], [`Error::Limits`] and [`Error::Interface`]; a text that isn't good is none.
 pub fn report(what: Report, text: &[u8], limits: &Limits, name: &str) -> Result<(Vec<u8>, Verdict), Error> {
     linked()?;
-    let (made, raw) = calls::report(what as u32, text, limits, name)?;
+    let first = match what {
+        Report::Show | Report::Json | Report::NumberedJson => text.len() + text.len() * 3 / 4 + 4096,
+        _ => 4096,
+    };
+    let (made, raw) = calls::report(what as u32, text, limits, name, first)?;
     Ok((made, Verdict::of(&raw)?))
 }
 

@@ -2,6 +2,7 @@
 
 use crate::calls::{self, RawWritten};
 use crate::errors::Error;
+use crate::layouts::kinds;
 use crate::records::Record;
 use crate::verdicts::{linked, LimitKind, Limits};
 use std::fmt;
@@ -59,12 +60,14 @@ fn made(text: Vec<u8>, told: &RawWritten) -> Result<Vec<u8>, Error> {
 /// [`Error::Unwritten`] says at which record, and why; else as [`crate::check`].
 pub fn write<'a>(records: impl IntoIterator<Item = Record<'a>>, limits: &Limits) -> Result<Vec<u8>, Error> {
     linked()?;
-    let mut lines = Vec::new();
+    let widths: Vec<(Vec<u8>, usize)> = kinds().into_iter().map(|kind| (kind.as_bytes().to_vec(), calls::blank(kind.as_bytes()).len())).collect();
+    let (mut lines, mut size) = (Vec::new(), 4096);
     for it in records {
+        size += widths.iter().find(|(kind, _)| it.line().starts_with(kind)).map_or(0, |(_, width)| width + 2);
         lines.extend_from_slice(it.line());
         lines.push(b'\n');
     }
-    let (text, told) = calls::write(&lines, limits, false)?;
+    let (text, told) = calls::write(&lines, limits, false, size)?;
     made(text, &told)
 }
 
@@ -75,6 +78,6 @@ pub fn write<'a>(records: impl IntoIterator<Item = Record<'a>>, limits: &Limits)
 /// [`Error::Unwritten`] says at which line, and why; else as [`crate::check`].
 pub fn from_json(json: &[u8], limits: &Limits) -> Result<Vec<u8>, Error> {
     linked()?;
-    let (text, told) = calls::write(json, limits, true)?;
+    let (text, told) = calls::write(json, limits, true, 2 * json.len() + 4096)?;
     made(text, &told)
 }

@@ -15,7 +15,7 @@ fn samples() -> Vec<PathBuf> {
         .flat_map(|folder| fs::read_dir(folder.unwrap().path()))
         .flatten()
         .map(|file| file.unwrap().path())
-        .filter(|path| path.extension().is_some_and(|it| it == "cwr"))
+        .filter(|path| path.extension().map_or(false, |it| it == "cwr"))
         .collect();
     found.sort();
     assert!(found.len() > 30);
