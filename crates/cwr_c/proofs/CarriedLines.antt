@@ -7,7 +7,8 @@ use Rattle.cwr_layouts.specs.Format.Lines.{body_kind, cells_as, excess_as, witho
 use Rattle.cwr_layouts.specs.Format.Records.{RecordValue}
 use Rattle.cwr_layouts.specs.Steps.Held.{HeldLine, IsHeld, body_by, carried_by, ended_too_long, held_body, held_cells, held_excess, held_kind, held_record}
 use Rattle.cwr_c.specs.Format.Entries.{carried, carried_as}
-use Rattle.cwr_c.specs.Format.LineRecords.{CarriesRecord, IsLine}
+use Rattle.cwr_c.specs.Format.LineRecords.{CarriesRecord}
+use Rattle.cwr_c.specs.Format.WholeLines.{IsLine}
 use Rattle.cwr_c.specs.Steps.Writings.{HoldsRecord}
 
 -- what the bytes carry is what a held line of them does

@@ -1,6 +1,7 @@
 -- A text is indexed line by line up to its end.
 use Rattle.std.proofs.Common.{◌≡◌, ℕ, ◌+◌, ◌≤◌, ◌<◌, ◌^◌, Bool, true, false, List, [], ◌∷◌, ◌++◌, length, map, take, drop, Some, refl, sym, ap, subst, ◌∙◌, arith, append-nil, true≢false}
 use Rattle.std.specs.Prelude.{count_by}
+use Rattle.std.specs.List.{AllByRecursion}
 use Rattle.std.proofs.lemmas.List.{length-append, length-drop, length-map, length-take-le, take-take, map-append, take-append-drop, drop_all, drop-drop}
 use Rattle.cwr_fields.specs.declared.codes.TransactionType.TheVariants.{Acknowledgement}
 use Rattle.cwr_layouts.specs.declared.kinds.Kind.TheVariants.{Trl}
@@ -40,10 +41,12 @@ use Rattle.cwr_decode.proofs.WholeLinesAccepted.{accepts_whole}
 use Rattle.cwr_decode.proofs.WalkedText.{WalkedTo, line_at, walked_none, walked_refused, walked_truncated}
 use Rattle.cwr_c.specs.declared.indexing.CwrLine.{CwrLine}
 use Rattle.cwr_c.specs.Format.Entries.{AreEntriesOf, IndexesTo, IsEntryOf, carried}
+use Rattle.cwr_c.specs.Format.WholeLines.{IsLine, IsLineAfter}
 use Rattle.cwr_c.specs.Steps.TakenLines.{PutsAt}
-use Rattle.cwr_c.proofs.CarriedLines.{carried_line}
+use Rattle.cwr_c.proofs.CarriedLines.{carried_line, is_line as held_is_line}
 use Rattle.cwr_c.proofs.CountedItems.{records_in_value}
 use Rattle.cwr_c.proofs.EntriesPut.{put_more}
+use Rattle.cwr_c.proofs.LineAfterLines.{all_push, comes_after, no_lines}
 use Rattle.cwr_c.proofs.LinesAtFront.{front_is, line_within}
 use Rattle.cwr_c.proofs.PutElements.{rest_stays}
 
@@ -57,9 +60,9 @@ pub record IsCountedEntry (new : TallyValue) (used : ℕ) (body : List ℕ) (ent
 
 -- a line that was accepted has its entry
 entry_of : (limits : LimitValues) (text : List ℕ) (used taken : ℕ) (tally new : TallyValue) (line : HeldLine) (last : Bool) (entry : CwrLine) (w : WalkedTo limits text used tally)
-    → FirstLine (drop used text) taken line → (a : AcceptsLine tally (map symbol_of w.records) line last new) → IsCountedEntry new used line.bytes entry
+    → AllByRecursion IsLine w.lines → length w.lines ≡ length w.records → FirstLine (drop used text) taken line → (a : AcceptsLine tally (map symbol_of w.records) line last new) → IsCountedEntry new used line.bytes entry
     → IsEntryOf text (map symbol_of w.records) entry a.accepted
-entry_of limits text used taken tally new line last entry w f a c =
+entry_of limits text used taken tally new line last entry w each as_many f a c =
     let xs : List Symbol = map symbol_of w.records in
     let ended : line.ended ≡ Line = is_line tally.limits xs line a.symbol a.accepted a.next f.ended in
     let rest : List ℕ = drop used text in
@@ -72,6 +75,8 @@ entry_of limits text used taken tally new line last entry w f a c =
     let carries : carried (without_cr line.bytes) ≡ Some a.accepted = carried_line line a.accepted ended a.next.carried in
     record {
       within = omega (arith, c.at, few, line_within rest taken line f, length-drop used text, w.within);
+      is_line = subst (λ (n : ℕ). IsLineAfter text n entry.offset entry.length) (as_many ∙ sym (length-map w.records symbol_of))
+          (comes_after text used taken entry.offset entry.length w.lines line w.input_ended w.within f ended w.late w.split each c.at here);
       carries = ap carried here ∙ carries;
       group = c.group (xs ++ a.symbol ∷ []) (a.stands) ∙ ap (count_by is_grh) same;
       transaction = c.transaction (xs ++ a.symbol ∷ []) (a.stands) ∙ ap (transactions_begun Acknowledgement) same;
@@ -124,6 +129,8 @@ indexed_accepted limits text used count tally new line w f a =
 
 pub record IndexedTo (limits : LimitValues) (text : List ℕ) (used : ℕ) (tally : TallyValue) (before entries : List CwrLine) : Type 0 where
   pub walked : WalkedTo limits text used tally
+  pub each : AllByRecursion IsLine walked.lines
+  pub as_many : length walked.lines ≡ length walked.records
   pub covered : AreEntriesOf text [] (take (length walked.records) entries) walked.records
   pub rest : drop (length walked.records) entries ≡ drop (length walked.records) before
 
@@ -133,7 +140,8 @@ indexed_none limits text tally entries limits_are range stands =
     let w = walked_none limits text tally limits_are range stands in
     let none : length (map symbol_of w.records) ≡ 0 = ap (λ (c : Counts). c.records) (sym w.read.counted.counted ∙ stands.counted) in
     let zero : length w.records ≡ 0 = sym (length-map w.records symbol_of) ∙ none in
-    record { walked = w; covered = subst (λ (n : ℕ). AreEntriesOf text [] (take n entries) w.records) (sym zero) tt; rest = refl }
+    let none_yet : w.lines ≡ [] = no_lines text w.lines w.input_ended w.split in
+    record { walked = w; each = subst (AllByRecursion IsLine) (sym none_yet) tt; as_many = ap length none_yet ∙ sym zero; covered = subst (λ (n : ℕ). AreEntriesOf text [] (take n entries) w.records) (sym zero) tt; rest = refl }
 
 -- the accepted lines with one more
 record OneMore (tally new : TallyValue) (lines : List (List ℕ)) (records : List RecordValue) (line : HeldLine) (accepted : RecordValue) (symbol : Symbol) : Type 0 where
@@ -156,7 +164,7 @@ covered_more : (limits : LimitValues) (text : List ℕ) (used taken at : ℕ) (t
     → FirstLine (drop used text) taken line → (a : AcceptsLine tally (map symbol_of i.walked.records) line last new) → at ≡ length i.walked.records → IsCountedEntry new used line.bytes entry → PutsAt at entry old entries → AreEntriesOf text [] (take (at + 1) entries) (i.walked.records ++ a.accepted ∷ [])
 covered_more limits text used taken at tally new line last before old entries entry i f a counted c p =
     put_more text at old entries i.walked.records entry a.accepted counted (subst (λ (k : ℕ). AreEntriesOf text [] (take k old) i.walked.records) (sym counted) i.covered)
-    (entry_of limits text used taken tally new line last entry i.walked f a c) p
+    (entry_of limits text used taken tally new line last entry i.walked i.each i.as_many f a c) p
 
 -- behind an entry more the room is as it was
 rest_more : (at count : ℕ) (entry : CwrLine) (before old entries : List CwrLine) → at ≡ count → PutsAt at entry old entries → drop count old ≡ drop count before → drop (at + 1) entries ≡ drop (at + 1) before
@@ -185,6 +193,8 @@ indexed_more limits text used taken at tally new line before old entries entry i
         late = l.late;
         split = subst (IsInput l.input_ended (take (used + taken) text)) m.text l.split;
       };
+      each = all_push IsLine w.lines line.bytes i.each (held_is_line line f.held);
+      as_many = omega (arith, i.as_many, length-append w.lines (line.bytes ∷ []), length-append w.records (a.accepted ∷ []));
       covered = subst (λ (k : ℕ). AreEntriesOf text [] (take k entries) (w.records ++ a.accepted ∷ [])) all (covered_more limits text used taken at tally new line false before old entries entry i f a counted c p);
       rest = subst (λ (k : ℕ). drop k entries ≡ drop k before) all (rest_more at (length w.records) entry before old entries counted p i.rest);
     }

@@ -4,6 +4,7 @@ mod LinesAtFront
 mod CarriedLines
 mod CountedItems
 mod ReadItems
+mod LineAfterLines
 mod IndexedText
 mod WrittenRecords
 mod WrittenLines

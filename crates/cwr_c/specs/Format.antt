@@ -1,5 +1,6 @@
 -- What is promised, in the words of the format.
 pub mod VerdictNumbers
+pub mod WholeLines
 pub mod Entries
 pub mod Answers
 pub mod FieldNumbers

@@ -1,4 +1,4 @@
--- What an index says of a text: the bytes at an entry, cut as a line, are those of a record.
+-- What an index says of a text: entry by entry the lines are those of the records.
 use Rattle.std.specs.Prelude.{◌≡◌, ℕ, ◌+◌, ◌≤◌, List, [], ◌∷◌, ◌++◌, count_by, length, take, drop, Option, Some, None}
 use Rattle.cwr_fields.specs.declared.codes.TransactionType.TheVariants.{Acknowledgement}
 use Rattle.cwr_layouts.specs.declared.kinds.Kind.{Kind}
@@ -14,6 +14,7 @@ use Rattle.cwr_judge.specs.Format.Ends.{IsAccepted, IsRefused, IsTruncated}
 use Rattle.cwr_decode.specs.declared.endings.End.{End}
 use Rattle.cwr_decode.specs.declared.endings.End.TheVariants as ends
 use Rattle.cwr_c.specs.declared.indexing.CwrLine.{CwrLine}
+use Rattle.cwr_c.specs.Format.WholeLines.{IsLineAfter}
 
 -- what a line of the kind carries, whose line end is left out; a line of unknown kind carries nothing
 abbrev pub carried_as : Option Kind → List ℕ → Option RecordValue
@@ -24,9 +25,10 @@ carried_as (Some this_kind) body = Some (record_of (record { kind = this_kind; c
 abbrev pub carried : List ℕ → Option RecordValue
 carried body = carried_as (body_kind body) body
 
--- the entry is that of the record, which comes after records with these symbols
+-- The entry is that of the record, which comes after records with these symbols: its line comes after as many lines, and carries it.
 pub record IsEntryOf (text : List ℕ) (before : List Symbol) (entry : CwrLine) (r : RecordValue) : Type 0 where
   pub within : entry.offset + entry.length ≤ length text
+  pub is_line : IsLineAfter text (length before) entry.offset entry.length
   pub carries : carried (take entry.length (drop entry.offset text)) ≡ Some r
   pub group : entry.group ≡ count_by is_grh (before ++ symbol_of r ∷ [])
   pub transaction : entry.transaction ≡ transactions_begun Acknowledgement (before ++ symbol_of r ∷ [])

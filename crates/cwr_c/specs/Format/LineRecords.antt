@@ -1,15 +1,11 @@
 -- The records that the lines of a text carry, whatever their numbers.
-use Rattle.std.specs.Prelude.{◌≡◌, ◌⊎◌, ℕ, ◌≤◌, false, IsFalse, List, [], ◌∷◌, ◌++◌, length, Some}
-use Rattle.std.specs.List.{AllZip, flat_map, list_any}
+use Rattle.std.specs.Prelude.{◌≡◌, ◌⊎◌, ℕ, false, List, [], ◌∷◌, ◌++◌, Some}
+use Rattle.std.specs.List.{AllZip, flat_map}
 use Rattle.cwr_layouts.specs.declared.kinds.Kind.TheVariants.{Trl}
-use Rattle.cwr_layouts.specs.Format.Lines.{body_kind, closed, excess_as, is_lf, longest_line, without_cr}
+use Rattle.cwr_layouts.specs.Format.Lines.{body_kind, closed, excess_as, without_cr}
 use Rattle.cwr_layouts.specs.Format.Records.{RecordValue, IsRecord}
 use Rattle.cwr_c.specs.Format.Entries.{carried}
-
--- a line, which has no line feed and isn't too long
-pub record IsLine (line : List ℕ) : Type 0 where
-  pub no_lf : IsFalse (list_any is_lf line)
-  pub short : length line ≤ longest_line
+use Rattle.cwr_c.specs.Format.WholeLines.{IsLine}
 
 -- The line carries the record: but for one carriage return at its end, it is cut by the layout of its kind, each carried cell is one of
 -- its field, and what stands after the last field is all spaces.
