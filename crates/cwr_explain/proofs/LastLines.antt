@@ -1,9 +1,9 @@
 -- A text ends with one line at most, and the last bytes of a text show it.
 use Rattle.std.proofs.Common.{◌≡◌, ◌≢◌, ℕ, ◌+◌, ◌-◌, ◌<◌, ◌≤◌, Bool, true, false, List, [], ◌∷◌, ◌++◌, length, take, drop, refl, sym, ap, subst, ◌∙◌, arith, inl, inr, append_assoc, append-nil}
-use Rattle.std.specs.Prelude.{◌⊎◌, ◌||◌, ◌==◌, ◌^◌, min, IsFalse}
+use Rattle.std.specs.Prelude.{◌⊎◌, ◌||◌, ◌==◌, ◌^◌, min, IsFalse, Option, None, Some, IfSome}
 use Rattle.std.specs.List.{list_any}
-use Rattle.std.proofs.lemmas.Bool.{false≢true}
-use Rattle.std.proofs.lemmas.List.{append_cancel_right, drop-append-le, length-append, length-drop, length-take-le, take_all, take-append-drop}
+use Rattle.std.proofs.lemmas.Bool.{false≢true, true≢false}
+use Rattle.std.proofs.lemmas.List.{append_cancel_right, drop-append-le, length-append, length-drop, length-take-le, nil_from_length, take_all, take-append-drop}
 use Rattle.std.proofs.Math.Seq.{drop-append_seam}
 use Rattle.cwr_layouts.specs.declared.lines.LineEnd.{LineEnd}
 use Rattle.cwr_layouts.specs.declared.lines.LineEnd.TheVariants as line_ends
@@ -13,7 +13,7 @@ use Rattle.cwr_decode.specs.declared.last_bytes.LastBytes.{LastBytes}
 use Rattle.cwr_decode.specs.Steps.LastReads.{HoldsLast, bytes_read, last_held}
 use Rattle.cwr_decode.specs.Steps.Represents.{EndsInLf}
 use Rattle.cwr_explain.specs.declared.lines_at_end.LineAtEnd.{LineAtEnd}
-use Rattle.cwr_explain.specs.Steps.LinesAtEnd.{EndsWithLine, IsAfterFeed, IsBeforeLine, IsFound}
+use Rattle.cwr_explain.specs.Steps.LinesAtEnd.{EndsInLine, EndsWithLine, IsAfterFeed, IsBeforeLine, IsFound, IsLastLine}
 
 abbrev pub NoLf : List ℕ → Type 0
 NoLf line = IsFalse (list_any is_lf line)
@@ -104,35 +104,39 @@ found_is read front line before text feed last found held h is size offset = rec
   offset = λ few. omega (arith, few, offset, held.counted, size, length-append before text, ap length h.split, length-append h.front found.bytes.now, ap length is.0, length-append before h.front);
 }
 
-pub found_ended : (read front line text : List ℕ) (last : LastBytes) (found : LineAtEnd) → HoldsLast read last → EndsWithLine read front line → last_held last ≡ text ++ 10 ∷ [] → IsAfterFeed text found.bytes.now
-    → found.offset ≡ bytes_read last - length found.bytes.now - 1 → IsFound read front line found
-found_ended read front line text last found held ends whole h offset = by ends.split
+-- what was read ends with the line feed that is held
+read_with_feed : (read text : List ℕ) (last : LastBytes) → (held : HoldsLast read last) → last_held last ≡ text ++ 10 ∷ [] → read ≡ (held.before ++ text) ++ 10 ∷ []
+read_with_feed read text last held whole = held.split ∙ ap (λ (l : List ℕ). held.before ++ l) whole ∙ sym (append_assoc held.before text (10 ∷ []))
+
+-- with its line feed, what stands before it and the line were found
+pub held_ended : (read front line text found : List ℕ) (last : LastBytes) → (held : HoldsLast read last) → EndsWithLine read front line → last_held last ≡ text ++ 10 ∷ [] → (h : IsAfterFeed text found)
+    → (held.before ++ h.front ≡ front) × (found ≡ line)
+held_ended read front line text found last held ends whole h = by ends.split
   where
     read_is : read ≡ (held.before ++ text) ++ 10 ∷ []
-    read_is = held.split ∙ ap (λ (l : List ℕ). held.before ++ l) whole ∙ sym (append_assoc held.before text (10 ∷ []))
-
-    size : length read ≡ length (held.before ++ text) + 1
-    size = omega (arith, ap length read_is, length-append (held.before ++ text) (10 ∷ []))
+    read_is = read_with_feed read text last held whole
 
     enough : (held.before ≡ []) ⊎ (1025 ≤ length (last_held last)) → (held.before ≡ []) ⊎ (1024 ≤ length text)
     enough (inl x) = inl x
     enough (inr x) = inr (omega (arith, x, ap length whole, length-append text (10 ∷ [])))
 
-    by : (read ≡ (front ++ line) ++ 10 ∷ []) ⊎ ((read ≡ front ++ line) × (0 < length line)) → IsFound read front line found
-    by (inl e) = found_is read front line held.before text 1 last found held h
-        (line_in held.before text found.bytes.now front line (enough held.enough) h (append_cancel_right (held.before ++ text) (front ++ line) (10 ∷ []) (sym read_is ∙ e)) ends.no_lf ends.begins ends.short)
-        size offset
+    by : (read ≡ (front ++ line) ++ 10 ∷ []) ⊎ ((read ≡ front ++ line) × (0 < length line)) → (held.before ++ h.front ≡ front) × (found ≡ line)
+    by (inl e) = line_in held.before text found front line (enough held.enough) h (append_cancel_right (held.before ++ text) (front ++ line) (10 ∷ []) (sym read_is ∙ e)) ends.no_lf ends.begins ends.short
     by (inr (e, some)) =
         let none = starts_later front line ((held.before ++ text) ++ 10 ∷ []) [] (sym e ∙ read_is ∙ sym (append-nil ((held.before ++ text) ++ 10 ∷ []))) ends.no_lf (held.before ++ text, refl) in
         absurd (omega (arith, none, some))
 
-pub found_open : (read front line : List ℕ) (last : LastBytes) (found : LineAtEnd) → HoldsLast read last → EndsWithLine read front line → ((xs : List ℕ) → last_held last ≢ xs ++ 10 ∷ []) → IsAfterFeed (last_held last) found.bytes.now
-    → found.offset ≡ bytes_read last - length found.bytes.now - 0 → IsFound read front line found
-found_open read front line last found held ends other h offset = by ends.split
-  where
-    size : length read ≡ length (held.before ++ last_held last) + 0
-    size = omega (arith, ap length held.split)
+pub found_ended : (read front line text : List ℕ) (last : LastBytes) (found : LineAtEnd) → HoldsLast read last → EndsWithLine read front line → last_held last ≡ text ++ 10 ∷ [] → IsAfterFeed text found.bytes.now
+    → found.offset ≡ bytes_read last - length found.bytes.now - 1 → IsFound read front line found
+found_ended read front line text last found held ends whole h offset =
+    found_is read front line held.before text 1 last found held h (held_ended read front line text found.bytes.now last held ends whole h)
+    (omega (arith, ap length (read_with_feed read text last held whole), length-append (held.before ++ text) (10 ∷ []))) offset
 
+-- without one, too
+pub held_open : (read front line found : List ℕ) (last : LastBytes) → (held : HoldsLast read last) → EndsWithLine read front line → ((xs : List ℕ) → last_held last ≢ xs ++ 10 ∷ []) → (h : IsAfterFeed (last_held last) found)
+    → (held.before ++ h.front ≡ front) × (found ≡ line)
+held_open read front line found last held ends other h = by ends.split
+  where
     enough : (held.before ≡ []) ⊎ (1025 ≤ length (last_held last)) → (held.before ≡ []) ⊎ (1024 ≤ length (last_held last))
     enough (inl x) = inl x
     enough (inr x) = inr (omega (arith, x))
@@ -141,9 +145,64 @@ found_open read front line last found held ends other h offset = by ends.split
     room (inl x) e = omega (arith, ap length x)
     room (inr x) e = omega (arith, x, ap length held.split, length-append held.before (last_held last), ap length e, length-append (front ++ line) (10 ∷ []))
 
-    by : (read ≡ (front ++ line) ++ 10 ∷ []) ⊎ ((read ≡ front ++ line) × (0 < length line)) → IsFound read front line found
+    by : (read ≡ (front ++ line) ++ 10 ∷ []) ⊎ ((read ≡ front ++ line) × (0 < length line)) → (held.before ++ h.front ≡ front) × (found ≡ line)
     by (inl e) = absurd (other (drop (length held.before) (front ++ line))
         (sym (drop-append_seam held.before (last_held last)) ∙ ap (drop (length held.before)) (sym held.split ∙ e) ∙ drop-append-le (length held.before) (front ++ line) (10 ∷ []) (room held.enough e)))
-    by (inr (e, some)) = found_is read front line held.before (last_held last) 0 last found held h
-        (line_in held.before (last_held last) found.bytes.now front line (enough held.enough) h (sym held.split ∙ e) ends.no_lf ends.begins ends.short)
-        size offset
+    by (inr (e, some)) = line_in held.before (last_held last) found front line (enough held.enough) h (sym held.split ∙ e) ends.no_lf ends.begins ends.short
+
+pub found_open : (read front line : List ℕ) (last : LastBytes) (found : LineAtEnd) → HoldsLast read last → EndsWithLine read front line → ((xs : List ℕ) → last_held last ≢ xs ++ 10 ∷ []) → IsAfterFeed (last_held last) found.bytes.now
+    → found.offset ≡ bytes_read last - length found.bytes.now - 0 → IsFound read front line found
+found_open read front line last found held ends other h offset =
+    found_is read front line held.before (last_held last) 0 last found held h (held_open read front line found.bytes.now last held ends other h) (omega (arith, ap length held.split)) offset
+
+-- ---- the line before
+
+abbrev pub after_of : (text front line : List ℕ) → IsLastLine text front line → IsAfterFeed text line
+after_of text front line h = record { front = front; split = h.split; no_lf = h.no_lf; begins = h.begins }
+
+-- the last of lines that are held is the last of all that were read
+pub line_held : (before lines line : List ℕ) (is_all : Bool) → EndsInLine lines is_all line → (is_all ≡ true → before ≡ []) → EndsInLine (before ++ lines) true line
+line_held before lines line is_all h all = record {
+  front = before ++ h.front;
+  split = ap (λ (l : List ℕ). before ++ l) h.split ∙ sym (append_assoc before (h.front ++ line) (10 ∷ [])) ∙ ap (λ (l : List ℕ). l ++ 10 ∷ []) (sym (append_assoc before h.front line));
+  no_lf = h.no_lf;
+  begins = by is_all all h.known h.begins;
+  known = λ e. absurd (true≢false e);
+}
+  where
+    later : EndsInLf h.front → IsBeforeLine (before ++ h.front)
+    later (g, is) = inr (before ++ g, ap (λ (l : List ℕ). before ++ l) is ∙ sym (append_assoc before g (10 ∷ [])))
+
+    by : (b : Bool) → (b ≡ true → before ≡ []) → (b ≡ false → EndsInLf h.front) → IsBeforeLine h.front → IsBeforeLine (before ++ h.front)
+    by true none known begins = subst (λ (l : List ℕ). IsBeforeLine (l ++ h.front)) (sym (none refl)) begins
+    by false none known begins = later (known refl)
+
+-- what stands before all that is held is nothing where all is
+none_before : (read : List ℕ) (last : LastBytes) → (held : HoldsLast read last) → read ≡ last_held last → held.before ≡ []
+none_before read last held is = nil_from_length held.before (omega (arith, ap length held.split, ap length is, length-append held.before (last_held last)))
+
+pub before_ended : (read front line text lines found : List ℕ) (last : LastBytes) (is_all : Bool) (before : List ℕ) → HoldsLast read last → EndsWithLine read front line → last_held last ≡ text ++ 10 ∷ [] → IsLastLine text lines found
+    → EndsInLine lines is_all before → (is_all ≡ true → read ≡ last_held last) → EndsInLine front true before
+before_ended read front line text lines found last is_all before held ends whole h b all =
+    subst (λ (l : List ℕ). EndsInLine l true before) (held_ended read front line text found last held ends whole (after_of text lines found h)).0
+    (line_held held.before lines before is_all b (λ e. none_before read last held (all e)))
+
+pub before_open : (read front line lines found : List ℕ) (last : LastBytes) (is_all : Bool) (before : List ℕ) → HoldsLast read last → EndsWithLine read front line → ((xs : List ℕ) → last_held last ≢ xs ++ 10 ∷ [])
+    → IsLastLine (last_held last) lines found → EndsInLine lines is_all before → (is_all ≡ true → read ≡ last_held last) → EndsInLine front true before
+before_open read front line lines found last is_all before held ends other h b all =
+    subst (λ (l : List ℕ). EndsInLine l true before) (held_open read front line found last held ends other (after_of (last_held last) lines found h)).0
+    (line_held held.before lines before is_all b (λ e. none_before read last held (all e)))
+
+map_some : {A : Type 0} {P Q : A → Type 0} (o : Option A) → ((x : A) → P x → Q x) → IfSome o P → IfSome o Q
+map_some None f h = tt
+map_some (Some x) f h = f x h
+
+-- the line before was found
+pub before_found : {A : Type 0} (view : A → List ℕ) (o : Option A) (read front line bytes text lines found : List ℕ) (last : LastBytes) (ended is_all : Bool) → HoldsLast read last → EndsWithLine read front line → bytes ≡ last_held last
+    → (ended ≡ true → bytes ≡ text ++ 10 ∷ []) → (ended ≡ false → text ≡ bytes) → (ended ≡ false → (xs : List ℕ) → bytes ≢ xs ++ 10 ∷ []) → IsLastLine text lines found → (is_all ≡ true → read ≡ last_held last)
+    → IfSome o (λ x. EndsInLine lines is_all (view x)) → IfSome o (λ x. EndsInLine front true (view x))
+before_found view o read front line bytes text lines found last ended is_all held ends same fed whole other h all = map_some o (λ x b. by ended fed whole other (view x) b)
+  where
+    by : (e : Bool) → (e ≡ true → bytes ≡ text ++ 10 ∷ []) → (e ≡ false → text ≡ bytes) → (e ≡ false → (xs : List ℕ) → bytes ≢ xs ++ 10 ∷ []) → (before : List ℕ) → EndsInLine lines is_all before → EndsInLine front true before
+    by true f p q before b = before_ended read front line text lines found last is_all before held ends (sym same ∙ f refl) h b all
+    by false f p q before b = before_open read front line lines found last is_all before held ends (λ xs e. q refl xs (same ∙ e)) (subst (λ (l : List ℕ). IsLastLine l lines found) (p refl ∙ same) h) b all

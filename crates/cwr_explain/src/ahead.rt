@@ -3,6 +3,7 @@
 ghost use Rattle.std.specs.Prelude.{OnErr, OnOk};
 ghost use Rattle.cwr_explain.specs.Format.Explained.{ReadsOnly, TakesMore};
 
+use crate::sequences::{RECORD_SEQUENCE, TRANSACTION_SEQUENCE, sequence_in};
 use cwr_fields::Source;
 use cwr_layouts::Kind;
 use cwr_tools::ToolFault;
@@ -12,11 +13,6 @@ const LF: u8 = b'\n';
 
 /// The bytes of a line up to the end of its sequences.
 const FRONT: usize = 19;
-
-/// Where a line has its transaction's sequence, and where its own: the first byte, from 0. Each has eight digits.
-const TRANSACTION_SEQUENCE: usize = 3;
-
-const RECORD_SEQUENCE: usize = 11;
 
 /// The most pieces that are read to see how numbers go on.
 const MOST_PIECES: u32 = 64;
@@ -45,9 +41,9 @@ pub(crate) fn sequence_at(kind: Option<Kind>, field: u8, line: &[u8]) -> Option<
         (Kind::Hdr | Kind::Grh | Kind::Grt | Kind::Trl, _) => None,
         (Kind::Agr | Kind::Nwr | Kind::Rev | Kind::Ack, 2) => Some((
             Sequence::Transactions,
-            number_at(line, TRANSACTION_SEQUENCE)?,
+            sequence_in(line, TRANSACTION_SEQUENCE)?,
         )),
-        (_, 3) => Some((Sequence::Records, number_at(line, RECORD_SEQUENCE)?)),
+        (_, 3) => Some((Sequence::Records, sequence_in(line, RECORD_SEQUENCE)?)),
         _ => None,
     }
 }
@@ -65,20 +61,6 @@ struct Walk {
     filled: usize,
     /// Whether all of them were read that there are.
     ended: bool,
-}
-
-/// The number that eight digits write.
-fn number_at(line: &[u8], start: usize) -> Option<u64> {
-    let mut number: u64 = 0;
-    for digit in line.get(start..start.saturating_add(8))? {
-        if !digit.is_ascii_digit() {
-            return None;
-        }
-        number = number
-            .saturating_mul(10)
-            .saturating_add(u64::from(digit.saturating_sub(b'0')));
-    }
-    Some(number)
 }
 
 impl Walk {
@@ -110,12 +92,12 @@ impl Walk {
     fn end_line(&mut self) {
         let front = self.front;
         let kind = Kind::of(&[front[0], front[1], front[2]]);
-        let record = number_at(&front[..], RECORD_SEQUENCE);
+        let record = sequence_in(&front[..], RECORD_SEQUENCE);
         match (self.sequence, kind) {
             _ if self.filled < FRONT => self.ended = true,
             (_, None | Some(Kind::Hdr | Kind::Grh | Kind::Grt | Kind::Trl)) => self.ended = true,
             (Sequence::Transactions, _) if record == Some(0) => {
-                self.follow(number_at(&front[..], TRANSACTION_SEQUENCE));
+                self.follow(sequence_in(&front[..], TRANSACTION_SEQUENCE));
             }
             (Sequence::Transactions, _) => {}
             (Sequence::Records, _) if record == Some(0) => self.ended = true,

@@ -277,6 +277,7 @@ impl Refused<'_> {
                 field,
                 found: number_in(cell),
                 expected,
+                number: self.refusal.rec,
                 line: self.line.bytes,
                 before: self.before,
                 ahead: self.ahead,

@@ -9,6 +9,7 @@ pub mod laws;
 mod lines_at_end;
 mod next_symbols;
 mod openings;
+mod sequences;
 mod shifts;
 mod texts;
 mod trailing;

@@ -1,12 +1,12 @@
 //! The line that was read last.
 
-ghost use Rattle.std.specs.Prelude.{◌≡◌, ◌≢◌, ◌≤◌, ℕ, List, [], ◌∷◌, ◌++◌, length, true, false, IsFalse};
+ghost use Rattle.std.specs.Prelude.{◌≡◌, ◌≢◌, ◌≤◌, ℕ, List, [], ◌∷◌, ◌++◌, length, true, false, IfSome, IsFalse};
 ghost use Rattle.std.specs.List.{list_any};
 ghost use Rattle.cwr_layouts.specs.declared.lines.TheConstants.{LONGEST_LINE};
 ghost use Rattle.cwr_layouts.specs.declared.lines.LineEnd.{LineEnd};
 ghost use Rattle.cwr_layouts.specs.Format.Lines.{is_lf};
-ghost use Rattle.cwr_decode.specs.Steps.LastReads.{HoldsLast};
-ghost use Rattle.cwr_explain.specs.Steps.LinesAtEnd.{EndsWithLine, IsAfterFeed, IsFound};
+ghost use Rattle.cwr_decode.specs.Steps.LastReads.{HoldsLast, last_held};
+ghost use Rattle.cwr_explain.specs.Steps.LinesAtEnd.{EndsInLine, EndsWithLine, IsAfterFeed, IsFound, IsLastLine};
 
 use cwr_decode::LastBytes;
 use cwr_layouts::{LineBuf, LineEnd};
@@ -64,17 +64,48 @@ pub fn line_at_end(last: &LastBytes) -> LineAtEnd<'_>
     }
 }
 
+/// A text's last line, which has no line feed, and what stands before it.
+fn last_line(text: &[u8]) -> (&[u8], &[u8])
+    ensures { IsLastLine text.now result.0.now result.1.now }
+{
+    let line = after_last_feed(text);
+    let front = &text[..text.len() - line.len()];
+    (front, line)
+}
+
+/// The last of these lines, each with its line feed. `None` where there is none, or where its begin isn't known: the text is all that was
+/// read, or that line stands after a line feed.
+fn last_of_lines(lines: &[u8], is_all: bool) -> Option<&[u8]>
+    ensures { IfSome result (λ line. EndsInLine lines.now is_all line.now) }
+{
+    let (text, ended) = without_feed(lines);
+    if !ended {
+        return None;
+    }
+    let (front, line) = last_line(text);
+    if is_all || !front.is_empty() {
+        Some(line)
+    } else {
+        None
+    }
+}
+
+/// Whether all bytes are held that were read.
+fn is_whole(last: &LastBytes) -> bool
+    ensures { result ≡ true → (read : List ℕ) → HoldsLast read last.now → read ≡ last_held last.now }
+{
+    let count = last.as_slice().len() as u64;
+    count < u64::MAX && last.read() == count
+}
+
 /// The line before the one with which the bytes end, without its line feed. `None` where not all of it is still held, or there is
 /// none.
-pub(crate) fn line_before(last: &LastBytes) -> Option<&[u8]> {
-    let held = last.as_slice();
-    let (text, _) = without_feed(held);
-    let front = &text[..memrchr(LF, text)?];
-    match memrchr(LF, front) {
-        Some(at) => Some(&front[at..][1..]),
-        None if last.read() == held.len() as u64 => Some(front),
-        None => None,
-    }
+pub(crate) fn line_before(last: &LastBytes) -> Option<&[u8]>
+    ensures { (read front line : List ℕ) → HoldsLast read last.now → EndsWithLine read front line → IfSome result (λ before. EndsInLine front true before.now) }
+{
+    let (text, _) = without_feed(last.as_slice());
+    let (front, _) = last_line(text);
+    last_of_lines(front, is_whole(last))
 }
 
 /// An open line of these bytes, or where they have a line feed or are too many, of their front. How that ended is answered too.

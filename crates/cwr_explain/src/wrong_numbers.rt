@@ -1,6 +1,7 @@
 //! What a wrong number points to: records that are missing or stand twice, or a count that wasn't changed.
 
 use crate::ahead::Ahead;
+use crate::sequences::{Sequences, sequences_of, start_of_sequence};
 use crate::texts::add_label;
 use cwr_layouts::Kind;
 use std::alloc::AllocError;
@@ -20,6 +21,8 @@ pub(crate) struct WrongNumber<'a> {
     pub found: u64,
     /// The number that belongs there.
     pub expected: u64,
+    /// The number of its line, from 1.
+    pub number: u32,
     /// Its line.
     pub line: &'a [u8],
     /// The line before, where its bytes are still held.
@@ -64,6 +67,7 @@ fn is_header(kind: Kind) -> bool {
 fn add_missing(
     text: &mut String,
     what: Numbered,
+    neighbours: Sequences,
     found: u64,
     expected: u64,
 ) -> Result<(), AllocError> {
@@ -73,10 +77,10 @@ fn add_missing(
         number,
     } = what;
     let last = found.saturating_sub(1);
-    if let Some(before) = expected.checked_sub(1) {
+    if let (Some(before), Some(here)) = (neighbours.before, neighbours.here) {
         write!(
             text,
-            "{several} {before} and {found} stand beside each other: "
+            "{several} {before} and {here} stand beside each other: "
         )?;
     }
     if last == expected {
@@ -114,33 +118,72 @@ fn add_used(
     }
 }
 
-/// Adds how the numbers after a wrong one go on.
-fn add_ahead(text: &mut String, what: Numbered, ahead: Ahead) -> Result<(), AllocError> {
-    let Numbered { one, several, .. } = what;
-    match (ahead.count, ahead.goes_on) {
-        (0, _) => Ok(()),
-        (1, true) => write!(text, "; the {one} after it goes on from this number"),
-        (count, true) => write!(
-            text,
-            "; the {count} {several} after it go on from this number"
-        ),
-        (_, false) => write!(
-            text,
-            "; the {several} after it don't go on from this number, so it may be the one that is wrong"
-        ),
-    }
-}
-
 impl WrongNumber<'_> {
+    /// Adds by how much the numbers from this one on are other ones, and what was taken out where they are higher.
+    fn add_shift(&self, text: &mut String, what: Numbered, count: u64) -> Result<(), AllocError> {
+        let Numbered { one, several, .. } = what;
+        let (higher, lower) = (
+            self.found.saturating_sub(self.expected),
+            self.expected.saturating_sub(self.found),
+        );
+        write!(text, "; this number and ")?;
+        match count {
+            1 => write!(text, "that of the {one} after it are ")?,
+            _ => write!(text, "those of the {count} {several} after it are ")?,
+        }
+        let line = self.number.saturating_sub(1);
+        match higher {
+            0 => write!(text, "{lower} lower"),
+            1 => write!(text, "1 higher: the {one} after line {line} was taken out"),
+            _ => write!(
+                text,
+                "{higher} higher: the {several} after line {line} were taken out"
+            ),
+        }
+    }
+
+    /// Adds how the numbers after a wrong one go on.
+    fn add_ahead(&self, text: &mut String, what: Numbered, ahead: Ahead) -> Result<(), AllocError> {
+        let several = what.several;
+        match (ahead.count, ahead.goes_on) {
+            (0, _) => Ok(()),
+            (count, true) => self.add_shift(text, what, count),
+            (_, false) => write!(
+                text,
+                "; the {several} after it don't go on from this number, so it may be the one that is wrong"
+            ),
+        }
+    }
+
+    /// The two numbers that stand beside each other: the sequences of the line before and of this one. Where the line before isn't held,
+    /// or has no such number, its own is one less than the one that belongs here.
+    fn neighbours(&self) -> Sequences {
+        let counted = self.expected.checked_sub(1);
+        match self.kind {
+            Kind::Grh => Sequences {
+                before: counted.filter(|id| *id > 0),
+                here: Some(self.found),
+            },
+            _ => {
+                let start = start_of_sequence(self.field);
+                let Sequences { before, here } = sequences_of(self.line, self.before, start);
+                Sequences {
+                    before: before.or(counted),
+                    here,
+                }
+            }
+        }
+    }
+
     /// Adds what a number points to that is one more with each of what it numbers.
     fn add_in_order(&self, text: &mut String, what: Numbered) -> Result<(), AllocError> {
         if self.found > self.expected {
-            add_missing(text, what, self.found, self.expected)?;
+            add_missing(text, what, self.neighbours(), self.found, self.expected)?;
         } else {
             add_used(text, what, self.found, self.expected)?;
         }
         match self.ahead {
-            Some(ahead) => add_ahead(text, what, ahead),
+            Some(ahead) => self.add_ahead(text, what, ahead),
             None => Ok(()),
         }
     }

@@ -7,11 +7,12 @@ use crate::new_files::NumberedFiles;
 use crate::outputs::{Gathered, gathered, told_of};
 use crate::progress::Pace;
 use crate::reports::{look_beyond, tell_following};
-use crate::same_files::identity_of_input;
+use crate::same_files::{Identity, identity_of_input, part_number, part_that_is};
 use cwr_encode::{Sink, SinkFault};
 use cwr_fields::{Counted, Target};
 use cwr_shape::Limits;
 use cwr_tools::{SplitReport, ToolFault, put_split_outcome, split};
+use std::alloc::{AllocError, Global};
 use std::io::{Read, Write};
 use std::num::NonZeroU32;
 use std::rt::Files;
@@ -44,11 +45,17 @@ pub(crate) fn hand_on<'a, O: Write + Drop>(
     }
 }
 
-/// Whether a word names a part: the prefix and eight digits.
-fn is_part(name: &str, prefix: &str) -> bool {
-    match name.strip_prefix(prefix) {
-        Some(number) => number.len() == 8 && number.bytes().all(|digit| digit.is_ascii_digit()),
-        None => false,
+/// The number of the part that would be the input: by its name, or by what is in the prefix's folder.
+fn part_of_input<R: Files>(
+    rt: &R,
+    alloc: Global,
+    cut: &Cut<'_>,
+    own: Option<Identity>,
+) -> Result<Option<u32>, AllocError> {
+    match (part_number(cut.file, cut.prefix), own) {
+        (Some(number), _) => Ok(Some(number)),
+        (None, Some(file)) => part_that_is(rt, alloc, file, cut.prefix),
+        (None, None) => Ok(None),
     }
 }
 
@@ -68,12 +75,14 @@ pub(crate) fn split_file<
     error: &mut E,
 ) -> Result<Status, Fault<'a>> {
     let alloc = rt.alloc();
-    if is_part(cut.file, cut.prefix) {
-        return Err(Fault::IsInput(Name::File(cut.file)));
+    let own = identity_of_input(rt, cut.file);
+    match part_of_input(rt, alloc, cut, own) {
+        Ok(None) => {}
+        Ok(Some(number)) => return Err(Fault::IsInput(Name::Part(cut.prefix, number))),
+        Err(_) => return Err(Fault::Memory),
     }
     let lines = gathered(alloc, output, Name::StandardOutput).map_err(|_| Fault::Memory)?;
     let mut reader = Counted::new(input);
-    let own = identity_of_input(rt, cut.file);
     let mut files = NumberedFiles::new(rt, alloc, cut.prefix, own, cut.only_new);
     let transactions = cut.transactions.get();
     let outcome = split(alloc, cut.limits, &mut reader, transactions, &mut files);

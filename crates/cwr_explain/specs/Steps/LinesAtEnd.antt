@@ -1,5 +1,5 @@
 -- The line with which the bytes end that were read.
-use Rattle.std.specs.Prelude.{◌≡◌, ◌⊎◌, ℕ, ◌-◌, ◌^◌, ◌<◌, ◌≤◌, IsFalse, List, [], ◌∷◌, ◌++◌, length}
+use Rattle.std.specs.Prelude.{◌≡◌, ◌⊎◌, ℕ, ◌-◌, ◌^◌, ◌<◌, ◌≤◌, Bool, false, IsFalse, List, [], ◌∷◌, ◌++◌, length}
 use Rattle.std.specs.List.{list_any}
 use Rattle.cwr_layouts.specs.Format.Lines.{is_lf, longest_line}
 use Rattle.cwr_decode.specs.Steps.Represents.{EndsInLf}
@@ -15,6 +15,20 @@ pub record IsAfterFeed (text line : List ℕ) : Type 0 where
   pub split : text ≡ front ++ line
   pub no_lf : IsFalse (list_any is_lf line)
   pub begins : IsBeforeLine front
+
+-- the text is what stands before a line, and then that line
+pub record IsLastLine (text front line : List ℕ) : Type 0 where
+  pub split : text ≡ front ++ line
+  pub no_lf : IsFalse (list_any is_lf line)
+  pub begins : IsBeforeLine front
+
+-- these lines, each with its line feed, end with that one; where they aren't all that was read, others stand before it
+pub record EndsInLine (lines : List ℕ) (is_all : Bool) (line : List ℕ) : Type 0 where
+  pub front : List ℕ
+  pub split : lines ≡ (front ++ line) ++ 10 ∷ []
+  pub no_lf : IsFalse (list_any is_lf line)
+  pub begins : IsBeforeLine front
+  pub known : is_all ≡ false → EndsInLf front
 
 -- The bytes are those before a line and then that line, which isn't too long: with its line feed, or without one where it has
 -- a byte.
