@@ -1,12 +1,13 @@
 """Texts and the index of their records."""
 import ctypes
+import mmap
 import struct
-from typing import Iterator, List, Optional, Tuple
+from typing import Iterator, List, Optional, Tuple, Union
 
 from . import _library
 from ._layouts import layout
 from ._records import Record, Transaction
-from ._texts import Text
+from ._texts import Source, Text
 from ._verdicts import Ending, Finding, Level, RefusedError, TruncatedError, Verdict, told
 
 NO_LIMITS = (99_999_999, 99_999, 999_999)
@@ -32,7 +33,7 @@ class Document:
     It is a list of transactions to a `for`, and may be walked any number of times, from any thread.
     """
 
-    def __init__(self, source, limits: Limits = NO_LIMITS, mapped: bool = False):
+    def __init__(self, source: Source, limits: Limits = NO_LIMITS, mapped: bool = False):
         """Reads a path or bytes. What the text ends with is `verdict`; nothing is raised for it."""
         self._text, raw = Text(source, mapped), _library.Verdict()
         limits = limits_of(limits)
@@ -43,7 +44,7 @@ class Document:
             if count <= room:
                 break
             room = count
-        self._count = count
+        self._count: int = count
         self._index = memoryview(memory).cast("B")[: struct.calcsize(_library.LINE) * count]
         more = {}
         if raw.ending == 0:
@@ -54,8 +55,9 @@ class Document:
         self.size: int = raw.used
         """How many bytes the transmission takes, where the text begins with one."""
 
-    def _entry(self, i):
-        return struct.unpack_from(_library.LINE, self._index, struct.calcsize(_library.LINE) * i)
+    def _entry(self, i: int) -> Tuple[int, int, int, int]:
+        offset, length, group, transaction = struct.unpack_from(_library.LINE, self._index, struct.calcsize(_library.LINE) * i)
+        return offset, length, group, transaction
 
     def __len__(self) -> int:
         """How many records are accepted."""
@@ -106,7 +108,7 @@ class Document:
         if verdict.ending is Ending.TRUNCATED:
             raise TruncatedError(f"{self._text.name}: it ends after {verdict.records} records, which are no transmission", verdict)
 
-    def _place(self, verdict):
+    def _place(self, verdict: Verdict) -> str:
         """The refused record and field, by number and name."""
         offset, length = self._entry(self._count - 1)[:2] if self._count else (0, -1)
         line = self._text.bytes[offset + length + 1 : offset + length + 6].lstrip(b"\r\n")
@@ -115,13 +117,13 @@ class Document:
             name = next((f" ({it.name})" for it in layout(kind) if it.number == verdict.field), "")
         except KeyError:
             kind = repr(kind)
-        return f"record {verdict.record} ({kind}), field {verdict.field}{name}, level {verdict.level.value}"
+        return f"record {verdict.record} ({kind}), field {verdict.field}{name}, level {verdict.level.value if verdict.level else ''}"
 
 
 _OUTSIDE = frozenset((b"HDR", b"GRH", b"GRT", b"TRL"))
 
 
-def _lines(text):
+def _lines(text: Union[bytes, mmap.mmap]) -> int:
     """How many lines a text has at most."""
     if isinstance(text, bytes):
         return text.count(b"\n")
@@ -131,7 +133,7 @@ def _lines(text):
     return count
 
 
-def check(source, limits: Limits = NO_LIMITS, mapped: bool = False) -> Verdict:
+def check(source: Source, limits: Limits = NO_LIMITS, mapped: bool = False) -> Verdict:
     """The verdict on a path or on bytes: what `cwr check` says of it. Memory holds the text and one transaction.
 
     Raises `ValueError` where a limit isn't in its range, `MemoryError` and `OSError`.
@@ -141,7 +143,7 @@ def check(source, limits: Limits = NO_LIMITS, mapped: bool = False) -> Verdict:
     return told(raw)
 
 
-def findings(source, limits: Limits = NO_LIMITS, mapped: bool = False) -> List[Finding]:
+def findings(source: Source, limits: Limits = NO_LIMITS, mapped: bool = False) -> List[Finding]:
     """The rules that records break: what `cwr check` prints before its verdict, also of a text that is refused later."""
     text, raw = Text(source, mapped), _library.Verdict()
     room, size = 64, struct.calcsize(_library.FINDING)
@@ -156,7 +158,7 @@ def findings(source, limits: Limits = NO_LIMITS, mapped: bool = False) -> List[F
     return [Finding(record, field, f"V{rule}", Level(chr(level))) for record, field, rule, level in found]
 
 
-def read(source, limits: Limits = NO_LIMITS, mapped: bool = False) -> Document:
+def read(source: Source, limits: Limits = NO_LIMITS, mapped: bool = False) -> Document:
     """The document of a path or of bytes.
 
         for transaction in cwr.read("CW240001PB_052.V21"):

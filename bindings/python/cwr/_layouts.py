@@ -3,7 +3,7 @@ import ctypes
 import enum
 import functools
 from dataclasses import dataclass
-from typing import Tuple
+from typing import Dict, List, Tuple
 
 from . import _library
 
@@ -48,8 +48,8 @@ class Field:
     """The texts that its cells may hold where these can be listed: codes, flags, constants."""
 
 
-def _codes(kind, number):
-    found = []
+def _codes(kind: bytes, number: int) -> Tuple[str, ...]:
+    found: List[str] = []
     while code := _library.small_text(_library.code, kind, len(kind), number, len(found)):
         found.append(code.decode("ascii"))
     return tuple(found)
@@ -58,7 +58,8 @@ def _codes(kind, number):
 @functools.lru_cache(maxsize=None)
 def layout(kind: str) -> Tuple[Field, ...]:
     """The fields of a kind, in order, as `layout("NWR")`. Raises `KeyError` where three letters name no kind."""
-    letters, place, fields = kind.encode("latin-1", "replace"), _library.FieldPlace(), []
+    letters, place = kind.encode("latin-1", "replace"), _library.FieldPlace()
+    fields: List[Field] = []
     while name := _library.small_text(_library.field, letters, len(letters), len(fields) + 1, ctypes.byref(place)):
         codes = _codes(letters, len(fields) + 1)
         fields.append(
@@ -70,19 +71,19 @@ def layout(kind: str) -> Tuple[Field, ...]:
 
 
 @functools.lru_cache(maxsize=None)
-def by_name(kind: str):
+def by_name(kind: str) -> Dict[str, Field]:
     """The fields of a kind by name."""
     return {it.name: it for it in layout(kind)}
 
 
 @functools.lru_cache(maxsize=None)
-def places(kind: str):
+def places(kind: str) -> Dict[str, Tuple[int, int]]:
     """Where the fields of a kind begin and end, by name."""
     return {it.name: (it.start, it.start + it.width) for it in layout(kind)}
 
 
 @functools.lru_cache(maxsize=None)
-def carried(kind: str):
+def carried(kind: str) -> List[Tuple[str, int, int]]:
     """The names of the fields that aren't computed, and where they begin and end, in order."""
     return [(it.name, it.start, it.start + it.width) for it in layout(kind) if not it.derived]
 
@@ -97,8 +98,8 @@ def blank(kind: str) -> bytes:
     return line
 
 
-def _kinds():
-    found = []
+def _kinds() -> Tuple[str, ...]:
+    found: List[str] = []
     while kind := _library.small_text(_library.kind, len(found)):
         found.append(kind.decode("ascii"))
     return tuple(found)

@@ -1,6 +1,7 @@
 """The calls of the C library, by ctypes. Nothing here knows the format; the header says what each call does."""
 import ctypes
 import os
+from typing import Any, Callable
 
 INTERFACE = 1
 
@@ -34,7 +35,7 @@ LINE = "@NNII"  # `cwr_line`, as struct has it: offset, length, group, transacti
 FINDING = "@IIII"  # `cwr_finding`: record, field, rule, level
 
 
-def _load():
+def _load() -> ctypes.CDLL:
     """The library: the one that CWR_LIBRARY names, the one beside this file, or the system's."""
     beside = os.path.join(os.path.dirname(os.path.abspath(__file__)), f"libcwr.so.{INTERFACE}")
     name = os.environ.get("CWR_LIBRARY") or (beside if os.path.exists(beside) else f"libcwr.so.{INTERFACE}")
@@ -47,10 +48,10 @@ def _load():
 _library = _load()
 
 
-def _call(name, result, *arguments):
-    it = getattr(_library, name)
+def _call(name: str, result: Any, *arguments: Any) -> Callable[..., Any]:
+    it: Any = getattr(_library, name)
     it.restype, it.argtypes = result, arguments
-    return it
+    return it  # type: ignore[no-any-return]
 
 
 check = _call("cwr_check", None, _at, _size, *_LIMITS, _at)
@@ -65,17 +66,17 @@ write = _call("cwr_write", _size, _at, _size, *_LIMITS, _at, _size, _at)
 write_json = _call("cwr_write_json", _size, _at, _size, *_LIMITS, _at, _size, _at)
 
 
-def room(size):
+def room(size: int) -> "ctypes.Array[ctypes.c_uint64]":
     """Memory that a call may write into, of so many bytes, aligned for any structure of the header."""
     return (_u64 * (size // 8 + 1))()
 
 
-def front(memory, size):
+def front(memory: "ctypes.Array[ctypes.c_uint64]", size: int) -> bytes:
     """The first bytes of a room."""
     return ctypes.string_at(memory, size)
 
 
-def small_text(call, *arguments):
+def small_text(call: Callable[..., Any], *arguments: Any) -> bytes:
     """What a call without limits writes, of at most 1,024 bytes. Empty where there is nothing."""
     memory = room(1024)
     return front(memory, call(*arguments, memory, 1024))

@@ -1,7 +1,7 @@
 """Records, cell by cell."""
 import datetime
 from decimal import Decimal
-from typing import Dict, Iterator, List, Mapping, Optional, Union
+from typing import Dict, Iterable, Iterator, List, Mapping, Optional, Union
 
 from ._layouts import Field, Type, blank, by_name, carried, layout, places
 
@@ -136,7 +136,7 @@ class Record(Mapping[str, str]):
 class Transaction(List[Record]):
     """The records of a transaction, its header first."""
 
-    def __init__(self, group: int, number: int, first: int, records=()):
+    def __init__(self, group: int, number: int, first: int, records: Iterable[Record] = ()):
         super().__init__(records)
         self.group: int = group
         """The number of its group in the transmission, from 1."""

@@ -2,6 +2,10 @@
 import ctypes
 import mmap
 import os
+from typing import Any, Union
+
+Source = Union[str, "os.PathLike[str]", bytes, bytearray, memoryview]
+"""A path, or bytes that are there already."""
 
 
 class Text:
@@ -11,20 +15,22 @@ class Text:
     takes no memory of its own, and must not be cut short or written to as long as it is used.
     """
 
-    def __init__(self, source, mapped=False):
-        self.name, self._pin = "-", None
+    def __init__(self, source: Source, mapped: bool = False):
+        self.name, self._pin = "-", None  # type: str, Any
+        found: Union[bytes, mmap.mmap]
         if isinstance(source, (str, os.PathLike)):
             self.name = os.fsdecode(source)
             with open(source, "rb") as it:
                 if mapped and os.fstat(it.fileno()).st_size:
-                    source = mmap.mmap(it.fileno(), 0, flags=mmap.MAP_PRIVATE, prot=mmap.PROT_READ | mmap.PROT_WRITE)
+                    found = mmap.mmap(it.fileno(), 0, flags=mmap.MAP_PRIVATE, prot=mmap.PROT_READ | mmap.PROT_WRITE)
                 else:
-                    source = it.read()
-        elif not isinstance(source, bytes):
-            source = bytes(memoryview(source))
-        self.bytes, self.size = source, len(source)
-        if isinstance(source, bytes):
-            self.at = ctypes.cast(ctypes.c_char_p(source), ctypes.c_void_p).value
+                    found = it.read()
         else:
-            self._pin = (ctypes.c_uint8 * self.size).from_buffer(source)
+            found = source if isinstance(source, bytes) else bytes(memoryview(source))
+        self.bytes, self.size = found, len(found)
+        self.at: int
+        if isinstance(found, bytes):
+            self.at = ctypes.cast(ctypes.c_char_p(found), ctypes.c_void_p).value or 0
+        else:
+            self._pin = (ctypes.c_uint8 * self.size).from_buffer(found)
             self.at = ctypes.addressof(self._pin)

@@ -1,7 +1,7 @@
 """Verdicts, findings and errors."""
 import enum
 from dataclasses import dataclass
-from typing import Optional
+from typing import Any, Optional
 
 
 class Error(Exception):
@@ -65,7 +65,7 @@ class Verdict:
         if self.ending is Ending.GOOD:
             return f"GOOD groups {self.groups} transactions {self.transactions} records {self.records}"
         if self.ending is Ending.REFUSED:
-            return f"REFUSED record {self.record} field {self.field} level {self.level.value} {self.reason}"
+            return f"REFUSED record {self.record} field {self.field} level {self.level.value if self.level else ''} {self.reason}"
         return f"TRUNCATED records {self.records}"
 
 
@@ -86,7 +86,7 @@ class Finding:
 class RefusedError(Error):
     """No transmission continues from a record and a field of the text: `verdict` has both, the message names them."""
 
-    def __init__(self, message, verdict):
+    def __init__(self, message: str, verdict: Verdict):
         super().__init__(message)
         self.verdict = verdict
 
@@ -94,7 +94,7 @@ class RefusedError(Error):
 class TruncatedError(Error):
     """The text ended too early. `verdict` says after how many records."""
 
-    def __init__(self, message, verdict):
+    def __init__(self, message: str, verdict: Verdict):
         super().__init__(message)
         self.verdict = verdict
 
@@ -102,12 +102,12 @@ class TruncatedError(Error):
 class WriteError(Error):
     """No transmission was written. `line` is the record or the line of JSON at which that came, from 1; 0 behind all."""
 
-    def __init__(self, message, line):
+    def __init__(self, message: str, line: int):
         super().__init__(message)
         self.line = line
 
 
-def told(raw, **more):
+def told(raw: Any, **more: int) -> Verdict:
     """The verdict that the library tells. Raises `MemoryError`, and `ValueError` where a limit isn't in its range."""
     if raw.ending == 3:
         raise MemoryError("out of memory")

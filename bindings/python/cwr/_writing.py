@@ -1,20 +1,22 @@
 """Reports, JSON, and writing."""
 import ctypes
 import os
-from typing import Iterable, Optional, Union
+from typing import Callable, Iterable, List, Optional, Tuple, Union
 
 from . import _library
 from ._documents import NO_LIMITS, Limits, limits_of
 from ._layouts import KINDS, blank
 from ._records import Record, Transaction
-from ._texts import Text
+from ._texts import Source, Text
 from ._verdicts import LIMITS, WriteError, told
+
+Path = Union[str, "os.PathLike[str]"]
 
 _CHECK, _SHOW, _EXPLAIN, _JSON, _NUMBERED_JSON, _LINT, _EXPLAINED_LINT = range(7)
 _FAULTS = ("", "carries no record", "can't come there", "is of another kind than its group's", "ends what isn't whole", "passes the limit of ")
 
 
-def _report(what, source, limits, name):
+def _report(what: int, source: Source, limits: Limits, name: Optional[str]) -> bytes:
     text, raw = Text(source), _library.Verdict()
     size = (2 * text.size if what in (_SHOW, _JSON, _NUMBERED_JSON) else 0) + 65_536
     named = (text.name if name is None else name).encode("utf-8", "surrogateescape")
@@ -27,27 +29,27 @@ def _report(what, source, limits, name):
         size = count
 
 
-def report(source, limits: Limits = NO_LIMITS) -> str:
+def report(source: Source, limits: Limits = NO_LIMITS) -> str:
     """The findings and the verdict, as `cwr check` prints them."""
     return _report(_CHECK, source, limits, None).decode("latin-1")
 
 
-def show(source, limits: Limits = NO_LIMITS) -> str:
+def show(source: Source, limits: Limits = NO_LIMITS) -> str:
     """The records and their cells, as `cwr show` prints them."""
     return _report(_SHOW, source, limits, None).decode("latin-1")
 
 
-def explain(source, limits: Limits = NO_LIMITS, name: Optional[str] = None) -> str:
+def explain(source: Source, limits: Limits = NO_LIMITS, name: Optional[str] = None) -> str:
     """What was found, in words, as `cwr explain` prints it. `name` is what the words call the text, else that is its path."""
     return _report(_EXPLAIN, source, limits, name).decode("utf-8", "surrogateescape")
 
 
-def lint(source, limits: Limits = NO_LIMITS, explained: bool = False, name: Optional[str] = None) -> str:
+def lint(source: Source, limits: Limits = NO_LIMITS, explained: bool = False, name: Optional[str] = None) -> str:
     """Every fault and finding, as `cwr lint` prints them, with words under each where they are to be explained."""
     return _report(_EXPLAINED_LINT if explained else _LINT, source, limits, name).decode("utf-8", "surrogateescape")
 
 
-def to_json(source, limits: Limits = NO_LIMITS, numbers: bool = False) -> str:
+def to_json(source: Source, limits: Limits = NO_LIMITS, numbers: bool = False) -> str:
     """The data as lines of JSON, as `cwr json` writes them (docs/JSON.md): one for each header, transaction and trailer.
 
     Of a text that is refused it has what comes before that: ask `check` first.
@@ -55,7 +57,7 @@ def to_json(source, limits: Limits = NO_LIMITS, numbers: bool = False) -> str:
     return _report(_NUMBERED_JSON if numbers else _JSON, source, limits, None).decode("utf-8")
 
 
-def _written(call, text, size, limits):
+def _written(call: Callable[..., int], text: bytes, size: int, limits: Limits) -> Tuple[_library.Written, bytes]:
     told_of = _library.Written()
     while True:
         memory = _library.room(size)
@@ -69,7 +71,7 @@ def _written(call, text, size, limits):
         size = count
 
 
-def _put(text, path):
+def _put(text: bytes, path: Optional[Path]) -> bytes:
     """Writes a file under its name once it is whole."""
     if path is not None:
         part = f"{os.fspath(path)}.part"
@@ -79,13 +81,13 @@ def _put(text, path):
     return text
 
 
-def write(records: Iterable[Union[Record, Transaction]], path=None, limits: Limits = NO_LIMITS) -> bytes:
+def write(records: Iterable[Union[Record, Transaction]], path: Optional[Path] = None, limits: Limits = NO_LIMITS) -> bytes:
     """The canonical text of the transmission with these records, in order: HDR, GRH, transactions, GRT and so on.
 
     Sequence numbers, IDs and counts are made, whatever the records have. TRL may be left out. With a path the text is written
     there too, under `path.part` until it is whole. Raises `WriteError`, which says at which record.
     """
-    lines = []
+    lines: List[bytes] = []
     for it in records:
         lines.extend(record.line for record in ([it] if isinstance(it, Record) else it))
     widths = {kind.encode("ascii"): len(blank(kind)) + 2 for kind in KINDS}
@@ -99,7 +101,7 @@ def write(records: Iterable[Union[Record, Transaction]], path=None, limits: Limi
     return _put(text, path)
 
 
-def from_json(text: Union[str, bytes], path=None, limits: Limits = NO_LIMITS) -> bytes:
+def from_json(text: Union[str, bytes], path: Optional[Path] = None, limits: Limits = NO_LIMITS) -> bytes:
     """The canonical text of the transmission that lines of JSON are, as `to_json` gives them.
 
     Raises `WriteError`, which says at which line and why.
