@@ -118,8 +118,8 @@ typedef struct cwr_line {
     uint32_t transaction; ///< how many transactions have begun with it, in all groups
 } cwr_line;
 
-/// Finds the records of the text, up to its end or to where it is refused: the first of them are put into `lines`. Answers how
-/// many there are. Takes no memory.
+/// Finds the records of the text, up to its end or to where it is refused: the first of them are put into `lines`, each line's
+/// at its place. Answers how many there are. Takes no memory.
 size_t cwr_index(const uint8_t *text, size_t text_size, uint32_t records, uint32_t groups, uint32_t transaction,
                  cwr_line *lines, size_t lines_size, cwr_verdict *verdict);
 
