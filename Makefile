@@ -1,11 +1,13 @@
 # The words that a packager tries, each a few lines over `rt` and the scripts in tools/.
 #
-# PREFIX is where things are found, DESTDIR what stands before it while they are packed, PROGRAM the built program, and OUT
-# the folder for what is packed. SOURCE_DATE_EPOCH is the date of all that, by default that of the last commit.
+# PREFIX is where things are found, DESTDIR what stands before it while they are packed, PROGRAM the built program, ARCHIVE the
+# proved archive of the C library, and OUT the folder for what is packed. SOURCE_DATE_EPOCH is the date of all that, by default that of
+# the last commit.
 
 PREFIX = /usr/local
 DESTDIR =
 PROGRAM = crates/cwr/out/cwr
+ARCHIVE = crates/cwr_c/out/libcwr_c.a
 OUT = out
 STRIP = strip
 
@@ -14,11 +16,13 @@ VERSION := $(shell sed -n 's/^const VERSION: &str = "\(.*\)";$$/\1/p' crates/cwr
 ifndef SOURCE_DATE_EPOCH
 SOURCE_DATE_EPOCH := $(shell git -c safe.directory='*' log -1 --format=%ct 2> /dev/null || echo 0)
 endif
-export SOURCE_DATE_EPOCH
+export SOURCE_DATE_EPOCH ARCHIVE
 DATE := $(shell date -u -d @$(SOURCE_DATE_EPOCH) +%F)
 RELEASE = cwr-$(VERSION)-linux-x86_64
 
 bin = $(DESTDIR)$(PREFIX)/bin
+lib = $(DESTDIR)$(PREFIX)/lib
+include = $(DESTDIR)$(PREFIX)/include
 share = $(DESTDIR)$(PREFIX)/share
 man = $(share)/man/man1
 doc = $(share)/doc/cwr
@@ -34,18 +38,27 @@ rt = $(call need,rt,it is the Rattle toolchain's)
 # what is made of the manual, of the program's help and of the toolchain's licences
 made = $(addprefix $(OUT)/made/,cwr.1 cwr.bash copyright)
 
-.PHONY: all made test install uninstall dist deb clean help
+.PHONY: all made test install install_program install_library uninstall dist deb wheel clean help
 .DELETE_ON_ERROR:
 
-all: ## proves the program and builds it
+all: ## proves the program and the C library, and builds them
 	$(rt)
-	rt ci cwr
+	rt ci cwr cwr_c
 	cd crates/cwr && rt run -- check ../../samples/good/acknowledgement.cwr
-	@touch $(PROGRAM) # rt leaves it as it is where nothing has changed for it
+	cd crates/cwr_c && rt lib
+	@touch $(PROGRAM) $(ARCHIVE) # rt leaves them as they are where nothing has changed for them
 	$(MAKE) made
 
 $(PROGRAM): $(wildcard crates/*/src/*.rt)
 	@echo "make: $@ is missing or older than $(firstword $?): run make first" >&2; exit 1
+
+$(ARCHIVE): $(filter-out $(wildcard crates/cwr/src/*.rt crates/*_tests/src/*.rt),$(wildcard crates/*/src/*.rt))
+	@echo "make: $@ is missing or older than $(firstword $?): run make first" >&2; exit 1
+
+# with libcwr.a and libcwr.so.1 beside it
+$(OUT)/c/cwr.pc: $(ARCHIVE) tools/c_library $(wildcard bindings/c/cwr.*)
+	$(call debian,python3,python3)
+	tools/c_library $(OUT)/c $(VERSION)
 
 made: $(made)
 
@@ -69,7 +82,9 @@ test: ## proves every crate, tries the edits that must fail, and runs all tests
 	$(rt)
 	rt ci
 
-install: $(PROGRAM) $(made) ## puts the program, its manual, completions and documents below PREFIX
+install: install_program install_library ## puts the program, its manual, completions and documents, and the C library below PREFIX
+
+install_program: $(PROGRAM) $(made)
 	install -d $(bin) $(man) $(bash) $(zsh) $(fish) $(doc)/docs $(doc)/samples
 	install -m 755 $(PROGRAM) $(bin)/cwr
 	install -m 644 $(OUT)/made/cwr.1 $(man)
@@ -79,10 +94,17 @@ install: $(PROGRAM) $(made) ## puts the program, its manual, completions and doc
 	install -m 644 README.md $(OUT)/made/copyright $(doc)
 	install -m 644 docs/*.md $(doc)/docs
 	cp -R samples/. $(doc)/samples && chmod -R u=rwX,go=rX $(doc)/samples
-	@# A crate cwr_c puts its library into $(DESTDIR)$(PREFIX)/lib and its header into $(DESTDIR)$(PREFIX)/include here.
+
+install_library: $(OUT)/c/cwr.pc
+	install -d $(lib)/pkgconfig $(include)
+	install -m 644 $(OUT)/c/libcwr.a $(OUT)/c/libcwr.so.1 $(lib)
+	ln -sf libcwr.so.1 $(lib)/libcwr.so
+	install -m 644 $(OUT)/c/cwr.pc $(lib)/pkgconfig
+	install -m 644 bindings/c/cwr.h $(include)
 
 uninstall: ## removes what install put there
 	rm -f $(bin)/cwr $(man)/cwr.1 $(bash)/cwr $(zsh)/_cwr $(fish)/cwr.fish
+	rm -f $(addprefix $(lib)/,libcwr.a libcwr.so libcwr.so.1 pkgconfig/cwr.pc) $(include)/cwr.h
 	rm -rf $(doc)
 
 dist: ## packs what install puts as OUT/cwr-VERSION-linux-x86_64.tar.gz, and its SHA-256
@@ -95,14 +117,17 @@ dist: ## packs what install puts as OUT/cwr-VERSION-linux-x86_64.tar.gz, and its
 	gzip -9nf $(OUT)/$(RELEASE).tar
 	cd $(OUT) && sha256sum $(RELEASE).tar.gz > $(RELEASE).tar.gz.sha256
 
-deb: ## packs it as OUT/cwr_VERSION_amd64.deb
+deb: ## packs the program and what goes with it as OUT/cwr_VERSION_amd64.deb
 	$(call debian,$(STRIP),binutils)
 	$(call debian,dpkg-deb,dpkg)
 	$(call debian,dpkg-shlibdeps,dpkg-dev)
 	rm -rf $(OUT)/deb $(OUT)/made
-	$(MAKE) install DESTDIR=$(OUT)/deb PREFIX=/usr zsh='$$(share)/zsh/vendor-completions'
+	$(MAKE) install_program DESTDIR=$(OUT)/deb PREFIX=/usr zsh='$$(share)/zsh/vendor-completions'
 	$(STRIP) -R .comment $(OUT)/deb/usr/bin/cwr
 	tools/make_deb $(OUT)/deb $(VERSION) $(OUT)
+
+wheel: $(OUT)/c/cwr.pc ## packs the Python package and the library as a wheel in OUT
+	tools/make_wheel $(OUT)/c/libcwr.so.1 $(VERSION) $(OUT)
 
 clean: ## removes OUT
 	rm -rf $(OUT)

@@ -1,0 +1,48 @@
+"""CWR 2.1 transmissions, by a library whose answers are proved.
+
+    import cwr
+
+    verdict = cwr.check("CW240001PB_052.V21")         # true where it is good
+    for transaction in cwr.read("CW240001PB_052.V21"):
+        for record in transaction.of_kind("SWR"):
+            print(record["last name"], record.value("pr share"))   # DOE 33.05 (percent)
+    print(cwr.explain("CW240001PB_052.V21"))
+    text = cwr.write(records)                         # with all numbers made
+
+A source is a path, or bytes that are there already. Sizes are bytes, numbers of records and fields count from 1, shares are in
+percent. A text is judged up to the end of its transmission; what follows isn't looked at.
+"""
+from ._documents import NO_LIMITS, Document, check, findings, read
+from ._layouts import KINDS, Field, Type, layout
+from ._records import Record, Transaction
+from ._verdicts import Ending, Error, Finding, Level, RefusedError, TruncatedError, Verdict, WriteError
+from ._writing import explain, from_json, lint, report, show, to_json, write
+
+__all__ = [
+    "KINDS",
+    "NO_LIMITS",
+    "Document",
+    "Ending",
+    "Error",
+    "Field",
+    "Finding",
+    "Level",
+    "Record",
+    "RefusedError",
+    "Transaction",
+    "TruncatedError",
+    "Type",
+    "Verdict",
+    "WriteError",
+    "check",
+    "explain",
+    "findings",
+    "from_json",
+    "layout",
+    "lint",
+    "read",
+    "report",
+    "show",
+    "to_json",
+    "write",
+]

@@ -1,0 +1,340 @@
+"""The package over the samples and over changed texts, held against the program.
+
+Run from anywhere, by the standard library alone (`python3 -m unittest discover bindings/python/tests`) or by pytest. PROGRAM
+is the program (crates/cwr/out/cwr), and SEED and COUNT change what is tried.
+"""
+import datetime
+import glob
+import os
+import random
+import subprocess
+import sys
+import tempfile
+import threading
+import unittest
+from decimal import Decimal
+
+HERE = os.path.dirname(os.path.abspath(__file__))
+TOP = os.path.dirname(os.path.dirname(os.path.dirname(HERE)))
+if not os.environ.get("INSTALLED"):
+    sys.path.insert(0, os.path.dirname(HERE))
+
+import cwr  # noqa: E402
+
+PROGRAM = os.path.abspath(os.environ.get("PROGRAM", os.path.join(TOP, "crates", "cwr", "out", "cwr")))
+SAMPLES = sorted(glob.glob(os.path.join(TOP, "samples", "*", "*.cwr")))
+EVERY_KIND = os.path.join(TOP, "samples", "good", "every_kind.cwr")
+WORKS = os.path.join(TOP, "samples", "good", "works.cwr")
+
+
+def run(*words, text=None):
+    """What the program writes."""
+    return subprocess.run([PROGRAM, *words], input=text, capture_output=True, check=False)
+
+
+def changed(text, draw):
+    """A text with a few changes: bytes replaced, parts left out, lines twice, its end cut off."""
+    text = bytearray(text)
+    for _ in range(draw.randint(1, 3)):
+        if not text:
+            break
+        at = draw.randrange(len(text))
+        how = draw.randrange(4)
+        if how == 0:
+            text[at] = draw.choice(b" 019AZ\r\n\x00\xff")
+        elif how == 1:
+            del text[at : at + draw.randrange(40)]
+        elif how == 2:
+            start = text.rfind(b"\n", 0, at) + 1
+            end = text.find(b"\n", at) + 1 or len(text)
+            text[start:start] = text[start:end]
+        else:
+            del text[at : len(text) if draw.randrange(4) == 0 else at + 1]
+    return bytes(text)
+
+
+class Samples(unittest.TestCase):
+    """Each sample is answered as the program answers it."""
+
+    def test_samples_are_there(self):
+        self.assertGreater(len(SAMPLES), 30)
+
+    def test_verdict_is_the_programs_last_line(self):
+        for name in SAMPLES:
+            told = run("check", name).stdout.decode().splitlines()[-1]
+            self.assertEqual(str(cwr.check(name)), told, name)
+            document = cwr.Document(name)
+            self.assertEqual(str(document.verdict), told)
+            with open(name, "rb") as it:
+                self.assertEqual(str(cwr.check(bytearray(it.read()))), told)
+
+    def test_reports_are_what_the_program_writes(self):
+        reports = [
+            (cwr.report, ["check"], "latin-1"),
+            (cwr.show, ["show"], "latin-1"),
+            (cwr.explain, ["explain"], "utf-8"),
+            (cwr.lint, ["lint"], "utf-8"),
+            (lambda it: cwr.lint(it, explained=True), ["lint", "--explain"], "utf-8"),
+            (cwr.to_json, ["json"], "utf-8"),
+            (lambda it: cwr.to_json(it, numbers=True), ["json", "--numbers"], "utf-8"),
+        ]
+        for name in SAMPLES:
+            for call, words, coding in reports:
+                self.assertEqual(call(name).encode(coding), run(*words, name).stdout, (words, name))
+
+    def test_findings_are_those_that_a_check_prints(self):
+        for name in SAMPLES:
+            lines = [it for it in cwr.report(name).splitlines() if it.startswith("FINDING")]
+            found = cwr.findings(name)
+            self.assertEqual([it.split()[9:] for it in lines], [["level", it.level.value, "rule", it.rule] for it in found])
+            document = cwr.Document(name)
+            starts = {}
+            for transaction in document:
+                in_group = sum(1 for group, _ in starts if group == transaction.group)
+                starts[(transaction.group, in_group)] = transaction.first
+            for line, it in zip(lines, found):
+                words = line.split()
+                first = starts[(int(words[2]), int(words[4]))]
+                self.assertEqual(it.record, first + int(words[6]))
+                self.assertEqual(it.field, int(words[8]))
+
+    def test_records_are_those_that_a_show_prints(self):
+        for name in SAMPLES:
+            document = cwr.Document(name)
+            if document:
+                shown = run("show", name).stdout.decode("latin-1").splitlines()
+                kinds = [it.split()[1] for it in shown if it[0].isdigit()]
+                self.assertEqual([it.kind for it in document.records()], kinds, name)
+
+    def test_canonical_text_is_that_of_a_join(self):
+        with tempfile.TemporaryDirectory() as folder:
+            for name in SAMPLES:
+                document = cwr.Document(name)
+                if not document:
+                    continue
+                out = os.path.join(folder, "joined")
+                self.assertEqual(run("join", out, name).returncode, 0)
+                with open(out, "rb") as it:
+                    joined = it.read()
+                self.assertEqual(cwr.write(document.records()), joined, name)
+                self.assertEqual(cwr.from_json(cwr.to_json(name)), joined, name)
+
+    def test_an_error_names_the_place(self):
+        name = os.path.join(TOP, "samples", "refused", "wrong_code.cwr")
+        with self.assertRaises(cwr.RefusedError) as caught:
+            cwr.read(name)
+        self.assertIn("record 5 (NWR), field 10 (distribution category), level T: cell not a code", str(caught.exception))
+        self.assertEqual(caught.exception.verdict.record, 5)
+        for name in SAMPLES:
+            verdict = cwr.check(name)
+            if verdict.ending is cwr.Ending.GOOD:
+                cwr.read(name)
+            else:
+                kind = cwr.RefusedError if verdict.ending is cwr.Ending.REFUSED else cwr.TruncatedError
+                with self.assertRaises(kind) as caught:
+                    cwr.read(name)
+                self.assertEqual(caught.exception.verdict, cwr.Document(name).verdict)
+
+
+class Records(unittest.TestCase):
+    """Records and their cells."""
+
+    def test_each_kind_has_its_layout(self):
+        self.assertEqual(len(cwr.KINDS), 40)
+        for kind in cwr.KINDS:
+            fields = cwr.layout(kind)
+            self.assertEqual(fields[0].name, "record type")
+            self.assertEqual([it.start for it in fields[1:]], [it.start + it.width for it in fields[:-1]])
+            line = cwr.Record(kind).line
+            self.assertEqual((line[:3].decode(), len(line)), (kind, fields[-1].start + fields[-1].width))
+        with self.assertRaises(KeyError):
+            cwr.layout("XYZ")
+        with self.assertRaises(KeyError):
+            cwr.Record("\u2026")
+
+    def test_layouts_are_those_of_the_page(self):
+        with open(os.path.join(TOP, "docs", "FORMAT.md"), encoding="utf-8") as it:
+            page = it.read()
+        for kind in cwr.KINDS:
+            for field in cwr.layout(kind)[1:]:
+                self.assertIn(field.name, page)
+
+    def test_codes_are_those_of_their_fields(self):
+        codes = {(kind, it.name): it.codes for kind in cwr.KINDS for it in cwr.layout(kind) if it.codes}
+        self.assertEqual(codes["GRH", "transaction type"], ("AGR", "NWR", "REV", "ACK"))
+        self.assertEqual(codes["HDR", "sender type"], ("PB", "SO", "AA", "WR"))
+        self.assertEqual(codes["HDR", "edi standard version"], ("01.10",))
+        self.assertEqual(codes["NWR", "recorded"], ("Y", "N", "U"))
+        listed = (cwr.Type.CODE, cwr.Type.OPTIONAL_CODE, cwr.Type.FLAG, cwr.Type.CONSTANT)
+        for kind in cwr.KINDS:
+            for field in cwr.layout(kind):
+                self.assertEqual(bool(field.codes), field.type in listed and not field.derived, (kind, field))
+
+    def test_values(self):
+        record = cwr.Record("SWR", {"last name": "DOE", "pr share": Decimal("33.05"), "writer unknown": False, "mr share": 50})
+        self.assertEqual(record["pr share"], "03305")
+        self.assertEqual(record["mr share"], "05000")
+        self.assertEqual(record.value("pr share"), Decimal("33.05"))
+        self.assertEqual(record.value("writer unknown"), False)
+        self.assertIsNone(record.value("sr share"))
+        self.assertEqual(record.fields, {"last name": "DOE", "pr share": "03305", "writer unknown": "N", "mr share": "05000"})
+        record["pr share"] = None
+        self.assertEqual(record["pr share"], "")
+        with self.assertRaises(ValueError):
+            record["pr share"] = Decimal("0.001")
+        with self.assertRaises(ValueError):
+            record["last name"] = "x" * 46
+        with self.assertRaises(KeyError):
+            record["nothing"] = ""
+        work = cwr.Record("NWR", {"duration": datetime.timedelta(minutes=3, seconds=20), "copyright date": datetime.date(2024, 2, 29)})
+        self.assertEqual((work["duration"], work["copyright date"]), ("000320", "20240229"))
+        self.assertEqual(work.value("duration"), datetime.timedelta(seconds=200))
+        self.assertEqual(work.value("copyright date"), datetime.date(2024, 2, 29))
+        work["copyright date"] = "00000000"
+        self.assertIsNone(work.value("copyright date"))
+        head = cwr.Record("HDR", {"creation time": datetime.time(10, 15)})
+        self.assertEqual(head.value("creation time"), datetime.time(10, 15))
+        self.assertEqual(head["edi standard version"], "01.10")
+
+    def test_every_cell_of_the_samples_has_a_value(self):
+        for name in SAMPLES:
+            for record in cwr.Document(name).records():
+                again = cwr.Record(record.kind, {it: record.value(it) for it in record.fields})
+                for it in record.fields:
+                    self.assertEqual(again.value(it), record.value(it), (name, record.kind, it))
+
+    def test_a_transmission_from_nothing(self):
+        day = datetime.date(2024, 1, 2)
+        head = cwr.Record("HDR", {"sender type": "PB", "sender id": "123456789", "sender name": "HOUSE", "creation date": day,
+                                  "creation time": datetime.time(1), "transmission date": day})
+        group = cwr.Record("GRH", {"transaction type": "NWR"})
+        work = cwr.Record("NWR", {"title": "A SONG", "submitter work number": "1", "version type": "ORI"})
+        writer = cwr.Record("SWR", {"interested party number": "7", "last name": "DOE", "designation": "CA",
+                                    "pr share": 100, "mr share": 100, "sr share": 100})
+        text = cwr.write([head, group, work, writer, cwr.Record("GRT")])
+        self.assertEqual(str(cwr.check(text)), "GOOD groups 1 transactions 1 records 6")
+        [transaction] = cwr.read(text)
+        self.assertEqual(transaction.header["title"], "A SONG")
+        self.assertEqual(transaction[1].value("pr share"), Decimal(100))
+        with self.assertRaises(cwr.WriteError) as caught:
+            cwr.write([head, work])
+        self.assertEqual(caught.exception.line, 2)
+        self.assertIn("record 2 (NWR)", str(caught.exception))
+        with self.assertRaises(cwr.WriteError) as caught:
+            cwr.write([head])
+        self.assertEqual(caught.exception.line, 0)
+
+    def test_numbers_are_made(self):
+        records = list(cwr.read(EVERY_KIND).records())
+        with open(EVERY_KIND, "rb") as it:
+            text = it.read()
+        for record in records:
+            for field in cwr.layout(record.kind)[1:]:
+                if field.derived:
+                    record[field.name] = "9" * field.width
+        self.assertEqual(cwr.write(records), cwr.write(cwr.read(text).records()))
+        self.assertEqual(cwr.write(records[:-1]), cwr.write(records))
+
+    def test_json(self):
+        self.assertEqual(cwr.from_json(cwr.to_json(EVERY_KIND)), cwr.write(cwr.read(EVERY_KIND).records()))
+        with self.assertRaises(cwr.WriteError) as caught:
+            cwr.from_json("{}\n")
+        self.assertEqual((caught.exception.line, str(caught.exception).startswith("REFUSED line 1")), (1, True))
+        with self.assertRaises(cwr.WriteError):
+            cwr.from_json("")
+
+    def test_files_are_whole(self):
+        with tempfile.TemporaryDirectory() as folder:
+            out = os.path.join(folder, "out.V21")
+            text = cwr.write(cwr.read(WORKS).records(), path=out)
+            with open(out, "rb") as it:
+                self.assertEqual(it.read(), text)
+            self.assertEqual(os.listdir(folder), ["out.V21"])
+
+
+class Texts(unittest.TestCase):
+    """Sources, limits, and what may be handed in."""
+
+    def test_empty(self):
+        for source in (b"", bytearray(), memoryview(b"")):
+            self.assertEqual(str(cwr.check(source)), "TRUNCATED records 0")
+            self.assertEqual(list(cwr.Document(source)), [])
+            with self.assertRaises(cwr.TruncatedError):
+                cwr.read(source)
+            self.assertEqual(cwr.findings(source), [])
+            self.assertTrue(cwr.explain(source).startswith("TRUNCATED records 0\n"))
+
+    def test_mapped(self):
+        with tempfile.TemporaryDirectory() as folder:
+            empty = os.path.join(folder, "empty")
+            open(empty, "wb").close()
+            self.assertEqual(str(cwr.check(empty, mapped=True)), "TRUNCATED records 0")
+        for name in SAMPLES:
+            self.assertEqual(cwr.check(name, mapped=True), cwr.check(name))
+            self.assertEqual([it.line for it in cwr.Document(name, mapped=True).records()], [it.line for it in cwr.Document(name).records()])
+
+    def test_limits(self):
+        self.assertEqual(cwr.check(EVERY_KIND, limits=(5, 1, 1)).reason, "limit records")
+        for limits in ((4, 1, 1), (5, 0, 1), (5, 1, 0), (10**8, 1, 1), (-1, 1, 1), (2**32 + 5, 1, 1)):
+            with self.assertRaises(ValueError):
+                cwr.check(EVERY_KIND, limits=limits)
+            with self.assertRaises(ValueError):
+                cwr.Document(EVERY_KIND, limits=limits)
+            with self.assertRaises(ValueError):
+                cwr.write([], limits=limits)
+
+    def test_a_source_that_changes_later(self):
+        with open(WORKS, "rb") as it:
+            text = bytearray(it.read())
+        document = cwr.read(text)
+        before = [it.line for it in document.records()]
+        text[:] = b""
+        self.assertEqual([it.line for it in document.records()], before)
+
+    def test_many_line_feeds_take_little_memory(self):
+        self.assertEqual(cwr.Document(b"\n" * 10_000_000).verdict.record, 1)
+
+    def test_threads(self):
+        told = {name: str(cwr.check(name)) for name in SAMPLES}
+        wrong = []
+
+        def walk():
+            for name in SAMPLES * 5:
+                if str(cwr.check(name)) != told[name] or str(cwr.Document(name).verdict) != told[name]:
+                    wrong.append(name)
+
+        threads = [threading.Thread(target=walk) for _ in range(4)]
+        for it in threads:
+            it.start()
+        for it in threads:
+            it.join()
+        self.assertEqual(wrong, [])
+
+
+class Changed(unittest.TestCase):
+    """Changed texts: the calls agree with each other and with the program."""
+
+    def test_changed_texts(self):
+        draw = random.Random(int(os.environ.get("SEED", "1")))
+        texts = []
+        for name in SAMPLES:
+            with open(name, "rb") as it:
+                texts.append(it.read())
+        asked = 0
+        for i in range(int(os.environ.get("COUNT", "3000"))):
+            text = changed(draw.choice(texts), draw)
+            verdict, document = cwr.check(text), cwr.Document(text)
+            self.assertEqual(verdict, document.verdict, text)
+            self.assertEqual(len(document), verdict.record - 1 if verdict.ending is cwr.Ending.REFUSED else verdict.records)
+            if verdict:
+                again = cwr.write(document.records())
+                self.assertEqual(str(cwr.check(again)), str(verdict))
+                self.assertEqual(cwr.write(cwr.read(again).records()), again)
+            if i % 20 == 0:
+                asked += 1
+                self.assertEqual(cwr.report(text).encode("latin-1"), run("check", "-", text=text).stdout, text)
+        self.assertGreater(asked, 0)
+
+
+if __name__ == "__main__":
+    unittest.main()

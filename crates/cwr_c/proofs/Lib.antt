@@ -1,0 +1,13 @@
+mod PutElements
+mod EntriesPut
+mod LinesAtFront
+mod CarriedLines
+mod CountedItems
+mod ReadItems
+mod LineAfterLines
+mod IndexedText
+mod WrittenRecords
+mod WrittenLines
+mod ListedFindings
+mod ReportedTexts
+mod BlankTexts

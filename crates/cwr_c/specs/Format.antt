@@ -1,0 +1,10 @@
+-- What is promised, in the words of the format.
+pub mod VerdictNumbers
+pub mod WholeLines
+pub mod Entries
+pub mod Answers
+pub mod FieldNumbers
+pub mod FindingNumbers
+pub mod Copies
+pub mod LineRecords
+pub mod WrittenTexts
