@@ -11,7 +11,7 @@ use Rattle.cwr_shape.specs.declared.tallies.Counts.{Counts}
 use Rattle.cwr_shape.specs.Format.Levels.{level_of}
 use Rattle.cwr_shape.specs.Format.Ranges.{AreInRange}
 use Rattle.cwr_shape.specs.Steps.Tallies as tallies
-use Rattle.cwr_shape.specs.Format.NextSymbols.{counts_of, place_after}
+use Rattle.cwr_shape.specs.Format.NextSymbols.{counts_of, scope_after}
 use Rattle.cwr_values.specs.declared.items.Item.{Item}
 use Rattle.cwr_values.specs.Format.Values.{symbol_of}
 use Rattle.cwr_decode.specs.declared.outcomes.Outcome.{Outcome}
@@ -53,7 +53,7 @@ reported_stopped d input given fault o new h none first t =
       first = subst (λ (r : Reason). IsFirstFault d.tally.limits xs d.line t.refusal.field r) (sym t.reason)
           (subst (λ (f : ℕ). IsFirstFault d.tally.limits xs d.line f fault.reason) (sym t.field) (first xs h.read.counted));
       number = omega (arith, t.number, count, length-map h.records symbol_of);
-      level = t.level xs h.read.counted ∙ ap₂ (λ (f : ℕ) (r : Reason). level_of (held_kind d.line) f r (place_after xs)) (sym t.field) (sym t.reason);
+      level = t.level xs h.read.counted ∙ ap₂ (λ (f : ℕ) (r : Reason). level_of (held_kind d.line) f r (scope_after xs)) (sym t.field) (sym t.reason);
       empty = refl;
       nothing = refl;
       given_are = append-nil given ∙ h.given_are;

@@ -11,7 +11,7 @@ use Rattle.cwr_shape.specs.Format.Outlines.{IsWhole, Continues}
 use Rattle.cwr_shape.specs.Format.AnyTransmission.{Any}
 use Rattle.cwr_shape.specs.Format.Ranges.{AreInRange}
 use Rattle.cwr_shape.specs.Format.NextSymbols as tallies_there
-use Rattle.cwr_shape.specs.Format.NextSymbols.{place_by, place_after}
+use Rattle.cwr_shape.specs.Format.NextSymbols.{scope_by, scope_after}
 use Rattle.cwr_shape.specs.Steps.Tallies.{TallyValue}
 use Rattle.cwr_shape.proofs.OneMore.{last_or-snoc}
 use Rattle.cwr_shape.proofs.WithinByFronts.{none_passed}
@@ -101,13 +101,13 @@ around d input given kind r item out new m no_trailer outside own e =
     (subst (λ (is : List Item). Represents (reading d d.held) input (given ++ is)) own_item (reads_on d input given kind r d.held m no_trailer held))
 
 -- the place after a record inside a transaction
-pub inside_last : (kind : Kind) (records : List RecordValue) (r : RecordValue) → r.kind ≡ kind → is_in_transaction kind ≡ true → tallies_there.has_open_transaction (place_after (map symbol_of (records ++ r ∷ []))) ≡ true
+pub inside_last : (kind : Kind) (records : List RecordValue) (r : RecordValue) → r.kind ≡ kind → is_in_transaction kind ≡ true → tallies_there.has_open_transaction (scope_after (map symbol_of (records ++ r ∷ []))) ≡ true
 inside_last kind records r e h =
-    ap (λ (xs : List Symbol). tallies_there.has_open_transaction (place_after xs)) (map-snoc records r)
-    ∙ ap (λ (o : Option Symbol). tallies_there.has_open_transaction (place_by o)) (last_or-snoc None (map symbol_of records) (symbol_of r) ∙ ap (λ (k : Kind). Some (symbol_by k r)) e)
+    ap (λ (xs : List Symbol). tallies_there.has_open_transaction (scope_after xs)) (map-snoc records r)
+    ∙ ap (λ (o : Option Symbol). tallies_there.has_open_transaction (scope_by o)) (last_or-snoc None (map symbol_of records) (symbol_of r) ∙ ap (λ (k : Kind). Some (symbol_by k r)) e)
     ∙ by kind h
   where
-    by : (k : Kind) → is_in_transaction k ≡ true → tallies_there.has_open_transaction (place_by (Some (symbol_by k r))) ≡ true
+    by : (k : Kind) → is_in_transaction k ≡ true → tallies_there.has_open_transaction (scope_by (Some (symbol_by k r))) ≡ true
     by Hdr f = absurd (true≢false (sym f))
     by Grh f = absurd (true≢false (sym f))
     by Grt f = absurd (true≢false (sym f))

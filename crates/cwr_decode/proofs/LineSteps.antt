@@ -8,8 +8,8 @@ use Rattle.cwr_layouts.specs.Format.Growth.{AsksMemory}
 use Rattle.cwr_layouts.specs.Format.Records.{RecordValue, IsRecord}
 use Rattle.cwr_layouts.specs.Steps.Held.{HeldLine, carried_by, held_cells, held_excess, held_kind, held_record}
 use Rattle.cwr_shape.specs.declared.symbols.Symbol.{Symbol}
-use Rattle.cwr_shape.specs.declared.tallies.Place.{Place}
-use Rattle.cwr_shape.specs.declared.tallies.Place.TheVariants as places
+use Rattle.cwr_shape.specs.declared.tallies.Scope.{Scope}
+use Rattle.cwr_shape.specs.declared.tallies.Scope.TheVariants as scopes
 use Rattle.cwr_shape.specs.Format.NextSymbols.{has_open_transaction}
 use Rattle.cwr_shape.specs.Steps.Tallies.{TallyValue, IsTallyOf}
 use Rattle.cwr_values.specs.declared.items.Item.{Item}
@@ -26,13 +26,13 @@ use Rattle.cwr_decode.specs.Steps.Machines.{Standing, Adds, FinishesRecord, Ente
 
 -- ---- whether a record continues the open transaction
 
-pub inside_place : (p : Place) → p ≡ places.Transaction → has_open_transaction p ≡ true
-inside_place p e = ap has_open_transaction e
+pub inside_scope : (p : Scope) → p ≡ scopes.Transaction → has_open_transaction p ≡ true
+inside_scope p e = ap has_open_transaction e
 
-pub outside_place : (p : Place) → (p ≡ places.Transaction → ⊥) → has_open_transaction p ≡ false
-outside_place places.Transaction h = absurd (h refl)
-outside_place places.File h = refl
-outside_place places.Group h = refl
+pub outside_scope : (p : Scope) → (p ≡ scopes.Transaction → ⊥) → has_open_transaction p ≡ false
+outside_scope scopes.Transaction h = absurd (h refl)
+outside_scope scopes.File h = refl
+outside_scope scopes.Group h = refl
 
 pub continuing_yes : (m n a b : ℕ) (p : Bool) → m ≡ a → n ≡ b → m ≡ n → p ≡ true → true ≡ ((a == b) && p)
 continuing_yes m n a b p e f g h = sym (ap₂ (λ (u v : Bool). u && v) (eq-eqb a b (sym e ∙ g ∙ f)) h)

@@ -11,9 +11,9 @@ use Rattle.cwr_layouts.proofs.CutLaws.{line_is_cut}
 use Rattle.cwr_layouts.proofs.HeldLaws.{held_line_is_cut}
 use Rattle.cwr_layouts.proofs.RowLaws.{IsRow-row_of}
 use Rattle.cwr_shape.specs.declared.symbols.Symbol.{Symbol}
-use Rattle.cwr_shape.specs.declared.tallies.Place.{Place}
-use Rattle.cwr_shape.specs.Format.Levels.{level_of, place_after_kind}
-use Rattle.cwr_shape.specs.Format.NextSymbols.{place_by, place_after}
+use Rattle.cwr_shape.specs.declared.tallies.Scope.{Scope}
+use Rattle.cwr_shape.specs.Format.Levels.{level_of, scope_after_kind}
+use Rattle.cwr_shape.specs.Format.NextSymbols.{scope_by, scope_after}
 use Rattle.cwr_values.specs.declared.items.Item.{Item}
 use Rattle.cwr_values.specs.Format.Values.{symbol_of, symbol_by}
 use Rattle.cwr_values.specs.Format.Begins.{row_after, rows_after, rows_so_far}
@@ -23,10 +23,10 @@ use Rattle.cwr_decode.specs.Steps.Machines.{Standing}
 use Rattle.cwr_decode.specs.Steps.Represents.{IsStopped}
 
 -- what is open after a record follows from its kind
-place_of_record : (r : RecordValue) → place_by (Some (symbol_of r)) ≡ place_after_kind (Some r.kind)
-place_of_record r = by r.kind
+scope_of_record : (r : RecordValue) → scope_by (Some (symbol_of r)) ≡ scope_after_kind (Some r.kind)
+scope_of_record r = by r.kind
   where
-    by : (k : Kind) → place_by (Some (symbol_by k r)) ≡ place_after_kind (Some k)
+    by : (k : Kind) → scope_by (Some (symbol_by k r)) ≡ scope_after_kind (Some k)
     by kinds.Ipa = refl
     by kinds.Grh = refl
     by kinds.Hdr = refl
@@ -34,15 +34,15 @@ place_of_record r = by r.kind
     by kinds.Trl = refl
     by k = refl
 
-place_of_lines : (o : Option Symbol) (p : Option (List ℕ)) (before rs : List RecordValue) (lines : List (List ℕ)) → place_by o ≡ place_after_kind (option_and_then line_kind p) → AllByRecursion IsRecord rs
-    → AllZip IsLineOf (rows_after before rs) lines → place_by (last_or o (map symbol_of rs)) ≡ place_after_kind (option_and_then line_kind (last_or p lines))
+scope_of_lines : (o : Option Symbol) (p : Option (List ℕ)) (before rs : List RecordValue) (lines : List (List ℕ)) → scope_by o ≡ scope_after_kind (option_and_then line_kind p) → AllByRecursion IsRecord rs
+    → AllZip IsLineOf (rows_after before rs) lines → scope_by (last_or o (map symbol_of rs)) ≡ scope_after_kind (option_and_then line_kind (last_or p lines))
 unfolding rows_after
-place_of_lines o p before [] [] e h z = e
-place_of_lines o p before [] (line ∷ lines) e h z = absurd z
-place_of_lines o p before (r ∷ rs) [] e h z = absurd z
-place_of_lines o p before (r ∷ rs) (line ∷ lines) e h z =
+scope_of_lines o p before [] [] e h z = e
+scope_of_lines o p before [] (line ∷ lines) e h z = absurd z
+scope_of_lines o p before (r ∷ rs) [] e h z = absurd z
+scope_of_lines o p before (r ∷ rs) (line ∷ lines) e h z =
     let cut = line_is_cut (row_after before r) line (IsRow-row_of _ r h.0) z.0 in
-    place_of_lines (Some (symbol_of r)) (Some line) (before ++ r ∷ []) rs lines (place_of_record r ∙ ap place_after_kind (sym cut.kind)) h.1 z.1
+    scope_of_lines (Some (symbol_of r)) (Some line) (before ++ r ∷ []) rs lines (scope_of_record r ∙ ap scope_after_kind (sym cut.kind)) h.1 z.1
 
 last_get : (x : List ℕ) (xs : List (List ℕ)) → last_or (Some x) xs ≡ slice_get (x ∷ xs) (length xs)
 last_get x [] = refl
@@ -53,11 +53,11 @@ last_line [] = refl
 last_line (x ∷ xs) = let n : length xs ≡ length (x ∷ xs) - 1 = omega arith in last_get x xs ∙ ap (λ (i : ℕ). slice_get (x ∷ xs) i) n
 
 -- what is open after the records follows from the last of their lines
-pub place_of_last : (records : List RecordValue) (lines : List (List ℕ)) → AllByRecursion IsRecord records → AllZip IsLineOf (rows_so_far records) lines → place_after (map symbol_of records) ≡ place_after_kind (last_kind lines)
-place_of_last records lines h z = place_of_lines None None [] records lines refl h z ∙ ap (λ (o : Option (List ℕ)). place_after_kind (option_and_then line_kind o)) (last_line lines)
+pub scope_of_last : (records : List RecordValue) (lines : List (List ℕ)) → AllByRecursion IsRecord records → AllZip IsLineOf (rows_so_far records) lines → scope_after (map symbol_of records) ≡ scope_after_kind (last_kind lines)
+scope_of_last records lines h z = scope_of_lines None None [] records lines refl h z ∙ ap (λ (o : Option (List ℕ)). scope_after_kind (option_and_then line_kind o)) (last_line lines)
 
 pub stopped_level : (d : Standing) (input : List ℕ) (given : List Item) (refusal : Refusal) (line : List ℕ) → (s : IsStopped d input given refusal) → HoldsLine s.line line
-    → refusal.level ≡ level_of (line_kind line) refusal.field refusal.reason (place_after_kind (last_kind s.lines))
+    → refusal.level ≡ level_of (line_kind line) refusal.field refusal.reason (scope_after_kind (last_kind s.lines))
 stopped_level d input given refusal line s holds =
     let cut = held_line_is_cut s.line line s.is_held holds in
-    s.level ∙ ap₂ (λ (k : Option Kind) (p : Place). level_of k refusal.field refusal.reason p) cut.kind (place_of_last s.records s.lines s.read.in_order s.read.rows)
+    s.level ∙ ap₂ (λ (k : Option Kind) (p : Scope). level_of k refusal.field refusal.reason p) cut.kind (scope_of_last s.records s.lines s.read.in_order s.read.rows)

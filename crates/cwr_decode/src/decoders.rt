@@ -13,7 +13,7 @@ ghost use Rattle.cwr_shape.specs.declared.symbols.Symbol.{Symbol};
 ghost use Rattle.cwr_values.specs.declared.items.Item.{Item};
 
 use crate::machine::{Machine, State};
-use crate::outcomes::{Outcome, Step};
+use crate::outcomes::{Answer, Outcome};
 use cwr_shape::{Limits, Stage};
 use cwr_values::{Item, Transaction};
 use std::alloc::Global;
@@ -98,7 +98,7 @@ impl Decoder {
     }
 
     /// Takes the next piece of the input, up to the next item. `feed` after `finish` uses nothing and answers as that.
-    pub fn feed(&mut self, piece: &[u8]) -> Step
+    pub fn feed(&mut self, piece: &[u8]) -> Answer
         // What it represents: some input, and the items of that. Afterwards with the used bytes, and the item answered.
         ensures used { result.used ≤ length piece.now }
         ensures some { RepresentsSome self.old }
@@ -129,7 +129,7 @@ impl Decoder {
 
     /// Takes the end of the input, and answers an item, a refusal, `Memory`, `Truncated` or `Done`; after an item it is
     /// called again. A last line without its line feed is one that has it. No byte is used.
-    pub fn finish(&mut self) -> Step
+    pub fn finish(&mut self) -> Answer
         // What it represents: some input, and the items of that. Afterwards the same input, with the item answered.
         ensures used { result.used ≡ 0 }
         ensures some { RepresentsSome self.old }

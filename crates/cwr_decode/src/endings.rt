@@ -66,7 +66,7 @@ fn judge_line(tally: &mut Tally, line: &LineBuf) -> Result<bool, Refusal>
         Err(fault) => Err(Refusal {
             rec: tally.records() + 1,
             field: fault.field,
-            level: level(cut.kind(), fault.field, &fault.reason, tally.place()),
+            level: level(cut.kind(), fault.field, &fault.reason, tally.scope()),
             reason: fault.reason,
         }),
     }

@@ -15,7 +15,7 @@ pub use cwr_judge::Refusal;
 pub use decoders::Decoder;
 pub use endings::{End, end_of};
 pub use last_bytes::LastBytes;
-pub use outcomes::{Outcome, Step};
+pub use outcomes::{Answer, Outcome};
 pub use piecewise::read_pieces;
 pub use readings::{LastRead, ReadFault, Reading};
 pub use whole::read_all;

@@ -14,11 +14,11 @@ ghost use Rattle.cwr_decode.specs.Steps.Represents.{IsSound};
 ghost use Rattle.cwr_decode.specs.Steps.Calls.{Advances, Fed, TakesEnd, Feeds, Finishes};
 ghost use Rattle.cwr_values.specs.Format.Begun.{BeginsWithOneMore};
 
-use crate::outcomes::{Outcome, Step};
+use crate::outcomes::{Answer, Outcome};
 use cwr_fields::SpelledPair;
 use cwr_judge::{LineFault, Refusal, count_quickly, judge};
 use cwr_layouts::{CutLine, Kind, LineBuf, LineEnd, RecordRef, Taken, is_in_transaction};
-use cwr_shape::{Limits, Place, Stage, Symbol, Tally, level};
+use cwr_shape::{Limits, Scope, Stage, Symbol, Tally, level};
 use cwr_values::{Item, PushFault, Transaction};
 use std::alloc::{AllocError, Global};
 use std::marker::Model;
@@ -81,7 +81,7 @@ fn stays_open(before: &Tally, counted: &Tally) -> bool
     ensures { (xs : List Symbol) (symbol : Symbol) → IsTallyOf before.now xs → IsTallyOf counted.now (xs ++ symbol ∷ []) → result ≡ continues_open xs symbol }
 {
     let begun = before.transactions();
-    counted.transactions() == begun && matches!(counted.place(), Place::Transaction)
+    counted.transactions() == begun && matches!(counted.scope(), Scope::Transaction)
 }
 
 /// Counts an accepted record, and answers whether it continues the open transaction.
@@ -275,7 +275,7 @@ impl Machine {
         let refusal = Refusal {
             rec: self.tally.records() + 1,
             field: fault.field,
-            level: level(kind, fault.field, &fault.reason, self.tally.place()),
+            level: level(kind, fault.field, &fault.reason, self.tally.scope()),
             reason: fault.reason,
         };
         self.stop(State::Refused(refusal));
@@ -573,7 +573,7 @@ impl Machine {
     }
 
     /// Takes lines of the piece, up to the next item.
-    fn feed_lines(&mut self, piece: &[u8]) -> Step
+    fn feed_lines(&mut self, piece: &[u8]) -> Answer
         requires sound { IsSound self.old }
         requires reading { self.old.state ≡ State.Reading }
         requires fresh { self.old.finished ≡ false }
@@ -584,7 +584,7 @@ impl Machine {
             let (front, found) = self.feed_quickly(&piece[used..]);
             used += front;
             if let Some(whole) = found {
-                return Step {
+                return Answer {
                     used,
                     outcome: Outcome::Item(Item::Transaction(whole)),
                 };
@@ -592,7 +592,7 @@ impl Machine {
             let taken = self.take(&piece[used..]);
             used += taken.used;
             if let LineEnd::Open = taken.ended {
-                return Step {
+                return Answer {
                     used,
                     outcome: Outcome::More,
                 };
@@ -600,7 +600,7 @@ impl Machine {
             match self.enter_line() {
                 Found::Added => continue,
                 Found::Ends => {
-                    return Step {
+                    return Answer {
                         used,
                         outcome: Outcome::Item(Item::Transaction(self.take_whole())),
                     };
@@ -608,13 +608,13 @@ impl Machine {
                 Found::Nothing => {}
             }
             if let Some(outcome) = self.take_line() {
-                return Step { used, outcome };
+                return Answer { used, outcome };
             }
         }
     }
 
     /// Takes the next piece of the input, up to the next item.
-    pub fn feed(&mut self, piece: &[u8]) -> Step
+    pub fn feed(&mut self, piece: &[u8]) -> Answer
         requires { IsSound self.old }
         ensures { Feeds self.old piece.now result.used result.outcome self.new }
     {
@@ -625,26 +625,26 @@ impl Machine {
             return self.feed_lines(piece);
         }
         if let Some(outcome) = self.settle() {
-            return Step { used: 0, outcome };
+            return Answer { used: 0, outcome };
         }
         self.feed_lines(piece)
     }
 
     /// Takes the end of the input.
-    pub fn finish(&mut self) -> Step
+    pub fn finish(&mut self) -> Answer
         requires { IsSound self.old }
         ensures used { result.used ≡ 0 }
         ensures finishes { Finishes self.old result.outcome self.new }
     {
         if let Some(outcome) = self.last_line() {
-            return Step { used: 0, outcome };
+            return Answer { used: 0, outcome };
         }
         if let Some(outcome) = self.settle() {
-            return Step { used: 0, outcome };
+            return Answer { used: 0, outcome };
         }
         let records = self.tally.records();
         self.stop(State::Truncated(records));
-        Step {
+        Answer {
             used: 0,
             outcome: Outcome::Truncated { records },
         }

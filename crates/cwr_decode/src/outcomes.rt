@@ -25,7 +25,7 @@ pub enum Outcome {
 
 /// What a call of a decoder did.
 #[derive(Drop)]
-pub struct Step {
+pub struct Answer {
     /// How many bytes of the piece were used, from its start.
     pub used: usize,
     /// What is answered.

@@ -3,7 +3,7 @@
 use crate::checks::check_equal;
 use crate::decoders::{Numbers, decoder_within, end_by, feed, finish, name_after};
 use crate::item_lines::add_item;
-use cwr_decode::{Decoder, End, Outcome, Step};
+use cwr_decode::{Answer, Decoder, End, Outcome};
 use std::process::Abort;
 
 /// What a decoder answers on a text.
@@ -26,7 +26,7 @@ impl Answers {
     }
 
     /// Adds the answer of a call, and says whether the next one may hand out an item.
-    fn add(&mut self, rt: &impl Abort, step: &Step) -> bool {
+    fn add(&mut self, rt: &impl Abort, step: &Answer) -> bool {
         self.used = self.used.saturating_add(step.used);
         self.end = end_by(&step.outcome, self.used);
         let Outcome::Item(item) = &step.outcome else {
@@ -39,7 +39,7 @@ impl Answers {
 }
 
 /// Feeds a piece, or where there is none takes the end of the input.
-fn call(decoder: &mut Decoder, piece: Option<&[u8]>) -> Step {
+fn call(decoder: &mut Decoder, piece: Option<&[u8]>) -> Answer {
     match piece {
         Some(bytes) => decoder.feed(bytes),
         None => decoder.finish(),

@@ -4,7 +4,7 @@ ghost use Rattle.std.specs.Prelude.{◌<◌, ◌≤◌};
 
 use crate::checks::check_equal;
 use crate::decoders::{LARGEST, decoder_within, feed, text_of};
-use cwr_decode::{Outcome, Step};
+use cwr_decode::{Answer, Outcome};
 use cwr_fields::{Cell, CivilDate, DateCell, Number, TimeOfDay, TransactionStatus, trimmed};
 use cwr_layouts::{Kind, RecordRef};
 use cwr_values::{Item, Transaction};
@@ -13,7 +13,7 @@ use std::fmt::Debug;
 use std::process::Abort;
 
 /// The transaction that a step hands out.
-fn transaction_in(step: Step) -> Option<Transaction> {
+fn transaction_in(step: Answer) -> Option<Transaction> {
     match step.outcome {
         Outcome::Item(Item::Transaction(transaction)) => Some(transaction),
         _ => None,

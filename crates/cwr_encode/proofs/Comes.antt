@@ -15,7 +15,7 @@ use Rattle.cwr_shape.specs.declared.stages.TransactionStep.{TransactionStep}
 use Rattle.cwr_shape.specs.declared.stages.TransactionStep.TheVariants as steps
 use Rattle.cwr_shape.specs.declared.tallies.Counts.{Counts}
 use Rattle.cwr_shape.specs.Format.Ranges.{LimitValues}
-use Rattle.cwr_shape.specs.declared.tallies.Place.TheVariants as places
+use Rattle.cwr_shape.specs.declared.tallies.Scope.TheVariants as scopes
 use Rattle.cwr_shape.specs.Format.Shapes.{IsShape, is_carried_symbol, without_carried}
 use Rattle.cwr_shape.specs.Format.Outlines.{GroupOutline, IsGroupOutline, IsWithin, Continues}
 use Rattle.cwr_shape.specs.Format.LastSymbols.{is_grh, latest, group_of}
@@ -28,9 +28,9 @@ use Rattle.cwr_shape.specs.Format.NextSymbols.{MayCome, open_records}
 use Rattle.cwr_shape.specs.Steps.Tallies.{TallyValue, IsTallyOf}
 use Rattle.cwr_shape.specs.Format.NextSymbols as tallies_there
 use Rattle.cwr_shape.specs.Steps.Tallies as tallies
-use Rattle.cwr_shape.specs.Format.NextSymbols.{place_by}
-use Rattle.cwr_shape.specs.Steps.Counting.{open_at, place_at}
-use Rattle.cwr_shape.proofs.PlacesNamed.{AreLast, last_without, carried_opens, place_stands}
+use Rattle.cwr_shape.specs.Format.NextSymbols.{scope_by}
+use Rattle.cwr_shape.specs.Steps.Counting.{open_at, scope_at}
+use Rattle.cwr_shape.proofs.ScopesNamed.{AreLast, last_without, carried_opens, scope_stands}
 use Rattle.cwr_shape.proofs.StageStands.{next_exact, next_stands}
 use Rattle.cwr_shape.proofs.TransactionNumbers.{Headed, headed_shape}
 use Rattle.cwr_shape.proofs.LimitsByNeeds.{records_reach, groups_reach, within_goes, open_named, kept_within, kept_next}
@@ -60,12 +60,12 @@ reached_named (Some s) xs = refl
 pub reached_stands : (xs : List Symbol) (stage : Stage) → StandsAt xs stage → reached_at stage ≡ reached xs
 reached_stands xs stage st = by (last_without xs)
   where
-    inside : (s : Stage) → place_at s ≡ places.Transaction → reached_at s ≡ reached_to.Inside
+    inside : (s : Stage) → scope_at s ≡ scopes.Transaction → reached_at s ≡ reached_to.Inside
     inside (stages.Within ty steps.InGroup) e = absurd (cc e)
     inside (stages.Within ty step) e = refl
     inside s e = absurd (cc e)
 
-    inner : (s : Symbol) → place_by (Some s) ≡ places.Transaction → reached_by (Some s) ≡ reached_to.Inside
+    inner : (s : Symbol) → scope_by (Some s) ≡ scopes.Transaction → reached_by (Some s) ≡ reached_to.Inside
     inner (Plain kinds.Hdr) e = absurd (cc e)
     inner (Grh ty) e = absurd (cc e)
     inner (Plain kinds.Grt) e = absurd (cc e)
@@ -75,7 +75,7 @@ reached_stands xs stage st = by (last_without xs)
     by : AreLast (last_or None xs) (last_or None (without_carried xs)) → reached_at stage ≡ reached xs
     by (inl same) = ap reached_at st.named ∙ reached_named (last_or None (without_carried xs)) (without_carried xs) ∙ ap reached_by same
     by (inr (s, last, e)) =
-        inside stage (place_stands xs stage st ∙ ap place_by last ∙ carried_opens s e) ∙ sym (inner s (carried_opens s e)) ∙ ap reached_by (sym last)
+        inside stage (scope_stands xs stage st ∙ ap scope_by last ∙ carried_opens s e) ∙ sym (inner s (carried_opens s e)) ∙ ap reached_by (sym last)
 
 -- ---- one record more, after which less is needed
 

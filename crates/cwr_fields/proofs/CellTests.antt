@@ -13,7 +13,7 @@ use Rattle.cwr_fields.specs.declared.tables.Table.{Table}
 use Rattle.cwr_fields.specs.declared.tables.Table.TheVariants as tables
 use Rattle.cwr_fields.specs.Format.Bytes.{is_plain, is_spaces, digits, number_of, filled}
 use Rattle.cwr_fields.specs.Format.Codes.{codes_of, code_width, word_text}
-use Rattle.cwr_fields.specs.Format.Cells.{Holds, SpellsNumber, SpellsDay, SpellsTime, SpellsShare, SpellsCode, flag_texts}
+use Rattle.cwr_fields.specs.Format.Cells.{Allows, SpellsNumber, SpellsDay, SpellsTime, SpellsShare, SpellsCode, flag_texts}
 use Rattle.cwr_fields.proofs.NumbersInParts.{year_part, month_part, day_part}
 
 same : (xs ys : List ℕ) → bytes_eq xs ys ≡ true → xs ≡ ys
@@ -127,7 +127,7 @@ either : {P Q : Type 0} (a b : Bool) → (a ≡ true → P) → (b ≡ true → 
 either true b f g h = inl (f refl)
 either false b f g h = inr (g h)
 
-pub holds_sound : (ty : CellType) (cell : List ℕ) → holds_test ty cell ≡ true → Holds ty cell
+pub holds_sound : (ty : CellType) (cell : List ℕ) → holds_test ty cell ≡ true → Allows ty cell
 unfolding holds_test
 holds_sound Text cell h = h
 holds_sound Required cell h = let p = and_parts _ _ h in (p.0, not-true _ p.1)

@@ -4,7 +4,7 @@ use Rattle.std.specs.Prelude.{◌↔◌, ◌⊎◌, IsTrue}
 use Rattle.std.proofs.lemmas.List.{drop-set, length-set, take-append-drop, drop-drop}
 use Rattle.cwr_fields.specs.declared.cell_types.CellType.TheVariants as types
 use Rattle.cwr_fields.specs.Format.Bytes.{digits, number_of, are_digits, is_spaces}
-use Rattle.cwr_fields.specs.Format.Cells.{Holds, SpellsTime}
+use Rattle.cwr_fields.specs.Format.Cells.{Allows, SpellsTime}
 use Rattle.cwr_fields.proofs.Blanks.{spaces}
 use Rattle.cwr_fields.proofs.Spellings.{are_digits-append, are_digits-split, digits-number_of, part_spelled, parts_joined, same_parts, share_spelled}
 
@@ -62,7 +62,7 @@ pub number_back : (width : ℕ) (cell : List ℕ) → length cell ≡ width → 
 number_back width cell wide h = subst (λ (w : ℕ). digits w (number_of cell) ≡ cell) wide (digits-number_of cell h)
 
 -- a cell that isn't blank is a share where it is digits, of which the whole is the most
-pub share_or : (cell : List ℕ) → length cell ≡ 5 → is_spaces cell ≡ false → Holds types.Share cell ↔ ((are_digits cell ≡ true) × (number_of cell ≤ 10000))
+pub share_or : (cell : List ℕ) → length cell ≡ 5 → is_spaces cell ≡ false → Allows types.Share cell ↔ ((are_digits cell ≡ true) × (number_of cell ≤ 10000))
 share_or cell wide filled = let s = share_spelled cell wide in (not_blank_share cell filled s.0, λ d. inr (s.1 d))
   where
     not_blank_share : {P Q : Type 0} (cell : List ℕ) → is_spaces cell ≡ false → (P → Q) → (cell ≡ replicate 5 32) ⊎ P → Q
@@ -70,7 +70,7 @@ share_or cell wide filled = let s = share_spelled cell wide in (not_blank_share 
     not_blank_share cell filled f (inr p) = f p
 
 -- a cell that isn't blank is a duration where it spells one
-pub duration_or : (cell : List ℕ) → is_spaces cell ≡ false → Holds types.OptDuration cell ↔ SpellsTime 100 cell
+pub duration_or : (cell : List ℕ) → is_spaces cell ≡ false → Allows types.OptDuration cell ↔ SpellsTime 100 cell
 duration_or cell filled = (not_blank cell filled, λ s. inr s)
   where
     not_blank : {P : Type 0} (cell : List ℕ) → is_spaces cell ≡ false → (cell ≡ replicate 6 32) ⊎ P → P

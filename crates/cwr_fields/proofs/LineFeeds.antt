@@ -12,7 +12,7 @@ use Rattle.cwr_fields.specs.declared.cell_types.Word.{Word}
 use Rattle.cwr_fields.specs.declared.cell_types.Word.TheVariants as words
 use Rattle.cwr_fields.specs.Format.Bytes.{digits, is_plain, is_spaces, is_control}
 use Rattle.cwr_fields.specs.Format.Codes.{codes_of, code_width, word_text}
-use Rattle.cwr_fields.specs.Format.Cells.{Holds, SpellsDay, SpellsTime, SpellsCode, IsCodeOf, flag_texts}
+use Rattle.cwr_fields.specs.Format.Cells.{Allows, SpellsDay, SpellsTime, SpellsCode, IsCodeOf, flag_texts}
 
 -- no byte is a line feed
 abbrev pub has_lf : List ℕ → Bool
@@ -108,25 +108,25 @@ NoLf-word : (word : Word) → NoLf (word_text word)
 NoLf-word words.Edi = refl
 NoLf-word words.Group = refl
 
-pub NoLf-Holds : (ty : CellType) (cell : List ℕ) → Holds ty cell → NoLf cell
-NoLf-Holds Text cell h = NoLf-plain cell h
-NoLf-Holds Required cell h = NoLf-plain cell h.0
-NoLf-Holds Number cell s = subst NoLf (sym s.3) (NoLf-digits (length cell) s.0)
-NoLf-Holds OptNumber cell (inl h) = NoLf-spaces cell h
-NoLf-Holds OptNumber cell (inr s) = subst NoLf (sym s.3) (NoLf-digits (length cell) s.0)
-NoLf-Holds Date cell s = NoLf-day cell s
-NoLf-Holds OptDate cell (inl e) = NoLf-same 8 32 cell refl e
-NoLf-Holds OptDate cell (inr (inl e)) = NoLf-same 8 48 cell refl e
-NoLf-Holds OptDate cell (inr (inr s)) = NoLf-day cell s
-NoLf-Holds Time cell s = NoLf-time 24 cell s
-NoLf-Holds OptTime cell (inl e) = NoLf-same 6 32 cell refl e
-NoLf-Holds OptTime cell (inr s) = NoLf-time 24 cell s
-NoLf-Holds OptDuration cell (inl e) = NoLf-same 6 32 cell refl e
-NoLf-Holds OptDuration cell (inr s) = NoLf-time 100 cell s
-NoLf-Holds Share cell (inl e) = NoLf-same 5 32 cell refl e
-NoLf-Holds Share cell (inr s) = subst NoLf (sym s.2) (NoLf-digits 5 s.0)
-NoLf-Holds Flag cell m = NoLf-among flag_texts cell refl m
-NoLf-Holds (Code table) cell c = NoLf-code table cell c
-NoLf-Holds (OptCode table) cell (inl e) = NoLf-same (code_width table) 32 cell refl e
-NoLf-Holds (OptCode table) cell (inr c) = NoLf-code table cell c
-NoLf-Holds (Constant word) cell e = subst NoLf (sym e) (NoLf-word word)
+pub NoLf-Allows : (ty : CellType) (cell : List ℕ) → Allows ty cell → NoLf cell
+NoLf-Allows Text cell h = NoLf-plain cell h
+NoLf-Allows Required cell h = NoLf-plain cell h.0
+NoLf-Allows Number cell s = subst NoLf (sym s.3) (NoLf-digits (length cell) s.0)
+NoLf-Allows OptNumber cell (inl h) = NoLf-spaces cell h
+NoLf-Allows OptNumber cell (inr s) = subst NoLf (sym s.3) (NoLf-digits (length cell) s.0)
+NoLf-Allows Date cell s = NoLf-day cell s
+NoLf-Allows OptDate cell (inl e) = NoLf-same 8 32 cell refl e
+NoLf-Allows OptDate cell (inr (inl e)) = NoLf-same 8 48 cell refl e
+NoLf-Allows OptDate cell (inr (inr s)) = NoLf-day cell s
+NoLf-Allows Time cell s = NoLf-time 24 cell s
+NoLf-Allows OptTime cell (inl e) = NoLf-same 6 32 cell refl e
+NoLf-Allows OptTime cell (inr s) = NoLf-time 24 cell s
+NoLf-Allows OptDuration cell (inl e) = NoLf-same 6 32 cell refl e
+NoLf-Allows OptDuration cell (inr s) = NoLf-time 100 cell s
+NoLf-Allows Share cell (inl e) = NoLf-same 5 32 cell refl e
+NoLf-Allows Share cell (inr s) = subst NoLf (sym s.2) (NoLf-digits 5 s.0)
+NoLf-Allows Flag cell m = NoLf-among flag_texts cell refl m
+NoLf-Allows (Code table) cell c = NoLf-code table cell c
+NoLf-Allows (OptCode table) cell (inl e) = NoLf-same (code_width table) 32 cell refl e
+NoLf-Allows (OptCode table) cell (inr c) = NoLf-code table cell c
+NoLf-Allows (Constant word) cell e = subst NoLf (sym e) (NoLf-word word)

@@ -41,7 +41,7 @@ impl Coded for AgreementType {
         &AGREEMENT_TYPE
     }
 
-    fn place(self) -> usize {
+    fn position(self) -> usize {
         self as usize
     }
 
@@ -89,7 +89,7 @@ impl Coded for PriorRoyaltyStatus {
         &PRIOR
     }
 
-    fn place(self) -> usize {
+    fn position(self) -> usize {
         self as usize
     }
 
@@ -137,7 +137,7 @@ impl Coded for PostTermCollectionStatus {
         &POST_TERM
     }
 
-    fn place(self) -> usize {
+    fn position(self) -> usize {
         self as usize
     }
 
@@ -183,7 +183,7 @@ impl Coded for SalesManufactureClause {
         &SALES
     }
 
-    fn place(self) -> usize {
+    fn position(self) -> usize {
         self as usize
     }
 
@@ -229,7 +229,7 @@ impl Coded for InclusionExclusion {
         &SIGN
     }
 
-    fn place(self) -> usize {
+    fn position(self) -> usize {
         self as usize
     }
 

@@ -3,7 +3,7 @@
 ghost use Rattle.std.specs.Prelude.{◌≡◌, ◌↔◌, IsTrue, IsFalse, OnOk, IfErr, length, if◌then◌else◌};
 ghost use Rattle.std.specs.Option.{ForSome};
 ghost use Rattle.cwr_fields.specs.Format.Bytes.{is_spaces, is_plain};
-ghost use Rattle.cwr_fields.specs.Format.Cells.{Holds, HasFault, SpellsNumber, type_width};
+ghost use Rattle.cwr_fields.specs.Format.Cells.{Allows, HasFault, SpellsNumber, type_width};
 ghost use Rattle.cwr_fields.specs.Format.Codes.{code_width};
 
 use crate::byte_runs::{are_digits, has_control, is_spaces, number_in};
@@ -34,14 +34,14 @@ pub(crate) fn is_number(cell: &[u8]) -> bool
 
 #[inline(always)]
 pub(crate) fn is_opt_number(cell: &[u8]) -> bool
-    ensures { IsTrue result ↔ Holds CellType.OptNumber cell.now }
+    ensures { IsTrue result ↔ Allows CellType.OptNumber cell.now }
 {
     is_spaces(cell) || is_number(cell)
 }
 
 fn is_opt_time(cell: &[u8]) -> bool
     requires { length cell.now ≡ 6 }
-    ensures { IsTrue result ↔ Holds CellType.OptTime cell.now }
+    ensures { IsTrue result ↔ Allows CellType.OptTime cell.now }
 {
     is_spaces(cell) || is_cell::<TimeOfDay>(cell)
 }
@@ -49,7 +49,7 @@ fn is_opt_time(cell: &[u8]) -> bool
 #[inline(always)]
 pub(crate) fn is_opt_code(table: Table, cell: &[u8]) -> bool
     requires { length cell.now ≡ code_width table }
-    ensures { IsTrue result ↔ Holds (CellType.OptCode table) cell.now }
+    ensures { IsTrue result ↔ Allows (CellType.OptCode table) cell.now }
 {
     is_spaces(cell) || is_code(table, cell)
 }
@@ -82,7 +82,7 @@ fn blank_or_fault_unless(is_one: bool, other: CellFault, cell: &[u8]) -> Result<
 #[inline(always)]
 fn fits_required_plain(cell: &[u8]) -> Result<(), CellFault>
     requires { IsTrue (is_plain cell.now) }
-    ensures ok { OnOk result (Holds CellType.Required cell.now) }
+    ensures ok { OnOk result (Allows CellType.Required cell.now) }
     ensures err { IfErr result (λ fault. HasFault CellType.Required cell.now fault) }
 {
     if is_spaces(cell) {
@@ -93,7 +93,7 @@ fn fits_required_plain(cell: &[u8]) -> Result<(), CellFault>
 }
 
 fn fits_required(cell: &[u8]) -> Result<(), CellFault>
-    ensures ok { OnOk result (Holds CellType.Required cell.now) }
+    ensures ok { OnOk result (Allows CellType.Required cell.now) }
     ensures err { IfErr result (λ fault. HasFault CellType.Required cell.now fault) }
 {
     if is_plain(cell) {
@@ -106,7 +106,7 @@ fn fits_required(cell: &[u8]) -> Result<(), CellFault>
 #[inline(always)]
 fn fits_share(cell: &[u8]) -> Result<(), CellFault>
     requires { length cell.now ≡ 5 }
-    ensures ok { OnOk result (Holds CellType.Share cell.now) }
+    ensures ok { OnOk result (Allows CellType.Share cell.now) }
     ensures err { IfErr result (λ fault. HasFault CellType.Share cell.now fault) }
 {
     if is_spaces(cell) {
@@ -123,7 +123,7 @@ fn fits_share(cell: &[u8]) -> Result<(), CellFault>
 #[inline(always)]
 pub fn fits(ty: CellType, cell: &[u8]) -> Result<(), CellFault>
     requires { ForSome (type_width ty) (λ width. length cell.now ≡ width) }
-    ensures ok { OnOk result (Holds ty cell.now) }
+    ensures ok { OnOk result (Allows ty cell.now) }
     ensures err { IfErr result (λ fault. HasFault ty cell.now fault) }
 {
     match ty {
@@ -162,7 +162,7 @@ pub fn fits(ty: CellType, cell: &[u8]) -> Result<(), CellFault>
 pub fn fits_plain(ty: CellType, cell: &[u8]) -> Result<(), CellFault>
     requires width { ForSome (type_width ty) (λ width. length cell.now ≡ width) }
     requires plain { IsTrue (is_plain cell.now) }
-    ensures ok { OnOk result (Holds ty cell.now) }
+    ensures ok { OnOk result (Allows ty cell.now) }
     ensures err { IfErr result (λ fault. HasFault ty cell.now fault) }
 {
     match ty {

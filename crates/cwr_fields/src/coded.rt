@@ -32,15 +32,15 @@ pub trait Coded: Copy + 'static {
     fn list() -> &'static [(Self, &'static str)]
         ensures { map listed result.now ≡ map (coded code) members };
 
-    /// The member's place in the list, from 0.
-    fn place(self) -> usize
+    /// The member's position in the list, from 0.
+    fn position(self) -> usize
         ensures { slice_get members result ≡ Some self };
 
     /// The member's code, without the spaces that fill up its cells.
     final fn code(self) -> &'static str
         ensures { result.now ≡ code self }
     {
-        Self::list()[self.place()].1
+        Self::list()[self.position()].1
     }
 
     // A cell of the table holds the code of a member.

@@ -37,7 +37,7 @@ impl Coded for Role {
         &ROLE
     }
 
-    fn place(self) -> usize {
+    fn position(self) -> usize {
         self as usize
     }
 
@@ -86,7 +86,7 @@ impl Coded for TransactionType {
         &TRANSACTION_TYPE
     }
 
-    fn place(self) -> usize {
+    fn position(self) -> usize {
         self as usize
     }
 

@@ -53,7 +53,7 @@ impl Coded for TransactionStatus {
         &STATUS
     }
 
-    fn place(self) -> usize {
+    fn position(self) -> usize {
         self as usize
     }
 
@@ -105,7 +105,7 @@ impl Coded for MessageLevel {
         &MESSAGE
     }
 
-    fn place(self) -> usize {
+    fn position(self) -> usize {
         self as usize
     }
 

@@ -46,7 +46,7 @@ impl Coded for PublisherType {
         &PUBLISHER
     }
 
-    fn place(self) -> usize {
+    fn position(self) -> usize {
         self as usize
     }
 
@@ -106,7 +106,7 @@ impl Coded for WriterDesignation {
         &DESIGNATION
     }
 
-    fn place(self) -> usize {
+    fn position(self) -> usize {
         self as usize
     }
 

@@ -3,7 +3,7 @@
 ghost use Rattle.std.specs.Prelude.{◌≡◌, IsTrue, length};
 ghost use Rattle.std.specs.Option.{ForSome};
 ghost use Rattle.cwr_fields.specs.Format.Bytes.{is_digit, is_plain, is_spaces};
-ghost use Rattle.cwr_fields.specs.Format.Cells.{Holds, type_width};
+ghost use Rattle.cwr_fields.specs.Format.Cells.{Allows, type_width};
 
 use crate::byte_runs::is_spaces;
 use crate::cell_types::CellType;
@@ -21,7 +21,7 @@ fn is_digit(byte: u8) -> bool
 /// Whether the share is blank, the whole, or less than the whole.
 #[inline(always)]
 fn is_surely_share(cell: &[u8]) -> bool
-    ensures { IsTrue result → Holds CellType.Share cell.now }
+    ensures { IsTrue result → Allows CellType.Share cell.now }
 {
     let [a, b, c, d, e] = cell else {
         return false;
@@ -35,7 +35,7 @@ fn is_surely_share(cell: &[u8]) -> bool
 /// Whether the cell is one byte that is a flag.
 #[inline(always)]
 fn is_surely_flag(cell: &[u8]) -> bool
-    ensures { IsTrue result → Holds CellType.Flag cell.now }
+    ensures { IsTrue result → Allows CellType.Flag cell.now }
 {
     let [byte] = cell else {
         return false;
@@ -47,7 +47,7 @@ fn is_surely_flag(cell: &[u8]) -> bool
 #[inline(never)]
 fn fits_by_type(ty: CellType, cell: &[u8]) -> bool
     requires { ForSome (type_width ty) (λ width. length cell.now ≡ width) }
-    ensures { IsTrue result → Holds ty cell.now }
+    ensures { IsTrue result → Allows ty cell.now }
 {
     fits(ty, cell).is_ok()
 }
@@ -56,8 +56,8 @@ fn fits_by_type(ty: CellType, cell: &[u8]) -> bool
 #[inline(always)]
 fn is_blank_or_fits(ty: CellType, cell: &[u8]) -> bool
     requires width { ForSome (type_width ty) (λ width. length cell.now ≡ width) }
-    requires blank { IsTrue (is_spaces cell.now) → Holds ty cell.now }
-    ensures { IsTrue result → Holds ty cell.now }
+    requires blank { IsTrue (is_spaces cell.now) → Allows ty cell.now }
+    ensures { IsTrue result → Allows ty cell.now }
 {
     is_spaces(cell) || fits_by_type(ty, cell)
 }
@@ -68,7 +68,7 @@ fn is_blank_or_fits(ty: CellType, cell: &[u8]) -> bool
 pub fn surely_fits(ty: CellType, cell: &[u8]) -> bool
     requires width { ForSome (type_width ty) (λ width. length cell.now ≡ width) }
     requires plain { IsTrue (is_plain cell.now) }
-    ensures { IsTrue result → Holds ty cell.now }
+    ensures { IsTrue result → Allows ty cell.now }
 {
     match ty {
         CellType::Text => true,

@@ -2,7 +2,7 @@
 
 ghost use Rattle.std.specs.Prelude.{◌≡◌, ◌↔◌, ℕ, ◌<◌, ◌≤◌, IsTrue, List, length, IsSome, IfSome};
 ghost use Rattle.cwr_fields.specs.declared.cell_types.CellType.{CellType};
-ghost use Rattle.cwr_fields.specs.Format.Cells.{Holds};
+ghost use Rattle.cwr_fields.specs.Format.Cells.{Allows};
 
 use crate::cell_types::CellType;
 
@@ -25,7 +25,7 @@ pub trait Cell: Copy {
     fn read(cell: &[u8]) -> Option<Self>
         requires least { 0 < WIDTH }
         requires most { WIDTH ≤ 10 }
-        ensures some { IsSome result ↔ ((length cell.now ≡ WIDTH) × Holds TYPE cell.now) }
+        ensures some { IsSome result ↔ ((length cell.now ≡ WIDTH) × Allows TYPE cell.now) }
         ensures value { IfSome result (λ x. text x ≡ cell.now) };
 
     /// Writes a cell of `WIDTH` bytes.
@@ -35,7 +35,7 @@ pub trait Cell: Copy {
 
     ghost width: { (x : Self) → length (text x) ≡ WIDTH };
 
-    ghost fits: { (x : Self) → Holds TYPE (text x) };
+    ghost fits: { (x : Self) → Allows TYPE (text x) };
 
     ghost equal: { (x y : Self) → text x ≡ text y → x ≡ y };
 }
@@ -45,7 +45,7 @@ pub(crate) fn is_cell<C: Cell>(cell: &[u8]) -> bool
     requires least { 0 < C.WIDTH }
     requires most { C.WIDTH ≤ 10 }
     requires width { length cell.now ≡ C.WIDTH }
-    ensures { IsTrue result ↔ Holds C.TYPE cell.now }
+    ensures { IsTrue result ↔ Allows C.TYPE cell.now }
 {
     C::read(cell).is_some()
 }

@@ -42,7 +42,7 @@ impl Coded for DistributionCategory {
         &CATEGORY
     }
 
-    fn place(self) -> usize {
+    fn position(self) -> usize {
         self as usize
     }
 
@@ -87,7 +87,7 @@ impl Coded for VersionType {
         &VERSION
     }
 
-    fn place(self) -> usize {
+    fn position(self) -> usize {
         self as usize
     }
 
@@ -136,7 +136,7 @@ impl Coded for CompositeType {
         &COMPOSITE
     }
 
-    fn place(self) -> usize {
+    fn position(self) -> usize {
         self as usize
     }
 
@@ -181,7 +181,7 @@ impl Coded for ExcerptType {
         &EXCERPT
     }
 
-    fn place(self) -> usize {
+    fn position(self) -> usize {
         self as usize
     }
 
@@ -244,7 +244,7 @@ impl Coded for TitleType {
         &TITLE
     }
 
-    fn place(self) -> usize {
+    fn position(self) -> usize {
         self as usize
     }
 
@@ -289,7 +289,7 @@ impl Coded for RecordingFormat {
         &RECORDING
     }
 
-    fn place(self) -> usize {
+    fn position(self) -> usize {
         self as usize
     }
 
@@ -336,7 +336,7 @@ impl Coded for RecordingTechnique {
         &TECHNIQUE
     }
 
-    fn place(self) -> usize {
+    fn position(self) -> usize {
         self as usize
     }
 

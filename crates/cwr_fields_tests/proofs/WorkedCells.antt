@@ -5,7 +5,7 @@ use Rattle.std.proofs.lemmas.Int.{ints}
 use Rattle.cwr_fields.specs.declared.cell_types.CellType.TheVariants.{Text, Required, Date, OptDate, Time, OptDuration, Share, Flag}
 use Rattle.cwr_fields.specs.declared.cell_types.CellFault.TheVariants.{Blank, Control, NotADate, NotATime, OverShare, NotDigits, NotACode}
 use Rattle.cwr_fields.specs.Format.Bytes.{digits, number_of}
-use Rattle.cwr_fields.specs.Format.Cells.{Holds, HasFault}
+use Rattle.cwr_fields.specs.Format.Cells.{Allows, HasFault}
 use Rattle.cwr_fields.specs.Format.Iswc.{is_iswc}
 use Rattle.cwr_fields.proofs.Digits.{number_of-digits}
 use Rattle.cwr_fields.proofs.NumbersInParts.{day_of_parts, time_of_parts}
@@ -14,46 +14,46 @@ use Rattle.cwr_fields.proofs.NumbersInParts.{day_of_parts, time_of_parts}
 apart : (k : ℕ) (xs ys : List ℕ) → (slice_index xs k < slice_index ys k) ⊎ (slice_index ys k < slice_index xs k) → xs ≡ ys → ⊥
 apart k xs ys differ e = let same : slice_index xs k ≡ slice_index ys k = ap (λ (c : List ℕ). slice_index c k) e in omega arith
 
-leap_day : Holds OptDate (codes "20240229")
+leap_day : Allows OptDate (codes "20240229")
 unfolding digits
 leap_day = inr (inr (2024, 2, 29, lit< tt, omega (arith, ints), refl))
 
 no_leap_day : HasFault OptDate (codes "20230229") NotADate
 no_leap_day = (outside, refl)
   where
-    outside : ¬ Holds OptDate (codes "20230229")
+    outside : ¬ Allows OptDate (codes "20230229")
     outside (inl e) = apart 0 _ _ (inr (lit< tt)) e
     outside (inr (inl e)) = apart 0 _ _ (inr (lit< tt)) e
     outside (inr (inr s)) = let parts = day_of_parts (codes "20230229") s in omega (arith, ints, parts.1)
 
-zeros : Holds OptDate (codes "00000000")
+zeros : Allows OptDate (codes "00000000")
 zeros = inr (inl refl)
 
-spaces : Holds OptDate (codes "        ")
+spaces : Allows OptDate (codes "        ")
 spaces = inl refl
 
 no_zeros : HasFault Date (codes "00000000") NotADate
 no_zeros = ((λ s. let parts = day_of_parts (codes "00000000") s in omega (arith, parts.0)), refl)
 
-last_second : Holds Time (codes "235959")
+last_second : Allows Time (codes "235959")
 unfolding digits
 last_second = (23, 59, 59, lit< tt, lit< tt, lit< tt, refl)
 
 no_hour : HasFault Time (codes "240000") NotATime
 no_hour = ((λ s. let parts = time_of_parts 24 (codes "240000") (lit≤ tt) s in omega (arith, parts.0)), refl)
 
-longest : Holds OptDuration (codes "995959")
+longest : Allows OptDuration (codes "995959")
 unfolding digits
 longest = inr (99, 59, 59, lit< tt, lit< tt, lit< tt, refl)
 
-whole_share : Holds Share (codes "10000")
+whole_share : Allows Share (codes "10000")
 unfolding digits
 whole_share = inr (10000, lit≤ tt, refl)
 
 over_share : HasFault Share (codes "10001") OverShare
 over_share = (outside, refl)
   where
-    outside : ¬ Holds Share (codes "10001")
+    outside : ¬ Allows Share (codes "10001")
     outside (inl e) = apart 0 _ _ (inr (lit< tt)) e
     outside (inr s) = let n : number_of (codes "10001") ≡ s.0 = ap number_of s.2 ∙ number_of-digits 5 s.0 (omega arith) in omega (arith, n)
 
@@ -61,7 +61,7 @@ share_with_space : HasFault Share (codes "1000 ") NotDigits
 unfolding digits
 share_with_space = (outside, refl)
   where
-    outside : ¬ Holds Share (codes "1000 ")
+    outside : ¬ Allows Share (codes "1000 ")
     outside (inl e) = apart 0 _ _ (inr (lit< tt)) e
     outside (inr s) = let last : 32 ≡ 48 + s.0 % 10 = ap (λ (c : List ℕ). slice_index c 4) s.2 in omega (arith, last)
 

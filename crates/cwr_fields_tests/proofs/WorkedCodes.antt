@@ -11,7 +11,7 @@ use Rattle.cwr_fields.specs.declared.tables.Table.{Table}
 use Rattle.cwr_fields.specs.declared.tables.Table.TheVariants as tables
 use Rattle.cwr_fields.specs.Format.Bytes.{digits, filled}
 use Rattle.cwr_fields.specs.Format.Codes.{codes_of, code_width}
-use Rattle.cwr_fields.specs.Format.Cells.{Holds, HasFault, IsCodeOf, SpellsCode}
+use Rattle.cwr_fields.specs.Format.Cells.{Allows, HasFault, IsCodeOf, SpellsCode}
 use Rattle.cwr_fields.proofs.CellTests.{holds_test}
 
 -- the cells of each table
@@ -142,12 +142,12 @@ strangers tables.Recording = (no_code (codes_of tables.Recording) 1 (codes "X") 
 strangers tables.Technique = (no_code (codes_of tables.Technique) 1 (codes "X") refl, refl)
 
 -- a sender may also be two digits, and a code cell may not be spaces
-sender_digits : Holds (Code tables.Sender) (codes "07")
+sender_digits : Allows (Code tables.Sender) (codes "07")
 unfolding digits
 sender_digits = inr (7, lit< tt, refl)
 
 blank_status : HasFault (Code tables.Status) (codes "  ") Blank
 blank_status = (no_code (codes_of tables.Status) 2 (codes "  ") refl, refl)
 
-blank_category : Holds (OptCode tables.Category) (codes "   ")
+blank_category : Allows (OptCode tables.Category) (codes "   ")
 blank_category = inl refl

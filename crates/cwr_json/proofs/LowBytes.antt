@@ -13,7 +13,7 @@ use Rattle.cwr_fields.specs.declared.cell_types.Word.TheVariants as words
 use Rattle.cwr_fields.specs.Format.Bytes.{digits, is_plain, is_spaces, is_control}
 use Rattle.cwr_fields.specs.Format.Codes.{codes_of, code_width, word_text}
 use Rattle.cwr_json.specs.Steps.FormTexts.{has_low, NoLow}
-use Rattle.cwr_fields.specs.Format.Cells.{Holds, SpellsDay, SpellsTime, SpellsCode, IsCodeOf, flag_texts}
+use Rattle.cwr_fields.specs.Format.Cells.{Allows, SpellsDay, SpellsTime, SpellsCode, IsCodeOf, flag_texts}
 
 pub NoLow-append : (xs ys : List ℕ) → NoLow xs → NoLow ys → NoLow (xs ++ ys)
 NoLow-append xs ys h k = list_any-append (λ b. nat_lt b 32) xs ys ∙ or_from (has_low xs) (has_low ys) h k
@@ -104,25 +104,25 @@ NoLow-word : (word : Word) → NoLow (word_text word)
 NoLow-word words.Edi = refl
 NoLow-word words.Group = refl
 
-pub NoLow-Holds : (ty : CellType) (cell : List ℕ) → Holds ty cell → NoLow cell
-NoLow-Holds Text cell h = NoLow-plain cell h
-NoLow-Holds Required cell h = NoLow-plain cell h.0
-NoLow-Holds Number cell s = subst NoLow (sym s.3) (NoLow-digits (length cell) s.0)
-NoLow-Holds OptNumber cell (inl h) = NoLow-spaces cell h
-NoLow-Holds OptNumber cell (inr s) = subst NoLow (sym s.3) (NoLow-digits (length cell) s.0)
-NoLow-Holds Date cell s = NoLow-day cell s
-NoLow-Holds OptDate cell (inl e) = NoLow-same 8 32 cell refl e
-NoLow-Holds OptDate cell (inr (inl e)) = NoLow-same 8 48 cell refl e
-NoLow-Holds OptDate cell (inr (inr s)) = NoLow-day cell s
-NoLow-Holds Time cell s = NoLow-time 24 cell s
-NoLow-Holds OptTime cell (inl e) = NoLow-same 6 32 cell refl e
-NoLow-Holds OptTime cell (inr s) = NoLow-time 24 cell s
-NoLow-Holds OptDuration cell (inl e) = NoLow-same 6 32 cell refl e
-NoLow-Holds OptDuration cell (inr s) = NoLow-time 100 cell s
-NoLow-Holds Share cell (inl e) = NoLow-same 5 32 cell refl e
-NoLow-Holds Share cell (inr s) = subst NoLow (sym s.2) (NoLow-digits 5 s.0)
-NoLow-Holds Flag cell m = NoLow-among flag_texts cell refl m
-NoLow-Holds (Code table) cell c = NoLow-code table cell c
-NoLow-Holds (OptCode table) cell (inl e) = NoLow-same (code_width table) 32 cell refl e
-NoLow-Holds (OptCode table) cell (inr c) = NoLow-code table cell c
-NoLow-Holds (Constant word) cell e = subst NoLow (sym e) (NoLow-word word)
+pub NoLow-Allows : (ty : CellType) (cell : List ℕ) → Allows ty cell → NoLow cell
+NoLow-Allows Text cell h = NoLow-plain cell h
+NoLow-Allows Required cell h = NoLow-plain cell h.0
+NoLow-Allows Number cell s = subst NoLow (sym s.3) (NoLow-digits (length cell) s.0)
+NoLow-Allows OptNumber cell (inl h) = NoLow-spaces cell h
+NoLow-Allows OptNumber cell (inr s) = subst NoLow (sym s.3) (NoLow-digits (length cell) s.0)
+NoLow-Allows Date cell s = NoLow-day cell s
+NoLow-Allows OptDate cell (inl e) = NoLow-same 8 32 cell refl e
+NoLow-Allows OptDate cell (inr (inl e)) = NoLow-same 8 48 cell refl e
+NoLow-Allows OptDate cell (inr (inr s)) = NoLow-day cell s
+NoLow-Allows Time cell s = NoLow-time 24 cell s
+NoLow-Allows OptTime cell (inl e) = NoLow-same 6 32 cell refl e
+NoLow-Allows OptTime cell (inr s) = NoLow-time 24 cell s
+NoLow-Allows OptDuration cell (inl e) = NoLow-same 6 32 cell refl e
+NoLow-Allows OptDuration cell (inr s) = NoLow-time 100 cell s
+NoLow-Allows Share cell (inl e) = NoLow-same 5 32 cell refl e
+NoLow-Allows Share cell (inr s) = subst NoLow (sym s.2) (NoLow-digits 5 s.0)
+NoLow-Allows Flag cell m = NoLow-among flag_texts cell refl m
+NoLow-Allows (Code table) cell c = NoLow-code table cell c
+NoLow-Allows (OptCode table) cell (inl e) = NoLow-same (code_width table) 32 cell refl e
+NoLow-Allows (OptCode table) cell (inr c) = NoLow-code table cell c
+NoLow-Allows (Constant word) cell e = subst NoLow (sym e) (NoLow-word word)

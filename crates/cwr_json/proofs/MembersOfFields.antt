@@ -12,7 +12,7 @@ use Rattle.cwr_layouts.proofs.FieldStarts.{field_at-placed}
 use Rattle.cwr_layouts.proofs.CarriedCells.{carried_count, record_cell-at}
 use Rattle.cwr_json.proofs.FieldsShown.{carried_field}
 use Rattle.cwr_json.specs.Steps.FormTexts.{NoLow, field_member, member_of, member_text, members_beside, member_texts}
-use Rattle.cwr_json.proofs.LowBytes.{NoLow-Holds}
+use Rattle.cwr_json.proofs.LowBytes.{NoLow-Allows}
 
 -- ---- the member of one field
 
@@ -41,7 +41,7 @@ high_cell r zero p cell h e place = absurd (cc e)
 high_cell r (suc i) p cell h e place =
     let at = record_cell-at r (suc i) p.1 h (carried_field r (suc i) p cell e place) in
     let same : cell ≡ at.cell = cc (e, at.found) in
-    subst NoLow (sym same) (NoLow-Holds p.1.ty at.cell at.is_cell.1)
+    subst NoLow (sym same) (NoLow-Allows p.1.ty at.cell at.is_cell.1)
 
 -- ---- the members of the first fields
 

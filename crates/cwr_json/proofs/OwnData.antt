@@ -14,7 +14,7 @@ use Rattle.cwr_fields.specs.declared.cell_types.Word.{Word}
 use Rattle.cwr_fields.specs.declared.cell_types.Word.TheVariants as words
 use Rattle.cwr_fields.specs.Format.Bytes.{filled, is_spaces, trimmed}
 use Rattle.cwr_fields.specs.Format.Codes.{word_text}
-use Rattle.cwr_fields.specs.Format.Cells.{Holds}
+use Rattle.cwr_fields.specs.Format.Cells.{Allows}
 use Rattle.cwr_layouts.specs.Format.Kinds.{letters}
 use Rattle.cwr_layouts.specs.Format.Layouts.{FieldLayout}
 use Rattle.cwr_layouts.specs.Format.Records.{RecordValue, IsCellOf, IsRecord, blank_cell, carried_fields}
@@ -133,7 +133,7 @@ word_shown : (word : Word) → is_spaces (word_text word) ≡ true → ⊥
 word_shown words.Edi e = true≢false (sym e)
 word_shown words.Group e = true≢false (sym e)
 
-blank_again : (ty : CellType) (width : ℕ) (cell : List ℕ) → length cell ≡ width → Holds ty cell → is_spaces cell ≡ true → cell ≡ blank_cell ty width
+blank_again : (ty : CellType) (width : ℕ) (cell : List ℕ) → length cell ≡ width → Allows ty cell → is_spaces cell ≡ true → cell ≡ blank_cell ty width
 blank_again (Constant word) width cell l h e = absurd (word_shown word (sym (ap is_spaces h) ∙ e))
 blank_again ty width cell l h e = spaces_are cell e ∙ ap (λ (n : ℕ). replicate n 32) l
 

@@ -19,12 +19,12 @@ use Rattle.cwr_shape.specs.Format.LastSymbols.{is_grh}
 use Rattle.cwr_shape.specs.Steps.Stages.{stage_after}
 use Rattle.cwr_shape.specs.Format.AnyTransmission.{Any}
 use Rattle.cwr_shape.specs.Steps.Left.{StandsAt}
-use Rattle.cwr_shape.specs.Steps.Counting.{place_at}
+use Rattle.cwr_shape.specs.Steps.Counting.{scope_at}
 use Rattle.cwr_shape.specs.Format.NextSymbols as tallies_there
-use Rattle.cwr_shape.specs.Format.NextSymbols.{is_header_of, type_after, transactions_begun, open_type, open_group, place_by, place_after, open_records}
+use Rattle.cwr_shape.specs.Format.NextSymbols.{is_header_of, type_after, transactions_begun, open_type, open_group, scope_by, scope_after, open_records}
 use Rattle.cwr_shape.proofs.OneMore.{after_last-snoc}
 use Rattle.cwr_shape.proofs.StageStands.{next_exact}
-use Rattle.cwr_shape.proofs.PlacesNamed.{place_stands}
+use Rattle.cwr_shape.proofs.ScopesNamed.{scope_stands}
 use Rattle.cwr_shape.proofs.TallySteps.{stands_type}
 use Rattle.cwr_values.specs.declared.items.Item.{Item}
 use Rattle.cwr_values.specs.declared.items.Item.TheVariants.{Transaction}
@@ -34,7 +34,7 @@ use Rattle.cwr_layouts.specs.Format.Kinds.{is_in_transaction}
 use Rattle.cwr_judge.specs.Format.Items.{record_sequence, continues_transaction, ends_transaction, transaction_at_end, own_item, items_after}
 use Rattle.cwr_judge.specs.Steps.Open.{items_so_far, open_of, continues_open, Stays}
 use Rattle.cwr_judge.proofs.ItemsOfTransactions.{no_item}
-use Rattle.cwr_judge.proofs.OneMoreRecord.{IsInner, inner_record_symbol, is_header, count_after_header, later_sequence, place-snoc, goes_inside, symbols-snoc, open_longer}
+use Rattle.cwr_judge.proofs.OneMoreRecord.{IsInner, inner_record_symbol, is_header, count_after_header, later_sequence, scope-snoc, goes_inside, symbols-snoc, open_longer}
 use Rattle.cwr_judge.proofs.EndingRecord.{after_few, items_next}
 
 -- ---- what stands before a record that continues
@@ -73,7 +73,7 @@ next_some xs s g = (next_exact xs (stage_after xs) s (next_stage (stage_after xs
 
 -- before a record that continues a transaction one is open
 inner_at : (xs : List Symbol) (stage : Stage) (s : Symbol) → StandsAt xs stage → IsInner s → is_header_of (open_type xs) s ≡ false → is_some (next_stage stage s) ≡ true
-    → tallies_there.has_open_transaction (place_at stage) ≡ true
+    → tallies_there.has_open_transaction (scope_at stage) ≡ true
 inner_at xs stages.Start s st inner h some = absurd (start_none s inner some)
 inner_at xs stages.Opened s st inner h some = absurd (opened_none s inner some)
 inner_at xs stages.Closed s st inner h some = absurd (closed_none s inner some)
@@ -83,11 +83,11 @@ inner_at xs (stages.Within ty steps.InGroup) s st inner h some =
 inner_at xs (stages.Within ty step) s st inner h some = refl
 
 open_before : (records : List RecordValue) (s : Symbol) → IsInner s → is_header_of (open_type (map symbol_of records)) s ≡ false → Continues Any (map symbol_of records ++ s ∷ [])
-    → tallies_there.has_open_transaction (place_after (map symbol_of records)) ≡ true
+    → tallies_there.has_open_transaction (scope_after (map symbol_of records)) ≡ true
 open_before records s inner h g =
     let xs : List Symbol = map symbol_of records in
     let st : StandsAt xs (stage_after xs) = record { begins = goes_before xs s g; named = refl } in
-    ap tallies_there.has_open_transaction (sym (place_stands xs (stage_after xs) st)) ∙ inner_at xs (stage_after xs) s st inner h (next_some xs s g)
+    ap tallies_there.has_open_transaction (sym (scope_stands xs (stage_after xs) st)) ∙ inner_at xs (stage_after xs) s st inner h (next_some xs s g)
 
 -- ---- fewer records stand after the last header than there are
 
@@ -97,16 +97,16 @@ record Headed (xs : List Symbol) : Type 0 where
   rest : List Symbol
   whole : xs ≡ Plain kinds.Hdr ∷ Grh ty ∷ rest
 
-headed_by : (xs rest more : List Symbol) (t : TransactionType) → Plain kinds.Hdr ∷ Grh t ∷ more ≡ xs ++ rest → tallies_there.has_open_transaction (place_after xs) ≡ true → Headed xs
+headed_by : (xs rest more : List Symbol) (t : TransactionType) → Plain kinds.Hdr ∷ Grh t ∷ more ≡ xs ++ rest → tallies_there.has_open_transaction (scope_after xs) ≡ true → Headed xs
 headed_by [] rest more t e is_open = absurd (true≢false (sym is_open))
 headed_by (x ∷ []) rest more t e is_open =
-    let same : Plain kinds.Hdr ≡ x = cc e in absurd (true≢false (sym is_open ∙ ap (λ (s : Symbol). tallies_there.has_open_transaction (place_by (Some s))) (sym same)))
+    let same : Plain kinds.Hdr ≡ x = cc e in absurd (true≢false (sym is_open ∙ ap (λ (s : Symbol). tallies_there.has_open_transaction (scope_by (Some s))) (sym same)))
 headed_by (x ∷ y ∷ zs) rest more t e is_open =
     let first : x ≡ Plain kinds.Hdr = cc e in
     let second : y ≡ Grh t = cc e in
     record { ty = t; rest = zs; whole = ap₂ (λ (a b : Symbol). a ∷ b ∷ zs) first second }
 
-headed : (xs : List Symbol) → Continues Any xs → tallies_there.has_open_transaction (place_after xs) ≡ true → Headed xs
+headed : (xs : List Symbol) → Continues Any xs → tallies_there.has_open_transaction (scope_after xs) ≡ true → Headed xs
 headed xs ([], whole, any, more) is_open = absurd (omega (arith, whole.0))
 headed xs (g ∷ gs, whole, any, more) is_open = headed_by xs more.0 _ g.ty more.1 is_open
 
@@ -120,7 +120,7 @@ group_few front (y ∷ ys) h =
     by true e = omega (arith, e, length-append front (y ∷ []))
     by false e = omega (arith, e, length-append front (y ∷ []), length-append (open_group front) (y ∷ []), h)
 
-after_header_fewer : (records : List RecordValue) → Continues Any (map symbol_of records) → tallies_there.has_open_transaction (place_after (map symbol_of records)) ≡ true → count_after_header records < length records
+after_header_fewer : (records : List RecordValue) → Continues Any (map symbol_of records) → tallies_there.has_open_transaction (scope_after (map symbol_of records)) ≡ true → count_after_header records < length records
 after_header_fewer records g is_open =
     let xs : List Symbol = map symbol_of records in
     let h = headed xs g is_open in
@@ -145,12 +145,12 @@ pub continuing_stays : (records : List RecordValue) (r : RecordValue) → AllByR
 continuing_stays records r h g few e =
     let xs : List Symbol = map symbol_of records in
     let s : Symbol = symbol_of r in
-    let parts = and_parts (transactions_begun Acknowledgement (xs ++ s ∷ []) == transactions_begun Acknowledgement xs) (tallies_there.has_open_transaction (place_after (xs ++ s ∷ []))) e in
-    let inner : IsInner s = sym (place-snoc xs s) ∙ parts.1 in
+    let parts = and_parts (transactions_begun Acknowledgement (xs ++ s ∷ []) == transactions_begun Acknowledgement xs) (tallies_there.has_open_transaction (scope_after (xs ++ s ∷ []))) e in
+    let inner : IsInner s = sym (scope-snoc xs s) ∙ parts.1 in
     let inside : is_in_transaction r.kind ≡ true = sym (inner_record_symbol r) ∙ inner in
     let later : is_header records r ≡ false = not_true (is_header records r) (sym (goes_inside xs s inner) ∙ e) in
     let goes : Continues Any (xs ++ s ∷ []) = subst (Continues Any) (symbols-snoc records r) g in
-    let is_open : tallies_there.has_open_transaction (place_after xs) ≡ true = open_before records s inner later goes in
+    let is_open : tallies_there.has_open_transaction (scope_after xs) ≡ true = open_before records s inner later goes in
     let fewer : count_after_header records < length records = after_header_fewer records (goes_before xs s goes) is_open in
     let row : Row = row_after records r in
     let sequence : record_sequence row ≡ count_after_header records + 1 = later_sequence records r inside later (omega (arith, fewer, few)) in

@@ -14,7 +14,7 @@ use Rattle.cwr_fields.specs.declared.codes.Role.TheVariants.{Assignor, Acquirer}
 use Rattle.cwr_fields.specs.declared.codes.TransactionType.{TransactionType}
 use Rattle.cwr_fields.specs.declared.codes.TransactionType.TheVariants.{Agreement, NewWork, RevisedWork, Acknowledgement}
 use Rattle.cwr_fields.specs.Format.Codes.{role_code, type_code}
-use Rattle.cwr_fields.specs.Format.Cells.{Holds}
+use Rattle.cwr_fields.specs.Format.Cells.{Allows}
 use Rattle.cwr_fields.proofs.CellTests.{holds_test, holds_sound}
 use Rattle.cwr_layouts.specs.declared.kinds.Kind.{Kind}
 use Rattle.cwr_layouts.specs.declared.kinds.Kind.TheVariants as kinds
@@ -48,35 +48,35 @@ find_true p (y ∷ xs) x e = by (find_true p xs x) (p y) refl e
     by after_it true h f = let same : y ≡ x = cc f in ap p (sym same) ∙ h
     by after_it false h f = after_it f
 
-held_type : (ty : TransactionType) → (length (type_code ty) ≡ 3) × Holds (types.Code tables.TransactionType) (type_code ty)
+held_type : (ty : TransactionType) → (length (type_code ty) ≡ 3) × Allows (types.Code tables.TransactionType) (type_code ty)
 unfolding holds_test
 held_type Agreement = (refl, holds_sound (types.Code tables.TransactionType) (type_code Agreement) refl)
 held_type NewWork = (refl, holds_sound (types.Code tables.TransactionType) (type_code NewWork) refl)
 held_type RevisedWork = (refl, holds_sound (types.Code tables.TransactionType) (type_code RevisedWork) refl)
 held_type Acknowledgement = (refl, holds_sound (types.Code tables.TransactionType) (type_code Acknowledgement) refl)
 
-held_role : (role : Role) → (length (role_code role) ≡ 2) × Holds (types.Code tables.Role) (role_code role)
+held_role : (role : Role) → (length (role_code role) ≡ 2) × Allows (types.Code tables.Role) (role_code role)
 unfolding holds_test
 held_role Assignor = (refl, holds_sound (types.Code tables.Role) (role_code Assignor) refl)
 held_role Acquirer = (refl, holds_sound (types.Code tables.Role) (role_code Acquirer) refl)
 
-pub no_type : (kind : Kind) (j : ℕ) (cell : List ℕ) → kind ≡ kinds.Grh → j ≡ 2 → ¬ ((length cell ≡ 3) × Holds (types.Code tables.TransactionType) cell) → None ≡ named_symbol kind j cell
+pub no_type : (kind : Kind) (j : ℕ) (cell : List ℕ) → kind ≡ kinds.Grh → j ≡ 2 → ¬ ((length cell ≡ 3) × Allows (types.Code tables.TransactionType) cell) → None ≡ named_symbol kind j cell
 no_type kind j cell k t other = sym (ap₂ (λ (i : Kind) (n : ℕ). named_symbol i n cell) k t ∙ ap (option_map Grh) (by (type_in cell) refl))
   where
     by : (o : Option TransactionType) → type_in cell ≡ o → type_in cell ≡ None
     by None e = e
     by (Some ty) e =
         let text : type_code ty ≡ cell = (bytes_eq-Decides (type_code ty) cell).0 (find_true (λ (u : TransactionType). bytes_eq (type_code u) cell) (Agreement ∷ NewWork ∷ RevisedWork ∷ Acknowledgement ∷ []) ty e) in
-        absurd (other (subst (λ (x : List ℕ). (length x ≡ 3) × Holds (types.Code tables.TransactionType) x) text (held_type ty)))
+        absurd (other (subst (λ (x : List ℕ). (length x ≡ 3) × Allows (types.Code tables.TransactionType) x) text (held_type ty)))
 
-pub no_role : (kind : Kind) (j : ℕ) (cell : List ℕ) → kind ≡ kinds.Ipa → j ≡ 4 → ¬ ((length cell ≡ 2) × Holds (types.Code tables.Role) cell) → None ≡ named_symbol kind j cell
+pub no_role : (kind : Kind) (j : ℕ) (cell : List ℕ) → kind ≡ kinds.Ipa → j ≡ 4 → ¬ ((length cell ≡ 2) × Allows (types.Code tables.Role) cell) → None ≡ named_symbol kind j cell
 no_role kind j cell k t other = sym (ap₂ (λ (i : Kind) (n : ℕ). named_symbol i n cell) k t ∙ ap (option_map Ipa) (by (role_in cell) refl))
   where
     by : (o : Option Role) → role_in cell ≡ o → role_in cell ≡ None
     by None e = e
     by (Some role) e =
         let text : role_code role ≡ cell = (bytes_eq-Decides (role_code role) cell).0 (find_true (λ (u : Role). bytes_eq (role_code u) cell) (Assignor ∷ Acquirer ∷ []) role e) in
-        absurd (other (subst (λ (x : List ℕ). (length x ≡ 2) × Holds (types.Code tables.Role) x) text (held_role role)))
+        absurd (other (subst (λ (x : List ℕ). (length x ≡ 2) × Allows (types.Code tables.Role) x) text (held_role role)))
 
 pub candidate_kind : (kind : Kind) (s : Symbol) → IsAmong (candidates (Some kind) []) s → symbol_kind s ≡ kind
 candidate_kind kinds.Ipa s (zero, (h, e)) = ap symbol_kind e
@@ -91,7 +91,7 @@ candidate_kind kind s (zero, (h, e)) = ap symbol_kind e
 candidate_kind kind s (suc i, (h, e)) = absurd (omega arith)
 
 -- a carried cell whose symbol is barred
-pub text_barred : (limits : LimitValues) (xs : List Symbol) (kind : Kind) (j : ℕ) (ty : CellType) (cell : List ℕ) (s : Symbol) (bar : Bar) (reason : Reason) → Holds ty cell
+pub text_barred : (limits : LimitValues) (xs : List Symbol) (kind : Kind) (j : ℕ) (ty : CellType) (cell : List ℕ) (s : Symbol) (bar : Bar) (reason : Reason) → Allows ty cell
     → Some s ≡ named_symbol kind j cell → IsBarred limits xs s bar → reason ≡ bar_reason bar → IsTextFault limits xs kind j ty cell reason
 text_barred limits xs kind j ty cell s bar reason holds named b e = subst (IsTextFault limits xs kind j ty cell) (sym e) (by bar b)
   where

@@ -6,7 +6,7 @@ use Rattle.std.proofs.lemmas.Option.{get_or_from_slice_get}
 use Rattle.std.proofs.lemmas.List.{length-map}
 use Rattle.cwr_fields.specs.declared.cell_types.CellFault.{CellFault}
 use Rattle.cwr_fields.specs.Format.Bytes.{digits}
-use Rattle.cwr_fields.specs.Format.Cells.{Holds, HasFault}
+use Rattle.cwr_fields.specs.Format.Cells.{Allows, HasFault}
 use Rattle.cwr_layouts.specs.declared.kinds.Kind.{Kind}
 use Rattle.cwr_layouts.specs.Format.Layouts.{FieldLayout, field_at}
 use Rattle.cwr_layouts.specs.Format.Records.{RecordValue}
@@ -70,11 +70,11 @@ same_field line k f g p q = by (sym p ∙ q)
     by e = cc e
 
 -- no fault holds of a cell of its type
-pub no_fault_of : (limits : LimitValues) (lines : List (List ℕ)) (h : HeldLine) (line : List ℕ) (kind : Kind) (m : ℕ) (x : Faces h line kind m) → Holds x.field.ty x.cell → (fault : CellFault)
+pub no_fault_of : (limits : LimitValues) (lines : List (List ℕ)) (h : HeldLine) (line : List ℕ) (kind : Kind) (m : ℕ) (x : Faces h line kind m) → Allows x.field.ty x.cell → (fault : CellFault)
     → ¬ Applies limits lines line (suc (suc m)) (reasons.Cell fault)
 no_fault_of limits lines h line kind m x holds fault (g, at, has) =
     let same : x.field ≡ g = same_field line (suc (suc m)) x.field g x.field_is at in
-    has.0 (subst (λ (c : List ℕ). Holds g.ty c) (sym x.cell_is) (subst (λ (f : FieldLayout). Holds f.ty x.cell) same holds))
+    has.0 (subst (λ (c : List ℕ). Allows g.ty c) (sym x.cell_is) (subst (λ (f : FieldLayout). Allows f.ty x.cell) same holds))
 
 -- where the cells before one are good and it names no symbol, some transmission within the limits continues
 continues_here : (limits : LimitValues) (records : List RecordValue) (lines : List (List ℕ)) (h : HeldLine) (line : List ℕ) (kind : Kind) (m : ℕ) (c : List ℕ) → FollowsLines records lines h line kind
@@ -126,7 +126,7 @@ is_number records lines h line kind k n f belongs groups other whole begins at =
 -- a derived cell that is another number
 pub reason_number : (limits : LimitValues) (records : List RecordValue) (lines : List (List ℕ)) (h : HeldLine) (line : List ℕ) (kind : Kind) (m n : ℕ) (x : Faces h line kind m) → FollowsLines records lines h line kind
     → MayComeOf limits (map symbol_of records) kind → GoodBelow limits (map symbol_of records) h kind (suc (suc m)) → x.field.derived ≡ true → IsNumberAt (map symbol_of records) kind (suc (suc m)) (Some n)
-    → Holds x.field.ty x.cell → ¬ (x.cell ≡ digits (length x.cell) n) → IsReason limits lines line (suc (suc m)) (reasons.Number n)
+    → Allows x.field.ty x.cell → ¬ (x.cell ≡ digits (length x.cell) n) → IsReason limits lines line (suc (suc m)) (reasons.Number n)
 reason_number limits records lines h line kind m n x f may good d belongs holds other =
     let within = continues_here limits records lines h line kind m x.cell f may good x.there (derived_nameless kind (suc (suc m)) x.field x.cell x.at d) in (
       (x.field, x.field_is, d, is_number records lines h line kind (suc (suc m)) n f belongs, λ e. other (sym x.cell_is ∙ e ∙ ap (λ (w : ℕ). digits w n) (sym x.wide))),

@@ -4,7 +4,7 @@ use Rattle.std.specs.Prelude.{Option, Some, None, IsSomeAnd, slice_get, option_a
 use Rattle.std.specs.List.{AllZip, AllByRecursion, IsAmong}
 use Rattle.std.proofs.lemmas.Option.{slice_get_past}
 use Rattle.std.proofs.lemmas.List.{take_all}
-use Rattle.cwr_fields.specs.Format.Cells.{Holds}
+use Rattle.cwr_fields.specs.Format.Cells.{Allows}
 use Rattle.cwr_layouts.specs.declared.kinds.Kind.{Kind}
 use Rattle.cwr_layouts.specs.Format.Layouts.{FieldLayout, layout, fields_after_type, field_at}
 use Rattle.cwr_layouts.specs.Format.Records.{RecordValue, IsRecord}
@@ -58,7 +58,7 @@ named_barred limits xs cs s bar here only = by bar
     by (bars.Limit limit_kinds.Transaction) b = ((s, here, b.0), (s, here, b.1), λ g. b.2 (alone (KeepsTo limit_kinds.Transaction limits) g))
 
 reason_named : (limits : LimitValues) (records : List RecordValue) (lines : List (List ℕ)) (h : HeldLine) (line : List ℕ) (kind : Kind) (m : ℕ) (bar : Bar) (x : Faces h line kind m) → FollowsLines records lines h line kind
-    → x.field.derived ≡ false → Holds x.field.ty x.cell → IsSomeAnd (named_symbol kind (suc (suc m)) x.cell) (λ s. IsBarred limits (map symbol_of records) s bar) → IsReason limits lines line (suc (suc m)) (bar_reason bar)
+    → x.field.derived ≡ false → Allows x.field.ty x.cell → IsSomeAnd (named_symbol kind (suc (suc m)) x.cell) (λ s. IsBarred limits (map symbol_of records) s bar) → IsReason limits lines line (suc (suc m)) (bar_reason bar)
 reason_named limits records lines h line kind m bar x f carried holds t =
     let s = there_of (named_symbol kind (suc (suc m)) x.cell) (λ s. IsBarred limits (map symbol_of records) s bar) t in
     let cells : List (List ℕ) = held_cells h in

@@ -7,7 +7,7 @@ use Rattle.cwr_fields.specs.declared.tables.Table.TheVariants as tables
 use Rattle.cwr_fields.specs.declared.codes.Role.{Role}
 use Rattle.cwr_fields.specs.declared.codes.TransactionType.{TransactionType}
 use Rattle.cwr_fields.specs.Format.Bytes.{digits}
-use Rattle.cwr_fields.specs.Format.Cells.{Holds}
+use Rattle.cwr_fields.specs.Format.Cells.{Allows}
 use Rattle.cwr_layouts.specs.declared.kinds.Kind.{Kind}
 use Rattle.cwr_layouts.specs.declared.kinds.Kind.TheVariants as kinds
 use Rattle.cwr_layouts.specs.Format.Layouts.{FieldLayout, layout, fields_after_type}
@@ -40,7 +40,7 @@ use Rattle.cwr_judge.proofs.GoodFrontsContinue.{role_held, type_held}
 -- a cell is the number of its field, or one of its type
 abbrev pub GoodIn : Bool → FieldLayout → Option ℕ → List ℕ → Type 0
 GoodIn true f number c = (n : ℕ) × (number ≡ Some n) × (c ≡ digits f.width n)
-GoodIn false f number c = Holds f.ty c
+GoodIn false f number c = Allows f.ty c
 
 good_one : (b : Bool) (f : FieldLayout) (number : Option ℕ) (n : ℕ) (c : List ℕ) → agree_by b number n → GoodIn b f number c → IsGoodCell b f n c
 good_one true f number n c a g =
@@ -92,7 +92,7 @@ pub record HasComing (limits : LimitValues) (xs set : List Symbol) : Type 0 wher
   pub among : IsAmong set symbol
   pub may_come : MayCome limits xs symbol
 
-party_comes : (limits : LimitValues) (xs : List Symbol) (o : Option (List ℕ)) → IsSomeAnd o (λ c. Holds (types.Code tables.Role) c × IfSome (named_symbol kinds.Ipa 4 c) (MayCome limits xs))
+party_comes : (limits : LimitValues) (xs : List Symbol) (o : Option (List ℕ)) → IsSomeAnd o (λ c. Allows (types.Code tables.Role) c × IfSome (named_symbol kinds.Ipa 4 c) (MayCome limits xs))
     → HasComing limits xs (parties_of (option_and_then role_in o))
 party_comes limits xs None g = absurd g
 party_comes limits xs (Some c) g =
@@ -103,7 +103,7 @@ party_comes limits xs (Some c) g =
       may_come = subst (λ (q : Option Role). IfSome (option_map Ipa q) (MayCome limits xs)) r.1 g.1;
     }
 
-group_comes : (limits : LimitValues) (xs : List Symbol) (o : Option (List ℕ)) → IsSomeAnd o (λ c. Holds (types.Code tables.TransactionType) c × IfSome (named_symbol kinds.Grh 2 c) (MayCome limits xs))
+group_comes : (limits : LimitValues) (xs : List Symbol) (o : Option (List ℕ)) → IsSomeAnd o (λ c. Allows (types.Code tables.TransactionType) c × IfSome (named_symbol kinds.Grh 2 c) (MayCome limits xs))
     → HasComing limits xs (groups_of (option_and_then type_in o))
 group_comes limits xs None g = absurd g
 group_comes limits xs (Some c) g =

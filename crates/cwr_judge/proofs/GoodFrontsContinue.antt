@@ -11,7 +11,7 @@ use Rattle.cwr_fields.specs.declared.codes.TransactionType.{TransactionType}
 use Rattle.cwr_fields.specs.declared.codes.TransactionType.TheVariants.{Agreement, NewWork, RevisedWork, Acknowledgement}
 use Rattle.cwr_fields.specs.Format.Bytes.{filled}
 use Rattle.cwr_fields.specs.Format.Codes.{role_code, type_code}
-use Rattle.cwr_fields.specs.Format.Cells.{Holds}
+use Rattle.cwr_fields.specs.Format.Cells.{Allows}
 use Rattle.cwr_layouts.specs.declared.kinds.Kind.{Kind}
 use Rattle.cwr_layouts.specs.declared.kinds.Kind.TheVariants as kinds
 use Rattle.cwr_layouts.specs.Format.Kinds.{letters}
@@ -36,12 +36,12 @@ use Rattle.cwr_judge.proofs.MixedCells.{mixed, mixed_good, mixed_wide, mixed_fro
 
 -- ---- the symbol
 
-pub role_held : (c : List ℕ) → Holds (types.Code tables.Role) c → (role : Role) × (role_in c ≡ Some role)
+pub role_held : (c : List ℕ) → Allows (types.Code tables.Role) c → (role : Role) × (role_in c ≡ Some role)
 role_held c (code, (zero, (h, e)), f) = (Assignor, ap role_in (f ∙ ap (filled 2) e))
 role_held c (code, (suc zero, (h, e)), f) = (Acquirer, ap role_in (f ∙ ap (filled 2) e))
 role_held c (code, (suc (suc i), (h, e)), f) = absurd (omega (arith, h))
 
-pub type_held : (c : List ℕ) → Holds (types.Code tables.TransactionType) c → (ty : TransactionType) × (type_in c ≡ Some ty)
+pub type_held : (c : List ℕ) → Allows (types.Code tables.TransactionType) c → (ty : TransactionType) × (type_in c ≡ Some ty)
 type_held c (code, (zero, (h, e)), f) = (Agreement, ap type_in (f ∙ ap (filled 3) e))
 type_held c (code, (suc zero, (h, e)), f) = (NewWork, ap type_in (f ∙ ap (filled 3) e))
 type_held c (code, (suc (suc zero), (h, e)), f) = (RevisedWork, ap type_in (f ∙ ap (filled 3) e))

@@ -9,7 +9,7 @@ use Rattle.cwr_fields.specs.declared.codes.Role.{Role}
 use Rattle.cwr_fields.specs.declared.codes.Role.TheVariants.{Assignor, Acquirer}
 use Rattle.cwr_fields.specs.declared.codes.TransactionType.{TransactionType}
 use Rattle.cwr_fields.specs.declared.codes.TransactionType.TheVariants.{Agreement, NewWork, RevisedWork, Acknowledgement}
-use Rattle.cwr_fields.specs.Format.Cells.{Holds}
+use Rattle.cwr_fields.specs.Format.Cells.{Allows}
 use Rattle.cwr_layouts.specs.declared.kinds.Kind.{Kind}
 use Rattle.cwr_layouts.specs.declared.kinds.Kind.TheVariants as kinds
 use Rattle.cwr_layouts.specs.Format.Layouts.{FieldLayout, layout, field_at, record_type}
@@ -98,26 +98,26 @@ numbers limits xs h kind known good (suc i) from = λ f e d.
 
 -- ---- the symbol
 
-role_held : (c : List ℕ) → Holds (types.Code tables.Role) c → (role : Role) × (role_in c ≡ Some role)
+role_held : (c : List ℕ) → Allows (types.Code tables.Role) c → (role : Role) × (role_in c ≡ Some role)
 role_held c (code, (zero, (h, e)), f) = (Assignor, ap role_in (f ∙ ap (filled 2) e))
 role_held c (code, (suc zero, (h, e)), f) = (Acquirer, ap role_in (f ∙ ap (filled 2) e))
 role_held c (code, (suc (suc i), (h, e)), f) = absurd (omega (arith, h))
 
-type_held : (c : List ℕ) → Holds (types.Code tables.TransactionType) c → (ty : TransactionType) × (type_in c ≡ Some ty)
+type_held : (c : List ℕ) → Allows (types.Code tables.TransactionType) c → (ty : TransactionType) × (type_in c ≡ Some ty)
 type_held c (code, (zero, (h, e)), f) = (Agreement, ap type_in (f ∙ ap (filled 3) e))
 type_held c (code, (suc zero, (h, e)), f) = (NewWork, ap type_in (f ∙ ap (filled 3) e))
 type_held c (code, (suc (suc zero), (h, e)), f) = (RevisedWork, ap type_in (f ∙ ap (filled 3) e))
 type_held c (code, (suc (suc (suc zero)), (h, e)), f) = (Acknowledgement, ap type_in (f ∙ ap (filled 3) e))
 type_held c (code, (suc (suc (suc (suc i))), (h, e)), f) = absurd (omega (arith, h))
 
-party_comes : (limits : LimitValues) (xs : List Symbol) (o : Option (List ℕ)) → IsSomeAnd o (λ c. Holds (types.Code tables.Role) c × IfSome (named_symbol kinds.Ipa 4 c) (MayCome limits xs))
+party_comes : (limits : LimitValues) (xs : List Symbol) (o : Option (List ℕ)) → IsSomeAnd o (λ c. Allows (types.Code tables.Role) c × IfSome (named_symbol kinds.Ipa 4 c) (MayCome limits xs))
     → MayCome limits xs (Ipa (unwrap_or (role_in (unwrap_or o [])) Assignor))
 party_comes limits xs None g = absurd g
 party_comes limits xs (Some c) g =
     let r = role_held c g.0 in
     subst (λ (q : Option Role). MayCome limits xs (Ipa (unwrap_or q Assignor))) (sym r.1) (subst (λ (q : Option Role). IfSome (option_map Ipa q) (MayCome limits xs)) r.1 g.1)
 
-group_comes : (limits : LimitValues) (xs : List Symbol) (o : Option (List ℕ)) → IsSomeAnd o (λ c. Holds (types.Code tables.TransactionType) c × IfSome (named_symbol kinds.Grh 2 c) (MayCome limits xs))
+group_comes : (limits : LimitValues) (xs : List Symbol) (o : Option (List ℕ)) → IsSomeAnd o (λ c. Allows (types.Code tables.TransactionType) c × IfSome (named_symbol kinds.Grh 2 c) (MayCome limits xs))
     → MayCome limits xs (Grh (unwrap_or (type_in (unwrap_or o [])) Acknowledgement))
 group_comes limits xs None g = absurd g
 group_comes limits xs (Some c) g =

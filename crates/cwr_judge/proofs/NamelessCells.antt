@@ -4,7 +4,7 @@ use Rattle.std.specs.Prelude.{Option, Some, None, ◌==◌}
 use Rattle.std.proofs.lemmas.Bool.{eqb-true}
 use Rattle.cwr_fields.specs.declared.cell_types.CellType.{CellType}
 use Rattle.cwr_fields.specs.declared.cell_types.CellType.TheVariants as types
-use Rattle.cwr_fields.specs.Format.Cells.{Holds}
+use Rattle.cwr_fields.specs.Format.Cells.{Allows}
 use Rattle.cwr_layouts.specs.declared.kinds.Kind.{Kind}
 use Rattle.cwr_layouts.specs.declared.kinds.Kind.TheVariants as kinds
 use Rattle.cwr_layouts.specs.Format.Layouts.{FieldLayout, field_at}
@@ -21,20 +21,20 @@ abbrev is_derived : Option FieldLayout → Bool
 is_derived None = false
 is_derived (Some f) = f.derived
 
-pub unfit_nameless : (kind : Kind) (j : ℕ) (f : FieldLayout) (c : List ℕ) → field_at kind j ≡ Some f → ¬ Holds f.ty c → named_symbol kind j c ≡ None
+pub unfit_nameless : (kind : Kind) (j : ℕ) (f : FieldLayout) (c : List ℕ) → field_at kind j ≡ Some f → ¬ Allows f.ty c → named_symbol kind j c ≡ None
 unfit_nameless kinds.Ipa j f c at fault = by (j == 4) refl
   where
     by : (b : Bool) → (j == 4) ≡ b → cond b (option_map Ipa (role_in c)) None ≡ None
     by true e =
         let ty = ap type_at (ap (λ (n : ℕ). field_at kinds.Ipa n) (sym (eqb-true j 4 e)) ∙ at) in
-        sym (no_role kinds.Ipa 4 c refl refl (λ h. fault (subst (λ (t : CellType). Holds t c) ty h.1)))
+        sym (no_role kinds.Ipa 4 c refl refl (λ h. fault (subst (λ (t : CellType). Allows t c) ty h.1)))
     by false e = refl
 unfit_nameless kinds.Grh j f c at fault = by (j == 2) refl
   where
     by : (b : Bool) → (j == 2) ≡ b → cond b (option_map Grh (type_in c)) None ≡ None
     by true e =
         let ty = ap type_at (ap (λ (n : ℕ). field_at kinds.Grh n) (sym (eqb-true j 2 e)) ∙ at) in
-        sym (no_type kinds.Grh 2 c refl refl (λ h. fault (subst (λ (t : CellType). Holds t c) ty h.1)))
+        sym (no_type kinds.Grh 2 c refl refl (λ h. fault (subst (λ (t : CellType). Allows t c) ty h.1)))
     by false e = refl
 unfit_nameless kind j f c at fault = refl
 

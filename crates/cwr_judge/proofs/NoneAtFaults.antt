@@ -8,7 +8,7 @@ use Rattle.cwr_fields.specs.declared.cell_types.CellType.TheVariants as types
 use Rattle.cwr_fields.specs.declared.codes.Role.{Role}
 use Rattle.cwr_fields.specs.declared.codes.TransactionType.{TransactionType}
 use Rattle.cwr_fields.specs.Format.Bytes.{digits}
-use Rattle.cwr_fields.specs.Format.Cells.{Holds}
+use Rattle.cwr_fields.specs.Format.Cells.{Allows}
 use Rattle.cwr_fields.proofs.Digits.{length-digits}
 use Rattle.cwr_fields.proofs.Spellings.{are_digits-digits, number_spelled}
 use Rattle.cwr_layouts.specs.declared.kinds.Kind.{Kind}
@@ -99,14 +99,14 @@ passes_at p (g ∷ fields) zero f h e = let same : g ≡ f = cc e in ap p (sym s
 passes_at p (g ∷ fields) (suc k) f h e = passes_at p fields k f (and_parts (p g) (list_all p fields) h).1 e
 
 -- digits are a number
-digits_hold : (ty : CellType) (width n : ℕ) → is_number ty ≡ true → 0 < width → Holds ty (digits width n)
+digits_hold : (ty : CellType) (width n : ℕ) → is_number ty ≡ true → 0 < width → Allows ty (digits width n)
 digits_hold types.Number width n e w = (number_spelled (digits width n)).1 (omega (arith, w, length-digits width n), are_digits-digits width n)
 digits_hold ty width n e w = absurd (true≢false (sym e))
 
-derived_holds : (kind : Kind) (k : ℕ) (f : FieldLayout) (n : ℕ) → slice_get (fields_after_type kind) k ≡ Some f → f.derived ≡ true → Holds f.ty (digits f.width n)
+derived_holds : (kind : Kind) (k : ℕ) (f : FieldLayout) (n : ℕ) → slice_get (fields_after_type kind) k ≡ Some f → f.derived ≡ true → Allows f.ty (digits f.width n)
 derived_holds kind k f n e d = by f.derived d (passes_at number_field (fields_after_type kind) k f (each_number kind) e)
   where
-    by : (b : Bool) → b ≡ true → (not b || (is_number f.ty && ltb 0 f.width)) ≡ true → Holds f.ty (digits f.width n)
+    by : (b : Bool) → b ≡ true → (not b || (is_number f.ty && ltb 0 f.width)) ≡ true → Allows f.ty (digits f.width n)
     by true h p = let both = and_parts (is_number f.ty) (ltb 0 f.width) p in digits_hold f.ty f.width n both.0 (ltb-true 0 f.width both.1)
     by false h p = absurd (true≢false (sym h))
 
@@ -204,12 +204,12 @@ held_front limits xs h line kind m cut known g =
 
 number_fault : (kind : Kind) (k : ℕ) (f : FieldLayout) (c : List ℕ) (n : ℕ) (reason : Reason) → slice_get (fields_after_type kind) k ≡ Some f → f.derived ≡ true → length c ≡ f.width → c ≡ digits f.width n
     → judged.IsNumberFault f.ty c n reason → ⊥
-number_fault kind k f c n (reasons.Cell fault) e d wide text w = w.0 (subst (Holds f.ty) (sym text) (derived_holds kind k f n e d))
+number_fault kind k f c n (reasons.Cell fault) e d wide text w = w.0 (subst (Allows f.ty) (sym text) (derived_holds kind k f n e d))
 number_fault kind k f c n (reasons.Number expected) e d wide text w = w.2 (text ∙ ap (λ (i : ℕ). digits i n) (sym wide))
 number_fault kind k f c n reason e d wide text w = w
 
 text_fault : (limits : LimitValues) (xs : List Symbol) (h : HeldLine) (kind : Kind) (i : ℕ) (ty : CellType) (c : List ℕ) (reason : Reason) (g : Front limits xs h kind i) → slice_get (take (suc i) (held_cells h)) i ≡ Some c
-    → Holds ty c → judged.IsTextFault limits xs kind (suc i) ty c reason → ⊥
+    → Allows ty c → judged.IsTextFault limits xs kind (suc i) ty c reason → ⊥
 text_fault limits xs h kind i ty c (reasons.Cell fault) g there holds w = w.0 holds
 text_fault limits xs h kind i ty c reasons.Misplaced g there holds w =
     comes_unbarred limits xs g.symbol bars.Misplaced (named_holds kind i c (take (suc i) (held_cells h)) g.symbol (λ s. IsBarred limits xs s bars.Misplaced) there g.among w.1) g.may_come

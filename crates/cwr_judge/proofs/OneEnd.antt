@@ -13,7 +13,7 @@ use Rattle.cwr_shape.specs.declared.limits.LimitKind.TheVariants as limit_kinds
 use Rattle.cwr_shape.specs.declared.reasons.Reason.{Reason}
 use Rattle.cwr_shape.specs.declared.reasons.Reason.TheVariants.{UnknownKind, Misplaced, Cell, Number, Limit, Excess}
 use Rattle.cwr_shape.specs.Format.Candidates.{ContinuesAmong}
-use Rattle.cwr_shape.specs.Format.Levels.{level_of, place_after_kind}
+use Rattle.cwr_shape.specs.Format.Levels.{level_of, scope_after_kind}
 use Rattle.cwr_judge.specs.declared.refusals.Refusal.{Refusal}
 use Rattle.cwr_judge.specs.Format.Reasons.{Applies, IsReason, IsNumber, cell_of, line_candidates, rank}
 use Rattle.cwr_judge.specs.Format.Ends.{IsRefused, IsTruncated, last_kind}
@@ -115,8 +115,8 @@ refused_once limits text a b h j =
     (subst (λ (l : List ℕ). IsReason limits j.before l a.field b.reason) (sym line.1) (subst (λ (k : ℕ). IsReason limits j.before j.line k b.reason) (sym place.1) j.reason)) in
     let reason : a.reason ≡ b.reason = one_reason limits h.before h.line a.field a.reason b.reason h.reason other in
     let level : a.level ≡ b.level =
-    h.level ∙ ap₂ (λ (l : List ℕ) (k : ℕ). level_of (line_kind l) k a.reason (place_after_kind (last_kind h.before))) line.1 place.1
-    ∙ ap₂ (λ (r : Reason) (xs : List (List ℕ)). level_of (line_kind j.line) b.field r (place_after_kind (last_kind xs))) reason line.0 ∙ sym j.level in
+    h.level ∙ ap₂ (λ (l : List ℕ) (k : ℕ). level_of (line_kind l) k a.reason (scope_after_kind (last_kind h.before))) line.1 place.1
+    ∙ ap₂ (λ (r : Reason) (xs : List (List ℕ)). level_of (line_kind j.line) b.field r (scope_after_kind (last_kind xs))) reason line.0 ∙ sym j.level in
     λ i. record { rec = place.0 i; field = place.1 i; level = level i; reason = reason i }
 
 -- a text that is refused isn't truncated

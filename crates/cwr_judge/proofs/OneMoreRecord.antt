@@ -13,7 +13,7 @@ use Rattle.cwr_shape.specs.declared.symbols.Symbol.TheVariants.{Plain, Grh}
 use Rattle.cwr_shape.specs.declared.tallies.Counts.{Counts}
 use Rattle.cwr_shape.specs.Format.NextSymbols as tallies_there
 use Rattle.cwr_shape.specs.Steps.Tallies as tallies
-use Rattle.cwr_shape.specs.Format.NextSymbols.{is_header_of, transactions_begun, open_type, after_header, counts_of, place_by, place_after, open_records}
+use Rattle.cwr_shape.specs.Format.NextSymbols.{is_header_of, transactions_begun, open_type, after_header, counts_of, scope_by, scope_after, open_records}
 use Rattle.cwr_shape.specs.Format.ExpectedNumbers.{expected_numbers, expected_inside}
 use Rattle.cwr_shape.specs.Steps.Counting.{counts_with, counts_with_header, counts_with_other}
 use Rattle.cwr_shape.proofs.OneMore.{last_or-snoc, counts-snoc}
@@ -28,15 +28,15 @@ use Rattle.cwr_judge.proofs.ItemsOfTransactions.{sequence_of}
 
 -- a symbol stands in a transaction
 abbrev pub IsInner : Symbol → Type 0
-IsInner s = tallies_there.has_open_transaction (place_by (Some s)) ≡ true
+IsInner s = tallies_there.has_open_transaction (scope_by (Some s)) ≡ true
 
-inner_by : (kind : Kind) (r : RecordValue) → tallies_there.has_open_transaction (place_by (Some (symbol_by kind r))) ≡ is_in_transaction kind
+inner_by : (kind : Kind) (r : RecordValue) → tallies_there.has_open_transaction (scope_by (Some (symbol_by kind r))) ≡ is_in_transaction kind
 inner_by kinds.Ipa r = refl
 inner_by kinds.Grh r = refl
 inner_by kind r = refl
 
 -- a record stands in a transaction where its symbol does
-pub inner_record_symbol : (r : RecordValue) → tallies_there.has_open_transaction (place_by (Some (symbol_of r))) ≡ is_in_transaction r.kind
+pub inner_record_symbol : (r : RecordValue) → tallies_there.has_open_transaction (scope_by (Some (symbol_of r))) ≡ is_in_transaction r.kind
 inner_record_symbol r = inner_by r.kind r
 
 -- it is a header where the symbol of its kind is one
@@ -108,13 +108,13 @@ after-snoc xs s h = ap (λ (c : Counts). c.after_header) (sym (counts-snoc xs s)
 begun-snoc : (xs : List Symbol) (s : Symbol) → IsInner s → transactions_begun Acknowledgement (xs ++ s ∷ []) ≡ transactions_begun Acknowledgement xs + cond (is_header_of (open_type xs) s) 1 0
 begun-snoc xs s h = ap (λ (c : Counts). c.transactions) (sym (counts-snoc xs s)) ∙ with_begun (open_type xs) (counts_of xs) s h
 
-pub place-snoc : (xs : List Symbol) (s : Symbol) → tallies_there.has_open_transaction (place_after (xs ++ s ∷ [])) ≡ tallies_there.has_open_transaction (place_by (Some s))
-place-snoc xs s = ap (λ (o : Option Symbol). tallies_there.has_open_transaction (place_by o)) (last_or-snoc None xs s)
+pub scope-snoc : (xs : List Symbol) (s : Symbol) → tallies_there.has_open_transaction (scope_after (xs ++ s ∷ [])) ≡ tallies_there.has_open_transaction (scope_by (Some s))
+scope-snoc xs s = ap (λ (o : Option Symbol). tallies_there.has_open_transaction (scope_by o)) (last_or-snoc None xs s)
 
 -- a symbol in a transaction continues it where it is no header
 pub goes_inside : (xs : List Symbol) (s : Symbol) → IsInner s → continues_open xs s ≡ not (is_header_of (open_type xs) s)
 goes_inside xs s h =
-    ap₂ (λ (n : ℕ) (b : Bool). (n == transactions_begun Acknowledgement xs) && b) (begun-snoc xs s h) (place-snoc xs s ∙ h) ∙ by (transactions_begun Acknowledgement xs) (is_header_of (open_type xs) s)
+    ap₂ (λ (n : ℕ) (b : Bool). (n == transactions_begun Acknowledgement xs) && b) (begun-snoc xs s h) (scope-snoc xs s ∙ h) ∙ by (transactions_begun Acknowledgement xs) (is_header_of (open_type xs) s)
   where
     by : (n : ℕ) (b : Bool) → (((n + cond b 1 0) == n) && true) ≡ not b
     by n true = ap (λ (b : Bool). b && true) (ne_eqb (n + 1) n (λ e. omega (arith, e)))
@@ -129,14 +129,14 @@ pub open_inside : (records : List RecordValue) (r : RecordValue) → is_in_trans
 open_inside records r h =
     let xs : List Symbol = map symbol_of records in
     ap open_records (symbols-snoc records r)
-    ∙ ap₂ (λ (b : Bool) (n : ℕ). cond b (1 + n) 0) (place-snoc xs (symbol_of r) ∙ inner_record_symbol r ∙ h) (after-snoc xs (symbol_of r) (inner_record_symbol r ∙ h))
+    ∙ ap₂ (λ (b : Bool) (n : ℕ). cond b (1 + n) 0) (scope-snoc xs (symbol_of r) ∙ inner_record_symbol r ∙ h) (after-snoc xs (symbol_of r) (inner_record_symbol r ∙ h))
 
 pub open_outside : (records : List RecordValue) (r : RecordValue) → is_in_transaction r.kind ≡ false → open_of (records ++ r ∷ []) ≡ []
 open_outside records r h =
     let xs : List Symbol = map symbol_of records in
     let none : open_records (map symbol_of (records ++ r ∷ [])) ≡ 0 =
     ap open_records (symbols-snoc records r)
-    ∙ ap (λ (b : Bool). cond b (1 + length (after_header (xs ++ symbol_of r ∷ []))) 0) (place-snoc xs (symbol_of r) ∙ inner_record_symbol r ∙ h) in
+    ∙ ap (λ (b : Bool). cond b (1 + length (after_header (xs ++ symbol_of r ∷ []))) 0) (scope-snoc xs (symbol_of r) ∙ inner_record_symbol r ∙ h) in
     drop_all (length (records ++ r ∷ []) - open_records (map symbol_of (records ++ r ∷ []))) (records ++ r ∷ []) (omega (arith, none))
 
 pub some_open : (records : List RecordValue) (r : RecordValue) → is_in_transaction r.kind ≡ true → 0 < length (open_of (records ++ r ∷ []))
@@ -150,7 +150,7 @@ open_header records r inside h =
     drop_at records (r ∷ []) (length (records ++ r ∷ []) - open_records (map symbol_of (records ++ r ∷ []))) (omega (arith, one, length-append records (r ∷ [])))
 
 -- any other record is one more of the open one
-pub open_longer : (records : List RecordValue) (r : RecordValue) → is_in_transaction r.kind ≡ true → is_header records r ≡ false → tallies_there.has_open_transaction (place_after (map symbol_of records)) ≡ true
+pub open_longer : (records : List RecordValue) (r : RecordValue) → is_in_transaction r.kind ≡ true → is_header records r ≡ false → tallies_there.has_open_transaction (scope_after (map symbol_of records)) ≡ true
     → open_of (records ++ r ∷ []) ≡ open_of records ++ r ∷ []
 open_longer records r inside h is_open =
     let xs : List Symbol = map symbol_of records in

@@ -5,7 +5,7 @@ use Rattle.std.specs.List.{list_all}
 use Rattle.std.proofs.lemmas.Bool.{and_parts}
 use Rattle.cwr_fields.specs.declared.cell_types.CellType.TheVariants as types
 use Rattle.cwr_fields.specs.Format.Bytes.{filled}
-use Rattle.cwr_fields.specs.Format.Cells.{Holds}
+use Rattle.cwr_fields.specs.Format.Cells.{Allows}
 use Rattle.cwr_fields.proofs.CellTests.{holds_test, holds_sound}
 use Rattle.cwr_layouts.specs.declared.kinds.Kind.{Kind}
 use Rattle.cwr_layouts.specs.declared.kinds.Kind.TheVariants as kinds
@@ -18,7 +18,7 @@ use Rattle.cwr_judge.specs.Format.Reasons.{cell_of}
 
 -- ---- its cell
 
-letters_hold : (kind : Kind) → Holds types.Required (letters kind)
+letters_hold : (kind : Kind) → Allows types.Required (letters kind)
 unfolding holds_test
 letters_hold kinds.Hdr = holds_sound types.Required (letters kinds.Hdr) refl
 letters_hold kind = holds_sound types.Required (letters kind) refl
@@ -33,10 +33,10 @@ type_cell kind line known =
     ap (λ (o : Option Kind). slice_index_or (cells_as o body) 0 []) known ∙ three-filled (line_width kind) body (wide kind) ∙ sym (letters-of (take 3 (filled 3 body)) kind known)
 
 -- the field's cell is one of its type
-pub type_holds : (kind : Kind) (line : List ℕ) (f : FieldLayout) → line_kind line ≡ Some kind → field_at kind 1 ≡ Some f → Holds f.ty (cell_of line 1)
+pub type_holds : (kind : Kind) (line : List ℕ) (f : FieldLayout) → line_kind line ≡ Some kind → field_at kind 1 ≡ Some f → Allows f.ty (cell_of line 1)
 type_holds kind line f known at =
     let same : record_type ≡ f = cc at in
-    subst (λ (g : FieldLayout). Holds g.ty (cell_of line 1)) same (subst (Holds types.Required) (sym (type_cell kind line known)) (letters_hold kind))
+    subst (λ (g : FieldLayout). Allows g.ty (cell_of line 1)) same (subst (Allows types.Required) (sym (type_cell kind line known)) (letters_hold kind))
 
 -- ---- no number is in it
 

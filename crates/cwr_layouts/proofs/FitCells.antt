@@ -5,7 +5,7 @@ use Rattle.std.specs.Option.{ForSome}
 use Rattle.std.specs.List.{AllZip, zip}
 use Rattle.std.proofs.lemmas.Result.{on_ok_weaker, IfErr-weaker}
 use Rattle.cwr_fields.specs.declared.cell_types.CellFault.{CellFault}
-use Rattle.cwr_fields.specs.Format.Cells.{Holds, HasFault, type_width}
+use Rattle.cwr_fields.specs.Format.Cells.{Allows, HasFault, type_width}
 use Rattle.cwr_layouts.specs.declared.kinds.Kind.{Kind}
 use Rattle.cwr_layouts.specs.Format.Layouts.{FieldLayout, layout, line_width}
 use Rattle.cwr_layouts.specs.Format.Lines.{pieces}
@@ -33,8 +33,8 @@ known kind line j p P e h =
 
 -- a cell that is one of its type fits
 pub fits_found : {T E : Type 0} (r : Result T E) (kind : Kind) (line : List ℕ) (j : ℕ) (p : ℕ × FieldLayout) → carried_placed kind j ≡ Some p
-    → OnOk r (Holds p.1.ty (part line p)) → OnOk r (FitsAt (record_in kind line) j)
-fits_found r kind line j p e h = on_ok_weaker r (known kind line j p (λ f cell. IfSome f (λ g. IfSome cell (Holds g.ty))) e) h
+    → OnOk r (Allows p.1.ty (part line p)) → OnOk r (FitsAt (record_in kind line) j)
+fits_found r kind line j p e h = on_ok_weaker r (known kind line j p (λ f cell. IfSome f (λ g. IfSome cell (Allows g.ty))) e) h
 
 -- a cell that has a fault is the record's
 pub fault_found : {T : Type 0} (r : Result T CellFault) (kind : Kind) (line : List ℕ) (j : ℕ) (p : ℕ × FieldLayout) → carried_placed kind j ≡ Some p
@@ -47,15 +47,15 @@ fault_found r kind line j p e h =
 pub fits_none : (r : RecordValue) (j : ℕ) → None ≡ carried_placed r.kind j → FitsAt r j
 fits_none r j e =
     let none : None ≡ carried_at r.kind j = sym (carried_at-placed r.kind j ∙ ap (option_map (λ (q : ℕ × FieldLayout). q.1)) (sym e)) in
-    subst (λ (o : Option FieldLayout). IfSome o (λ f. IfSome (record_cell r j) (Holds f.ty))) none tt
+    subst (λ (o : Option FieldLayout). IfSome o (λ f. IfSome (record_cell r j) (Allows f.ty))) none tt
 
 -- ---- all cells of a line
 
 -- each cell that is carried is one of its field's type
 abbrev AllHold : List FieldLayout → List (List ℕ) → Type 0
-AllHold fields cells = (i : ℕ) (f : FieldLayout) (c : List ℕ) → slice_get fields i ≡ Some f → f.derived ≡ false → slice_get cells i ≡ Some c → Holds f.ty c
+AllHold fields cells = (i : ℕ) (f : FieldLayout) (c : List ℕ) → slice_get fields i ≡ Some f → f.derived ≡ false → slice_get cells i ≡ Some c → Allows f.ty c
 
-are_cells_by : (b : Bool) (f : FieldLayout) (fields : List FieldLayout) (c : List ℕ) (rest : List (FieldLayout × List ℕ)) → length c ≡ f.width → (b ≡ false → Holds f.ty c)
+are_cells_by : (b : Bool) (f : FieldLayout) (fields : List FieldLayout) (c : List ℕ) (rest : List (FieldLayout × List ℕ)) → length c ≡ f.width → (b ≡ false → Allows f.ty c)
     → AllZip IsCellOf (filter (λ g. not g.derived) fields) (map (λ p. p.1) rest)
     → AllZip IsCellOf (cond (not b) (f ∷ filter (λ g. not g.derived) fields) (filter (λ g. not g.derived) fields)) (map (λ p. p.1) (cond (not b) ((f, c) ∷ rest) rest))
 are_cells_by true f fields c rest w h ih = ih
@@ -82,8 +82,8 @@ all_fit kind line whole h =
     (λ i f c e d t.
     let there : record_cell (record_in kind line) (suc i) ≡ Some c = record_cell-piece kind line i f e d ∙ t in
     let fits : FitsAt (record_in kind line) (suc i) = h (suc i) (omega (arith, slice_get-lt (layout kind) i f e)) in
-    let at : IfSome (Some f) (λ g. IfSome (record_cell (record_in kind line) (suc i)) (Holds g.ty)) = subst (λ (o : Option FieldLayout). IfSome o (λ g. IfSome (record_cell (record_in kind line) (suc i)) (Holds g.ty))) (carried_at-field kind i f e d) fits in
-    subst (λ (o : Option (List ℕ)). IfSome o (Holds f.ty)) there at)
+    let at : IfSome (Some f) (λ g. IfSome (record_cell (record_in kind line) (suc i)) (Allows g.ty)) = subst (λ (o : Option FieldLayout). IfSome o (λ g. IfSome (record_cell (record_in kind line) (suc i)) (Allows g.ty))) (carried_at-field kind i f e d) fits in
+    subst (λ (o : Option (List ℕ)). IfSome o (Allows f.ty)) there at)
 
 -- no cell stands before the first field
 pub fits_before : (r : RecordValue) (i : ℕ) → i < 1 → FitsAt r i

@@ -5,7 +5,7 @@ use Rattle.cwr_fields.specs.declared.cell_types.CellFault.{CellFault}
 use Rattle.cwr_fields.specs.declared.cell_types.CellType.{CellType}
 use Rattle.cwr_fields.specs.declared.cell_types.CellType.TheVariants.{Text}
 use Rattle.cwr_fields.specs.Format.Bytes.{is_plain}
-use Rattle.cwr_fields.specs.Format.Cells.{Holds}
+use Rattle.cwr_fields.specs.Format.Cells.{Allows}
 use Rattle.cwr_layouts.specs.declared.kinds.Kind.{Kind}
 use Rattle.cwr_layouts.specs.Format.Layouts.{FieldLayout, layout, line_width}
 use Rattle.cwr_layouts.specs.Format.Records.{IsRecord}
@@ -57,7 +57,7 @@ text_fits kind line k f plain e t = by (carried_placed kind (suc k)) refl
     by (Some p) x =
         let r : Result (Unit {0}) CellFault = Ok tt in
         let text : p.1.ty ≡ Text = ap (λ (g : FieldLayout). g.ty) (sym (same_field kind k f p e x)) ∙ t in
-        fits_found r kind line (suc k) p x (subst (λ (ty : CellType). Holds ty (part line p)) (sym text) (plain_part line p plain))
+        fits_found r kind line (suc k) p x (subst (λ (ty : CellType). Allows ty (part line p)) (sym text) (plain_part line p plain))
 
 -- a whole line without control bytes carries a record where each cell fits that has to be judged
 pub carries : (kind : Kind) (line : List ℕ) → length line ≡ line_width kind → is_plain line ≡ true → AreJudged (FitsAt (record_in kind line)) (layout kind) → IsRecord (record_in kind line)

@@ -7,7 +7,7 @@ use Rattle.std.proofs.lemmas.List.{length-map}
 use Rattle.cwr_fields.specs.declared.cell_types.CellFault.{CellFault}
 use Rattle.cwr_fields.specs.declared.cell_types.CellType.TheVariants.{Text}
 use Rattle.cwr_fields.specs.Format.Bytes.{is_plain}
-use Rattle.cwr_fields.specs.Format.Cells.{Holds, type_width}
+use Rattle.cwr_fields.specs.Format.Cells.{Allows, type_width}
 use Rattle.cwr_layouts.specs.declared.kinds.Kind.{Kind}
 use Rattle.cwr_layouts.specs.declared.layouts.Field.{Field}
 use Rattle.cwr_layouts.specs.Format.Layouts.{FieldLayout, layout, line_width, placed_fields, field_placed}
@@ -37,7 +37,7 @@ pub derived_fits : (kind : Kind) (line : List ℕ) (k : ℕ) (place : Field) →
 derived_fits kind line k place h d = fits_none (record_in kind line) (k + 1) (sym (unless_derived true (field_placed kind (k + 1)) (field_view place) d (placed kind k place h)))
 
 -- a carried cell fits where it is one of its field's type
-pub carried_fits : (kind : Kind) (line : List ℕ) (k : ℕ) (place : Field) → IsPlaceAt kind k place → place.derived ≡ false → Holds place.ty (part line (field_view place))
+pub carried_fits : (kind : Kind) (line : List ℕ) (k : ℕ) (place : Field) → IsPlaceAt kind k place → place.derived ≡ false → Allows place.ty (part line (field_view place))
     → FitsAt (record_in kind line) (k + 1)
 carried_fits kind line k place h d holds =
     let r : Result (Unit {0}) CellFault = Ok tt in

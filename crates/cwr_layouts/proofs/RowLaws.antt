@@ -8,7 +8,7 @@ use Rattle.std.proofs.Math.Seq.{take-append_seam, drop-append_seam}
 use Rattle.std.proofs.lemmas.List.Sums.{sum_by-cons}
 use Rattle.cwr_fields.specs.Format.Bytes.{digits, trimmed}
 use Rattle.cwr_fields.proofs.Digits.{length-digits}
-use Rattle.cwr_fields.proofs.LineFeeds.{NoLf, NoLf-append, NoLf-digits, NoLf-Holds}
+use Rattle.cwr_fields.proofs.LineFeeds.{NoLf, NoLf-append, NoLf-digits, NoLf-Allows}
 use Rattle.cwr_layouts.specs.declared.kinds.Kind.{Kind}
 use Rattle.cwr_layouts.specs.Format.Kinds.{letters, kind_of}
 use Rattle.cwr_layouts.specs.Format.Layouts.{FieldLayout, layout, fields_after_type, total_width, line_width}
@@ -27,7 +27,7 @@ fit_by : (b : Bool) (f : FieldLayout) (fields : List FieldLayout) (numbers : Lis
     → Fits f (if b then digits f.width (slice_index numbers 0) else unwrap_or (slice_get cells 0) []) × AllZip Fits fields (row_cells fields (rest_if b numbers) (rest_if (not b) cells))
 fit_by true f fields numbers cells ih h = ((length-digits f.width (slice_index numbers 0), NoLf-digits f.width (slice_index numbers 0)), ih (drop 1 numbers) cells h)
 fit_by false f fields numbers [] ih h = absurd h
-fit_by false f fields numbers (c ∷ cells) ih h = ((h.0.0, NoLf-Holds f.ty c h.0.1), ih numbers cells h.1)
+fit_by false f fields numbers (c ∷ cells) ih h = ((h.0.0, NoLf-Allows f.ty c h.0.1), ih numbers cells h.1)
 
 -- each cell of a row fits its field
 row_cells_fit : (fields : List FieldLayout) (numbers : List ℕ) (cells : List (List ℕ))

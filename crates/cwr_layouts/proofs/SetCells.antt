@@ -6,7 +6,7 @@ use Rattle.std.specs.List.{splice, refill}
 use Rattle.std.proofs.lemmas.List.{take-append-le, drop-append-le, take-take, drop-take, drop-drop, length-take-le, length-drop, length-append, take_at}
 use Rattle.std.proofs.Math.Seq.{take-append_seam, drop-append_seam}
 use Rattle.cwr_fields.specs.Format.Bytes.{filled}
-use Rattle.cwr_fields.specs.Format.Cells.{Holds, type_width}
+use Rattle.cwr_fields.specs.Format.Cells.{Allows, type_width}
 use Rattle.cwr_layouts.specs.declared.kinds.Kind.{Kind}
 use Rattle.cwr_layouts.specs.Format.Layouts.{FieldLayout, layout, placed_fields, field_placed, field_at, line_width}
 use Rattle.cwr_layouts.specs.Format.Lines.{pieces}
@@ -139,7 +139,7 @@ refill_same xs ws h = take_at ws (drop (length ws) xs) (length xs) h
 -- what a draft is whose cell was written
 pub is_set : (kind : Kind) (line : List ℕ) (j : ℕ) (p : ℕ × FieldLayout) (now : RecordValue) (text cell slice written : List ℕ) → record_in kind line ≡ now → length line ≡ line_width kind
     → Some p ≡ field_placed kind j → p.1.derived ≡ false → length text ≤ p.1.width → cell ≡ filled p.1.width text → slice ≡ line → written ≡ splice slice p.0 (p.0 + length cell) cell
-    → Holds p.1.ty cell → Sets j text now (record_in kind (refill (length line) line written))
+    → Allows p.1.ty cell → Sets j text now (record_in kind (refill (length line) line written))
 is_set kind line j p now text cell slice written same whole e d h f s w holds =
     let at : carried_placed kind j ≡ Some p = carried_found kind j p e d in
     let wide : length cell ≡ p.1.width = length-whole p.1.width text cell h f in
@@ -147,5 +147,5 @@ is_set kind line j p now text cell slice written same whole e d h f s w holds =
     let kept : length written ≡ length line = ap length there ∙ length-splice line cell p.0 (omega (arith, field_within kind j p (sym e))) in
     let set : record_in kind (refill (length line) line written) ≡ set_cell j (filled p.1.width text) now =
     ap (record_in kind) (refill_same line written kept ∙ there) ∙ record_in-splice kind line j p cell whole at wide ∙ ap₂ (λ (x : List ℕ) (r : RecordValue). set_cell j x r) f same in
-    of_carried kind line j p now (λ g. (length text ≤ g.width) × Holds g.ty (filled g.width text) × (record_in kind (refill (length line) line written) ≡ set_cell j (filled g.width text) now))
-    same e d (h, subst (Holds p.1.ty) f holds, set)
+    of_carried kind line j p now (λ g. (length text ≤ g.width) × Allows g.ty (filled g.width text) × (record_in kind (refill (length line) line written) ≡ set_cell j (filled g.width text) now))
+    same e d (h, subst (Allows p.1.ty) f holds, set)

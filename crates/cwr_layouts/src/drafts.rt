@@ -4,7 +4,7 @@ ghost use Rattle.std.specs.Prelude.{◌≡◌, IsTrue, ◌↔◌, ◌+◌, ◌++
 ghost use Rattle.std.specs.List.{splice};
 ghost use Rattle.std.specs.Option.{ForSome};
 ghost use Rattle.cwr_fields.specs.Format.Bytes.{filled, is_plain};
-ghost use Rattle.cwr_fields.specs.Format.Cells.{Holds, HasFault, type_width};
+ghost use Rattle.cwr_fields.specs.Format.Cells.{Allows, HasFault, type_width};
 ghost use Rattle.cwr_layouts.specs.Format.Layouts.{line_width};
 ghost use Rattle.cwr_layouts.specs.Format.Records.{IsRecord, blank_cell, blank_record, carried_fields};
 ghost use Rattle.cwr_layouts.specs.Format.Carried.{Sets, IsSetFault, FitsAt, HasCellFault, IsFirstUnfit};
@@ -83,7 +83,7 @@ fn filled_cell(text: &[u8], width: usize) -> LineText
 fn fits_known(ty: CellType, cell: &[u8], plain: bool) -> Result<(), CellFault>
     requires width { ForSome (type_width ty) (λ width. length cell.now ≡ width) }
     requires plain { IsTrue plain → IsTrue (is_plain cell.now) }
-    ensures ok { OnOk result (Holds ty cell.now) }
+    ensures ok { OnOk result (Allows ty cell.now) }
     ensures err { IfErr result (λ fault. HasFault ty cell.now fault) }
 {
     if plain {

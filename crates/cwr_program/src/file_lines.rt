@@ -11,7 +11,7 @@ const LINE_FEED: u8 = b'\n';
 
 /// Where a line goes.
 #[derive(Clone, Copy, Debug, PartialEq, Eq)]
-enum Place {
+enum LinePart {
     /// The next byte begins a line.
     Start,
     /// The line is passed on.
@@ -27,7 +27,7 @@ pub(crate) struct FileLines<'a, W> {
     lines: W,
     name: Option<&'a str>,
     quiet: bool,
-    place: Place,
+    part: LinePart,
     handed_on: bool,
     failures: u64,
 }
@@ -60,7 +60,7 @@ impl<'a, W> FileLines<'a, W> {
             lines,
             name,
             quiet,
-            place: Place::Start,
+            part: LinePart::Start,
             handed_on: true,
             failures: 0,
         }
@@ -79,7 +79,7 @@ impl<W: Target> FileLines<'_, W> {
         ensures handed_on { self.new.handed_on ≡ self.old.handed_on }
     {
         if self.quiet && first != b'R' && first != b'T' {
-            self.place = Place::LeftOut;
+            self.part = LinePart::LeftOut;
             return Ok(());
         }
         self.quiet = false;
@@ -87,7 +87,7 @@ impl<W: Target> FileLines<'_, W> {
             write_whole(&mut self.lines, name.as_bytes())?;
             write_whole(&mut self.lines, b": ")?;
         }
-        self.place = Place::Passed;
+        self.part = LinePart::Passed;
         Ok(())
     }
 
@@ -101,16 +101,16 @@ impl<W: Target> FileLines<'_, W> {
         let Some(first) = text.first() else {
             return Ok(0);
         };
-        if self.place == Place::Start {
+        if self.part == LinePart::Start {
             self.begin(*first)?;
         }
         let line = &text[..first_line(text)];
-        let count = match self.place {
-            Place::LeftOut => line.len(),
-            Place::Start | Place::Passed => self.lines.write(line)?,
+        let count = match self.part {
+            LinePart::LeftOut => line.len(),
+            LinePart::Start | LinePart::Passed => self.lines.write(line)?,
         };
         if count == line.len() && line.last() == Some(&LINE_FEED) {
-            self.place = Place::Start;
+            self.part = LinePart::Start;
         }
         Ok(count)
     }

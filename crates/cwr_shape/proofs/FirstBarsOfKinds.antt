@@ -28,7 +28,7 @@ use Rattle.cwr_shape.specs.Steps.Left.{StandsAt, is_stage}
 use Rattle.cwr_shape.specs.Format.Candidates.{candidates}
 use Rattle.cwr_shape.specs.Format.NextSymbols.{has_open_transaction, open_type, counts_of, MayCome, IsBarred, ContinuesWith, IsBarredAmong, Answers, AnswersAmong}
 use Rattle.cwr_shape.specs.Steps.Tallies.{TallyValue, IsTallyOf}
-use Rattle.cwr_shape.specs.Steps.Counting.{counts_with, place_at, wanted_role}
+use Rattle.cwr_shape.specs.Steps.Counting.{counts_with, scope_at, wanted_role}
 use Rattle.cwr_shape.proofs.StageStands.{stands_leaves, next_exact, next_stands}
 use Rattle.cwr_shape.proofs.PrefixFree.{among_passes}
 use Rattle.cwr_shape.proofs.OneMore.{counts-snoc}
@@ -63,7 +63,7 @@ both_or_neither_sound true false h = absurd (true≢false (sym h))
 both_or_neither_sound false true h = absurd (true≢false (sym h))
 
 abbrev pub is_open : Stage → Bool
-is_open stage = has_open_transaction (place_at stage)
+is_open stage = has_open_transaction (scope_at stage)
 
 -- the other stage needs no more than the one
 unfoldable pub beats : Option Stage → Option Stage → Bool

@@ -18,20 +18,20 @@ use Rattle.cwr_shape.specs.declared.limits.LimitKind.TheVariants.{Records, Group
 use Rattle.cwr_shape.specs.declared.tallies.Counts.{Counts}
 use Rattle.cwr_shape.specs.Format.Ranges.{LimitValues}
 use Rattle.cwr_shape.specs.Format.Outlines.{IsWhole, KeepsTo, IsWithin, Continues}
-use Rattle.cwr_shape.specs.declared.tallies.Place.{Place}
-use Rattle.cwr_shape.specs.declared.tallies.Place.TheVariants as places
+use Rattle.cwr_shape.specs.declared.tallies.Scope.{Scope}
+use Rattle.cwr_shape.specs.declared.tallies.Scope.TheVariants as scopes
 use Rattle.cwr_shape.specs.Format.LastSymbols.{is_grh, latest, group_of}
 use Rattle.cwr_shape.specs.Steps.Stages.{is_ipa, is_ipa_of, is_writer, other_role, pwr_step, stage_by}
 use Rattle.cwr_shape.specs.Steps.Left.{is_stage, StandsAt}
-use Rattle.cwr_shape.specs.Format.NextSymbols.{is_header_of, type_after, open_type, counts_of, has_open_transaction, open_records, place_by}
-use Rattle.cwr_shape.specs.Steps.Counting.{counts_with, counts_with_header, counts_with_other, place_at, open_at}
+use Rattle.cwr_shape.specs.Format.NextSymbols.{is_header_of, type_after, open_type, counts_of, has_open_transaction, open_records, scope_by}
+use Rattle.cwr_shape.specs.Steps.Counting.{counts_with, counts_with_header, counts_with_other, scope_at, open_at}
 use Rattle.cwr_shape.specs.Steps.Needs.{is_later_of, later_records, first_transaction, needs_at}
 use Rattle.cwr_shape.proofs.OneMore.{types_after, open_type_after}
 use Rattle.cwr_shape.proofs.TransactionNumbers.{counts_after, counted}
 use Rattle.cwr_shape.proofs.StageRuns.{run}
 use Rattle.cwr_shape.proofs.StageStands.{stands_leaves}
 use Rattle.cwr_shape.proofs.TallySteps.{stands_type}
-use Rattle.cwr_shape.proofs.PlacesNamed.{place_stands}
+use Rattle.cwr_shape.proofs.ScopesNamed.{scope_stands}
 use Rattle.cwr_shape.proofs.WithinByFronts.{Keeps, is_of_transaction, open_by, keeps_front, open_records-snoc, fronts_forth, keeps_whole, whole_keeps, groups_counted}
 use Rattle.cwr_shape.proofs.WaysToEnd.{way_out, ends, way_out_has, runs_whole, whole_runs}
 use Rattle.cwr_shape.proofs.LeastNeeds.{least_records, least_groups, least_transaction}
@@ -162,7 +162,7 @@ way_keeps limit ty c stage real one t h = absurd (true≢false (sym real))
 
 pub open_named : (ys : List Symbol) (stage : Stage) → StandsAt ys stage → open_records ys ≡ open_at stage (counts_of ys)
 open_named ys stage st =
-    ap (λ (p : Place). cond (has_open_transaction p) (1 + (counts_of ys).after_header) 0) (sym (place_stands ys stage st))
+    ap (λ (p : Scope). cond (has_open_transaction p) (1 + (counts_of ys).after_header) 0) (sym (scope_stands ys stage st))
 
 names_type : (ys : List Symbol) (stage : Stage) → StandsAt ys stage → NamesType stage (open_type ys)
 names_type ys (stages.Within ty step) st = stands_type ys ty step st

@@ -12,7 +12,7 @@ use Rattle.cwr_shape.specs.declared.tallies.Counts.{Counts}
 use Rattle.cwr_shape.specs.Format.Shapes.{IsShape, BeginsShape}
 use Rattle.cwr_shape.specs.Format.Outlines.{GroupOutline, group_symbols, symbols_of, IsGroupOutline, IsOutline, Continues}
 use Rattle.cwr_shape.specs.Format.AnyTransmission.{Any}
-use Rattle.cwr_shape.specs.Format.NextSymbols.{type_after, open_type, counts_of, place_by, place_after, has_open_transaction, open_records}
+use Rattle.cwr_shape.specs.Format.NextSymbols.{type_after, open_type, counts_of, scope_by, scope_after, has_open_transaction, open_records}
 use Rattle.cwr_shape.specs.Steps.Counting.{counts_with, counts_with_group, counts_with_header, counts_with_other}
 use Rattle.cwr_shape.proofs.OneMore.{last_or-snoc, open_type-snoc, counts-snoc}
 use Rattle.cwr_shape.proofs.TransactionNumbers.{is_inner, headed_shape, inner_symbol}
@@ -26,7 +26,7 @@ LastBegin n xs = BeginsShape (drop (length xs - n) xs)
 
 -- where a transaction is open after some symbols, its records begin one
 abbrev OpenBegins : List Symbol → Type 0
-OpenBegins xs = has_open_transaction (place_after xs) ≡ true → LastBegin (open_records xs) xs
+OpenBegins xs = has_open_transaction (scope_after xs) ≡ true → LastBegin (open_records xs) xs
 
 -- the same after a symbol, by what is counted with it
 abbrev BeginsBy : Symbol → Counts → List Symbol → Type 0
@@ -39,7 +39,7 @@ ReportsFault ty c before (s ∷ xs) = BeginsBy s (counts_with ty c s) (before ++
 
 begins-snoc : (xs : List Symbol) (s : Symbol) → BeginsBy s (counts_with (open_type xs) (counts_of xs) s) (xs ++ s ∷ []) → OpenBegins (xs ++ s ∷ [])
 begins-snoc xs s h is_open =
-    let inside : is_of_transaction s ≡ true = sym (ap (λ (o : Option Symbol). has_open_transaction (place_by o)) (last_or-snoc None xs s)) ∙ is_open in
+    let inside : is_of_transaction s ≡ true = sym (ap (λ (o : Option Symbol). has_open_transaction (scope_by o)) (last_or-snoc None xs s)) ∙ is_open in
     let more : ℕ = 1 + (counts_with (open_type xs) (counts_of xs) s).after_header in
     let many : open_records (xs ++ s ∷ []) ≡ more = open_records-snoc xs s ∙ ap (λ (b : Bool). cond b more 0) inside in
     subst (λ (n : ℕ). LastBegin n (xs ++ s ∷ [])) (sym many) (h inside)
@@ -119,7 +119,7 @@ whole_known groups h = (
 )
 
 -- the records of the open transaction begin a transaction
-pub open_begins : (xs : List Symbol) → Continues Any xs → has_open_transaction (place_after xs) ≡ true → BeginsShape (drop (length xs - open_records xs) xs)
+pub open_begins : (xs : List Symbol) → Continues Any xs → has_open_transaction (scope_after xs) ≡ true → BeginsShape (drop (length xs - open_records xs) xs)
 open_begins xs h is_open =
     let all : ReportsFault Acknowledgement (counts_of []) [] (xs ++ h.3.0) = subst (ReportsFault Acknowledgement (counts_of []) []) h.3.1 (whole_known h.0 h.1) in
     fronts_known [] xs h.3.0 (λ inside. absurd (true≢false (sym inside))) all is_open

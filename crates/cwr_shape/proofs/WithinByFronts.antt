@@ -16,7 +16,7 @@ use Rattle.cwr_shape.specs.Format.Ranges.{LimitValues}
 use Rattle.cwr_shape.specs.Format.Shapes.{IsShape, pattern_of}
 use Rattle.cwr_shape.specs.Format.Outlines.{GroupOutline, group_symbols, symbols_of, IsGroupOutline, IsOutline, KeepsTo, IsWithin}
 use Rattle.cwr_shape.specs.Format.LastSymbols.{is_grh}
-use Rattle.cwr_shape.specs.Format.NextSymbols.{type_after, open_type, counts_of, place_by, has_open_transaction, open_records, passed_limit}
+use Rattle.cwr_shape.specs.Format.NextSymbols.{type_after, open_type, counts_of, scope_by, has_open_transaction, open_records, passed_limit}
 use Rattle.cwr_shape.specs.Steps.Counting.{counts_with, counts_with_group, counts_with_header, counts_with_other}
 use Rattle.cwr_shape.proofs.PrefixFree.{only, matched_pass}
 use Rattle.cwr_shape.proofs.OneMore.{last_or-snoc, open_type-snoc, counts-snoc}
@@ -60,7 +60,7 @@ none_passed limits xs e =
 
 -- the symbol is one of a transaction's
 abbrev pub is_of_transaction : Symbol → Bool
-is_of_transaction s = has_open_transaction (place_by (Some s))
+is_of_transaction s = has_open_transaction (scope_by (Some s))
 
 -- how many records the open transaction has after the symbol, by what is counted with it
 abbrev pub open_by : Symbol → Counts → ℕ
@@ -77,7 +77,7 @@ keeps_front limit ty c (s ∷ xs) ys h = (h.0, keeps_front limit (type_after ty 
 
 pub open_records-snoc : (xs : List Symbol) (s : Symbol) → open_records (xs ++ s ∷ []) ≡ open_by s (counts_with (open_type xs) (counts_of xs) s)
 open_records-snoc xs s =
-    ap₂ (λ (o : Option Symbol) (c : Counts). cond (has_open_transaction (place_by o)) (1 + c.after_header) 0) (last_or-snoc None xs s) (sym (counts-snoc xs s))
+    ap₂ (λ (o : Option Symbol) (c : Counts). cond (has_open_transaction (scope_by o)) (1 + c.after_header) 0) (last_or-snoc None xs s) (sym (counts-snoc xs s))
 
 -- so it has no more after the last of them
 pub fronts_forth : (limit : ℕ) (ys xs : List Symbol) → open_records ys ≤ limit → Keeps limit (open_type ys) (counts_of ys) xs → open_records (ys ++ xs) ≤ limit

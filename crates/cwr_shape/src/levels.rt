@@ -2,37 +2,37 @@
 
 ghost use Rattle.std.specs.Prelude.{◌≡◌};
 ghost use Rattle.cwr_layouts.specs.Format.Layouts.{field_at};
-ghost use Rattle.cwr_shape.specs.Format.Levels.{level_in, level_inside, level_of, level_of_place, level_of_type, must_be_filled};
+ghost use Rattle.cwr_shape.specs.Format.Levels.{level_in, level_inside, level_of, level_of_scope, level_of_type, must_be_filled};
 
 use crate::limits::LimitKind;
 use crate::reasons::{Level, Reason};
-use crate::tallies::Place;
+use crate::tallies::Scope;
 use cwr_fields::CellType;
 use cwr_layouts::{Kind, field};
 
 /// The level of a refusal at field `j` of a line of the kind (`None` where its first three bytes name none), where
-/// that place was open before the line.
-pub fn level(kind: Option<Kind>, j: u8, reason: &Reason, place: Place) -> Level
-    ensures { result ≡ level_of kind j reason.now place }
+/// that scope was open before the line.
+pub fn level(kind: Option<Kind>, j: u8, reason: &Reason, scope: Scope) -> Level
+    ensures { result ≡ level_of kind j reason.now scope }
 {
     match (reason, kind) {
-        (Reason::UnknownKind | Reason::Misplaced, _) => level_of_open(place),
+        (Reason::UnknownKind | Reason::Misplaced, _) => level_of_open(scope),
         (Reason::Limit(LimitKind::Transaction), Some(Kind::Grh)) => Level::G,
         (Reason::Limit(LimitKind::Transaction), _) => Level::T,
         (Reason::Limit(_), _) => Level::E,
         (_, Some(kind)) => level_of_cell(kind, j, reason),
-        (_, None) => level_of_open(place),
+        (_, None) => level_of_open(scope),
     }
 }
 
 /// A record that may not come rejects what is open.
-fn level_of_open(place: Place) -> Level
-    ensures { result ≡ level_of_place place }
+fn level_of_open(scope: Scope) -> Level
+    ensures { result ≡ level_of_scope scope }
 {
-    match place {
-        Place::File => Level::E,
-        Place::Group => Level::G,
-        Place::Transaction => Level::T,
+    match scope {
+        Scope::File => Level::E,
+        Scope::Group => Level::G,
+        Scope::Transaction => Level::T,
     }
 }
 

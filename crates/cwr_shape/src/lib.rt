@@ -15,4 +15,4 @@ pub use limits::{LimitKind, Limits, LimitsFault};
 pub use reasons::{Level, Reason};
 pub use stages::{Needs, Stage, TransactionStep};
 pub use symbols::Symbol;
-pub use tallies::{Bar, Place, Tally};
+pub use tallies::{Bar, Scope, Tally};

@@ -8,8 +8,8 @@ ghost use Rattle.cwr_shape.specs.Format.LastSymbols.{is_grh};
 ghost use Rattle.cwr_shape.specs.Steps.Stages.{stage_after};
 ghost use Rattle.cwr_shape.specs.Format.Numbers.{number_in, IsNumberAt};
 ghost use Rattle.cwr_shape.specs.Format.ExpectedNumbers.{expected_numbers};
-ghost use Rattle.cwr_shape.specs.Steps.Counting.{counts_with, wanted_role, place_at, stage_type, passed_limit_at, number_inside, HaveRoom};
-ghost use Rattle.cwr_shape.specs.Format.NextSymbols.{header_kind, is_header_of, MayCome, Answers, AnswersKind, transactions_begun, place_after};
+ghost use Rattle.cwr_shape.specs.Steps.Counting.{counts_with, wanted_role, scope_at, stage_type, passed_limit_at, number_inside, HaveRoom};
+ghost use Rattle.cwr_shape.specs.Format.NextSymbols.{header_kind, is_header_of, MayCome, Answers, AnswersKind, transactions_begun, scope_after};
 ghost use Rattle.cwr_shape.specs.Steps.Tallies.{IsTallyOf, IsAdmitted, KeepsTally};
 
 use crate::limits::{LimitKind, Limits};
@@ -21,7 +21,7 @@ use std::marker::Model;
 
 /// What is open.
 #[derive(Clone, Copy, Debug, PartialEq, Eq)]
-pub enum Place {
+pub enum Scope {
     /// No group.
     File,
     /// A group in which no transaction has begun.
@@ -160,13 +160,13 @@ fn is_header(ty: TransactionType, symbol: Symbol) -> bool
 
 /// What is open at a stage.
 #[inline(always)]
-fn place_at(stage: Stage) -> Place
-    ensures { result ≡ place_at stage }
+fn scope_at(stage: Stage) -> Scope
+    ensures { result ≡ scope_at stage }
 {
     match stage {
-        Stage::Start | Stage::Opened | Stage::Closed | Stage::Ended => Place::File,
-        Stage::Within(_, TransactionStep::InGroup) => Place::Group,
-        Stage::Within(..) => Place::Transaction,
+        Stage::Start | Stage::Opened | Stage::Closed | Stage::Ended => Scope::File,
+        Stage::Within(_, TransactionStep::InGroup) => Scope::Group,
+        Stage::Within(..) => Scope::Transaction,
     }
 }
 
@@ -193,8 +193,8 @@ fn passed_limit_at(limits: Limits, stage: Stage, counts: &Counts) -> Option<Limi
     if counts.groups + needs.groups > limits.groups() {
         return Some(LimitKind::Groups);
     }
-    let open = match place_at(stage) {
-        Place::Transaction => 1 + counts.after_header,
+    let open = match scope_at(stage) {
+        Scope::Transaction => 1 + counts.after_header,
         _ => 0,
     };
     if open + needs.transaction > limits.transaction() {
@@ -266,10 +266,10 @@ impl Tally {
     }
 
     /// What is open after the last record.
-    pub fn place(&self) -> Place
-        ensures { (xs : List Symbol) → IsTallyOf self.now xs → result ≡ place_after xs }
+    pub fn scope(&self) -> Scope
+        ensures { (xs : List Symbol) → IsTallyOf self.now xs → result ≡ scope_after xs }
     {
-        place_at(self.stage)
+        scope_at(self.stage)
     }
 
     /// How many records have come.

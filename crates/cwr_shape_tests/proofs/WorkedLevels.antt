@@ -16,12 +16,12 @@ use Rattle.cwr_shape.specs.declared.reasons.Reason.TheVariants as reasons
 use Rattle.cwr_shape.specs.declared.limits.LimitKind.TheVariants as limits
 use Rattle.cwr_shape.specs.declared.reasons.Level.{Level}
 use Rattle.cwr_shape.specs.declared.reasons.Level.TheVariants.{E, G, T, R, F}
-use Rattle.cwr_shape.specs.declared.tallies.Place.{Place}
-use Rattle.cwr_shape.specs.declared.tallies.Place.TheVariants as places
-use Rattle.cwr_shape.specs.Format.Levels.{level_of, level_of_type, place_after_kind}
+use Rattle.cwr_shape.specs.declared.tallies.Scope.{Scope}
+use Rattle.cwr_shape.specs.declared.tallies.Scope.TheVariants as scopes
+use Rattle.cwr_shape.specs.Format.Levels.{level_of, level_of_type, scope_after_kind}
 
-abbrev all_places : List Place
-all_places = places.File ∷ places.Group ∷ places.Transaction ∷ []
+abbrev all_places : List Scope
+all_places = scopes.File ∷ scopes.Group ∷ scopes.Transaction ∷ []
 
 -- a cell's fault, a number and an excess
 abbrev cell_reasons : List Reason
@@ -39,9 +39,9 @@ misplaced : map (λ place. map (λ kind. level_of (Some kind) 1 reasons.Misplace
 misplaced = refl
 
 -- what is open after each kind
-places_after_kinds : (place_after_kind None ≡ places.File)
-    × (map (λ kind. place_after_kind (Some kind)) (kinds.Hdr ∷ kinds.Grh ∷ kinds.Grt ∷ kinds.Trl ∷ []) ≡ places.File ∷ places.Group ∷ places.File ∷ places.File ∷ [])
-    × (map (λ kind. place_after_kind (Some kind)) (kinds.Agr ∷ kinds.Nwr ∷ kinds.Rev ∷ kinds.Ack ∷ inner_kinds) ≡ replicate 36 places.Transaction)
+places_after_kinds : (scope_after_kind None ≡ scopes.File)
+    × (map (λ kind. scope_after_kind (Some kind)) (kinds.Hdr ∷ kinds.Grh ∷ kinds.Grt ∷ kinds.Trl ∷ []) ≡ scopes.File ∷ scopes.Group ∷ scopes.File ∷ scopes.File ∷ [])
+    × (map (λ kind. scope_after_kind (Some kind)) (kinds.Agr ∷ kinds.Nwr ∷ kinds.Rev ∷ kinds.Ack ∷ inner_kinds) ≡ replicate 36 scopes.Transaction)
 places_after_kinds = (refl, refl, refl)
 
 -- a limit
@@ -51,30 +51,30 @@ too_many_records = refl
 too_many_groups : flat_map (λ place. map (λ kind. level_of (Some kind) 1 (reasons.Limit limits.Groups) place) all_kinds) all_places ≡ replicate 120 E
 too_many_groups = refl
 
-transaction_too_long : (level_of (Some kinds.Grh) 2 (reasons.Limit limits.Transaction) places.File ≡ G)
-    × (level_of (Some kinds.Ipa) 4 (reasons.Limit limits.Transaction) places.Transaction ≡ T)
-    × (map (λ kind. level_of (Some kind) 1 (reasons.Limit limits.Transaction) places.Transaction) (kinds.Agr ∷ kinds.Nwr ∷ kinds.Rev ∷ kinds.Ack ∷ inner_kinds) ≡ replicate 36 T)
+transaction_too_long : (level_of (Some kinds.Grh) 2 (reasons.Limit limits.Transaction) scopes.File ≡ G)
+    × (level_of (Some kinds.Ipa) 4 (reasons.Limit limits.Transaction) scopes.Transaction ≡ T)
+    × (map (λ kind. level_of (Some kind) 1 (reasons.Limit limits.Transaction) scopes.Transaction) (kinds.Agr ∷ kinds.Nwr ∷ kinds.Rev ∷ kinds.Ack ∷ inner_kinds) ≡ replicate 36 T)
 transaction_too_long = (refl, refl, refl)
 
 -- a cell, a number or an excess around transactions and in their headers, at field 2, at the last one and after it
-abbrev levels_in : Kind → Place → List Level
+abbrev levels_in : Kind → Scope → List Level
 levels_in kind place = flat_map (λ j. map (λ reason. level_of (Some kind) j reason place) cell_reasons) (2 ∷ length (layout kind) ∷ (length (layout kind) + 1) ∷ [])
 
-in_file : (levels_in kinds.Hdr places.File ≡ replicate 30 E) × (levels_in kinds.Trl places.File ≡ replicate 30 E)
+in_file : (levels_in kinds.Hdr scopes.File ≡ replicate 30 E) × (levels_in kinds.Trl scopes.File ≡ replicate 30 E)
 in_file = (refl, refl)
 
-in_group : (levels_in kinds.Grh places.File ≡ replicate 30 G) × (levels_in kinds.Grt places.Transaction ≡ replicate 30 G)
+in_group : (levels_in kinds.Grh scopes.File ≡ replicate 30 G) × (levels_in kinds.Grt scopes.Transaction ≡ replicate 30 G)
 in_group = (refl, refl)
 
-in_header : flat_map (λ kind. flat_map (levels_in kind) (places.Group ∷ places.Transaction ∷ [])) (kinds.Agr ∷ kinds.Nwr ∷ kinds.Rev ∷ kinds.Ack ∷ []) ≡ replicate 240 T
+in_header : flat_map (λ kind. flat_map (levels_in kind) (scopes.Group ∷ scopes.Transaction ∷ [])) (kinds.Agr ∷ kinds.Nwr ∷ kinds.Rev ∷ kinds.Ack ∷ []) ≡ replicate 240 T
 in_header = refl
 
 -- after a header: the two sequences
-in_sequences : flat_map (λ kind. flat_map (λ j. map (λ reason. level_of (Some kind) j reason places.Transaction) (reasons.Cell Blank ∷ reasons.Cell NotDigits ∷ reasons.Number 7 ∷ [])) (2 ∷ 3 ∷ [])) inner_kinds ≡ replicate 192 T
+in_sequences : flat_map (λ kind. flat_map (λ j. map (λ reason. level_of (Some kind) j reason scopes.Transaction) (reasons.Cell Blank ∷ reasons.Cell NotDigits ∷ reasons.Number 7 ∷ [])) (2 ∷ 3 ∷ [])) inner_kinds ≡ replicate 192 T
 in_sequences = refl
 
 -- after a header: the excess
-in_excess : map (λ kind. level_of (Some kind) (length (layout kind) + 1) reasons.Excess places.Transaction) inner_kinds ≡ replicate 32 R
+in_excess : map (λ kind. level_of (Some kind) (length (layout kind) + 1) reasons.Excess scopes.Transaction) inner_kinds ≡ replicate 32 R
 in_excess = refl
 
 -- after a header: a cell, by its type
@@ -85,7 +85,7 @@ by_type : (map level_of_cells (types.Required ∷ types.Number ∷ types.Code ta
     × (map level_of_cells (types.Text ∷ types.OptNumber ∷ types.Date ∷ types.OptDate ∷ types.Time ∷ types.OptTime ∷ types.OptDuration ∷ types.Share ∷ types.Flag ∷ types.OptCode tables.Sign ∷ types.Constant words.Edi ∷ []) ≡ replicate 11 F)
 by_type = (refl, refl)
 
-by_field : (level_of (Some kinds.Swr) 5 (reasons.Cell Blank) places.Transaction ≡ R) × (level_of (Some kinds.Ter) 5 (reasons.Cell NotDigits) places.Transaction ≡ R)
-    × (level_of (Some kinds.Ipa) 4 (reasons.Cell NotACode) places.Transaction ≡ R) × (level_of (Some kinds.Swr) 12 (reasons.Cell OverShare) places.Transaction ≡ F)
-    × (level_of (Some kinds.Spu) 8 (reasons.Cell NotACode) places.Transaction ≡ F) × (level_of (Some kinds.Rec) 4 (reasons.Cell NotADate) places.Transaction ≡ F)
+by_field : (level_of (Some kinds.Swr) 5 (reasons.Cell Blank) scopes.Transaction ≡ R) × (level_of (Some kinds.Ter) 5 (reasons.Cell NotDigits) scopes.Transaction ≡ R)
+    × (level_of (Some kinds.Ipa) 4 (reasons.Cell NotACode) scopes.Transaction ≡ R) × (level_of (Some kinds.Swr) 12 (reasons.Cell OverShare) scopes.Transaction ≡ F)
+    × (level_of (Some kinds.Spu) 8 (reasons.Cell NotACode) scopes.Transaction ≡ F) × (level_of (Some kinds.Rec) 4 (reasons.Cell NotADate) scopes.Transaction ≡ F)
 by_field = (refl, refl, refl, refl, refl, refl)

@@ -3,21 +3,21 @@
 use cwr_fields::CellFault;
 use cwr_layouts::Kind;
 use cwr_shape::Reason::{self, Cell, Limit, Misplaced, Number, UnknownKind};
-use cwr_shape::{Level, LimitKind, Place, level};
+use cwr_shape::{Level, LimitKind, Scope, level};
 
 /// The kind of a record, a field, why it is refused, where the record would stand, and the level.
 #[rattlefmt::skip]
-static REFUSALS: [(Option<Kind>, u8, Reason, Place, Level); 10] = [
-    (Some(Kind::Grt), 4, Number { expected: 3 }, Place::Transaction, Level::G),
-    (Some(Kind::Trl), 3, Number { expected: 3 }, Place::File, Level::E),
-    (Some(Kind::Swr), 3, Number { expected: 3 }, Place::Transaction, Level::T),
-    (Some(Kind::Hdr), 8, Cell(CellFault::NotADate), Place::File, Level::E),
-    (Some(Kind::Swr), 5, Cell(CellFault::Blank), Place::Transaction, Level::R),
-    (Some(Kind::Swr), 12, Cell(CellFault::OverShare), Place::Transaction, Level::F),
-    (Some(Kind::Grh), 2, Limit(LimitKind::Transaction), Place::File, Level::G),
-    (Some(Kind::Msg), 1, Limit(LimitKind::Transaction), Place::Transaction, Level::T),
-    (Some(Kind::Rev), 1, Misplaced, Place::Group, Level::G),
-    (None, 1, UnknownKind, Place::File, Level::E),
+static REFUSALS: [(Option<Kind>, u8, Reason, Scope, Level); 10] = [
+    (Some(Kind::Grt), 4, Number { expected: 3 }, Scope::Transaction, Level::G),
+    (Some(Kind::Trl), 3, Number { expected: 3 }, Scope::File, Level::E),
+    (Some(Kind::Swr), 3, Number { expected: 3 }, Scope::Transaction, Level::T),
+    (Some(Kind::Hdr), 8, Cell(CellFault::NotADate), Scope::File, Level::E),
+    (Some(Kind::Swr), 5, Cell(CellFault::Blank), Scope::Transaction, Level::R),
+    (Some(Kind::Swr), 12, Cell(CellFault::OverShare), Scope::Transaction, Level::F),
+    (Some(Kind::Grh), 2, Limit(LimitKind::Transaction), Scope::File, Level::G),
+    (Some(Kind::Msg), 1, Limit(LimitKind::Transaction), Scope::Transaction, Level::T),
+    (Some(Kind::Rev), 1, Misplaced, Scope::Group, Level::G),
+    (None, 1, UnknownKind, Scope::File, Level::E),
 ];
 
 #[test]

@@ -3,7 +3,7 @@
 use crate::checks::check_equal;
 use cwr_fields::{Role, TransactionType};
 use cwr_layouts::Kind;
-use cwr_shape::{Bar, LimitKind, Limits, Place, Stage, Symbol, Tally, TransactionStep};
+use cwr_shape::{Bar, LimitKind, Limits, Scope, Stage, Symbol, Tally, TransactionStep};
 use std::process::Abort;
 
 const HDR: Symbol = Symbol::Plain(Kind::Hdr);
@@ -97,18 +97,18 @@ fn numbers_of_the_next_record(rt: HostRuntime) {
 }
 
 /// After so many records of the two groups the place of the next one.
-static PLACES: [(usize, Place); 4] = [
-    (0, Place::File),
-    (2, Place::Group),
-    (3, Place::Transaction),
-    (11, Place::File),
+static PLACES: [(usize, Scope); 4] = [
+    (0, Scope::File),
+    (2, Scope::Group),
+    (3, Scope::Transaction),
+    (11, Scope::File),
 ];
 
 #[test]
 fn places_of_the_next_record(rt: HostRuntime) {
     for (count, place) in &PLACES {
         let tally = tally_of(&rt, LARGEST, &TWO_GROUPS[..(*count).min(12)]);
-        check_equal(&rt, (count, tally.place()), (count, *place));
+        check_equal(&rt, (count, tally.scope()), (count, *place));
     }
 }
 

@@ -13,13 +13,13 @@ use Rattle.cwr_tools.specs.declared.split_output.SplitOutput.{SplitOutput}
 use Rattle.cwr_tools.specs.declared.splitting.Splitting.{Splitting}
 use Rattle.cwr_tools.specs.Format.Outputs.{AddsTexts}
 use Rattle.cwr_tools.specs.Steps.SplitOutputs.{CountsNone, HoldsOutput, Told, blank_end, end_of, open_count, open_end}
-use Rattle.cwr_tools.specs.Steps.SplitPlaces.{ArePartGroups, SplitPlace, RemainsBetween, Between, Inside, Over, last_of, open_items, parts_at, split_place_after, total_in, value_of, with_group}
-use Rattle.cwr_tools.specs.Steps.SplitItems.{HoldsPlace, IsTaken, MayTake}
+use Rattle.cwr_tools.specs.Steps.SplitStages.{ArePartGroups, SplitStage, RemainsBetween, Between, Inside, Over, last_of, open_items, parts_at, split_stage_after, total_in, value_of, with_group}
+use Rattle.cwr_tools.specs.Steps.SplitItems.{HoldsStage, IsTaken, MayTake}
 use Rattle.cwr_tools.specs.Steps.SplitSteps.{EndsGroup, FinishesOutput, IsHandedOver, IsOutsideOpen, MayEndGroup, MayEndHeld, MayFinish, has_open_group, report_after}
 use Rattle.cwr_tools.proofs.FrontsFit.{fits_groups}
 use Rattle.cwr_tools.proofs.OutputSteps.{ended_output}
-use Rattle.cwr_tools.proofs.PlacesHeld.{items_closed, some_in, total_with, with_end}
-use Rattle.cwr_tools.proofs.PlacesOfItems.{adds_none, at_item}
+use Rattle.cwr_tools.proofs.StagesHeld.{items_closed, some_in, total_with, with_end}
+use Rattle.cwr_tools.proofs.StagesOfItems.{adds_none, at_item}
 use Rattle.cwr_tools.proofs.TransactionsTaken.{no_fewer}
 
 -- ---- GRT
@@ -40,7 +40,7 @@ some_open held out zero e none = absurd (let f : Some out ≡ None = sym e ∙ n
 some_open held out (suc n) e none = omega arith
 
 may_end_open : {O W : Type 0} (told : Told O) (contents : W → Option (List ℕ)) (failures : W → ℕ) (o : RecordValue) (closed : List GroupValue) (h : RecordValue) (cur : List (List RecordValue)) (v : TransmissionValue) (whole : List TransmissionValue) (rest : List Item)
-    (s : Splitting W) (now : O) → HoldsPlace told contents failures (Inside o closed h cur) s now → RemainsBetween s.limits s.size v whole o (with_group closed h cur) rest → (held : Option (SplitOutput W)) → s.output ≡ held → MayEndGroup contents held
+    (s : Splitting W) (now : O) → HoldsStage told contents failures (Inside o closed h cur) s now → RemainsBetween s.limits s.size v whole o (with_group closed h cur) rest → (held : Option (SplitOutput W)) → s.output ≡ held → MayEndGroup contents held
 may_end_open told contents failures o closed h cur v whole rest s now had p None e = tt
 may_end_open {W = W} told contents failures o closed h cur v whole rest s now had p (Some out) e =
     let some : 0 < total_in closed + length cur = some_open s.output out (total_in closed + length cur) e had.none in
@@ -63,8 +63,8 @@ may_end_open {W = W} told contents failures o closed h cur v whole rest s now ha
 
 pub may_end_group : {O W : Type 0} (told : Told O) (contents : W → Option (List ℕ)) (failures : W → ℕ) (r : RecordValue) (s : Splitting W) (now : O) → MayTake told contents failures (GroupClosed r) s now → MayEndGroup contents s.output
 may_end_group told contents failures r s now may =
-    let at = at_item s.limits s.size may.value may.whole may.place (GroupClosed r) may.rest may.remains in
-    let had = subst (λ (q : SplitPlace). HoldsPlace told contents failures q s now) at.4 may.holds in
+    let at = at_item s.limits s.size may.value may.whole may.stage (GroupClosed r) may.rest may.remains in
+    let had = subst (λ (q : SplitStage). HoldsStage told contents failures q s now) at.4 may.holds in
     may_end_open told contents failures at.0 at.1 at.2 at.3 may.value may.whole may.rest s now had at.5 s.output refl
 
 -- the output without its open group
@@ -76,18 +76,18 @@ outside told contents failures limits had items None (Some y) h k = absurd h
 outside told contents failures limits had items (Some x) None h k = absurd h
 
 pub foot_taken : {O W : Type 0} (told : Told O) (contents : W → Option (List ℕ)) (failures : W → ℕ) (r : RecordValue) (u : Unit {0}) (s new : Splitting W) (now : O) → EndsGroup contents failures (Ok u) s new
-    → (may : MayTake told contents failures (GroupClosed r) s now) → IsTaken told contents failures (split_place_after s.size may.place (GroupClosed r)) (parts_at s.size may.place (GroupClosed r)) (GroupClosed r) s new now now
+    → (may : MayTake told contents failures (GroupClosed r) s now) → IsTaken told contents failures (split_stage_after s.size may.stage (GroupClosed r)) (parts_at s.size may.stage (GroupClosed r)) (GroupClosed r) s new now now
 foot_taken {W = W} told contents failures r u s new now done may =
-    let at = at_item s.limits s.size may.value may.whole may.place (GroupClosed r) may.rest may.remains in
+    let at = at_item s.limits s.size may.value may.whole may.stage (GroupClosed r) may.rest may.remains in
     let o : RecordValue = at.0 in
     let closed : List GroupValue = at.1 in
     let h : RecordValue = at.2 in
     let cur : List (List RecordValue) = at.3 in
-    let had = subst (λ (q : SplitPlace). HoldsPlace told contents failures q s now) at.4 may.holds in
+    let had = subst (λ (q : SplitStage). HoldsStage told contents failures q s now) at.4 may.holds in
     let out : Option (SplitOutput W) = new.output in
     let left = outside told contents failures s.limits (told.texts now) (open_items (Inside o closed h cur)) s.output out done.1 had.output in
     let total : total_in (with_group closed h cur) ≡ total_in closed + length cur = total_with closed h cur in
-    subst (λ (q : SplitPlace). IsTaken told contents failures (split_place_after s.size q (GroupClosed r)) (parts_at s.size q (GroupClosed r)) (GroupClosed r) s new now now) (sym at.4)
+    subst (λ (q : SplitStage). IsTaken told contents failures (split_stage_after s.size q (GroupClosed r)) (parts_at s.size q (GroupClosed r)) (GroupClosed r) s new now now) (sym at.4)
     (subst (λ (m : Splitting W). IsTaken told contents failures (Between o (with_group closed h cur)) [] (GroupClosed r) s m now now) (sym done.0) (record {
       holds = record {
         opening = had.opening;
@@ -112,7 +112,7 @@ no_end : {W : Type 0} (out : SplitOutput W) → out.in_group ≡ false → end_o
 no_end out e = ap (λ (b : Bool). if b then blank_end ∷ [] else []) e
 
 may_finish_open : {O W : Type 0} (told : Told O) (contents : W → Option (List ℕ)) (failures : W → ℕ) (o : RecordValue) (closed : List GroupValue) (v : TransmissionValue) (whole : List TransmissionValue) (rest : List Item) (s : Splitting W) (now : O)
-    → HoldsPlace told contents failures (Between o closed) s now → RemainsBetween s.limits s.size v whole o closed rest → (held : Option (SplitOutput W)) → s.output ≡ held → MayEndHeld s.limits (open_items (Between o closed)) held
+    → HoldsStage told contents failures (Between o closed) s now → RemainsBetween s.limits s.size v whole o closed rest → (held : Option (SplitOutput W)) → s.output ≡ held → MayEndHeld s.limits (open_items (Between o closed)) held
 may_finish_open told contents failures o closed v whole rest s now had p None e = tt
 may_finish_open told contents failures o closed v whole rest s now had p (Some out) e =
     let there : 0 < length closed = some_closed closed (some_open s.output out (total_in closed) e had.none) in
@@ -124,8 +124,8 @@ may_finish_open told contents failures o closed v whole rest s now had p (Some o
 
 pub may_finish : {O W : Type 0} (told : Told O) (contents : W → Option (List ℕ)) (failures : W → ℕ) (s : Splitting W) (now : O) → MayTake told contents failures Ended s now → MayFinish told contents failures s now
 may_finish told contents failures s now may =
-    let at = at_item s.limits s.size may.value may.whole may.place Ended may.rest may.remains in
-    let had = subst (λ (q : SplitPlace). HoldsPlace told contents failures q s now) at.2 may.holds in
+    let at = at_item s.limits s.size may.value may.whole may.stage Ended may.rest may.remains in
+    let had = subst (λ (q : SplitStage). HoldsStage told contents failures q s now) at.2 may.holds in
     record {
       items = open_items (Between at.0 at.1);
       held = had.output;
@@ -134,8 +134,8 @@ may_finish told contents failures s now may =
 
 pub room_to_finish : {O W : Type 0} (told : Told O) (contents : W → Option (List ℕ)) (failures : W → ℕ) (s : Splitting W) (now : O) → MayTake told contents failures Ended s now → s.report.outputs < 199999999
 room_to_finish told contents failures s now may =
-    let at = at_item s.limits s.size may.value may.whole may.place Ended may.rest may.remains in
-    let had = subst (λ (q : SplitPlace). HoldsPlace told contents failures q s now) at.2 may.holds in
+    let at = at_item s.limits s.size may.value may.whole may.stage Ended may.rest may.remains in
+    let had = subst (λ (q : SplitStage). HoldsStage told contents failures q s now) at.2 may.holds in
     let counted : s.report.outputs * s.size + total_in at.1 ≡ s.report.transactions = had.counted in
     omega (arith, no_fewer s.report.outputs s.size may.some, counted, may.room)
 
@@ -149,7 +149,7 @@ some_last o (g ∷ gs) some = refl
 
 -- what was handed over at the end
 last_handed_over : {O W : Type 0} (told : Told O) (contents : W → Option (List ℕ)) (failures : W → ℕ) (o : RecordValue) (closed : List GroupValue) (v : TransmissionValue) (whole : List TransmissionValue) (rest : List Item) (s : Splitting W) (now after : O)
-    → HoldsPlace told contents failures (Between o closed) s now → RemainsBetween s.limits s.size v whole o closed rest → (held : Option (SplitOutput W)) → s.output ≡ held → IsHandedOver told contents failures s.limits held now after
+    → HoldsStage told contents failures (Between o closed) s now → RemainsBetween s.limits s.size v whole o closed rest → (held : Option (SplitOutput W)) → s.output ≡ held → IsHandedOver told contents failures s.limits held now after
     → AddsTexts (told.texts now) (told.texts after) (map canonical_text (last_of o closed)) × CountsNone told now after × ((report_after s.report held).outputs ≡ s.report.outputs + length (last_of o closed))
     × ((report_after s.report held).transactions ≡ s.report.transactions)
 last_handed_over told contents failures o closed v whole rest s now after had p None e quiet =
@@ -167,12 +167,12 @@ last_handed_over {W = W} told contents failures o closed v whole rest s now afte
     (taken.1 items (value_of o closed) output right.0 all, taken.0, omega arith, refl)
 
 pub end_taken : {O W : Type 0} (told : Told O) (contents : W → Option (List ℕ)) (failures : W → ℕ) (u : Unit {0}) (s new : Splitting W) (now after : O) → FinishesOutput told contents failures (Ok u) s new now after
-    → (may : MayTake told contents failures Ended s now) → IsTaken told contents failures (split_place_after s.size may.place Ended) (parts_at s.size may.place Ended) Ended s new now after
+    → (may : MayTake told contents failures Ended s now) → IsTaken told contents failures (split_stage_after s.size may.stage Ended) (parts_at s.size may.stage Ended) Ended s new now after
 end_taken {W = W} told contents failures u s new now after done may =
-    let at = at_item s.limits s.size may.value may.whole may.place Ended may.rest may.remains in
-    let had = subst (λ (q : SplitPlace). HoldsPlace told contents failures q s now) at.2 may.holds in
+    let at = at_item s.limits s.size may.value may.whole may.stage Ended may.rest may.remains in
+    let had = subst (λ (q : SplitStage). HoldsStage told contents failures q s now) at.2 may.holds in
     let last = last_handed_over told contents failures at.0 at.1 may.value may.whole (Ended ∷ may.rest) s now after had at.3 s.output refl done.1 in
-    subst (λ (q : SplitPlace). IsTaken told contents failures (split_place_after s.size q Ended) (parts_at s.size q Ended) Ended s new now after) (sym at.2)
+    subst (λ (q : SplitStage). IsTaken told contents failures (split_stage_after s.size q Ended) (parts_at s.size q Ended) Ended s new now after) (sym at.2)
     (subst (λ (m : Splitting W). IsTaken told contents failures Over (last_of at.0 at.1) Ended s m now after) (sym done.0) (record {
       holds = record { opening = tt; head = tt; output = refl; count = refl; group = refl; none = λ e. refl; counted = tt };
       texts = last.0;

@@ -6,19 +6,19 @@ use Rattle.cwr_values.specs.declared.items.Item.TheVariants.{Opened, GroupOpened
 use Rattle.cwr_values.specs.Format.Values.{GroupValue}
 use Rattle.cwr_tools.specs.declared.splitting.Splitting.{Splitting}
 use Rattle.cwr_tools.specs.Steps.SplitOutputs.{HoldsOutput, Told}
-use Rattle.cwr_tools.specs.Steps.SplitPlaces.{SplitPlace, Between, Inside, Start, open_items, parts_at, split_place_after}
-use Rattle.cwr_tools.specs.Steps.SplitItems.{HoldsPlace, IsTaken, MayTake}
-use Rattle.cwr_tools.proofs.PlacesOfItems.{adds_none, at_item}
+use Rattle.cwr_tools.specs.Steps.SplitStages.{SplitStage, Between, Inside, Start, open_items, parts_at, split_stage_after}
+use Rattle.cwr_tools.specs.Steps.SplitItems.{HoldsStage, IsTaken, MayTake}
+use Rattle.cwr_tools.proofs.StagesOfItems.{adds_none, at_item}
 
 -- ---- HDR
 
 pub opening_taken : {O W : Type 0} (told : Told O) (contents : W → Option (List ℕ)) (failures : W → ℕ) (r : RecordValue) (s : Splitting W) (now : O) (may : MayTake told contents failures (Opened r) s now)
-    → IsTaken told contents failures (split_place_after s.size may.place (Opened r)) (parts_at s.size may.place (Opened r)) (Opened r) s (record s { opening = Some (Opened r) }) now now
+    → IsTaken told contents failures (split_stage_after s.size may.stage (Opened r)) (parts_at s.size may.stage (Opened r)) (Opened r) s (record s { opening = Some (Opened r) }) now now
 opening_taken {W = W} told contents failures r s now may =
-    let at : may.place ≡ Start = at_item s.limits s.size may.value may.whole may.place (Opened r) may.rest may.remains in
-    let had = subst (λ (p : SplitPlace). HoldsPlace told contents failures p s now) at may.holds in
+    let at : may.stage ≡ Start = at_item s.limits s.size may.value may.whole may.stage (Opened r) may.rest may.remains in
+    let had = subst (λ (p : SplitStage). HoldsStage told contents failures p s now) at may.holds in
     let next : Splitting W = record s { opening = Some (Opened r) } in
-    subst (λ (p : SplitPlace). IsTaken told contents failures (split_place_after s.size p (Opened r)) (parts_at s.size p (Opened r)) (Opened r) s next now now) (sym at) (record {
+    subst (λ (p : SplitStage). IsTaken told contents failures (split_stage_after s.size p (Opened r)) (parts_at s.size p (Opened r)) (Opened r) s next now now) (sym at) (record {
       holds = record { opening = refl; head = tt; output = had.output; count = had.count; group = had.group; none = had.none; counted = had.counted };
       texts = adds_none (told.texts now) (told.texts now) refl;
       counts = record { failures = refl; given_up = refl };
@@ -35,14 +35,14 @@ same_items o [] h = refl
 same_items o (g ∷ gs) h = refl
 
 pub head_taken : {O W : Type 0} (told : Told O) (contents : W → Option (List ℕ)) (failures : W → ℕ) (r : RecordValue) (s : Splitting W) (now : O) (may : MayTake told contents failures (GroupOpened r) s now)
-    → IsTaken told contents failures (split_place_after s.size may.place (GroupOpened r)) (parts_at s.size may.place (GroupOpened r)) (GroupOpened r) s (record s { head = Some (GroupOpened r) }) now now
+    → IsTaken told contents failures (split_stage_after s.size may.stage (GroupOpened r)) (parts_at s.size may.stage (GroupOpened r)) (GroupOpened r) s (record s { head = Some (GroupOpened r) }) now now
 head_taken {W = W} told contents failures r s now may =
-    let at = at_item s.limits s.size may.value may.whole may.place (GroupOpened r) may.rest may.remains in
+    let at = at_item s.limits s.size may.value may.whole may.stage (GroupOpened r) may.rest may.remains in
     let o : RecordValue = at.0 in
     let closed : List GroupValue = at.1 in
-    let had = subst (λ (p : SplitPlace). HoldsPlace told contents failures p s now) at.2 may.holds in
+    let had = subst (λ (p : SplitStage). HoldsStage told contents failures p s now) at.2 may.holds in
     let next : Splitting W = record s { head = Some (GroupOpened r) } in
-    subst (λ (p : SplitPlace). IsTaken told contents failures (split_place_after s.size p (GroupOpened r)) (parts_at s.size p (GroupOpened r)) (GroupOpened r) s next now now) (sym at.2) (record {
+    subst (λ (p : SplitStage). IsTaken told contents failures (split_stage_after s.size p (GroupOpened r)) (parts_at s.size p (GroupOpened r)) (GroupOpened r) s next now now) (sym at.2) (record {
       holds = record {
         opening = had.opening;
         head = refl;

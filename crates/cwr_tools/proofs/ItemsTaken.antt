@@ -1,4 +1,4 @@
--- A split takes an item: what it holds is then that of the next place, and a part that is whole was handed over.
+-- A split takes an item: what it holds is then that of the next stage, and a part that is whole was handed over.
 use Rattle.std.proofs.Common.{◌≡◌, ℕ, List, Option, Some, None, refl, sym, ap, subst, ◌∙◌}
 use Rattle.std.specs.Prelude.{Result, Ok, Err}
 use Rattle.cwr_fields.specs.Format.Failures.{one_more_failure}
@@ -11,7 +11,7 @@ use Rattle.cwr_tools.specs.declared.splitting.Splitting.{Splitting}
 use Rattle.cwr_tools.specs.declared.verdicts.ToolFault.{ToolFault}
 use Rattle.cwr_tools.specs.declared.verdicts.ToolFault.TheVariants as tool_faults
 use Rattle.cwr_tools.specs.Steps.SplitOutputs.{FailsWith, HoldsOutput, Told, open_failures}
-use Rattle.cwr_tools.specs.Steps.SplitPlaces.{open_items}
+use Rattle.cwr_tools.specs.Steps.SplitStages.{open_items}
 use Rattle.cwr_tools.specs.Steps.SplitItems.{MayTake, TakesItem}
 use Rattle.cwr_tools.specs.Steps.SplitSteps.{AddsTransaction, EndsGroup, FailsOpen, FinishesOutput, MayAddTransaction, MayEndGroup, MayFinish}
 use Rattle.cwr_tools.proofs.EndsTaken.{end_taken, foot_taken, may_end_group, may_finish}
@@ -59,7 +59,7 @@ pub takes_foot : {O W : Type 0} (told : Told O) (contents : W → Option (List �
     → EndsGroup contents failures result s new → TakesItem told contents failures item result s new now now
 takes_foot told contents failures item r s new now (Ok u) e may done = subst (λ (i : Item). TakesItem told contents failures i (Ok u) s new now now) (sym e) (foot_taken told contents failures r u s new now done)
 takes_foot told contents failures item r s new now (Err fault) e may done =
-    writer_failed told failures s.output new.output now fault (quiet_output contents failures s.limits (told.texts now) (open_items may.place) s.output may.holds.output) done
+    writer_failed told failures s.output new.output now fault (quiet_output contents failures s.limits (told.texts now) (open_items may.stage) s.output may.holds.output) done
 
 pub takes_end : {O W : Type 0} (told : Told O) (contents : W → Option (List ℕ)) (failures : W → ℕ) (item : Item) (s new : Splitting W) (now after : O) (result : Result (Unit {0}) ToolFault) → item ≡ Ended → FinishesOutput told contents failures result s new now after
     → TakesItem told contents failures item result s new now after

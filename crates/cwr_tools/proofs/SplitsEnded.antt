@@ -27,32 +27,32 @@ use Rattle.cwr_tools.specs.Format.Outputs.{AddsTexts}
 use Rattle.cwr_tools.specs.Format.Splits.{split_of}
 use Rattle.cwr_tools.specs.Steps.SplitItems.{HasCounted}
 use Rattle.cwr_tools.specs.Steps.SplitOutputs.{FailsWith, IsOutputFault, Told}
-use Rattle.cwr_tools.specs.Steps.SplitPlaces.{SplitPlace, Over, Start, open_total, parts_in, place_in}
+use Rattle.cwr_tools.specs.Steps.SplitStages.{SplitStage, Over, Start, open_total, parts_in, stage_in}
 use Rattle.cwr_tools.specs.Format.Splitting.{HasFullRuns, SplitsAll}
 use Rattle.cwr_tools.specs.Steps.Splitting.{Splits}
 use Rattle.cwr_tools.specs.Steps.Verdicts.{StopsAfter}
-use Rattle.cwr_tools.proofs.PlacesLeft.{remains_after}
+use Rattle.cwr_tools.proofs.StagesLeft.{remains_after}
 use lib.Seq.{take-append_seam}
-use Rattle.cwr_tools.proofs.PlacesPassed.{at_end, counted_at, few_open, first_parts, is_over, more_left}
+use Rattle.cwr_tools.proofs.StagesPassed.{at_end, counted_at, few_open, first_parts, is_over, more_left}
 use Rattle.cwr_tools.proofs.SplittingOn.{Begun, IsSplitting, begun_so}
 
 -- ---- the full runs
 
 -- before the end the parts that are whole are the runs that are filled
 full_runs : {O W : Type 0} (limits : Limits) (n : ℕ) (d : Standing) (before now : Option (List ℕ)) (told : Told O) (contents : W → Option (List ℕ)) (failures : W → ℕ) (count : ℕ) (begin : O) (s : Splitting W) (o : O) → 0 < n
-    → (h : IsSplitting limits n d before now told contents failures count begin s o) → place_in n Start h.given ≢ Over → HasFullRuns limits n h.given (told.texts begin) (told.texts o)
+    → (h : IsSplitting limits n d before now told contents failures count begin s o) → stage_in n Start h.given ≢ Over → HasFullRuns limits n h.given (told.texts begin) (told.texts o)
 full_runs limits n d before now told contents failures count begin s o some h before_end =
-    let place : SplitPlace = place_in n Start h.given in
+    let stage : SplitStage = stage_in n Start h.given in
     let parts : List TransmissionValue = parts_in n Start h.given in
     let first = subst (λ (l : LimitValues). AreFirstItems l h.given) h.reading.read.limits_are (first_items d h.reading.read.input h.given h.reading.read.stands) in
-    let few : open_total place < n = few_open limits n first.value parts place first.rest some (remains_after limits n first.value h.given first.rest some first.whole first.within first.split) in
-    let counted : length parts * n + open_total place ≡ count_by is_transaction h.given =
-    ap (λ (k : ℕ). k * n + open_total place) (sym h.outputs) ∙ counted_at n place s.report before_end (subst (λ (k : ℕ). HasCounted place k s.report) h.size h.holds.counted) ∙ h.transactions in
-    let filled : count_by is_transaction h.given / n ≡ length parts = ap (λ (k : ℕ). k / n) (sym counted) ∙ div-mul-add (length parts) n (open_total place) few in
+    let few : open_total stage < n = few_open limits n first.value parts stage first.rest some (remains_after limits n first.value h.given first.rest some first.whole first.within first.split) in
+    let counted : length parts * n + open_total stage ≡ count_by is_transaction h.given =
+    ap (λ (k : ℕ). k * n + open_total stage) (sym h.outputs) ∙ counted_at n stage s.report before_end (subst (λ (k : ℕ). HasCounted stage k s.report) h.size h.holds.counted) ∙ h.transactions in
+    let filled : count_by is_transaction h.given / n ≡ length parts = ap (λ (k : ℕ). k / n) (sym counted) ∙ div-mul-add (length parts) n (open_total stage) few in
     record {
       begun = first;
       texts = λ v rest right fits e.
-          let more = first_parts limits n v parts place rest (remains_after limits n v h.given rest some right fits e) in
+          let more = first_parts limits n v parts stage rest (remains_after limits n v h.given rest some right fits e) in
           let same : parts ≡ take (count_by is_transaction h.given / n) (split_of n v) =
           sym (take-append_seam parts more.0) ∙ ap₂ (λ (k : ℕ) (l : List TransmissionValue). take k l) (sym filled) (sym more.1) in
           subst (λ (l : List TransmissionValue). AddsTexts (told.texts begin) (told.texts o) (map canonical_text l)) same h.texts;
@@ -68,7 +68,7 @@ all_split limits n d before left after told contents failures count begin s o so
     let taken = all_taken limits before after h.given all.value read (λ w whole are. items_once all.value w (sym all.given_are ∙ are)) in
     let parts : List TransmissionValue = parts_in n Start h.given in
     let remains = remains_after limits n all.value h.given [] some all.whole taken.accepted.within (sym all.given_are ∙ sym (append-nil h.given)) in
-    let whole : split_of n all.value ≡ parts = at_end limits n all.value parts (place_in n Start h.given) remains in
+    let whole : split_of n all.value ≡ parts = at_end limits n all.value parts (stage_in n Start h.given) remains in
     let counted : s.report.transactions ≡ sum_by (λ g. length g.transactions) all.value.groups = h.transactions ∙ ap (count_by is_transaction) all.given_are ∙ transactions_given all.value in
     let outputs : s.report.outputs ≡ length (split_of n all.value) = h.outputs ∙ ap length (sym whole) in
     record {
@@ -111,7 +111,7 @@ output_stopped limits n d new before left after told contents failures count beg
     runs : HasFullRuns limits n h.given (told.texts begin) (told.texts later)
     runs = subst (λ (t : Option (List (List ℕ))). HasFullRuns limits n h.given (told.texts begin) t) (sym f.texts)
         (full_runs limits n d before left told contents failures count begin s o some h
-        (more_left limits n first.value (parts_in n Start h.given) (place_in n Start h.given) item first.more (remains_after limits n first.value h.given (item ∷ first.more) some first.whole first.within first.split)))
+        (more_left limits n first.value (parts_in n Start h.given) (stage_in n Start h.given) item first.more (remains_after limits n first.value h.given (item ∷ first.more) some first.whole first.within first.split)))
 
     by : (x : ToolFault) → IsOutputFault x → Splits limits n before after (told.texts begin) (told.texts later) (Err x)
     by (tool_faults.Writer written) k = (h.given, item, (new, reading.read), runs)
@@ -128,7 +128,7 @@ pub no_output_left : {O W : Type 0} (limits : Limits) (n : ℕ) (d : Standing) (
 no_output_left limits n d before left after told contents failures count begin s o some h read =
     let all = all_items limits before after h.given read in
     let taken = all_taken limits before after h.given all.value read (λ w whole are. items_once all.value w (sym all.given_are ∙ are)) in
-    let place : SplitPlace = place_in n Start h.given in
+    let stage : SplitStage = stage_in n Start h.given in
     let remains = remains_after limits n all.value h.given [] some all.whole taken.accepted.within (sym all.given_are ∙ sym (append-nil h.given)) in
-    let over : place ≡ Over = is_over limits n all.value (parts_in n Start h.given) place remains in
+    let over : stage ≡ Over = is_over limits n all.value (parts_in n Start h.given) stage remains in
     h.holds.none (ap open_total over)

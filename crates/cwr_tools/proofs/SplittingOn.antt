@@ -19,12 +19,12 @@ use Rattle.cwr_decode.proofs.FirstItems.{first_items}
 use Rattle.cwr_decode.proofs.ItemsReadSoFar.{fewer_left, some_read}
 use Rattle.cwr_tools.specs.declared.splitting.Splitting.{Splitting}
 use Rattle.cwr_tools.specs.Format.Outputs.{AddsTexts}
-use Rattle.cwr_tools.specs.Steps.SplitItems.{HoldsPlace, IsTaken, MayTake}
+use Rattle.cwr_tools.specs.Steps.SplitItems.{HoldsStage, IsTaken, MayTake}
 use Rattle.cwr_tools.specs.Steps.SplitOutputs.{CountsNone, Told}
-use Rattle.cwr_tools.specs.Steps.SplitPlaces.{SplitPlace, Remains, Over, Start, parts_at, parts_in, split_place_after, place_in}
+use Rattle.cwr_tools.specs.Steps.SplitStages.{SplitStage, Remains, Over, Start, parts_at, parts_in, split_stage_after, stage_in}
 use Rattle.cwr_tools.specs.Steps.SplitSteps.{is_new}
-use Rattle.cwr_tools.proofs.PlacesLeft.{remains_after}
-use Rattle.cwr_tools.proofs.PlacesPassed.{adds_more, adds_nothing, over_after, parts_more, place_more}
+use Rattle.cwr_tools.proofs.StagesLeft.{remains_after}
+use Rattle.cwr_tools.proofs.StagesPassed.{adds_more, adds_nothing, over_after, parts_more, place_more}
 
 -- ---- what was handed out so far
 
@@ -35,12 +35,12 @@ pub record IsSplitting {O W : Type 0} (limits : Limits) (n : ℕ) (d : Standing)
   pub handed_out : count ≡ length given
   pub size : s.size ≡ n
   pub limits_are : s.limits ≡ limits
-  pub holds : HoldsPlace told contents failures (place_in n Start given) s o
+  pub holds : HoldsStage told contents failures (stage_in n Start given) s o
   pub texts : AddsTexts (told.texts begin) (told.texts o) (map canonical_text (parts_in n Start given))
   pub counts : CountsNone told begin o
   pub outputs : s.report.outputs ≡ length (parts_in n Start given)
   pub transactions : s.report.transactions ≡ count_by is_transaction given
-  pub over : place_in n Start given ≡ Over → d.state ≡ states.Ended
+  pub over : stage_in n Start given ≡ Over → d.state ≡ states.Ended
 
 pub none_split : {O W : Type 0} (limits : Limits) (n : ℕ) (d : Standing) (before now : Option (List ℕ)) (told : Told O) (contents : W → Option (List ℕ)) (failures : W → ℕ) (s : Splitting W) (o : O) → s ≡ is_new limits n → IsReadingOn limits d before now []
     → IsSplitting limits n d before now told contents failures 0 o s o
@@ -82,20 +82,20 @@ begun_so limits d before now given rest h =
 
 pub may_take : {O W : Type 0} (limits : Limits) (n : ℕ) (d new : Standing) (before left after : Option (List ℕ)) (told : Told O) (contents : W → Option (List ℕ)) (failures : W → ℕ) (count : ℕ) (begin : O) (s : Splitting W) (o : O) (item : Item)
     → 0 < n → (h : IsSplitting limits n d before left told contents failures count begin s o) → IsReadingOn limits new before after (h.given ++ item ∷ [])
-    → (may : MayTake told contents failures item s o) × (may.place ≡ place_in n Start h.given)
+    → (may : MayTake told contents failures item s o) × (may.stage ≡ stage_in n Start h.given)
 may_take limits n d new before left after told contents failures count begin s o item some h reading =
     let first = begun_so limits new before after h.given (item ∷ []) reading in
     let remains = remains_after limits n first.value h.given (item ∷ first.more) some first.whole first.within first.split in (
       record {
-        place = place_in n Start h.given;
+        stage = stage_in n Start h.given;
         value = first.value;
         whole = parts_in n Start h.given;
         rest = first.more;
         some = subst (λ (k : ℕ). 0 < k) (sym h.size) some;
         right = first.whole;
         within = subst (λ (l : Limits). FitsIn l first.value) (sym h.limits_are) first.within;
-        remains = subst (λ (l : Limits). Remains l s.size first.value (parts_in n Start h.given) (place_in n Start h.given) (item ∷ first.more)) (sym h.limits_are)
-            (subst (λ (k : ℕ). Remains limits k first.value (parts_in n Start h.given) (place_in n Start h.given) (item ∷ first.more)) (sym h.size) remains);
+        remains = subst (λ (l : Limits). Remains l s.size first.value (parts_in n Start h.given) (stage_in n Start h.given) (item ∷ first.more)) (sym h.limits_are)
+            (subst (λ (k : ℕ). Remains limits k first.value (parts_in n Start h.given) (stage_in n Start h.given) (item ∷ first.more)) (sym h.size) remains);
         holds = h.holds;
         room = omega (arith, h.transactions, count_by-le-length is_transaction h.given, length-append h.given (item ∷ []), fewer_left limits new before after (h.given ++ item ∷ []) reading);
       },
@@ -109,15 +109,15 @@ few_handed_out limits n d new before left after told contents failures count beg
 
 pub item_taken : {O W : Type 0} (limits : Limits) (n : ℕ) (d new : Standing) (before left after : Option (List ℕ)) (told : Told O) (contents : W → Option (List ℕ)) (failures : W → ℕ) (count : ℕ) (begin : O) (s next : Splitting W) (o later : O) (item : Item)
     → 0 < n → (h : IsSplitting limits n d before left told contents failures count begin s o) → IsReadingOn limits new before after (h.given ++ item ∷ []) → LeavesRead (Ok (Some item)) new.state
-    → (place : SplitPlace) → place ≡ place_in n Start h.given → IsTaken told contents failures (split_place_after s.size place item) (parts_at s.size place item) item s next o later
+    → (stage : SplitStage) → stage ≡ stage_in n Start h.given → IsTaken told contents failures (split_stage_after s.size stage item) (parts_at s.size stage item) item s next o later
     → IsSplitting limits n new before after told contents failures (count + 1) begin next later
-item_taken limits n d new before left after told contents failures count begin s next o later item some h reading leaves place at taken =
+item_taken limits n d new before left after told contents failures count begin s next o later item some h reading leaves stage at taken =
     let first = begun_so limits new before after h.given (item ∷ []) reading in
     let remains = remains_after limits n first.value h.given (item ∷ first.more) some first.whole first.within first.split in
-    let here : SplitPlace = place_in n Start h.given in
-    let place_is : split_place_after s.size place item ≡ place_in n Start (h.given ++ item ∷ []) = ap₂ (λ (k : ℕ) (p : SplitPlace). split_place_after k p item) h.size at ∙ sym (place_more n Start h.given item) in
-    let parts_are : parts_at s.size place item ≡ parts_at n here item = ap₂ (λ (k : ℕ) (p : SplitPlace). parts_at k p item) h.size at in
-    let all : parts_in n Start h.given ++ parts_at s.size place item ≡ parts_in n Start (h.given ++ item ∷ []) =
+    let here : SplitStage = stage_in n Start h.given in
+    let place_is : split_stage_after s.size stage item ≡ stage_in n Start (h.given ++ item ∷ []) = ap₂ (λ (k : ℕ) (p : SplitStage). split_stage_after k p item) h.size at ∙ sym (place_more n Start h.given item) in
+    let parts_are : parts_at s.size stage item ≡ parts_at n here item = ap₂ (λ (k : ℕ) (p : SplitStage). parts_at k p item) h.size at in
+    let all : parts_in n Start h.given ++ parts_at s.size stage item ≡ parts_in n Start (h.given ++ item ∷ []) =
     ap (λ (l : List TransmissionValue). parts_in n Start h.given ++ l) parts_are ∙ sym (parts_more n Start h.given item) in
     record {
       given = h.given ++ item ∷ [];
@@ -125,11 +125,11 @@ item_taken limits n d new before left after told contents failures count begin s
       handed_out = omega (arith, h.handed_out, length-append h.given (item ∷ []));
       size = taken.size ∙ h.size;
       limits_are = taken.limits ∙ h.limits_are;
-      holds = subst (λ (p : SplitPlace). HoldsPlace told contents failures p next later) place_is taken.holds;
-      texts = subst (AddsTexts (told.texts begin) (told.texts later)) (sym (map-append canonical_text (parts_in n Start h.given) (parts_at s.size place item)) ∙ ap (map canonical_text) all)
-          (adds_more (told.texts begin) (told.texts o) (told.texts later) (map canonical_text (parts_in n Start h.given)) (map canonical_text (parts_at s.size place item)) h.texts taken.texts);
+      holds = subst (λ (p : SplitStage). HoldsStage told contents failures p next later) place_is taken.holds;
+      texts = subst (AddsTexts (told.texts begin) (told.texts later)) (sym (map-append canonical_text (parts_in n Start h.given) (parts_at s.size stage item)) ∙ ap (map canonical_text) all)
+          (adds_more (told.texts begin) (told.texts o) (told.texts later) (map canonical_text (parts_in n Start h.given)) (map canonical_text (parts_at s.size stage item)) h.texts taken.texts);
       counts = record { failures = taken.counts.failures ∙ h.counts.failures; given_up = taken.counts.given_up ∙ h.counts.given_up };
-      outputs = omega (arith, taken.outputs, h.outputs, length-append (parts_in n Start h.given) (parts_at s.size place item), ap length all);
+      outputs = omega (arith, taken.outputs, h.outputs, length-append (parts_in n Start h.given) (parts_at s.size stage item), ap length all);
       transactions = omega (arith, taken.transactions, h.transactions, sum_by-append (λ (x : Item). if is_transaction x then 1 else 0) h.given (item ∷ []));
       over = λ e.
           let is : item ≡ Ended = over_after limits n first.value (parts_in n Start h.given) here item first.more remains (sym (place_more n Start h.given item) ∙ e) in

@@ -12,12 +12,12 @@ use Rattle.cwr_values.specs.Format.Values.{GroupValue, TransmissionValue, IsTran
 use Rattle.cwr_judge.specs.Format.Items.{value_items}
 use Rattle.cwr_tools.specs.declared.splitting.Splitting.{Splitting}
 use Rattle.cwr_tools.specs.Steps.SplitOutputs.{IsOutput, Told, blank_end}
-use Rattle.cwr_tools.specs.Steps.SplitPlaces.{ArePartGroups, SplitPlace, Inside, open_items, part_group, parts_at, split_place_after, total_in, value_of}
-use Rattle.cwr_tools.specs.Steps.SplitItems.{HoldsPlace, IsTaken, MayTake, is_in_group}
+use Rattle.cwr_tools.specs.Steps.SplitStages.{ArePartGroups, SplitStage, Inside, open_items, part_group, parts_at, split_stage_after, total_in, value_of}
+use Rattle.cwr_tools.specs.Steps.SplitItems.{HoldsStage, IsTaken, MayTake, is_in_group}
 use Rattle.cwr_tools.specs.Steps.SplitSteps.{AddsTransaction, GoesOn, FillsOutput, MayAddTransaction, items_with}
-use Rattle.cwr_tools.proofs.PlacesHeld.{begun, items_begun, items_of_part, with_transaction}
-use Rattle.cwr_tools.proofs.PlacesLeft.{part_right}
-use Rattle.cwr_tools.proofs.PlacesOfItems.{adds_none, at_item}
+use Rattle.cwr_tools.proofs.StagesHeld.{begun, items_begun, items_of_part, with_transaction}
+use Rattle.cwr_tools.proofs.StagesLeft.{part_right}
+use Rattle.cwr_tools.proofs.StagesOfItems.{adds_none, at_item}
 
 -- ---- a transaction
 
@@ -29,13 +29,13 @@ no_fewer (suc k) n some = omega (arith, no_fewer k n some, add-mul k 1 n)
 pub may_add : {O W : Type 0} (told : Told O) (contents : W → Option (List ℕ)) (failures : W → ℕ) (t : List RecordValue) (s : Splitting W) (now : O) → MayTake told contents failures (Transaction t) s now
     → MayAddTransaction told contents failures (Transaction t) s now
 may_add told contents failures t s now may =
-    let at = at_item s.limits s.size may.value may.whole may.place (Transaction t) may.rest may.remains in
+    let at = at_item s.limits s.size may.value may.whole may.stage (Transaction t) may.rest may.remains in
     let o : RecordValue = at.0 in
     let closed : List GroupValue = at.1 in
     let h : RecordValue = at.2 in
     let cur : List (List RecordValue) = at.3 in
     let p = at.5 in
-    let had = subst (λ (q : SplitPlace). HoldsPlace told contents failures q s now) at.4 may.holds in
+    let had = subst (λ (q : SplitStage). HoldsStage told contents failures q s now) at.4 may.holds in
     let part : TransmissionValue = value_of o (closed ++ part_group h (cur ++ t ∷ []) ∷ []) in
     let right = part_right s.limits s.size may.value may.whole o closed h cur (Transaction t) may.rest p t at.6 at.7 in
     let items : List Item = items_with (open_items (Inside o closed h cur)) (Opened o) (GroupOpened h) (Transaction t) s.output in
@@ -68,18 +68,18 @@ in_group_with o closed h (x ∷ cur) t = refl
 
 -- the open output continues with it
 went_on : {O W : Type 0} (told : Told O) (contents : W → Option (List ℕ)) (failures : W → ℕ) (o : RecordValue) (closed : List GroupValue) (h : RecordValue) (cur : List (List RecordValue)) (t : List RecordValue) (s new : Splitting W) (now after : O) → ArePartGroups closed
-    → HoldsPlace told contents failures (Inside o closed h cur) s now → GoesOn told contents failures (Opened o) (GroupOpened h) (Transaction t) s new now after
+    → HoldsStage told contents failures (Inside o closed h cur) s now → GoesOn told contents failures (Opened o) (GroupOpened h) (Transaction t) s new now after
     → IsTaken told contents failures (Inside o closed h (cur ++ t ∷ [])) [] (Transaction t) s new now after
 went_on {W = W} told contents failures o closed h cur t s new now after part had g =
     let next : Splitting W = record s { output = Some g.out; report = record { outputs = s.report.outputs; transactions = s.report.transactions + 1 } } in
-    let place : SplitPlace = Inside o closed h (cur ++ t ∷ []) in
+    let stage : SplitStage = Inside o closed h (cur ++ t ∷ []) in
     let same = with_transaction o closed h cur t s.output part had.count had.group had.none ∙ sym (items_begun o closed h (cur ++ t ∷ []) (omega (arith, length-append cur (t ∷ [])))) in
     let out = subst (λ (l : List Item). IsOutput contents failures s.limits (told.texts now) l g.out) same (g.held (open_items (Inside o closed h cur)) had.output) in
-    subst (λ (m : Splitting W). IsTaken told contents failures place [] (Transaction t) s m now after) (sym g.now) (record {
+    subst (λ (m : Splitting W). IsTaken told contents failures stage [] (Transaction t) s m now after) (sym g.now) (record {
       holds = record {
         opening = had.opening;
         head = had.head;
-        output = subst (λ (x : Option (List (List ℕ))). IsOutput contents failures s.limits x (open_items place) g.out) (sym g.quiet.texts) out;
+        output = subst (λ (x : Option (List (List ℕ))). IsOutput contents failures s.limits x (open_items stage) g.out) (sym g.quiet.texts) out;
         count = omega (arith, g.counted, had.count, length-append cur (t ∷ []));
         group = g.group ∙ sym (in_group_with o closed h cur t);
         none = λ e. absurd (omega (arith, e, length-append cur (t ∷ [])));
@@ -95,7 +95,7 @@ went_on {W = W} told contents failures o closed h cur t s new now after part had
 
 -- it is whole with it
 was_filled : {O W : Type 0} (told : Told O) (contents : W → Option (List ℕ)) (failures : W → ℕ) (o : RecordValue) (closed : List GroupValue) (h : RecordValue) (cur : List (List RecordValue)) (t : List RecordValue) (s new : Splitting W) (now after : O) → ArePartGroups closed
-    → IsTransmission (value_of o (closed ++ part_group h (cur ++ t ∷ []) ∷ [])) → HoldsPlace told contents failures (Inside o closed h cur) s now → FillsOutput told contents failures (Opened o) (GroupOpened h) (Transaction t) s new now after
+    → IsTransmission (value_of o (closed ++ part_group h (cur ++ t ∷ []) ∷ [])) → HoldsStage told contents failures (Inside o closed h cur) s now → FillsOutput told contents failures (Opened o) (GroupOpened h) (Transaction t) s new now after
     → IsTaken told contents failures (Inside o [] h []) (value_of o (closed ++ part_group h (cur ++ t ∷ []) ∷ []) ∷ []) (Transaction t) s new now after
 was_filled {W = W} told contents failures o closed h cur t s new now after part right had f =
     let next : Splitting W = record s { output = None; report = record { outputs = s.report.outputs + 1; transactions = s.report.transactions + 1 } } in
@@ -123,21 +123,21 @@ was_filled {W = W} told contents failures o closed h cur t s new now after part 
     })
 
 pub transaction_taken : {O W : Type 0} (told : Told O) (contents : W → Option (List ℕ)) (failures : W → ℕ) (t : List RecordValue) (u : Unit {0}) (s new : Splitting W) (now after : O) → AddsTransaction told contents failures (Transaction t) (Ok u) s new now after
-    → (may : MayTake told contents failures (Transaction t) s now) → IsTaken told contents failures (split_place_after s.size may.place (Transaction t)) (parts_at s.size may.place (Transaction t)) (Transaction t) s new now after
+    → (may : MayTake told contents failures (Transaction t) s now) → IsTaken told contents failures (split_stage_after s.size may.stage (Transaction t)) (parts_at s.size may.stage (Transaction t)) (Transaction t) s new now after
 transaction_taken {W = W} told contents failures t u s new now after done may =
-    let at = at_item s.limits s.size may.value may.whole may.place (Transaction t) may.rest may.remains in
+    let at = at_item s.limits s.size may.value may.whole may.stage (Transaction t) may.rest may.remains in
     let o : RecordValue = at.0 in
     let closed : List GroupValue = at.1 in
     let h : RecordValue = at.2 in
     let cur : List (List RecordValue) = at.3 in
     let p = at.5 in
-    let had = subst (λ (q : SplitPlace). HoldsPlace told contents failures q s now) at.4 may.holds in
+    let had = subst (λ (q : SplitStage). HoldsStage told contents failures q s now) at.4 may.holds in
     let whole : TransmissionValue = value_of o (closed ++ part_group h (cur ++ t ∷ []) ∷ []) in
     let right = part_right s.limits s.size may.value may.whole o closed h cur (Transaction t) may.rest p t at.6 at.7 in
     let opening : done.0 ≡ Opened o = same_item s.opening done.0 (Opened o) done.2 had.opening in
     let head : done.1 ≡ GroupOpened h = same_item s.head done.1 (GroupOpened h) done.3 had.head in
     let Next = λ (b : Bool). IsTaken told contents failures (if b then Inside o [] h [] else Inside o closed h (cur ++ t ∷ [])) (if b then whole ∷ [] else []) (Transaction t) s new now after in
-    subst (λ (q : SplitPlace). IsTaken told contents failures (split_place_after s.size q (Transaction t)) (parts_at s.size q (Transaction t)) (Transaction t) s new now after) (sym at.4)
+    subst (λ (q : SplitStage). IsTaken told contents failures (split_stage_after s.size q (Transaction t)) (parts_at s.size q (Transaction t)) (Transaction t) s new now after) (sym at.4)
     (elim (done.4) as (λ _. Next ((total_in closed + length cur + 1) == s.size)) [
       | inl g ↦
           let on = subst (λ (i : Item). GoesOn told contents failures i (GroupOpened h) (Transaction t) s new now after) opening (subst (λ (i : Item). GoesOn told contents failures done.0 i (Transaction t) s new now after) head g) in

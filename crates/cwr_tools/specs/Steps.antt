@@ -6,7 +6,7 @@ pub mod OtherRecords
 pub mod Reports
 pub mod SplitItems
 pub mod SplitOutputs
-pub mod SplitPlaces
+pub mod SplitStages
 pub mod SplitSteps
 pub mod Splitting
 pub mod Verdicts

@@ -7,8 +7,8 @@ ghost use Rattle.cwr_tools.specs.Format.FindingNotes.{explained_finding, finding
 ghost use Rattle.cwr_tools.specs.Steps.OtherRecords.{AreListed, HasPassed};
 
 use crate::note_lines::NoteLines;
+use crate::other_records::{OtherRecords, parties_of, places_of, total_of};
 use crate::passed::Passed;
-use crate::places::{Places, parties_of, places_of, total_of};
 use cwr_encode::{Sink, SinkFault};
 use cwr_fields::Target;
 use cwr_layouts::{Kind, RecordRef};
@@ -21,7 +21,7 @@ fn others(
     transaction: &Transaction,
     passed: &Passed,
     shown: &RecordRef<'_>,
-) -> Places
+) -> OtherRecords
     requires few { length transaction.now ≤ 100000000 }
     requires there { slice_get transaction.now finding.now.rec ≡ Some shown.now }
     requires passed { HasPassed transaction.now passed.now }
@@ -29,16 +29,16 @@ fn others(
     ensures { AreListed (others finding.now.rule transaction.now finding.now.rec shown.now) result }
 {
     match finding.rule {
-        Rule::V1 | Rule::V10 => Places::none(),
+        Rule::V1 | Rule::V10 => OtherRecords::none(),
         Rule::V2 => match shown.kind() {
-            Kind::Spt => Places::of(passed.publisher),
-            _ => Places::of(passed.writer),
+            Kind::Spt => OtherRecords::of(passed.publisher),
+            _ => OtherRecords::of(passed.writer),
         },
         Rule::V3 | Rule::V4 | Rule::V5 | Rule::V6 | Rule::V9 => {
             places_of(finding.rule, transaction)
         }
         Rule::V7 => passed.publishers.copy(),
-        Rule::V8 => Places::of(passed.header),
+        Rule::V8 => OtherRecords::of(passed.header),
         Rule::V11 => parties_of(transaction, finding.rec),
     }
 }
@@ -138,7 +138,7 @@ fn put_notes_on<W: Target>(
     transaction: &Transaction,
     finding: &Finding,
     shown: &RecordRef<'_>,
-    found: &Places,
+    found: &OtherRecords,
     lines: &mut NoteLines,
     sink: &mut Sink<W>,
 ) -> Result<(), SinkFault>

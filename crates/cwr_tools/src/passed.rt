@@ -4,7 +4,7 @@ ghost use Rattle.std.specs.Prelude.{◌≡◌, ◌+◌, ◌<◌, ◌≤◌, List
 ghost use Rattle.cwr_layouts.specs.Format.Records.{RecordValue};
 ghost use Rattle.cwr_tools.specs.Steps.OtherRecords.{HasPassed};
 
-use crate::places::Places;
+use crate::other_records::OtherRecords;
 use cwr_layouts::{Kind, RecordRef};
 use cwr_values::Transaction;
 
@@ -14,7 +14,7 @@ pub(crate) struct Passed {
     /// How many records they are.
     pub(crate) at: usize,
     /// The places of the SPU records.
-    pub(crate) publishers: Places,
+    pub(crate) publishers: OtherRecords,
     /// That of the last of them.
     pub(crate) publisher: Option<usize>,
     /// That of the last SWR.
@@ -31,7 +31,7 @@ impl Passed {
     {
         Passed {
             at: 0,
-            publishers: Places::none(),
+            publishers: OtherRecords::none(),
             publisher: None,
             writer: None,
             header: None,

@@ -6,7 +6,7 @@ use Rattle.std.proofs.lemmas.Int.{ints}
 use Rattle.cwr_fields.specs.declared.cell_types.CellType.TheVariants.{Date}
 use Rattle.cwr_fields.specs.declared.cell_types.CellFault.TheVariants.{NotADate}
 use Rattle.cwr_fields.specs.Format.Bytes.{digits}
-use Rattle.cwr_fields.specs.Format.Cells.{Holds}
+use Rattle.cwr_fields.specs.Format.Cells.{Allows}
 use Rattle.cwr_fields.proofs.NumbersInParts.{day_of_parts}
 use Rattle.cwr_fields.proofs.LineFeeds.{NoLf}
 use Rattle.cwr_layouts.specs.declared.kinds.Kind.{Kind}
@@ -39,7 +39,7 @@ line_80 = codes "HDRPB123456789MUSIC HOUSE" ++ replicate 34 32 ++ codes "01.1020
 line_80_length : length line_80 ≡ 80
 line_80_length = refl
 
-no_date : ¬ Holds Date (codes "20      ")
+no_date : ¬ Allows Date (codes "20      ")
 no_date s = let parts = day_of_parts (codes "20      ") s in omega (arith, ints, parts.1)
 
 bad_cells : (cells : List (List ℕ)) → AllZip IsCellOf (carried_fields kinds.Hdr) cells
@@ -53,7 +53,7 @@ bad_cells (c2 ∷ c3 ∷ c4 ∷ c5 ∷ c6 ∷ []) h e = h.1.1.1.1.1
 bad_cells (c2 ∷ c3 ∷ c4 ∷ c5 ∷ c6 ∷ c7 ∷ []) h e = h.1.1.1.1.1.1
 bad_cells (c2 ∷ c3 ∷ c4 ∷ c5 ∷ c6 ∷ c7 ∷ c8 ∷ rest) h e =
     let same : c8 ≡ codes "20      " = ap (λ (xs : List (List ℕ)). slice_index_or xs 7 []) e in
-    no_date (subst (Holds Date) same h.1.1.1.1.1.1.0.1)
+    no_date (subst (Allows Date) same h.1.1.1.1.1.1.0.1)
 
 bad_record : (r : RecordValue) → r.kind ≡ kinds.Hdr → IsRecord r → take 8 (row_of [] r).cells ≡ take 8 (line_cells line_80) → ⊥
 bad_record r e h same =

@@ -8,7 +8,7 @@ use Rattle.std.proofs.lemmas.Bool.{and_parts, not-true, or_parts, or_from, or_le
 use Rattle.json.specs.Json.{Json, string, Members, no_members, member}
 use Rattle.json.specs.Strict.{keys}
 use Rattle.cwr_fields.specs.Format.Bytes.{filled}
-use Rattle.cwr_fields.specs.Format.Cells.{Holds}
+use Rattle.cwr_fields.specs.Format.Cells.{Allows}
 use Rattle.cwr_layouts.specs.declared.kinds.Kind.{Kind}
 use Rattle.cwr_layouts.specs.Format.Kinds.{letters}
 use Rattle.cwr_layouts.specs.Format.Layouts.{FieldLayout, layout, field_at, record_type}
@@ -222,7 +222,7 @@ filled_set kind ms draft new seen j k text lt names unmarked h sets = by (carrie
     none : list_any (bytes_eq k) (keys ms) ≡ false
     none = h.marks j k names unmarked
 
-    set_at : (f : FieldLayout) → carried_at kind j ≡ Some f → (length text ≤ f.width) × Holds f.ty (filled f.width text) × (new ≡ set_cell j (filled f.width text) draft) → IsFilled kind (with_last ms k v) new (set seen j true)
+    set_at : (f : FieldLayout) → carried_at kind j ≡ Some f → (length text ≤ f.width) × Allows f.ty (filled f.width text) × (new ≡ set_cell j (filled f.width text) draft) → IsFilled kind (with_last ms k v) new (set seen j true)
     set_at f at s =
         let opened = open_some (field_at kind j) f at in
         let same : f ≡ there.0 = cc (opened.0, there.1) in
@@ -244,7 +244,7 @@ filled_set kind ms draft new seen j k text lt names unmarked h sets = by (carrie
         } in
         subst (λ (x : List ℕ). IsFilled kind (with_last ms x v) new (set seen j true)) (sym key_is) filled_f
 
-    by : (o : Option FieldLayout) → carried_at draft.kind j ≡ o → IsSomeAnd o (λ f. (length text ≤ f.width) × Holds f.ty (filled f.width text) × (new ≡ set_cell j (filled f.width text) draft)) → IsFilled kind (with_last ms k v) new (set seen j true)
+    by : (o : Option FieldLayout) → carried_at draft.kind j ≡ o → IsSomeAnd o (λ f. (length text ≤ f.width) × Allows f.ty (filled f.width text) × (new ≡ set_cell j (filled f.width text) draft)) → IsFilled kind (with_last ms k v) new (set seen j true)
     by None e s = absurd s
     by (Some f) e s = set_at f (ap (λ (x : Kind). carried_at x j) (sym h.kind_is) ∙ e) s
 

@@ -11,7 +11,7 @@ use Rattle.cwr_layouts.specs.Steps.Held.{HeldLine, IsHeld, Takes, held_excess, h
 use Rattle.cwr_shape.specs.declared.symbols.Symbol.{Symbol}
 use Rattle.cwr_shape.specs.Format.Levels.{level_of}
 use Rattle.cwr_shape.specs.Format.Ranges.{AreInRange}
-use Rattle.cwr_shape.specs.Format.NextSymbols.{place_after}
+use Rattle.cwr_shape.specs.Format.NextSymbols.{scope_after}
 use Rattle.cwr_shape.specs.Steps.Tallies.{TallyValue, IsTallyOf}
 use Rattle.cwr_values.specs.declared.items.Item.{Item}
 use Rattle.cwr_values.specs.declared.items.Item.TheVariants as items
@@ -202,7 +202,7 @@ pub record ReportsFault (old : Standing) (kind : Option Kind) (fault : LineFault
   pub number : refusal.rec ≡ old.tally.counts.records + 1
   pub field : refusal.field ≡ fault.field
   pub reason : refusal.reason ≡ fault.reason
-  pub level : (xs : List Symbol) → IsTallyOf old.tally xs → refusal.level ≡ level_of kind fault.field fault.reason (place_after xs)
+  pub level : (xs : List Symbol) → IsTallyOf old.tally xs → refusal.level ≡ level_of kind fault.field fault.reason (scope_after xs)
   pub reported : outcome ≡ outcomes.Refused refusal
   pub stops : new ≡ stopped old (Refused refusal)
 

@@ -12,7 +12,7 @@ use Rattle.cwr_shape.specs.Format.Levels.{level_of}
 use Rattle.cwr_shape.specs.Format.Outlines.{IsWhole}
 use Rattle.cwr_shape.specs.Format.NextSymbols as tallies_there
 use Rattle.cwr_shape.specs.Steps.Tallies as tallies
-use Rattle.cwr_shape.specs.Format.NextSymbols.{passed_limit, place_after}
+use Rattle.cwr_shape.specs.Format.NextSymbols.{passed_limit, scope_after}
 use Rattle.cwr_shape.specs.Steps.Tallies.{TallyValue}
 use Rattle.cwr_values.specs.declared.items.Item.{Item}
 use Rattle.cwr_values.specs.Format.Values.{symbol_of}
@@ -84,7 +84,7 @@ pub record IsThrough (d : Standing) (input : List ℕ) (given : List Item) : Typ
 -- the last record stands in a transaction, and found no memory there: the list of those before it asked for some
 pub record IsOutOfMemory (d : Standing) (input : List ℕ) (given : List Item) : Type 0 where
   pub through : IsThrough d input given
-  pub inside : IsTrue (tallies_there.has_open_transaction (place_after (map symbol_of through.records)))
+  pub inside : IsTrue (tallies_there.has_open_transaction (scope_after (map symbol_of through.records)))
   pub earlier : List RecordValue
   pub last : RecordValue
   pub opened : open_of through.records ≡ earlier ++ last ∷ []
@@ -118,7 +118,7 @@ pub record IsStopped (d : Standing) (input : List ℕ) (given : List Item) (refu
   pub none : IsOfNone d.tally.limits (map symbol_of records) line
   pub first : IsFirstFault d.tally.limits (map symbol_of records) line refusal.field refusal.reason
   pub number : refusal.rec ≡ length records + 1
-  pub level : refusal.level ≡ level_of (held_kind line) refusal.field refusal.reason (place_after (map symbol_of records))
+  pub level : refusal.level ≡ level_of (held_kind line) refusal.field refusal.reason (scope_after (map symbol_of records))
   pub empty : d.line.bytes ≡ []
   pub nothing : d.held ≡ None
   pub given_are : given ≡ items_so_far records

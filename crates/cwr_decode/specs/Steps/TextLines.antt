@@ -7,7 +7,7 @@ use Rattle.cwr_layouts.specs.Steps.Held.{HeldLine, IsHeld, Stops, held_kind, hel
 use Rattle.cwr_shape.specs.declared.symbols.Symbol.{Symbol}
 use Rattle.cwr_shape.specs.declared.symbols.Symbol.TheVariants.{Plain}
 use Rattle.cwr_shape.specs.Format.Levels.{level_of}
-use Rattle.cwr_shape.specs.Format.NextSymbols.{place_after}
+use Rattle.cwr_shape.specs.Format.NextSymbols.{scope_after}
 use Rattle.cwr_shape.specs.Steps.Tallies.{TallyValue, IsTallyOf}
 use Rattle.cwr_judge.specs.declared.refusals.Refusal.{Refusal}
 use Rattle.cwr_judge.specs.Steps.Judged.{IsNext, IsOfNone, IsFirstFault}
@@ -45,4 +45,4 @@ pub record RefusesLine (tally : TallyValue) (xs : List Symbol) (line : HeldLine)
   pub none : IsOfNone tally.limits xs line
   pub first : IsFirstFault tally.limits xs line refusal.field refusal.reason
   pub number : refusal.rec ≡ length xs + 1
-  pub level : refusal.level ≡ level_of (held_kind line) refusal.field refusal.reason (place_after xs)
+  pub level : refusal.level ≡ level_of (held_kind line) refusal.field refusal.reason (scope_after xs)

@@ -43,21 +43,21 @@ abbrev pub flag_texts : List (List ℕ)
 flag_texts = codes "Y" ∷ codes "N" ∷ codes "U" ∷ codes " " ∷ []
 
 -- the cell is one of the type
-abbrev pub Holds : CellType → List ℕ → Type 0
-Holds Text cell = IsTrue (is_plain cell)
-Holds Required cell = IsTrue (is_plain cell) × IsFalse (is_spaces cell)
-Holds Number cell = SpellsNumber cell
-Holds OptNumber cell = IsTrue (is_spaces cell) ⊎ SpellsNumber cell
-Holds Date cell = SpellsDay cell
-Holds OptDate cell = (cell ≡ replicate 8 32) ⊎ (cell ≡ replicate 8 48) ⊎ SpellsDay cell
-Holds Time cell = SpellsTime 24 cell
-Holds OptTime cell = (cell ≡ replicate 6 32) ⊎ SpellsTime 24 cell
-Holds OptDuration cell = (cell ≡ replicate 6 32) ⊎ SpellsTime 100 cell
-Holds Share cell = (cell ≡ replicate 5 32) ⊎ SpellsShare cell
-Holds Flag cell = IsAmong flag_texts cell
-Holds (Code table) cell = SpellsCode table cell
-Holds (OptCode table) cell = (cell ≡ replicate (code_width table) 32) ⊎ SpellsCode table cell
-Holds (Constant word) cell = cell ≡ word_text word
+abbrev pub Allows : CellType → List ℕ → Type 0
+Allows Text cell = IsTrue (is_plain cell)
+Allows Required cell = IsTrue (is_plain cell) × IsFalse (is_spaces cell)
+Allows Number cell = SpellsNumber cell
+Allows OptNumber cell = IsTrue (is_spaces cell) ⊎ SpellsNumber cell
+Allows Date cell = SpellsDay cell
+Allows OptDate cell = (cell ≡ replicate 8 32) ⊎ (cell ≡ replicate 8 48) ⊎ SpellsDay cell
+Allows Time cell = SpellsTime 24 cell
+Allows OptTime cell = (cell ≡ replicate 6 32) ⊎ SpellsTime 24 cell
+Allows OptDuration cell = (cell ≡ replicate 6 32) ⊎ SpellsTime 100 cell
+Allows Share cell = (cell ≡ replicate 5 32) ⊎ SpellsShare cell
+Allows Flag cell = IsAmong flag_texts cell
+Allows (Code table) cell = SpellsCode table cell
+Allows (OptCode table) cell = (cell ≡ replicate (code_width table) 32) ⊎ SpellsCode table cell
+Allows (Constant word) cell = cell ≡ word_text word
 
 -- the fault of a text that the type doesn't hold
 abbrev pub fault_of : CellType → List ℕ → CellFault
@@ -78,7 +78,7 @@ fault_of (Constant word) cell = NotConstant
 
 -- the cell has the fault: the type doesn't hold it, and this is the fault that is reported
 abbrev pub HasFault : CellType → List ℕ → CellFault → Type 0
-HasFault ty cell fault = ¬ Holds ty cell × (fault ≡ fault_of ty cell)
+HasFault ty cell fault = ¬ Allows ty cell × (fault ≡ fault_of ty cell)
 
 -- the width of a type's cells, where it has one
 abbrev pub type_width : CellType → Option ℕ

@@ -9,7 +9,7 @@ use Rattle.cwr_fields.specs.declared.dates.CivilDate.{CivilDate}
 use Rattle.cwr_fields.specs.declared.dates.DateCell.{DateCell}
 use Rattle.cwr_fields.specs.declared.dates.DateCell.TheVariants.{Blank, Zeros, Day}
 use Rattle.cwr_fields.specs.Format.Bytes.{digits}
-use Rattle.cwr_fields.specs.Format.Cells.{Holds}
+use Rattle.cwr_fields.specs.Format.Cells.{Allows}
 use Rattle.cwr_fields.specs.Format.NumberLaws.{number_width, number_equal, not_spaces_after, parts_equal}
 use Rattle.cwr_fields.specs.Format.DateLaws.{day_text, day_width, day_fits, day_equal, day_bounds, date_front_width}
 
@@ -34,7 +34,7 @@ date_width Blank = refl
 date_width Zeros = refl
 date_width (Day d) = day_width d.year d.month d.day
 
-pub date_fits : (x : DateCell) → Holds types.OptDate (date_text x)
+pub date_fits : (x : DateCell) → Allows types.OptDate (date_text x)
 date_fits Blank = inl refl
 date_fits Zeros = inr (inl refl)
 date_fits (Day d) = inr (inr (day_fits d.year d.month d.day d.after_zero d.civil))

@@ -7,7 +7,7 @@ use Rattle.cwr_fields.specs.declared.durations.PlayingTime.{PlayingTime}
 use Rattle.cwr_fields.specs.declared.durations.DurationCell.{DurationCell}
 use Rattle.cwr_fields.specs.declared.durations.DurationCell.TheVariants.{Blank, Lasting}
 use Rattle.cwr_fields.specs.Format.Bytes.{digits}
-use Rattle.cwr_fields.specs.Format.Cells.{Holds}
+use Rattle.cwr_fields.specs.Format.Cells.{Allows}
 use Rattle.cwr_fields.specs.Format.NumberLaws.{not_spaces_after}
 use Rattle.cwr_fields.specs.Format.TimeLaws.{time_text, time_width, time_fits, time_equal, time_front_width}
 
@@ -31,7 +31,7 @@ pub duration_width : (x : DurationCell) → length (duration_text x) ≡ 6
 duration_width Blank = refl
 duration_width (Lasting t) = time_width t.hours t.minutes t.seconds
 
-pub duration_fits : (x : DurationCell) → Holds types.OptDuration (duration_text x)
+pub duration_fits : (x : DurationCell) → Allows types.OptDuration (duration_text x)
 duration_fits Blank = inl refl
 duration_fits (Lasting t) = inr (time_fits 100 t.hours t.minutes t.seconds t.most_hours t.most_minutes t.most_seconds)
 

@@ -4,7 +4,7 @@ use Rattle.std.specs.Prelude.{codes, ◌==◌, if◌then◌else◌}
 use Rattle.cwr_fields.specs.declared.cell_types.CellType.TheVariants as types
 use Rattle.cwr_fields.specs.declared.flags.Flag.{Flag}
 use Rattle.cwr_fields.specs.declared.flags.Flag.TheVariants.{Yes, No, Unknown, Blank}
-use Rattle.cwr_fields.specs.Format.Cells.{Holds}
+use Rattle.cwr_fields.specs.Format.Cells.{Allows}
 
 -- the text of a flag
 abbrev pub flag_text : Flag → List ℕ
@@ -19,7 +19,7 @@ flag_width No = refl
 flag_width Unknown = refl
 flag_width Blank = refl
 
-pub flag_fits : (x : Flag) → Holds types.Flag (flag_text x)
+pub flag_fits : (x : Flag) → Allows types.Flag (flag_text x)
 flag_fits Yes = (0, (omega arith, refl))
 flag_fits No = (1, (omega arith, refl))
 flag_fits Unknown = (2, (omega arith, refl))

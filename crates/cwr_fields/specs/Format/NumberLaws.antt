@@ -3,7 +3,7 @@ use Rattle.std.proofs.Common.{◌≡◌, refl, sym, ap, ap₂, ◌∙◌, length
 use Rattle.std.proofs.lemmas.List.{length-replicate}
 use Rattle.cwr_fields.specs.declared.cell_types.CellType.TheVariants as types
 use Rattle.cwr_fields.specs.Format.Bytes.{digits}
-use Rattle.cwr_fields.specs.Format.Cells.{Holds}
+use Rattle.cwr_fields.specs.Format.Cells.{Allows}
 
 -- as many digits as the width
 pub number_width : (width n : ℕ) → length (digits width n) ≡ width
@@ -12,7 +12,7 @@ number_width zero n = refl
 number_width (suc width) n = omega (arith, length-append (digits width (n / 10)) ((48 + n % 10) ∷ []), number_width width (n / 10))
 
 -- at least one digit of a number that they can write are a cell of numbers
-pub number_fits : (width n : ℕ) → 0 < width → n < 10 ^ width → Holds types.Number (digits width n)
+pub number_fits : (width n : ℕ) → 0 < width → n < 10 ^ width → Allows types.Number (digits width n)
 number_fits width n wide small =
     let many : length (digits width n) ≡ width = number_width width n in
     (n, rw many wide, rw many small, rw many refl)

@@ -9,7 +9,7 @@ use Rattle.cwr_fields.specs.declared.numbers.Number.{Number}
 use Rattle.cwr_fields.specs.declared.sender_types.SenderType.{SenderType}
 use Rattle.cwr_fields.specs.declared.sender_types.SenderType.TheVariants.{Publisher, Society, AdministrativeAgency, Writer, Digits}
 use Rattle.cwr_fields.specs.Format.Bytes.{digits}
-use Rattle.cwr_fields.specs.Format.Cells.{Holds}
+use Rattle.cwr_fields.specs.Format.Cells.{Allows}
 use Rattle.cwr_fields.specs.Format.NumberLaws.{number_equal}
 use Rattle.cwr_fields.specs.Format.Members.{member_with}
 use Rattle.cwr_fields.specs.Format.SenderCodes.{sender_text, senders}
@@ -22,7 +22,7 @@ sender_width AdministrativeAgency = refl
 sender_width Writer = refl
 sender_width (Digits d) = refl
 
-pub sender_fits : (x : SenderType) → Holds (Code tables.Sender) (sender_text x)
+pub sender_fits : (x : SenderType) → Allows (Code tables.Sender) (sender_text x)
 sender_fits Publisher = inl (sender_text Publisher, (0, (lit< tt, refl)), refl)
 sender_fits Society = inl (sender_text Society, (1, (lit< tt, refl)), refl)
 sender_fits AdministrativeAgency = inl (sender_text AdministrativeAgency, (2, (lit< tt, refl)), refl)

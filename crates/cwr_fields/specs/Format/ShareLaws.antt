@@ -5,7 +5,7 @@ use Rattle.std.specs.Option.{ForSome}
 use denote.Struct.Props.{props}
 use Rattle.cwr_fields.specs.declared.cell_types.CellType.TheVariants as types
 use Rattle.cwr_fields.specs.Format.Bytes.{digits}
-use Rattle.cwr_fields.specs.Format.Cells.{Holds}
+use Rattle.cwr_fields.specs.Format.Cells.{Allows}
 use Rattle.cwr_fields.specs.Format.NumberLaws.{number_width, number_equal, not_spaces}
 
 -- that a share is at most the whole has one proof
@@ -21,7 +21,7 @@ pub share_width : (o : Option ℕ) → length (share_text o) ≡ 5
 share_width None = refl
 share_width (Some n) = number_width 5 n
 
-pub share_fits : (o : Option ℕ) → ForSome o (λ n. n ≤ 10000) → Holds types.Share (share_text o)
+pub share_fits : (o : Option ℕ) → ForSome o (λ n. n ≤ 10000) → Allows types.Share (share_text o)
 share_fits None h = inl refl
 share_fits (Some n) h = inr (n, h n refl, refl)
 

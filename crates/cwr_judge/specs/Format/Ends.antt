@@ -3,7 +3,7 @@ use Rattle.std.specs.Prelude.{◌≡◌, ℕ, ◌+◌, ◌-◌, min, List, ◌�
 use Rattle.cwr_layouts.specs.declared.kinds.Kind.{Kind}
 use Rattle.cwr_layouts.specs.Format.Lines.{closed, raw_lines, line_kind}
 use Rattle.cwr_shape.specs.declared.limits.Limits.{Limits}
-use Rattle.cwr_shape.specs.Format.Levels.{level_of, place_after_kind}
+use Rattle.cwr_shape.specs.Format.Levels.{level_of, scope_after_kind}
 use Rattle.cwr_values.specs.Format.Values.{TransmissionValue, IsTransmission, FitsIn}
 use Rattle.cwr_values.specs.Format.Rows.{Spells}
 use Rattle.cwr_judge.specs.declared.refusals.Refusal.{Refusal}
@@ -38,7 +38,7 @@ pub record IsRefused (limits : Limits) (text : List ℕ) (refusal : Refusal) : T
   pub lines : raw_lines (closed text) ≡ before ++ line ∷ after
   pub at : refusal.rec ≡ length before + 1
   pub reason : IsReason limits before line refusal.field refusal.reason
-  pub level : refusal.level ≡ level_of (line_kind line) refusal.field refusal.reason (place_after_kind (last_kind before))
+  pub level : refusal.level ≡ level_of (line_kind line) refusal.field refusal.reason (scope_after_kind (last_kind before))
 
 -- the text isn't accepted, something continues from each of its lines, and there are so many
 pub record IsTruncated (limits : Limits) (text : List ℕ) (records : ℕ) : Type 0 where

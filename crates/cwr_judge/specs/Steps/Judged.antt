@@ -3,7 +3,7 @@ use Rattle.std.specs.Prelude.{◌≡◌, ◌≢◌, ℕ, ◌+◌, ◌<◌, ◌�
 use Rattle.std.specs.List.{IsAmong}
 use Rattle.cwr_fields.specs.declared.cell_types.CellType.{CellType}
 use Rattle.cwr_fields.specs.Format.Bytes.{digits}
-use Rattle.cwr_fields.specs.Format.Cells.{Holds, HasFault}
+use Rattle.cwr_fields.specs.Format.Cells.{Allows, HasFault}
 use Rattle.cwr_layouts.specs.declared.kinds.Kind.{Kind}
 use Rattle.cwr_layouts.specs.declared.kinds.Kind.TheVariants as kinds
 use Rattle.cwr_layouts.specs.Format.Layouts.{FieldLayout, layout, field_at}
@@ -81,19 +81,19 @@ bar_reason (bars.Limit limit) = Limit limit
 
 -- a carried cell is one of its type, and a record of the symbol that it names may come
 abbrev pub IsGoodText : LimitValues → List Symbol → Kind → ℕ → CellType → List ℕ → Type 0
-IsGoodText limits xs kind j ty cell = Holds ty cell × IfSome (named_symbol kind j cell) (MayCome limits xs)
+IsGoodText limits xs kind j ty cell = Allows ty cell × IfSome (named_symbol kind j cell) (MayCome limits xs)
 
 -- why it isn't: the first of these that holds
 abbrev pub IsTextFault : LimitValues → List Symbol → Kind → ℕ → CellType → List ℕ → Reason → Type 0
 IsTextFault limits xs this_kind j ty cell (Cell fault) = HasFault ty cell fault
-IsTextFault limits xs this_kind j ty cell Misplaced = Holds ty cell × IsSomeAnd (named_symbol this_kind j cell) (λ s. IsBarred limits xs s bars.Misplaced)
-IsTextFault limits xs this_kind j ty cell (Limit limit) = Holds ty cell × IsSomeAnd (named_symbol this_kind j cell) (λ s. IsBarred limits xs s (bars.Limit limit))
+IsTextFault limits xs this_kind j ty cell Misplaced = Allows ty cell × IsSomeAnd (named_symbol this_kind j cell) (λ s. IsBarred limits xs s bars.Misplaced)
+IsTextFault limits xs this_kind j ty cell (Limit limit) = Allows ty cell × IsSomeAnd (named_symbol this_kind j cell) (λ s. IsBarred limits xs s (bars.Limit limit))
 IsTextFault limits xs this_kind j ty cell reason = ⊥
 
 -- why a derived cell isn't the number: the first of these that holds
 abbrev pub IsNumberFault : CellType → List ℕ → ℕ → Reason → Type 0
 IsNumberFault ty cell n (Cell fault) = HasFault ty cell fault
-IsNumberFault ty cell n (Number expected) = (expected ≡ n) × Holds ty cell × (cell ≢ digits (length cell) n)
+IsNumberFault ty cell n (Number expected) = (expected ≡ n) × Allows ty cell × (cell ≢ digits (length cell) n)
 IsNumberFault ty cell n reason = ⊥
 
 -- a cell of a field is good: a derived one is the number that belongs there

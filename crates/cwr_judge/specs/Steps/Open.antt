@@ -6,7 +6,7 @@ use Rattle.cwr_layouts.specs.declared.kinds.Kind.TheVariants.{Hdr, Grh, Grt, Trl
 use Rattle.cwr_layouts.specs.Format.Records.{RecordValue}
 use Rattle.cwr_shape.specs.declared.symbols.Symbol.{Symbol}
 use Rattle.cwr_shape.specs.Format.NextSymbols as tallies_there
-use Rattle.cwr_shape.specs.Format.NextSymbols.{transactions_begun, place_after, open_records}
+use Rattle.cwr_shape.specs.Format.NextSymbols.{transactions_begun, scope_after, open_records}
 use Rattle.cwr_values.specs.declared.items.Item.{Item}
 use Rattle.cwr_values.specs.declared.items.Item.TheVariants.{Opened, GroupOpened, Transaction, GroupClosed, Ended}
 use Rattle.cwr_values.specs.Format.Values.{symbol_of}
@@ -24,7 +24,7 @@ open_of records = drop (length records - open_records (map symbol_of records)) r
 
 -- one more symbol continues the open transaction: it stands in one, and begins none
 abbrev pub continues_open : List Symbol → Symbol → Bool
-continues_open xs s = (transactions_begun Acknowledgement (xs ++ s ∷ []) == transactions_begun Acknowledgement xs) && tallies_there.has_open_transaction (place_after (xs ++ s ∷ []))
+continues_open xs s = (transactions_begun Acknowledgement (xs ++ s ∷ []) == transactions_begun Acknowledgement xs) && tallies_there.has_open_transaction (scope_after (xs ++ s ∷ []))
 
 -- the item of an open transaction that ends
 abbrev pub ended_transaction : List RecordValue → List Item

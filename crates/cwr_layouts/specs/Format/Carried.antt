@@ -4,7 +4,7 @@ use Rattle.std.specs.Option.{option_and_then}
 use Rattle.cwr_fields.specs.declared.cell_types.CellFault.{CellFault}
 use Rattle.cwr_fields.specs.declared.cell_types.CellType.{CellType}
 use Rattle.cwr_fields.specs.Format.Bytes.{filled}
-use Rattle.cwr_fields.specs.Format.Cells.{Holds, HasFault}
+use Rattle.cwr_fields.specs.Format.Cells.{Allows, HasFault}
 use Rattle.cwr_layouts.specs.declared.kinds.Kind.{Kind}
 use Rattle.cwr_layouts.specs.declared.drafts.SetFault.{SetFault}
 use Rattle.cwr_layouts.specs.declared.drafts.SetFault.TheVariants.{NoSuchField, Derived, TooWide, Cell}
@@ -30,7 +30,7 @@ record_cell r j = option_and_then (λ _. slice_get r.cells (carried_before r.kin
 
 -- the record has a cell of field j, of that width and one of that type
 abbrev pub HasCellOf : RecordValue → ℕ → CellType → ℕ → Type 0
-HasCellOf r j ty width = IsSomeAnd (record_cell r j) (λ cell. (length cell ≡ width) × Holds ty cell)
+HasCellOf r j ty width = IsSomeAnd (record_cell r j) (λ cell. (length cell ≡ width) × Allows ty cell)
 
 -- the record with that text as its cell of field j
 abbrev pub set_cell : ℕ → List ℕ → RecordValue → RecordValue
@@ -43,7 +43,7 @@ pub record ShowsSet (r : RecordValue) (j : ℕ) (text : List ℕ) : Type 0 where
 
 -- new is old with the text, filled up with spaces, as its cell of field j, and that is one of the field
 abbrev pub Sets : ℕ → List ℕ → RecordValue → RecordValue → Type 0
-Sets j text old new = IsSomeAnd (carried_at old.kind j) (λ f. (length text ≤ f.width) × Holds f.ty (filled f.width text) × (new ≡ set_cell j (filled f.width text) old))
+Sets j text old new = IsSomeAnd (carried_at old.kind j) (λ f. (length text ≤ f.width) × Allows f.ty (filled f.width text) × (new ≡ set_cell j (filled f.width text) old))
 
 -- why the text isn't set as a cell of field j: the first of these that holds
 abbrev pub IsSetFault : Kind → ℕ → List ℕ → SetFault → Type 0
@@ -54,7 +54,7 @@ IsSetFault this_kind j text (Cell fault) = IsSomeAnd (carried_at this_kind j) (�
 
 -- the record's cell of field j, where it has one, is one of the field's type
 abbrev pub FitsAt : RecordValue → ℕ → Type 0
-FitsAt r j = IfSome (carried_at r.kind j) (λ f. IfSome (record_cell r j) (Holds f.ty))
+FitsAt r j = IfSome (carried_at r.kind j) (λ f. IfSome (record_cell r j) (Allows f.ty))
 
 -- the record's cell of field j has the fault
 abbrev pub HasCellFault : RecordValue → ℕ → CellFault → Type 0

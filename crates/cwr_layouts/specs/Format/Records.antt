@@ -8,7 +8,7 @@ use Rattle.cwr_fields.specs.declared.cell_types.CellType.{CellType}
 use Rattle.cwr_fields.specs.declared.cell_types.CellType.TheVariants.{Constant}
 use Rattle.cwr_fields.specs.Format.Bytes.{digits}
 use Rattle.cwr_fields.specs.Format.Codes.{word_text}
-use Rattle.cwr_fields.specs.Format.Cells.{Holds}
+use Rattle.cwr_fields.specs.Format.Cells.{Allows}
 use Rattle.cwr_layouts.specs.declared.kinds.Kind.{Kind}
 use Rattle.cwr_layouts.specs.Format.Kinds.{letters}
 use Rattle.cwr_layouts.specs.Format.Layouts.{FieldLayout, layout, fields_after_type}
@@ -24,12 +24,12 @@ carried_fields kind = filter (λ f. not f.derived) (layout kind)
 
 -- the cell has the field's width and is one of its type
 abbrev pub IsCellOf : FieldLayout → List ℕ → Type 0
-IsCellOf f text = (length text ≡ f.width) × Holds f.ty text
+IsCellOf f text = (length text ≡ f.width) × Allows f.ty text
 
 -- a derived cell is the number, written in full width, and any other is one of the field's type
 abbrev pub IsGoodCell : Bool → FieldLayout → ℕ → List ℕ → Type 0
 IsGoodCell true f n cell = cell ≡ digits f.width n
-IsGoodCell false f n cell = Holds f.ty cell
+IsGoodCell false f n cell = Allows f.ty cell
 
 -- each carried cell is one of its field
 abbrev pub IsRecord : RecordValue → Type 0

@@ -10,14 +10,14 @@ use Rattle.cwr_shape.specs.declared.reasons.Reason.TheVariants as reasons
 use Rattle.cwr_shape.specs.declared.limits.LimitKind.TheVariants as limits
 use Rattle.cwr_shape.specs.declared.reasons.Level.{Level}
 use Rattle.cwr_shape.specs.declared.reasons.Level.TheVariants.{E, G, T, R, F}
-use Rattle.cwr_shape.specs.declared.tallies.Place.{Place}
-use Rattle.cwr_shape.specs.declared.tallies.Place.TheVariants as places
+use Rattle.cwr_shape.specs.declared.tallies.Scope.{Scope}
+use Rattle.cwr_shape.specs.declared.tallies.Scope.TheVariants as scopes
 
 -- the level of a record that may not come: it rejects what is open
-abbrev pub level_of_place : Place → Level
-level_of_place places.File = E
-level_of_place places.Group = G
-level_of_place places.Transaction = T
+abbrev pub level_of_scope : Scope → Level
+level_of_scope scopes.File = E
+level_of_scope scopes.Group = G
+level_of_scope scopes.Transaction = T
 
 -- a cell of these types can't be blank
 abbrev pub must_be_filled : CellType → Bool
@@ -54,20 +54,20 @@ abbrev pub level_of_length : Option Kind → Level
 level_of_length (Some Grh) = G
 level_of_length this_kind = T
 
--- the level of a refusal at a field of a line of the kind, where that place is open
-abbrev pub level_of : Option Kind → ℕ → Reason → Place → Level
-level_of this_kind field reasons.UnknownKind place = level_of_place place
-level_of this_kind field reasons.Misplaced place = level_of_place place
-level_of this_kind field (reasons.Limit limits.Transaction) place = level_of_length this_kind
-level_of this_kind field (reasons.Limit limit) place = E
-level_of (Some this_kind) field reason place = level_in this_kind field reason
-level_of None field reason place = level_of_place place
+-- the level of a refusal at a field of a line of the kind, where that scope is open
+abbrev pub level_of : Option Kind → ℕ → Reason → Scope → Level
+level_of this_kind field reasons.UnknownKind scope = level_of_scope scope
+level_of this_kind field reasons.Misplaced scope = level_of_scope scope
+level_of this_kind field (reasons.Limit limits.Transaction) scope = level_of_length this_kind
+level_of this_kind field (reasons.Limit limit) scope = E
+level_of (Some this_kind) field reason scope = level_in this_kind field reason
+level_of None field reason scope = level_of_scope scope
 
 -- what is open after a record of the kind, or at the start
-abbrev pub place_after_kind : Option Kind → Place
-place_after_kind None = places.File
-place_after_kind (Some Hdr) = places.File
-place_after_kind (Some Grt) = places.File
-place_after_kind (Some Trl) = places.File
-place_after_kind (Some Grh) = places.Group
-place_after_kind (Some this_kind) = places.Transaction
+abbrev pub scope_after_kind : Option Kind → Scope
+scope_after_kind None = scopes.File
+scope_after_kind (Some Hdr) = scopes.File
+scope_after_kind (Some Grt) = scopes.File
+scope_after_kind (Some Trl) = scopes.File
+scope_after_kind (Some Grh) = scopes.Group
+scope_after_kind (Some this_kind) = scopes.Transaction

@@ -12,8 +12,8 @@ use Rattle.cwr_shape.specs.declared.limits.LimitKind.TheVariants.{Records, Group
 use Rattle.cwr_shape.specs.declared.tallies.Counts.{Counts}
 use Rattle.cwr_shape.specs.declared.tallies.Bar.{Bar}
 use Rattle.cwr_shape.specs.declared.tallies.Bar.TheVariants as bars
-use Rattle.cwr_shape.specs.declared.tallies.Place.{Place}
-use Rattle.cwr_shape.specs.declared.tallies.Place.TheVariants as places
+use Rattle.cwr_shape.specs.declared.tallies.Scope.{Scope}
+use Rattle.cwr_shape.specs.declared.tallies.Scope.TheVariants as scopes
 use Rattle.cwr_shape.specs.Format.Ranges.{LimitValues}
 use Rattle.cwr_shape.specs.Format.Outlines.{GroupOutline, KeepsTo, IsWithin, Continues}
 use Rattle.cwr_shape.specs.Format.LastSymbols.{is_grh, latest, group_of}
@@ -69,26 +69,26 @@ counts_of xs = record {
 }
 
 -- what is open after a symbol
-abbrev pub place_by : Option Symbol → Place
-place_by None = places.File
-place_by (Some (Grh ty)) = places.Group
-place_by (Some (Plain kinds.Hdr)) = places.File
-place_by (Some (Plain kinds.Grt)) = places.File
-place_by (Some (Plain kinds.Trl)) = places.File
-place_by (Some s) = places.Transaction
+abbrev pub scope_by : Option Symbol → Scope
+scope_by None = scopes.File
+scope_by (Some (Grh ty)) = scopes.Group
+scope_by (Some (Plain kinds.Hdr)) = scopes.File
+scope_by (Some (Plain kinds.Grt)) = scopes.File
+scope_by (Some (Plain kinds.Trl)) = scopes.File
+scope_by (Some s) = scopes.Transaction
 
 -- what is open after some symbols
-abbrev pub place_after : List Symbol → Place
-place_after xs = place_by (last_or None xs)
+abbrev pub scope_after : List Symbol → Scope
+scope_after xs = scope_by (last_or None xs)
 
 -- a transaction is open
-abbrev pub has_open_transaction : Place → Bool
-has_open_transaction places.Transaction = true
+abbrev pub has_open_transaction : Scope → Bool
+has_open_transaction scopes.Transaction = true
 has_open_transaction place = false
 
 -- how many records the open transaction has, if one is open
 abbrev pub open_records : List Symbol → ℕ
-open_records xs = if has_open_transaction (place_after xs) then 1 + length (after_header xs) else 0
+open_records xs = if has_open_transaction (scope_after xs) then 1 + length (after_header xs) else 0
 
 -- the first limit that some symbols have passed
 abbrev pub passed_limit : LimitValues → List Symbol → Option LimitKind

@@ -9,8 +9,8 @@ use Rattle.cwr_shape.specs.declared.symbols.Symbol.TheVariants as symbols
 use Rattle.cwr_shape.specs.declared.stages.Stage.{Stage}
 use Rattle.cwr_shape.specs.declared.stages.Stage.TheVariants.{Within}
 use Rattle.cwr_shape.specs.declared.stages.TransactionStep.TheVariants.{InGroup, OneSide}
-use Rattle.cwr_shape.specs.declared.tallies.Place.{Place}
-use Rattle.cwr_shape.specs.declared.tallies.Place.TheVariants as places
+use Rattle.cwr_shape.specs.declared.tallies.Scope.{Scope}
+use Rattle.cwr_shape.specs.declared.tallies.Scope.TheVariants as scopes
 use Rattle.cwr_shape.specs.Steps.Needs.{needs_at}
 use Rattle.cwr_shape.specs.declared.tallies.Counts.{Counts}
 use Rattle.cwr_shape.specs.Format.Ranges.{LimitValues}
@@ -19,10 +19,10 @@ use Rattle.cwr_shape.specs.declared.limits.LimitKind.TheVariants.{Records, Group
 use Rattle.cwr_shape.specs.Format.NextSymbols.{is_header_of, has_open_transaction}
 
 -- what is open at a stage
-abbrev pub place_at : Stage → Place
-place_at (Within ty InGroup) = places.Group
-place_at (Within ty step) = places.Transaction
-place_at stage = places.File
+abbrev pub scope_at : Stage → Scope
+scope_at (Within ty InGroup) = scopes.Group
+scope_at (Within ty step) = scopes.Transaction
+scope_at stage = scopes.File
 
 -- the role of the party that brings a transaction nearer to its end: that which a block of one side lacks, and else any
 abbrev pub wanted_role : Stage → Role
@@ -88,7 +88,7 @@ number_inside begins c j = if 2 == j then Some (if begins then c.in_group else (
 
 -- how many records the open transaction has at a stage, if one is open
 abbrev pub open_at : Stage → Counts → ℕ
-open_at stage c = if has_open_transaction (place_at stage) then (1 + c.after_header) else 0
+open_at stage c = if has_open_transaction (scope_at stage) then (1 + c.after_header) else 0
 
 -- the first limit that what was counted and what must still come pass at a stage
 abbrev pub passed_limit_at : LimitValues → Stage → Counts → Option LimitKind

@@ -12,12 +12,12 @@ use Rattle.cwr_shape.specs.declared.stages.Needs.{Needs}
 use Rattle.cwr_shape.specs.Format.Outlines.{IsWhole}
 use Rattle.cwr_shape.specs.Format.LastSymbols.{is_grh}
 use Rattle.cwr_shape.specs.Steps.Stages.{stage_after}
-use Rattle.cwr_shape.specs.Format.NextSymbols.{is_header_of, type_after, has_open_transaction, place_by}
+use Rattle.cwr_shape.specs.Format.NextSymbols.{is_header_of, type_after, has_open_transaction, scope_by}
 use Rattle.std.specs.Prelude.{Some}
 
 -- a record of a transaction of the type, but not its header
 abbrev pub is_later_of : TransactionType → Symbol → Bool
-is_later_of ty s = has_open_transaction (place_by (Some s)) && not (is_header_of ty s)
+is_later_of ty s = has_open_transaction (scope_by (Some s)) && not (is_header_of ty s)
 
 -- the further records of a transaction of the type that is open before these symbols: those up to the next header or the group's foot
 abbrev pub later_records : TransactionType → List Symbol → ℕ

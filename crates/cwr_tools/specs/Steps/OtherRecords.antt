@@ -5,7 +5,7 @@ use Rattle.cwr_layouts.specs.Format.Records.{RecordValue}
 use Rattle.cwr_levels.specs.declared.rules.Rule.{Rule}
 use Rattle.cwr_levels.specs.declared.rules.Rule.TheVariants.{V6, V9}
 use Rattle.cwr_levels.specs.Format.Findings.{is_a, is_owner}
-use Rattle.cwr_tools.specs.declared.places.Places.{Places}
+use Rattle.cwr_tools.specs.declared.other_records.OtherRecords.{OtherRecords}
 use Rattle.cwr_tools.specs.declared.passed.Passed.{Passed}
 use Rattle.cwr_tools.specs.Format.FindingNotes.{is_header, is_writer, last_place, most_others, places}
 
@@ -16,7 +16,7 @@ is_other V9 r = is_a kinds.Com r
 is_other rule r = is_owner r
 
 -- the first of these places are listed, and all are counted
-pub record AreListed (all : List ℕ) (x : Places) : Type 0 where
+pub record AreListed (all : List ℕ) (x : OtherRecords) : Type 0 where
   pub first : x.listed.items ≡ take most_others all
   pub counted : x.count ≡ length all
 

@@ -11,57 +11,57 @@ use Rattle.cwr_tools.specs.declared.verdicts.SplitReport.{SplitReport}
 use Rattle.cwr_tools.specs.declared.verdicts.ToolFault.{ToolFault}
 use Rattle.cwr_tools.specs.Format.Outputs.{AddsTexts}
 use Rattle.cwr_tools.specs.Steps.SplitOutputs.{CountsNone, FailsWith, HoldsOutput, Told, open_count, open_failures}
-use Rattle.cwr_tools.specs.Steps.SplitPlaces.{SplitPlace, Remains, Between, Inside, Over, open_items, open_total, parts_at, split_place_after}
+use Rattle.cwr_tools.specs.Steps.SplitStages.{SplitStage, Remains, Between, Inside, Over, open_items, open_total, parts_at, split_stage_after}
 use Rattle.cwr_tools.specs.Format.Splitting.{SplitsAll}
 use Rattle.cwr_tools.specs.Steps.Splitting.{Splits}
 use Rattle.cwr_tools.specs.Steps.SplitSteps.{has_open_group}
 
 -- HDR is known from when it was handed out, and GRH in its group
-abbrev pub KnowsOpening : SplitPlace → Option Item → Type 0
+abbrev pub KnowsOpening : SplitStage → Option Item → Type 0
 KnowsOpening (Between o closed) known = known ≡ Some (Opened o)
 KnowsOpening (Inside o closed h cur) known = known ≡ Some (Opened o)
-KnowsOpening place known = Unit {0}
+KnowsOpening stage known = Unit {0}
 
-abbrev pub KnowsHead : SplitPlace → Option Item → Type 0
+abbrev pub KnowsHead : SplitStage → Option Item → Type 0
 KnowsHead (Inside o closed h cur) known = known ≡ Some (GroupOpened h)
-KnowsHead place known = Unit {0}
+KnowsHead stage known = Unit {0}
 
 -- a group is open in the open part
-abbrev pub is_in_group : SplitPlace → Bool
+abbrev pub is_in_group : SplitStage → Bool
 is_in_group (Inside o closed h (t ∷ ts)) = true
-is_in_group place = false
+is_in_group stage = false
 
 -- the transactions that were written are those of the outputs that are done, each with its number of them, and of the open one
-abbrev pub HasCounted : SplitPlace → ℕ → SplitReport → Type 0
+abbrev pub HasCounted : SplitStage → ℕ → SplitReport → Type 0
 HasCounted Over size report = Unit {0}
-HasCounted place size report = report.outputs * size + open_total place ≡ report.transactions
+HasCounted stage size report = report.outputs * size + open_total stage ≡ report.transactions
 
--- what a split holds at a place
-pub record HoldsPlace {O W : Type 0} (told : Told O) (contents : W → Option (List ℕ)) (failures : W → ℕ) (place : SplitPlace) (s : Splitting W) (now : O) : Type 0 where
-  pub opening : KnowsOpening place s.opening
-  pub head : KnowsHead place s.head
-  pub output : HoldsOutput contents failures s.limits (told.texts now) (open_items place) s.output
-  pub count : open_count s.output ≡ open_total place
-  pub group : has_open_group s.output ≡ is_in_group place
-  pub none : open_total place ≡ 0 → s.output ≡ None
-  pub counted : HasCounted place s.size s.report
+-- what a split holds at a stage
+pub record HoldsStage {O W : Type 0} (told : Told O) (contents : W → Option (List ℕ)) (failures : W → ℕ) (stage : SplitStage) (s : Splitting W) (now : O) : Type 0 where
+  pub opening : KnowsOpening stage s.opening
+  pub head : KnowsHead stage s.head
+  pub output : HoldsOutput contents failures s.limits (told.texts now) (open_items stage) s.output
+  pub count : open_count s.output ≡ open_total stage
+  pub group : has_open_group s.output ≡ is_in_group stage
+  pub none : open_total stage ≡ 0 → s.output ≡ None
+  pub counted : HasCounted stage s.size s.report
 
 -- what it holds goes with what is left of some transmission that comes with this item next
 pub record MayTake {O W : Type 0} (told : Told O) (contents : W → Option (List ℕ)) (failures : W → ℕ) (item : Item) (s : Splitting W) (now : O) : Type 0 where
-  pub place : SplitPlace
+  pub stage : SplitStage
   pub value : TransmissionValue
   pub whole : List TransmissionValue
   pub rest : List Item
   pub some : 0 < s.size
   pub right : IsTransmission value
   pub within : FitsIn s.limits value
-  pub remains : Remains s.limits s.size value whole place (item ∷ rest)
-  pub holds : HoldsPlace told contents failures place s now
+  pub remains : Remains s.limits s.size value whole stage (item ∷ rest)
+  pub holds : HoldsStage told contents failures stage s now
   pub room : s.report.transactions < 199999999
 
--- it was taken: the split is at the next place, and these parts were handed over
-pub record IsTaken {O W : Type 0} (told : Told O) (contents : W → Option (List ℕ)) (failures : W → ℕ) (next : SplitPlace) (parts : List TransmissionValue) (item : Item) (old new : Splitting W) (before after : O) : Type 0 where
-  pub holds : HoldsPlace told contents failures next new after
+-- it was taken: the split is at the next stage, and these parts were handed over
+pub record IsTaken {O W : Type 0} (told : Told O) (contents : W → Option (List ℕ)) (failures : W → ℕ) (next : SplitStage) (parts : List TransmissionValue) (item : Item) (old new : Splitting W) (before after : O) : Type 0 where
+  pub holds : HoldsStage told contents failures next new after
   pub texts : AddsTexts (told.texts before) (told.texts after) (map canonical_text parts)
   pub counts : CountsNone told before after
   pub limits : new.limits ≡ old.limits
@@ -70,7 +70,7 @@ pub record IsTaken {O W : Type 0} (told : Told O) (contents : W → Option (List
   pub transactions : new.report.transactions ≡ old.report.transactions + count_by is_transaction (item ∷ [])
 
 abbrev pub TakesItem : {O W : Type 0} → Told O → (W → Option (List ℕ)) → (W → ℕ) → Item → Result (Unit {0}) ToolFault → Splitting W → Splitting W → O → O → Type 0
-TakesItem told contents failures item (Ok u) old new before after = (may : MayTake told contents failures item old before) → IsTaken told contents failures (split_place_after old.size may.place item) (parts_at old.size may.place item) item old new before after
+TakesItem told contents failures item (Ok u) old new before after = (may : MayTake told contents failures item old before) → IsTaken told contents failures (split_stage_after old.size may.stage item) (parts_at old.size may.stage item) item old new before after
 TakesItem told contents failures item (Err fault) old new before after = FailsWith told fault (open_failures failures new.output) before after
 
 -- ---- a whole input

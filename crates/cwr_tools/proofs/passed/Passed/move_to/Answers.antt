@@ -2,7 +2,7 @@ use Rattle.std.proofs.Common.{◌+◌, ◌≤◌, ℕ, length, sym, ap, ◌∙�
 use Rattle.std.specs.Prelude.{slice_get}
 use Rattle.cwr_layouts.specs.declared.kinds.Kind.TheVariants as kinds
 use Rattle.cwr_levels.specs.Format.Findings.{is_a}
-use Rattle.cwr_tools.proofs.OtherPlaces.{few_listed}
+use Rattle.cwr_tools.proofs.OthersListed.{few_listed}
 use Rattle.cwr_tools.proofs.passed.Passed.move_to.Goals as goal
 
 pub pass-requires-clause-counted : goal.pass-requires-clause-counted

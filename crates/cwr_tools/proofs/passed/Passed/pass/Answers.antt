@@ -3,7 +3,7 @@ use Rattle.cwr_layouts.specs.declared.kinds.Kind.TheVariants as kinds
 use Rattle.cwr_levels.specs.Format.Findings.{is_a}
 use Rattle.cwr_levels.proofs.KindTests.{is_of_kind, is_of_no_kind}
 use Rattle.cwr_tools.specs.Format.FindingNotes.{is_header}
-use Rattle.cwr_tools.proofs.OtherPlaces.{is_no_header, is_other_header, is_some_header, last_more, last_same, listed_more, listed_same}
+use Rattle.cwr_tools.proofs.OthersListed.{is_no_header, is_other_header, is_some_header, last_more, last_same, listed_more, listed_same}
 use Rattle.cwr_tools.proofs.passed.Passed.pass.Goals as goal
 
 pub returns-in-Spu-clause-passed : goal.returns-in-Spu-clause-passed

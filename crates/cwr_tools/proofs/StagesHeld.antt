@@ -11,7 +11,7 @@ use Rattle.cwr_values.specs.Format.Values.{GroupValue}
 use Rattle.cwr_judge.specs.Format.Items.{group_items, value_items}
 use Rattle.cwr_tools.specs.declared.split_output.SplitOutput.{SplitOutput}
 use Rattle.cwr_tools.specs.Steps.SplitOutputs.{blank_end, open_count, open_end, open_front}
-use Rattle.cwr_tools.specs.Steps.SplitPlaces.{ArePartGroups, Between, Inside, open_items, part_group, total_in, value_of, with_group}
+use Rattle.cwr_tools.specs.Steps.SplitStages.{ArePartGroups, Between, Inside, open_items, part_group, total_in, value_of, with_group}
 use Rattle.cwr_tools.specs.Steps.SplitItems.{is_in_group}
 use Rattle.cwr_tools.specs.Steps.SplitSteps.{items_with, has_open_group}
 use Rattle.cwr_tools.proofs.OutputAdded.{head_first, head_once, opening_once}

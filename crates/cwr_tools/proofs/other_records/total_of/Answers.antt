@@ -1,7 +1,7 @@
 use Rattle.std.proofs.Common.{ℕ, ◌+◌, sym, ap₂, ◌∙◌, arith}
 use Rattle.cwr_tools.specs.Format.FindingNotes.{right_of}
 use Rattle.cwr_tools.proofs.OwnedShares.{owned_more}
-use Rattle.cwr_tools.proofs.places.total_of.Goals as goal
+use Rattle.cwr_tools.proofs.other_records.total_of.Goals as goal
 
 pub loop-at-preserved : goal.loop-at-preserved
 loop-at-preserved c = record {

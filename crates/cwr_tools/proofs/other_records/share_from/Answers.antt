@@ -2,7 +2,7 @@ use Rattle.std.proofs.Common.{ap}
 use Rattle.cwr_levels.proofs.AddedShares.{share_is_short}
 use Rattle.cwr_tools.specs.Format.FindingNotes.{right_of}
 use Rattle.cwr_tools.proofs.OwnedShares.{read_share, third_right}
-use Rattle.cwr_tools.proofs.places.share_from.Goals as goal
+use Rattle.cwr_tools.proofs.other_records.share_from.Goals as goal
 
 pub number_of-requires : goal.number_of-requires
 number_of-requires c = share_is_short "pr share" c.args.shown.now c.args.first c.cell.result.now c.cell.ensures.value c.requires.there.performing c.cell.ensures.fits

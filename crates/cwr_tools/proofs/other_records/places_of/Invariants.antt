@@ -1,7 +1,7 @@
 use Rattle.std.proofs.Common.{◌≤◌, take}
 use Rattle.cwr_tools.specs.Format.FindingNotes.{places}
 use Rattle.cwr_tools.specs.Steps.OtherRecords.{AreListed, is_other}
-use Rattle.cwr_tools.proofs.places.places_of.Given as goal
+use Rattle.cwr_tools.proofs.other_records.places_of.Given as goal
 
 abbrev pub invariant-loop-at : goal.invariant-loop-at
 invariant-loop-at l = record {

@@ -16,7 +16,7 @@ use Rattle.cwr_values.specs.declared.items.Item.TheVariants.{Opened, GroupOpened
 use Rattle.cwr_values.specs.Format.Values.{GroupValue, TransmissionValue, FitsIn, IsGroup, IsRecordOf, IsTransmission, IsTransaction, type_of, outline_of_group}
 use Rattle.cwr_judge.specs.Format.Items.{group_items, value_items}
 use Rattle.cwr_tools.specs.Format.Splits.{split_of}
-use Rattle.cwr_tools.specs.Steps.SplitPlaces.{ArePartGroups, SplitPlace, Remains, RemainsBetween, RemainsInside, Between, Inside, Over, Start, group_value, last_of, part_group, parts_at, parts_in, split_place_after, place_in, total_in, value_of, with_group}
+use Rattle.cwr_tools.specs.Steps.SplitStages.{ArePartGroups, SplitStage, Remains, RemainsBetween, RemainsInside, Between, Inside, Over, Start, group_value, last_of, part_group, parts_at, parts_in, split_stage_after, stage_in, total_in, value_of, with_group}
 use Rattle.cwr_tools.proofs.FrontsFit.{fits_back, fits_front, fits_rest}
 use Rattle.cwr_tools.proofs.SplitParts.{any_foot, empty_group, first_part, last_part, no_part}
 
@@ -203,7 +203,7 @@ ended limits n v whole o closed item rest p e some =
 
 -- ---- any item
 
-no_more : (limits : Limits) (n : ℕ) (v : TransmissionValue) (whole : List TransmissionValue) (p : SplitPlace) (rest : List Item) → Remains limits n v whole p rest → Remains limits n v (whole ++ []) p rest
+no_more : (limits : Limits) (n : ℕ) (v : TransmissionValue) (whole : List TransmissionValue) (p : SplitStage) (rest : List Item) → Remains limits n v whole p rest → Remains limits n v (whole ++ []) p rest
 no_more limits n v whole p rest h = subst (λ (l : List TransmissionValue). Remains limits n v l p rest) (sym (append-nil whole)) h
 
 pub after_foot : (limits : Limits) (n : ℕ) (v : TransmissionValue) (whole : List TransmissionValue) (o : RecordValue) (closed : List GroupValue) (h : RecordValue) (cur : List (List RecordValue)) (item : Item) (rest : List Item)
@@ -217,7 +217,7 @@ after_foot limits n v whole o closed h (t ∷ ts) item rest p e f = closed_some 
 
 after_transaction : (limits : Limits) (n : ℕ) (v : TransmissionValue) (whole : List TransmissionValue) (o : RecordValue) (closed : List GroupValue) (h : RecordValue) (cur : List (List RecordValue)) (item : Item) (rest : List Item)
     → (p : RemainsInside limits n v whole o closed h cur (item ∷ rest)) (t : List RecordValue) (ts : List (List RecordValue)) → p.todo ≡ t ∷ ts → rest ≡ map Transaction ts ++ GroupClosed p.foot ∷ (flat_map group_items p.after ++ Ended ∷ [])
-    → 0 < n → Remains limits n v (whole ++ parts_at n (Inside o closed h cur) (Transaction t)) (split_place_after n (Inside o closed h cur) (Transaction t)) rest
+    → 0 < n → Remains limits n v (whole ++ parts_at n (Inside o closed h cur) (Transaction t)) (split_stage_after n (Inside o closed h cur) (Transaction t)) rest
 after_transaction limits n v whole o closed h cur item rest p t ts e f some =
     let At = λ (b : Bool). Remains limits n v (whole ++ (if b then value_of o (closed ++ part_group h (cur ++ t ∷ []) ∷ []) ∷ [] else [])) (if b then Inside o [] h [] else Inside o closed h (cur ++ t ∷ [])) rest in
     elim (eqb_tells (total_in closed + length cur + 1) n) as (λ _. At ((total_in closed + length cur + 1) == n)) [
@@ -225,41 +225,41 @@ after_transaction limits n v whole o closed h cur item rest p t ts e f some =
       | inr k ↦ subst At (sym k.0) (no_more limits n v whole (Inside o closed h (cur ++ t ∷ [])) rest (went_on limits n v whole o closed h cur item rest p t ts e f k.1))
     ]
 
-pub next_remains : (limits : Limits) (n : ℕ) (v : TransmissionValue) (whole : List TransmissionValue) (place : SplitPlace) (item : Item) (rest : List Item) → 0 < n → IsTransmission v → FitsIn limits v → Remains limits n v whole place (item ∷ rest)
-    → Remains limits n v (whole ++ parts_at n place item) (split_place_after n place item) rest
+pub next_remains : (limits : Limits) (n : ℕ) (v : TransmissionValue) (whole : List TransmissionValue) (stage : SplitStage) (item : Item) (rest : List Item) → 0 < n → IsTransmission v → FitsIn limits v → Remains limits n v whole stage (item ∷ rest)
+    → Remains limits n v (whole ++ parts_at n stage item) (split_stage_after n stage item) rest
 next_remains limits n v whole Start item rest some right fits h =
     let all : item ∷ rest ≡ Opened v.opening ∷ (flat_map group_items v.groups ++ Ended ∷ []) = h.0 in
     let is : item ≡ Opened v.opening = (cc) in
     let left : rest ≡ flat_map group_items v.groups ++ Ended ∷ [] = (cc) in
-    subst (λ (i : Item). Remains limits n v (whole ++ parts_at n Start i) (split_place_after n Start i) rest) (sym is)
+    subst (λ (i : Item). Remains limits n v (whole ++ parts_at n Start i) (split_stage_after n Start i) rest) (sym is)
     (subst (λ (l : List TransmissionValue). RemainsBetween limits n v l v.opening [] rest) (sym (append-nil whole ∙ h.1)) (opened limits n v rest some right fits left))
 next_remains limits n v whole (Between o closed) item rest some right fits h = by (next_between h.after item rest h.rest_is)
   where
     by : ((h.after ≡ []) × (item ≡ Ended) × (rest ≡ [])) ⊎ ((g : GroupValue) × (gs : List GroupValue) × (h.after ≡ g ∷ gs) × (item ≡ GroupOpened g.head) × (rest ≡ map Transaction g.transactions ++ GroupClosed g.foot ∷ (flat_map group_items gs ++ Ended ∷ [])))
-        → Remains limits n v (whole ++ parts_at n (Between o closed) item) (split_place_after n (Between o closed) item) rest
-    by (inl e) = subst (λ (i : Item). Remains limits n v (whole ++ parts_at n (Between o closed) i) (split_place_after n (Between o closed) i) rest) (sym e.1) (e.2, ended limits n v whole o closed item rest h e.0 some)
-    by (inr g) = subst (λ (i : Item). Remains limits n v (whole ++ parts_at n (Between o closed) i) (split_place_after n (Between o closed) i) rest) (sym g.3)
+        → Remains limits n v (whole ++ parts_at n (Between o closed) item) (split_stage_after n (Between o closed) item) rest
+    by (inl e) = subst (λ (i : Item). Remains limits n v (whole ++ parts_at n (Between o closed) i) (split_stage_after n (Between o closed) i) rest) (sym e.1) (e.2, ended limits n v whole o closed item rest h e.0 some)
+    by (inr g) = subst (λ (i : Item). Remains limits n v (whole ++ parts_at n (Between o closed) i) (split_stage_after n (Between o closed) i) rest) (sym g.3)
         (no_more limits n v whole (Inside o closed g.0.head []) rest (entered limits n v whole o closed item rest h g.0 g.1 g.2 g.4))
 next_remains limits n v whole (Inside o closed head cur) item rest some right fits h = by (next_inside h.todo h.foot (flat_map group_items h.after ++ Ended ∷ []) item rest h.rest_is)
   where
     by : ((h.todo ≡ []) × (item ≡ GroupClosed h.foot) × (rest ≡ flat_map group_items h.after ++ Ended ∷ [])) ⊎ ((t : List RecordValue) × (ts : List (List RecordValue)) × (h.todo ≡ t ∷ ts) × (item ≡ Transaction t) × (rest ≡ map Transaction ts ++ GroupClosed h.foot ∷ (flat_map group_items h.after ++ Ended ∷ [])))
-        → Remains limits n v (whole ++ parts_at n (Inside o closed head cur) item) (split_place_after n (Inside o closed head cur) item) rest
-    by (inl e) = subst (λ (i : Item). Remains limits n v (whole ++ parts_at n (Inside o closed head cur) i) (split_place_after n (Inside o closed head cur) i) rest) (sym e.1)
+        → Remains limits n v (whole ++ parts_at n (Inside o closed head cur) item) (split_stage_after n (Inside o closed head cur) item) rest
+    by (inl e) = subst (λ (i : Item). Remains limits n v (whole ++ parts_at n (Inside o closed head cur) i) (split_stage_after n (Inside o closed head cur) i) rest) (sym e.1)
         (no_more limits n v whole (Between o (with_group closed head cur)) rest (after_foot limits n v whole o closed head cur item rest h e.0 e.2))
-    by (inr t) = subst (λ (i : Item). Remains limits n v (whole ++ parts_at n (Inside o closed head cur) i) (split_place_after n (Inside o closed head cur) i) rest) (sym t.3)
+    by (inr t) = subst (λ (i : Item). Remains limits n v (whole ++ parts_at n (Inside o closed head cur) i) (split_stage_after n (Inside o closed head cur) i) rest) (sym t.3)
         (after_transaction limits n v whole o closed head cur item rest h t.0 t.1 t.2 t.4 some)
 next_remains limits n v whole Over item rest some right fits h = absurd (let none : item ∷ rest ≡ [] = h.0 in cc)
 
 -- after any items
-remains_on : (limits : Limits) (n : ℕ) (v : TransmissionValue) (whole : List TransmissionValue) (place : SplitPlace) (given rest : List Item) → 0 < n → IsTransmission v → FitsIn limits v → Remains limits n v whole place (given ++ rest)
-    → Remains limits n v (whole ++ parts_in n place given) (place_in n place given) rest
-remains_on limits n v whole place [] rest some right fits h = no_more limits n v whole place rest h
-remains_on limits n v whole place (item ∷ given) rest some right fits h =
-    let next = next_remains limits n v whole place item (given ++ rest) some right fits h in
-    let later = remains_on limits n v (whole ++ parts_at n place item) (split_place_after n place item) given rest some right fits next in
-    subst (λ (l : List TransmissionValue). Remains limits n v l (place_in n (split_place_after n place item) given) rest) (append_assoc whole (parts_at n place item) (parts_in n (split_place_after n place item) given)) later
+remains_on : (limits : Limits) (n : ℕ) (v : TransmissionValue) (whole : List TransmissionValue) (stage : SplitStage) (given rest : List Item) → 0 < n → IsTransmission v → FitsIn limits v → Remains limits n v whole stage (given ++ rest)
+    → Remains limits n v (whole ++ parts_in n stage given) (stage_in n stage given) rest
+remains_on limits n v whole stage [] rest some right fits h = no_more limits n v whole stage rest h
+remains_on limits n v whole stage (item ∷ given) rest some right fits h =
+    let next = next_remains limits n v whole stage item (given ++ rest) some right fits h in
+    let later = remains_on limits n v (whole ++ parts_at n stage item) (split_stage_after n stage item) given rest some right fits next in
+    subst (λ (l : List TransmissionValue). Remains limits n v l (stage_in n (split_stage_after n stage item) given) rest) (append_assoc whole (parts_at n stage item) (parts_in n (split_stage_after n stage item) given)) later
 
-pub remains_after : (limits : Limits) (n : ℕ) (v : TransmissionValue) (given rest : List Item) → 0 < n → IsTransmission v → FitsIn limits v → value_items v ≡ given ++ rest → Remains limits n v (parts_in n Start given) (place_in n Start given) rest
+pub remains_after : (limits : Limits) (n : ℕ) (v : TransmissionValue) (given rest : List Item) → 0 < n → IsTransmission v → FitsIn limits v → value_items v ≡ given ++ rest → Remains limits n v (parts_in n Start given) (stage_in n Start given) rest
 remains_after limits n v given rest some right fits e = remains_on limits n v [] Start given rest some right fits (sym e, refl)
 
 -- ---- the open part, closed

@@ -10,7 +10,7 @@ use Rattle.cwr_levels.specs.declared.rules.Rule.{Rule}
 use Rattle.cwr_levels.specs.Format.Findings.{is_a, is_party}
 use Rattle.cwr_levels.proofs.KindTests.{is_of_no_kind}
 use Rattle.cwr_levels.proofs.OneMore.{drop_more, length_taken, take_more}
-use Rattle.cwr_tools.specs.declared.places.Places.{Places}
+use Rattle.cwr_tools.specs.declared.other_records.OtherRecords.{OtherRecords}
 use Rattle.cwr_tools.specs.Format.FindingNotes.{is_header, last_place, others, parties_from, places, places_from}
 use Rattle.cwr_tools.specs.Steps.OtherRecords.{AreListed, is_other}
 
@@ -35,7 +35,7 @@ length_places p n (x ∷ xs) = by (p x) (length_places p (n + 1) xs)
     by false rest = omega (arith, rest)
 
 -- so many are counted at most
-pub few_listed : (p : RecordValue → Bool) (t : List RecordValue) (i : ℕ) (x : Places) → i ≤ length t → AreListed (places p (take i t)) x → x.count ≤ i
+pub few_listed : (p : RecordValue → Bool) (t : List RecordValue) (i : ℕ) (x : OtherRecords) → i ≤ length t → AreListed (places p (take i t)) x → x.count ≤ i
 few_listed p t i x within h = omega (arith, length_places p 0 (take i t), length-take-le i t within, h.counted)
 
 pub places_taken : (p : RecordValue → Bool) (t : List RecordValue) (i : ℕ) (r : RecordValue) → slice_get t i ≡ Some r → places p (take (i + 1) t) ≡ places p (take i t) ++ cond (p r) (i ∷ []) []
@@ -47,11 +47,11 @@ taken_by : (p : RecordValue → Bool) (t : List RecordValue) (i : ℕ) (r : Reco
 taken_by p t i r b e h = places_taken p t i r e ∙ ap (λ (c : Bool). places p (take i t) ++ cond c (i ∷ []) []) h
 
 -- one that passes is listed
-pub listed_more : (p : RecordValue → Bool) (t : List RecordValue) (i : ℕ) (r : RecordValue) (y : Places) → slice_get t i ≡ Some r → p r ≡ true → AreListed (places p (take i t) ++ i ∷ []) y → AreListed (places p (take (i + 1) t)) y
+pub listed_more : (p : RecordValue → Bool) (t : List RecordValue) (i : ℕ) (r : RecordValue) (y : OtherRecords) → slice_get t i ≡ Some r → p r ≡ true → AreListed (places p (take i t) ++ i ∷ []) y → AreListed (places p (take (i + 1) t)) y
 listed_more p t i r y e h l = subst (λ (all : List ℕ). AreListed all y) (sym (taken_by p t i r true e h)) l
 
 -- and another isn't
-pub listed_same : (p : RecordValue → Bool) (t : List RecordValue) (i : ℕ) (r : RecordValue) (x : Places) → slice_get t i ≡ Some r → p r ≡ false → AreListed (places p (take i t)) x → AreListed (places p (take (i + 1) t)) x
+pub listed_same : (p : RecordValue → Bool) (t : List RecordValue) (i : ℕ) (r : RecordValue) (x : OtherRecords) → slice_get t i ≡ Some r → p r ≡ false → AreListed (places p (take i t)) x → AreListed (places p (take (i + 1) t)) x
 listed_same p t i r x e h l = subst (λ (all : List ℕ). AreListed all x) (sym (taken_by p t i r false e h ∙ append-nil (places p (take i t)))) l
 
 -- ---- the last place
@@ -68,7 +68,7 @@ last_same p t i r o e h l = l ∙ sym (ap (last_or None) (taken_by p t i r false
 
 -- ---- what a rule on a header speaks of
 
-pub at_rule : (rule other : Rule) (t : List RecordValue) (k : ℕ) (r : RecordValue) (x : Places) → rule ≡ other → (AreListed (places (is_other other) t) x → AreListed (others other t k r) x)
+pub at_rule : (rule other : Rule) (t : List RecordValue) (k : ℕ) (r : RecordValue) (x : OtherRecords) → rule ≡ other → (AreListed (places (is_other other) t) x → AreListed (others other t k r) x)
     → AreListed (places (is_other rule) t) x → AreListed (others rule t k r) x
 at_rule rule other t k r x e h l = subst (λ (q : Rule). AreListed (others q t k r) x) (sym e) (h (subst (λ (q : Rule). AreListed (places (is_other q) t) x) e l))
 

@@ -31,11 +31,11 @@ total_in gs = sum_by (λ g. length g.transactions) gs
 
 -- at the start, between groups, in a group, or at the end; the open part has these closed groups, and of the open group these
 -- transactions
-pub data SplitPlace : Type 0 where
-  Start : SplitPlace
-  Between : RecordValue → List GroupValue → SplitPlace
-  Inside : RecordValue → List GroupValue → RecordValue → List (List RecordValue) → SplitPlace
-  Over : SplitPlace
+pub data SplitStage : Type 0 where
+  Start : SplitStage
+  Between : RecordValue → List GroupValue → SplitStage
+  Inside : RecordValue → List GroupValue → RecordValue → List (List RecordValue) → SplitStage
+  Over : SplitStage
 
 -- the closed groups with the open one, where that has transactions
 abbrev pub with_group : List GroupValue → RecordValue → List (List RecordValue) → List GroupValue
@@ -48,18 +48,18 @@ last_of o [] = []
 last_of o (g ∷ gs) = value_of o (g ∷ gs) ∷ []
 
 -- where it stands after an item
-abbrev pub split_place_after : ℕ → SplitPlace → Item → SplitPlace
-split_place_after n Start (Opened o) = Between o []
-split_place_after n (Between o closed) (GroupOpened h) = Inside o closed h []
-split_place_after n (Inside o closed h cur) (Transaction t) = if total_in closed + length cur + 1 == n then Inside o [] h [] else Inside o closed h (cur ++ t ∷ [])
-split_place_after n (Inside o closed h cur) (GroupClosed f) = Between o (with_group closed h cur)
-split_place_after n place item = Over
+abbrev pub split_stage_after : ℕ → SplitStage → Item → SplitStage
+split_stage_after n Start (Opened o) = Between o []
+split_stage_after n (Between o closed) (GroupOpened h) = Inside o closed h []
+split_stage_after n (Inside o closed h cur) (Transaction t) = if total_in closed + length cur + 1 == n then Inside o [] h [] else Inside o closed h (cur ++ t ∷ [])
+split_stage_after n (Inside o closed h cur) (GroupClosed f) = Between o (with_group closed h cur)
+split_stage_after n stage item = Over
 
 -- the part that an item makes whole
-abbrev pub parts_at : ℕ → SplitPlace → Item → List TransmissionValue
+abbrev pub parts_at : ℕ → SplitStage → Item → List TransmissionValue
 parts_at n (Inside o closed h cur) (Transaction t) = if total_in closed + length cur + 1 == n then value_of o (closed ++ part_group h (cur ++ t ∷ []) ∷ []) ∷ [] else []
 parts_at n (Between o closed) Ended = last_of o closed
-parts_at n place item = []
+parts_at n stage item = []
 
 -- between groups, what is left has these groups after the closed ones of the open part
 pub record RemainsBetween (limits : Limits) (n : ℕ) (v : TransmissionValue) (whole : List TransmissionValue) (o : RecordValue) (closed : List GroupValue) (rest : List Item) : Type 0 where
@@ -91,29 +91,29 @@ pub record RemainsInside (limits : Limits) (n : ℕ) (v : TransmissionValue) (wh
   pub split : split_of n v ≡ whole ++ split_of n (value_of o (closed ++ group_value h (cur ++ todo) foot ∷ after))
 
 -- what is left of a transmission, whose first parts are whole
-abbrev pub Remains : Limits → ℕ → TransmissionValue → List TransmissionValue → SplitPlace → List Item → Type 0
+abbrev pub Remains : Limits → ℕ → TransmissionValue → List TransmissionValue → SplitStage → List Item → Type 0
 Remains limits n v whole Start rest = (rest ≡ value_items v) × (whole ≡ [])
 Remains limits n v whole (Between o closed) rest = RemainsBetween limits n v whole o closed rest
 Remains limits n v whole (Inside o closed h cur) rest = RemainsInside limits n v whole o closed h cur rest
 Remains limits n v whole Over rest = (rest ≡ []) × (split_of n v ≡ whole)
 
 -- where it stands after items, and the parts that they make whole
-abbrev pub place_in : ℕ → SplitPlace → List Item → SplitPlace
-place_in n place [] = place
-place_in n place (item ∷ items) = place_in n (split_place_after n place item) items
+abbrev pub stage_in : ℕ → SplitStage → List Item → SplitStage
+stage_in n stage [] = stage
+stage_in n stage (item ∷ items) = stage_in n (split_stage_after n stage item) items
 
-abbrev pub parts_in : ℕ → SplitPlace → List Item → List TransmissionValue
-parts_in n place [] = []
-parts_in n place (item ∷ items) = parts_at n place item ++ parts_in n (split_place_after n place item) items
+abbrev pub parts_in : ℕ → SplitStage → List Item → List TransmissionValue
+parts_in n stage [] = []
+parts_in n stage (item ∷ items) = parts_at n stage item ++ parts_in n (split_stage_after n stage item) items
 
 -- the items of the open part, and how many transactions it has
-abbrev pub open_items : SplitPlace → List Item
+abbrev pub open_items : SplitStage → List Item
 open_items (Inside o closed h (t ∷ ts)) = Opened o ∷ flat_map group_items closed ++ GroupOpened h ∷ map Transaction (t ∷ ts)
 open_items (Inside o (g ∷ gs) h []) = Opened o ∷ flat_map group_items (g ∷ gs)
 open_items (Between o (g ∷ gs)) = Opened o ∷ flat_map group_items (g ∷ gs)
-open_items place = []
+open_items stage = []
 
-abbrev pub open_total : SplitPlace → ℕ
+abbrev pub open_total : SplitStage → ℕ
 open_total (Inside o closed h cur) = total_in closed + length cur
 open_total (Between o closed) = total_in closed
-open_total place = 0
+open_total stage = 0

@@ -1,4 +1,4 @@
--- The place that an item comes at in a split.
+-- The stage that an item comes at in a split.
 use Rattle.std.proofs.Common.{◌≡◌, ℕ, inl, inr, List, [], ◌∷◌, ◌++◌, map, Option, Some, None, refl, sym, subst, append-nil}
 use Rattle.std.specs.Prelude.{◌⊎◌, flat_map}
 use Rattle.cwr_layouts.specs.Format.Records.{RecordValue}
@@ -8,22 +8,22 @@ use Rattle.cwr_values.specs.declared.items.Item.TheVariants.{Opened, GroupOpened
 use Rattle.cwr_values.specs.Format.Values.{GroupValue, TransmissionValue}
 use Rattle.cwr_judge.specs.Format.Items.{group_items}
 use Rattle.cwr_tools.specs.Format.Outputs.{AddsTexts}
-use Rattle.cwr_tools.specs.Steps.SplitPlaces.{SplitPlace, Remains, RemainsBetween, RemainsInside, Between, Inside, Over, Start, with_group}
-use Rattle.cwr_tools.proofs.PlacesLeft.{after_foot, next_between, next_inside}
+use Rattle.cwr_tools.specs.Steps.SplitStages.{SplitStage, Remains, RemainsBetween, RemainsInside, Between, Inside, Over, Start, with_group}
+use Rattle.cwr_tools.proofs.StagesLeft.{after_foot, next_between, next_inside}
 
--- ---- the place of an item
+-- ---- the stage of an item
 
--- what an item says of the place that it comes at
-abbrev pub AtItem : Limits → ℕ → TransmissionValue → List TransmissionValue → Item → List Item → SplitPlace → Type 0
-AtItem limits n v whole (Opened r) rest place = place ≡ Start
-AtItem limits n v whole (GroupOpened r) rest place = (o : RecordValue) × (closed : List GroupValue) × (place ≡ Between o closed)
-AtItem limits n v whole (Transaction t) rest place = (o : RecordValue) × (closed : List GroupValue) × (h : RecordValue) × (cur : List (List RecordValue)) × (place ≡ Inside o closed h cur)
+-- what an item says of the stage that it comes at
+abbrev pub AtItem : Limits → ℕ → TransmissionValue → List TransmissionValue → Item → List Item → SplitStage → Type 0
+AtItem limits n v whole (Opened r) rest stage = stage ≡ Start
+AtItem limits n v whole (GroupOpened r) rest stage = (o : RecordValue) × (closed : List GroupValue) × (stage ≡ Between o closed)
+AtItem limits n v whole (Transaction t) rest stage = (o : RecordValue) × (closed : List GroupValue) × (h : RecordValue) × (cur : List (List RecordValue)) × (stage ≡ Inside o closed h cur)
     × (p : RemainsInside limits n v whole o closed h cur (Transaction t ∷ rest)) × (ts : List (List RecordValue)) × (p.todo ≡ t ∷ ts)
-AtItem limits n v whole (GroupClosed r) rest place = (o : RecordValue) × (closed : List GroupValue) × (h : RecordValue) × (cur : List (List RecordValue)) × (place ≡ Inside o closed h cur)
+AtItem limits n v whole (GroupClosed r) rest stage = (o : RecordValue) × (closed : List GroupValue) × (h : RecordValue) × (cur : List (List RecordValue)) × (stage ≡ Inside o closed h cur)
     × RemainsBetween limits n v whole o (with_group closed h cur) rest
-AtItem limits n v whole Ended rest place = (o : RecordValue) × (closed : List GroupValue) × (place ≡ Between o closed) × RemainsBetween limits n v whole o closed (Ended ∷ rest)
+AtItem limits n v whole Ended rest stage = (o : RecordValue) × (closed : List GroupValue) × (stage ≡ Between o closed) × RemainsBetween limits n v whole o closed (Ended ∷ rest)
 
-pub at_item : (limits : Limits) (n : ℕ) (v : TransmissionValue) (whole : List TransmissionValue) (place : SplitPlace) (item : Item) (rest : List Item) → Remains limits n v whole place (item ∷ rest) → AtItem limits n v whole item rest place
+pub at_item : (limits : Limits) (n : ℕ) (v : TransmissionValue) (whole : List TransmissionValue) (stage : SplitStage) (item : Item) (rest : List Item) → Remains limits n v whole stage (item ∷ rest) → AtItem limits n v whole item rest stage
 at_item limits n v whole Start item rest h =
     let is : item ≡ Opened v.opening = (let all : item ∷ rest ≡ Opened v.opening ∷ (flat_map group_items v.groups ++ Ended ∷ []) = h.0 in cc) in
     subst (λ (i : Item). AtItem limits n v whole i rest Start) (sym is) refl

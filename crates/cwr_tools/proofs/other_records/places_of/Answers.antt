@@ -1,8 +1,8 @@
 use Rattle.std.proofs.Common.{ℕ, Bool, cond, List, [], ◌∷◌, ◌++◌, take, sym, subst, ap, ◌∙◌, arith}
 use Rattle.cwr_tools.specs.Format.FindingNotes.{places}
 use Rattle.cwr_tools.specs.Steps.OtherRecords.{AreListed, is_other}
-use Rattle.cwr_tools.proofs.OtherPlaces.{places_taken}
-use Rattle.cwr_tools.proofs.places.places_of.Goals as goal
+use Rattle.cwr_tools.proofs.OthersListed.{places_taken}
+use Rattle.cwr_tools.proofs.other_records.places_of.Goals as goal
 
 pub loop-at-preserved : goal.loop-at-preserved
 loop-at-preserved c =

@@ -1,8 +1,8 @@
 use Rattle.std.proofs.Common.{ℕ, List, [], ◌∷◌, ◌++◌, sym, subst, ◌∙◌, true≢false, arith}
 use Rattle.cwr_tools.specs.Steps.OtherRecords.{AreListed}
-use Rattle.cwr_tools.proofs.OtherPlaces.{both_true, end_of_block, not_both, one_over, one_party}
-use Rattle.cwr_tools.proofs.places.parties_of.Goals as goal
-use Rattle.cwr_tools.proofs.places.parties_of.Goals.{else-among_parties-via-then-among_parties+else-is_of-2, else-among_parties-via-else-among_parties}
+use Rattle.cwr_tools.proofs.OthersListed.{both_true, end_of_block, not_both, one_over, one_party}
+use Rattle.cwr_tools.proofs.other_records.parties_of.Goals as goal
+use Rattle.cwr_tools.proofs.other_records.parties_of.Goals.{else-among_parties-via-then-among_parties+else-is_of-2, else-among_parties-via-else-among_parties}
 
 pub loop-at-preserved-then-is_of : goal.loop-at-preserved-then-is_of
 loop-at-preserved-then-is_of c = (

@@ -1,7 +1,7 @@
 use Rattle.std.proofs.Common.{◌≡◌, ◌≤◌, ◌*◌, take}
 use Rattle.cwr_levels.specs.Format.Findings.{ownership}
 use Rattle.cwr_tools.specs.Format.FindingNotes.{right_of}
-use Rattle.cwr_tools.proofs.places.total_of.Given as goal
+use Rattle.cwr_tools.proofs.other_records.total_of.Given as goal
 
 abbrev pub invariant-loop-at : goal.invariant-loop-at
 invariant-loop-at l = record {

@@ -15,20 +15,20 @@ use cwr_values::Transaction;
 /// The most places that are listed.
 const MOST_OTHERS: usize = 20;
 
-/// Places of records: the first ones, and how many there are.
+/// OtherRecords of records: the first ones, and how many there are.
 #[derive(Drop)]
-pub(crate) struct Places {
+pub(crate) struct OtherRecords {
     pub(crate) listed: ArrayVec<usize, MOST_OTHERS>,
     pub(crate) count: usize,
 }
 
-impl Places {
+impl OtherRecords {
     /// No place.
-    pub(crate) fn none() -> Places
+    pub(crate) fn none() -> OtherRecords
         ensures listed { AreListed [] result }
         ensures count { result.count ≡ 0 }
     {
-        Places {
+        OtherRecords {
             listed: ArrayVec::new(),
             count: 0,
         }
@@ -56,22 +56,22 @@ impl Places {
     }
 
     /// The same once more.
-    pub(crate) fn copy(&self) -> Places
+    pub(crate) fn copy(&self) -> OtherRecords
         ensures { (all : List ℕ) → AreListed all self.now → AreListed all result }
     {
         let mut listed = ArrayVec::new();
         let _fits = listed.try_extend_from_slice(self.listed.as_slice());
-        Places {
+        OtherRecords {
             listed,
             count: self.count,
         }
     }
 
     /// The place, if there is one.
-    pub(crate) fn of(place: Option<usize>) -> Places
+    pub(crate) fn of(place: Option<usize>) -> OtherRecords
         ensures { AreListed (option_to_list place) result }
     {
-        let mut places = Places::none();
+        let mut places = OtherRecords::none();
         if let Some(place) = place {
             places.add(place);
         }
@@ -91,11 +91,11 @@ fn is_other(rule: Rule, shown: &RecordRef<'_>) -> bool
 }
 
 /// The places of the records of which the rule, on the header of a work, speaks.
-pub(crate) fn places_of(rule: Rule, transaction: &Transaction) -> Places
+pub(crate) fn places_of(rule: Rule, transaction: &Transaction) -> OtherRecords
     requires { length transaction.now ≤ 100000000 }
     ensures { AreListed (places (is_other rule) transaction.now) result }
 {
-    let mut found = Places::none();
+    let mut found = OtherRecords::none();
     for at in 0..transaction.len() {
         let Some(shown) = transaction.record(at) else {
             return found;
@@ -106,12 +106,12 @@ pub(crate) fn places_of(rule: Rule, transaction: &Transaction) -> Places
 }
 
 /// The places of the parties of the block whose first territory has that place.
-pub(crate) fn parties_of(transaction: &Transaction, first: usize) -> Places
+pub(crate) fn parties_of(transaction: &Transaction, first: usize) -> OtherRecords
     requires few { length transaction.now ≤ 100000000 }
     requires there { first < length transaction.now }
     ensures { AreListed (parties_from false (first + 1) (drop (first + 1) transaction.now)) result }
 {
-    let mut found = Places::none();
+    let mut found = OtherRecords::none();
     let mut among_parties = false;
     for at in first + 1..transaction.len() {
         let Some(shown) = transaction.record(at) else {
