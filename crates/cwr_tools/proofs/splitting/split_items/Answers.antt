@@ -59,7 +59,7 @@ items-preserved g c =
     c.requires.some c.items.invariant.splitting reading in
     record {
       splitting = item_taken c.args.limits c.args.splitting.now.size c.items.reading.decoder c.next_item.new.self.decoder (g.R.Source.remaining c.args.reader.now) _ _ (told_by g.O.Outputs.texts g.O.Outputs.failures g.O.Outputs.given_up) g.O.W.Target.contents g.O.W.Target.failures c.items.handed_out c.args.outputs.now c.items.splitting c.take_item.new.splitting c.items.outputs
-          c.take_item.new.outputs c.in-Ok-Some.item c.requires.some c.items.invariant.splitting reading (leaves_item c.in-Ok-Some.field-0 c.in-Ok-Some.item c.next_item.new.self.decoder.state c.in-Ok-Some.field-0-is c.in-Ok-Some.ensures.reads.leaves) may.0.place may.1 (c.in_ok-take_item-in-Ok-Some.ensures.takes may.0);
+          c.take_item.new.outputs c.in-Ok-Some.item c.requires.some c.items.invariant.splitting reading (leaves_item c.in-Ok-Some.field-0 c.in-Ok-Some.item c.next_item.new.self.decoder.state c.in-Ok-Some.field-0-is c.in-Ok-Some.ensures.reads.leaves) may.0.stage may.1 (c.in_ok-take_item-in-Ok-Some.ensures.takes may.0);
       lent = λ others e. c.in_ok-take_item-in-Ok-Some.ensures.lent others (c.items.invariant.lent others e);
       failures = c.in-Ok-Some.ensures.failures ∙ c.items.invariant.failures;
       same = c.in-Ok-Some.ensures.same_reference ∙ c.items.invariant.same;
