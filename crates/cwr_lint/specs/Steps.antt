@@ -1,4 +1,7 @@
 -- What the code keeps, and what its calls do to that.
 pub mod CellFaults
+pub mod JudgedLines
+pub mod LinesRead
 pub mod Lints
 pub mod Puts
+pub mod Runs

@@ -8,6 +8,7 @@ mod front;
 mod judging;
 mod linting;
 mod numbers;
+mod puts;
 mod raw_lines;
 mod states;
 mod steps;

@@ -1,5 +1,8 @@
 //! Which numbers of a line are told, and what belongs there.
 
+ghost use Rattle.std.specs.Prelude.{◌≡◌};
+ghost use Rattle.cwr_lint.specs.Steps.JudgedLines.{number_of};
+
 use crate::cells::number_at;
 use crate::following::Awaiting;
 use crate::states::{LintState, OpenGroup, OpenTransaction};
@@ -121,7 +124,9 @@ impl WrongNumbers {
     };
 
     /// What belongs in field `j`, where that is told.
-    pub fn expected(&self, j: u8) -> Option<u64> {
+    pub fn expected(&self, j: u8) -> Option<u64>
+        ensures { result ≡ number_of self.now j }
+    {
         match j {
             2 => self.second,
             3 => self.third,

@@ -1,9 +1,12 @@
 //! What a lint holds between two lines, but for the open transaction's records.
 
+ghost use Rattle.std.specs.Prelude.{◌≡◌};
+ghost use Rattle.cwr_lint.specs.Steps.JudgedLines.{scope_by};
+
 use crate::following::Awaiting;
 use cwr_fields::TransactionType;
 use cwr_layouts::Kind;
-use cwr_shape::{Place, Stage, Symbol};
+use cwr_shape::{Scope, Stage, Symbol};
 
 /// The open transaction.
 #[derive(Clone, Copy, Debug)]
@@ -179,11 +182,13 @@ pub(crate) struct LintState {
 
 impl LintState {
     /// What is open.
-    pub fn place(&self) -> Place {
+    pub fn scope(&self) -> Scope
+        ensures { result ≡ scope_by self.now.group }
+    {
         match self.group {
-            None => Place::File,
-            Some(group) if group.has_line => Place::Transaction,
-            Some(_) => Place::Group,
+            None => Scope::File,
+            Some(group) if group.has_line => Scope::Transaction,
+            Some(_) => Scope::Group,
         }
     }
 

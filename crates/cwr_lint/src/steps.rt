@@ -1,5 +1,9 @@
 //! How a lint goes on with one more line.
 
+ghost use Rattle.std.specs.Prelude.{◌≡◌, false};
+ghost use Rattle.cwr_lint.specs.Format.FaultsOfLines.{one_more_line};
+ghost use Rattle.cwr_lint.specs.Steps.JudgedLines.{is_end};
+
 use crate::cells::{number_at, role_in, symbol_in, type_in};
 use crate::following::Awaiting;
 use crate::numbers::{Belonging, Count};
@@ -344,7 +348,6 @@ impl LintState {
             (Taking::ClosesGroup | Taking::ClosesNone, _) => self.with_unseen(line),
             (Taking::Ends, _) => LintState {
                 stage: Some(Stage::Ended),
-                over: true,
                 ..*self
             },
             (Taking::Further, _) => self.with_further(kind, line),
@@ -352,31 +355,37 @@ impl LintState {
         }
     }
 
-    /// With one line more that was read.
-    fn counted(&self) -> LintState {
-        LintState {
-            lines: self.lines.saturating_add(1),
-            since: self.since.saturating_add(1),
-            ..*self
-        }
-    }
-
     /// Goes on with a line of the kind, taken so.
-    pub fn step(&mut self, taken: Taking, misplaced: bool, kind: Kind, line: &CutLine<'_>) {
-        *self = self.after(taken, misplaced, kind, line).counted();
+    pub fn step(&mut self, taken: Taking, misplaced: bool, kind: Kind, line: &CutLine<'_>)
+        ensures lines { self.new.lines ≡ one_more_line self.old.lines }
+        ensures over { self.new.over ≡ is_end taken }
+    {
+        let after = self.after(taken, misplaced, kind, line);
+        *self = LintState {
+            lines: self.lines.saturating_add(1),
+            since: after.since.saturating_add(1),
+            over: matches!(taken, Taking::Ends),
+            ..after
+        };
     }
 
     /// Goes on with a line of unknown kind. One of spaces alone is no record: nothing else changes.
-    pub fn step_unknown(&mut self, is_blank: bool) {
-        let counted = self.counted();
-        *self = if is_blank {
-            counted
+    pub fn step_unknown(&mut self, is_blank: bool)
+        ensures lines { self.new.lines ≡ one_more_line self.old.lines }
+        ensures over { self.new.over ≡ false }
+    {
+        let (stage, group) = if is_blank {
+            (self.stage, self.group)
         } else {
-            LintState {
-                stage: None,
-                group: self.group.map(|group| group.with_unknown()),
-                ..counted
-            }
+            (None, self.group.map(|group| group.with_unknown()))
+        };
+        *self = LintState {
+            lines: self.lines.saturating_add(1),
+            since: self.since.saturating_add(1),
+            stage,
+            group,
+            over: false,
+            ..*self
         };
     }
 }

@@ -1,5 +1,8 @@
 //! What a lint takes a line for.
 
+ghost use Rattle.std.specs.Prelude.{◌≡◌, true, false};
+ghost use Rattle.cwr_lint.specs.Steps.JudgedLines.{is_end};
+
 use crate::cells::{has_version, number_at, symbol_in, type_in, type_of_header};
 use crate::numbers::Count;
 use crate::states::{LintState, OpenGroup, OpenTransaction};
@@ -109,7 +112,9 @@ fn taking_of_header(
     ty: TransactionType,
     kind: Kind,
     line: &CutLine<'_>,
-) -> Taking {
+) -> Taking
+    ensures { is_end result ≡ false }
+{
     let Some(group) = state.group else {
         return if is_first(line) || number_at(line, 3).is_none() {
             Taking::Header(ty)
@@ -127,7 +132,9 @@ fn taking_of_header(
 }
 
 /// What a GRT is taken for.
-fn taking_of_foot(state: &LintState, line: &CutLine<'_>) -> Taking {
+fn taking_of_foot(state: &LintState, line: &CutLine<'_>) -> Taking
+    ensures { is_end result ≡ false }
+{
     match &state.group {
         None => Taking::ClosesNone,
         Some(group) => {
@@ -142,7 +149,9 @@ fn taking_of_foot(state: &LintState, line: &CutLine<'_>) -> Taking {
 
 impl Taking {
     /// What a line of the kind is taken for.
-    pub fn of(state: &LintState, kind: Kind, line: &CutLine<'_>) -> Taking {
+    pub fn of(state: &LintState, kind: Kind, line: &CutLine<'_>) -> Taking
+        ensures { is_end result ≡ true → kind ≡ Kind.Trl }
+    {
         match kind {
             Kind::Hdr if state.lines == 0 => Taking::Opens,
             Kind::Hdr if is_other_hdr(line) => Taking::Other,
