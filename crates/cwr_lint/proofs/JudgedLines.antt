@@ -36,7 +36,7 @@ told_order n scope h known j found is one e = record {
   cell = λ kind f cell k two at there. absurd (omega (arith, one, two));
 }
 
-no_field_past : (kind : Kind) (j : ℕ) → length (layout kind) < j → field_at kind j ≡ None
+pub no_field_past : (kind : Kind) (j : ℕ) → length (layout kind) < j → field_at kind j ≡ None
 no_field_past kind zero past = refl
 no_field_past kind (suc i) past = slice_get_past (layout kind) i (omega (arith, past))
 

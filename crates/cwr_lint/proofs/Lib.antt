@@ -1,3 +1,4 @@
+mod CellsTold
 mod FaultsOfCells
 mod JudgedLines
 mod LastRead

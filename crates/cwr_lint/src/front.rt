@@ -63,6 +63,9 @@ impl LintState {
             headers: transactions,
             records: Some(lines.saturating_sub(1)),
             transactions,
+            anew: 0,
+            groups_before: 0,
+            headers_before: 0,
             over: false,
         };
         let Stage::Within(ty, step) = stage else {

@@ -6,6 +6,7 @@ mod findings;
 mod following;
 mod front;
 mod judging;
+mod laws;
 mod linting;
 mod numbers;
 mod puts;
@@ -15,4 +16,5 @@ mod steps;
 mod takings;
 
 pub use cells::cell_fault;
+pub use laws::cells_are_told;
 pub use linting::lint;

@@ -9,11 +9,13 @@ use crate::states::{LintState, OpenGroup, OpenTransaction};
 use crate::takings::Taking;
 use cwr_layouts::{CutLine, Kind};
 
-/// A count: that of the lines that are there, and that by the numbers, where it is known.
+/// A count: that of the lines that are there, and that by the numbers, where it is known. Of a transmission they are counted from the
+/// last HDR on, and those of the whole file, further HDRs left out, are right too.
 #[derive(Clone, Copy, Debug)]
 pub(crate) struct Count {
     there: u64,
     by_numbers: Option<u64>,
+    in_file: u64,
 }
 
 impl Count {
@@ -22,6 +24,7 @@ impl Count {
         Count {
             there: group.lines.saturating_add(1),
             by_numbers: group.all_records(),
+            in_file: group.lines.saturating_add(1),
         }
     }
 
@@ -30,6 +33,7 @@ impl Count {
         Count {
             there: group.headers,
             by_numbers: Some(group.transactions(None)),
+            in_file: group.headers,
         }
     }
 
@@ -38,6 +42,7 @@ impl Count {
         Count {
             there: state.since.saturating_add(1),
             by_numbers: state.all_records(),
+            in_file: state.all_lines().saturating_add(1),
         }
     }
 
@@ -46,26 +51,28 @@ impl Count {
         Count {
             there: state.headers,
             by_numbers: Some(state.all_transactions()),
+            in_file: state.all_headers(),
         }
     }
 
     /// Its groups.
-    fn of_groups(state: &LintState) -> Count {
+    pub fn of_groups(state: &LintState) -> Count {
         Count {
             there: state.groups,
             by_numbers: Some(state.last_id),
+            in_file: state.all_groups(),
         }
     }
 
-    /// Whether the number is one of the two. Where that by the numbers isn't known, any is let pass.
+    /// Whether the number is one of these. Where that by the numbers isn't known, any is let pass.
     pub fn takes(&self, number: u64) -> bool {
         match self.by_numbers {
             None => true,
-            Some(counted) => number == self.there || number == counted,
+            Some(counted) => number == self.there || number == counted || number == self.in_file,
         }
     }
 
-    /// Whether the count is known, and the cell has one of the two.
+    /// Whether the count is known, and the cell has one of these.
     pub fn is_borne_by(&self, cell: Option<u64>) -> bool {
         match cell {
             Some(number) => self.by_numbers.is_some() && self.takes(number),

@@ -67,10 +67,15 @@ impl OpenTransaction {
 }
 
 impl OpenGroup {
-    /// With one more line that is no header, of these numbers, and then so many records in the open transaction.
-    fn with_line(&self, transaction: Option<u64>, sequence: Option<u64>, run: u64) -> OpenGroup {
-        let open = self.open_transaction();
-        let belongs = Belonging::of(&open, transaction);
+    /// With one more line that is no header, of these numbers, after which this open transaction has so many records.
+    fn with_line(
+        &self,
+        open: &OpenTransaction,
+        transaction: Option<u64>,
+        sequence: Option<u64>,
+        run: u64,
+    ) -> OpenGroup {
+        let belongs = Belonging::of(open, transaction);
         let next = match self.current {
             Some(_) => self.next,
             None => self.next.passing(open.number.saturating_add(1)),
@@ -101,22 +106,30 @@ impl OpenGroup {
     /// With one more line of the numbers that stand there.
     fn with_numbers_of(&self, line: &CutLine<'_>) -> OpenGroup {
         let sequence = number_at(line, 3);
-        let run = self.open_transaction().run_with(sequence);
-        self.with_line(number_at(line, 2), sequence, run)
+        let open = self.open_transaction();
+        self.with_line(&open, number_at(line, 2), sequence, open.run_with(sequence))
     }
 
-    /// With a line of unknown kind, which may have been a header.
+    /// With a line of unknown kind, which may have been a header: where none came it is taken for one.
     fn with_unknown(&self) -> OpenGroup {
-        let run = self.open_transaction().run.saturating_add(1);
-        self.with_line(Some(self.next.expected), Some(0), run)
+        let open = self.current.unwrap_or(OpenTransaction {
+            next: Awaiting::just(0),
+            ..self.open_transaction()
+        });
+        self.with_line(
+            &open,
+            Some(self.next.expected),
+            Some(0),
+            open.run.saturating_add(1),
+        )
     }
 
     /// With a line of another kind than it says.
     fn with_other(&self, kind: Kind, line: &CutLine<'_>) -> OpenGroup {
         match kind {
             Kind::Hdr | Kind::Grh | Kind::Grt | Kind::Trl => {
-                let run = self.open_transaction().run.saturating_add(1);
-                self.with_line(None, None, run)
+                let open = self.open_transaction();
+                self.with_line(&open, None, None, open.run.saturating_add(1))
             }
             _ => self.with_numbers_of(line),
         }
@@ -186,6 +199,7 @@ impl LintState {
 
     /// After a further HDR.
     fn opened_anew(&self) -> LintState {
+        let cut_off = if self.group.is_some() { 1 } else { 0 };
         LintState {
             lines: self.lines,
             stage: None,
@@ -197,6 +211,9 @@ impl LintState {
             headers: 0,
             records: Some(0),
             transactions: 0,
+            anew: self.anew.saturating_add(1),
+            groups_before: self.all_groups().saturating_sub(cut_off),
+            headers_before: self.all_headers(),
             over: false,
         }
     }

@@ -52,10 +52,8 @@ fn is_other_grt(group: &OpenGroup, line: &CutLine<'_>) -> bool {
 
 /// Whether the line bears nothing of TRL, and something stands after it.
 fn is_other_trl(state: &LintState, line: &CutLine<'_>) -> bool {
-    let groups = number_at(line, 2);
     line.excess()
-        && groups != Some(state.groups)
-        && groups != Some(state.last_id)
+        && !Count::of_groups(state).is_borne_by(number_at(line, 2))
         && !Count::of_all_records(state).is_borne_by(number_at(line, 4))
 }
 
