@@ -1,18 +1,18 @@
 -- Which faults are told of a line.
-use Rattle.std.proofs.Common.{◌≡◌, ◌≢◌, ℕ, zero, suc, ◌+◌, ◌-◌, ◌<◌, ◌≤◌, Bool, true, false, true≢false, List, [], ◌∷◌, ◌++◌, length, Option, Some, None, refl, sym, ap, subst, ◌∙◌, arith, inl, inr, slice_get}
-use Rattle.std.specs.Prelude.{◌⊎◌, ◌↔◌}
+use Rattle.std.proofs.Common.{◌≡◌, ◌≢◌, ℕ, zero, suc, ◌+◌, ◌-◌, ◌<◌, ◌≤◌, Bool, true, false, true≢false, List, [], ◌∷◌, length, Option, Some, None, refl, sym, ap, subst, ◌∙◌, arith, inl, inr, slice_get}
+use Rattle.std.specs.Prelude.{◌⊎◌}
 use Rattle.std.specs.List.{Contains}
 use Rattle.std.proofs.lemmas.List.Elements.{Contains-append_cases, Contains-append_left, Contains-append_right}
 use Rattle.cwr_fields.specs.declared.cell_types.CellType.{CellType}
 use Rattle.cwr_fields.specs.declared.cell_types.CellFault.{CellFault}
-use Rattle.cwr_fields.specs.Format.Cells.{Allows, HasFault}
+use Rattle.cwr_fields.specs.Format.Cells.{HasFault}
 use Rattle.cwr_layouts.specs.declared.kinds.Kind.{Kind}
 use Rattle.cwr_layouts.specs.Format.Layouts.{FieldLayout, field_at, layout}
 use Rattle.cwr_shape.specs.declared.reasons.Reason.{Reason}
-use Rattle.cwr_shape.specs.declared.reasons.Reason.TheVariants.{UnknownKind, Misplaced, Cell, Number, Limit, Excess}
+use Rattle.cwr_shape.specs.declared.reasons.Reason.TheVariants.{Misplaced, Cell, Excess}
 use Rattle.cwr_judge.specs.declared.refusals.Refusal.{Refusal}
 use Rattle.cwr_lint.specs.Format.FaultsOfLines.{IsToldAt, IsToldOfCell, IsToldOfField, JudgedLine, Tells, TellsMore, fault_in, fields_end, number_in, number_reason, reason_if, tells_cells}
-use Rattle.cwr_lint.specs.Format.Laws.{CellsAreTold, IsToldWith, TellsCells}
+use Rattle.cwr_lint.specs.Format.Laws.{CellsAreTold, IsToldWith}
 use Rattle.cwr_lint.proofs.JudgedLines.{no_field_past}
 
 -- the only element

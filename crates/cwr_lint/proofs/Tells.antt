@@ -1,5 +1,5 @@
 -- A whole lint: a check up to the first fault, and what follows it.
-use Rattle.std.proofs.Common.{◌≡◌, ℕ, ◌-◌, ◌≤◌, List, [], ◌∷◌, ◌++◌, length, Option, Some, None, refl, sym, ap, subst, ◌∙◌, arith, inl, inr, append_assoc, append-nil}
+use Rattle.std.proofs.Common.{◌≡◌, ℕ, ◌-◌, ◌≤◌, List, [], ◌∷◌, ◌++◌, length, Option, Some, None, refl, sym, ap, subst, ◌∙◌, arith, inl, inr, append_assoc, append-nil, ap₂, drop}
 use Rattle.std.specs.Prelude.{◌⊎◌, ◌^◌, Bool, true, false, Result, Ok, Err, IfOk, IfSome, IsSomeAnd, OnOk}
 use Rattle.std.specs.Io.KnownBytes.{Appends, Consumes, IsAtEnd}
 use Rattle.std.proofs.lemmas.List.{length-append}
@@ -23,7 +23,15 @@ use Rattle.cwr_explain.specs.Format.Explained.{AddsWords, IsAnswerAfter, IsAnswe
 use Rattle.cwr_tools.specs.declared.verdicts.Verdict.{Verdict}
 use Rattle.cwr_tools.specs.declared.verdicts.Verdict.TheVariants.{Good, Refused, Truncated}
 use Rattle.cwr_tools.specs.declared.verdicts.ToolFault.{ToolFault}
-use Rattle.cwr_tools.specs.Format.Reports.{lines_checked, lines_up_to_fault}
+use Rattle.cwr_tools.specs.Format.Reports.{ItemLines, JudgesAccepted, lines_checked, lines_up_to_fault, text_on}
+use Rattle.cwr_tools.specs.Format.Texts.{good_verdict}
+use Rattle.cwr_tools.specs.Format.Verdicts.{JudgesText}
+use Rattle.cwr_tools.specs.Steps.Verdicts.{IsRightVerdict}
+use Rattle.cwr_values.specs.declared.items.Item.{Item}
+use Rattle.cwr_values.specs.Format.Values.{TransmissionValue}
+use Rattle.cwr_judge.specs.Format.Ends.{IsAccepted}
+use Rattle.cwr_judge.specs.Format.Items.{value_items}
+use Rattle.cwr_judge.proofs.Accepted.{accepted_once}
 use Rattle.cwr_tools.specs.Steps.Reports.{Reports}
 use Rattle.cwr_lint.specs.Steps.Lints.{AreLinesRead, Lints, Tells, TellsFaults}
 
@@ -198,6 +206,52 @@ pub faults_at : {W : Type 0} (flag explained : Bool) (limits : Limits) (before l
 faults_at flag explained limits before left after contents old between new refusal checked result same h e words more answered =
     subst (λ (b : Bool). Lints b limits before after contents old new result) same
     (lints_after flag limits before left after contents old between new checked result h words more (subst (λ (r : Result Verdict ToolFault). IsAnswerAfter r result) (sym e) answered))
+
+-- the verdict on an accepted text, and what is written of it
+judges_accepted : {W : Type 0} (of : ItemLines) (limits : Limits) (before after : Option (List ℕ)) (contents : W → Option (List ℕ)) (old new : W) (verdict : Verdict)
+    → Reports of limits before after contents old new (Ok verdict) → JudgesAccepted of limits before after contents old new verdict
+judges_accepted of limits None after contents old new verdict h = tt
+judges_accepted of limits (Some text) after contents old new verdict h = λ v n a. by verdict v n a h.1 h.2
+  where
+    by : (it : Verdict) (v : TransmissionValue) (n : ℕ) → IsAccepted limits text v n → IsRightVerdict limits (Some text) it after h.0 → Appends (contents old) (contents new) (text_on of h.0 it)
+        → (it ≡ good_verdict v) × (after ≡ Some (drop n text)) × Appends (contents old) (contents new) (text_on of (value_items v) (good_verdict v))
+    by (Good groups transactions records) v n a t written =
+        let same = accepted_once limits text t.0 v (length t.1.input) n t.1.front.0 a in
+        let verdict_is : Good groups transactions records ≡ good_verdict v = t.3 ∙ ap good_verdict same.0 in
+        let items_are : h.0 ≡ value_items v = t.2 ∙ ap value_items same.0 in (
+          verdict_is,
+          t.1.front.1 ∙ ap (λ (k : ℕ). Some (drop k text)) same.1,
+          subst (Appends (contents old) (contents new)) (ap₂ (λ (items : List Item) (it : Verdict). text_on of items it) items_are verdict_is) written,
+        )
+    by (Refused refusal) v n a t written = absurd (t.0.right.ends.unaccepted v n a)
+    by (Truncated records) v n a t written = absurd (t.0.right.ends.unaccepted v n a)
+
+-- where a text is accepted
+pub accepted_at : {W : Type 0} (explained : Bool) (limits : Limits) (before after : Option (List ℕ)) (contents : W → Option (List ℕ)) (old new : W) (verdict : Verdict) (result : Result Verdict ToolFault) → result ≡ Ok verdict → JudgesText limits before result → IfOk result (Tells explained limits before after contents old new)
+    → IfOk result (JudgesAccepted (lines_checked explained) limits before after contents old new)
+accepted_at explained limits before after contents old new (Good groups transactions records) result e judged told =
+    subst (λ (r : Result Verdict ToolFault). IfOk r (JudgesAccepted (lines_checked explained) limits before after contents old new)) (sym e)
+    (judges_accepted (lines_checked explained) limits before after contents old new (Good groups transactions records) (subst (λ (r : Result Verdict ToolFault). IfOk r (Tells explained limits before after contents old new)) e told))
+accepted_at explained limits before after contents old new (Truncated records) result e judged told =
+    subst (λ (r : Result Verdict ToolFault). IfOk r (JudgesAccepted (lines_checked explained) limits before after contents old new)) (sym e)
+    (judges_accepted (lines_checked explained) limits before after contents old new (Truncated records) (subst (λ (r : Result Verdict ToolFault). IfOk r (Tells explained limits before after contents old new)) e told))
+accepted_at explained limits before after contents old new (Refused refusal) result e judged told =
+    subst (λ (r : Result Verdict ToolFault). IfOk r (JudgesAccepted (lines_checked explained) limits before after contents old new)) (sym e) (none before (subst (JudgesText limits before) e judged))
+  where
+    none : (known : Option (List ℕ)) → JudgesText limits known (Ok (Refused refusal)) → JudgesAccepted (lines_checked explained) limits known after contents old new (Refused refusal)
+    none None h = tt
+    none (Some text) h = λ v n a. absurd (h.unaccepted v n a)
+
+-- it isn't where it is refused, whatever is answered after that
+pub accepted_after : {W : Type 0} (explained : Bool) (limits : Limits) (before after : Option (List ℕ)) (contents : W → Option (List ℕ)) (old new : W) (refusal : Refusal) (checked result : Result Verdict ToolFault) → checked ≡ Ok (Refused refusal) → JudgesText limits before checked → IsAnswerTo (Refused refusal) result
+    → IfOk result (JudgesAccepted (lines_checked explained) limits before after contents old new)
+accepted_after explained limits before after contents old new refusal checked (Ok verdict) e judged answered =
+    subst (JudgesAccepted (lines_checked explained) limits before after contents old new) (sym answered) (none before (subst (JudgesText limits before) e judged))
+  where
+    none : (known : Option (List ℕ)) → JudgesText limits known (Ok (Refused refusal)) → JudgesAccepted (lines_checked explained) limits known after contents old new (Refused refusal)
+    none None h = tt
+    none (Some text) h = λ v n a. absurd (h.unaccepted v n a)
+accepted_after explained limits before after contents old new refusal checked (Err fault) e judged answered = tt
 
 -- what was read last
 pub read_last : (limits : Limits) (before left : Option (List ℕ)) (checked : Result Verdict ToolFault) (refusal : Refusal) (found : Option LastRead) (last : LastRead) → IfOk checked (λ verdict. IsSomeAnd found (IsReadLast limits before left verdict)) → checked ≡ Ok (Refused refusal) → found ≡ Some last

@@ -6,7 +6,7 @@ ghost use Rattle.std.specs.Io.KnownBytes.{Appends, Keeps};
 ghost use Rattle.cwr_encode.specs.Steps.Sinks.{has_failed, writer_of};
 ghost use Rattle.cwr_explain.specs.Format.Explained.{AddsWords, IsAnswerTo, TakesMore};
 ghost use Rattle.cwr_layouts.specs.Steps.Held.{held_kind};
-ghost use Rattle.cwr_tools.specs.Format.Reports.{CountsReaderFault, CountsWriterFault};
+ghost use Rattle.cwr_tools.specs.Format.Reports.{CountsReaderFault, CountsWriterFault, JudgesAccepted, lines_checked};
 ghost use Rattle.cwr_tools.specs.Format.Verdicts.{JudgesText};
 ghost use Rattle.cwr_lint.specs.Format.FaultsOfLines.{fields_end, one_more_line};
 ghost use Rattle.cwr_lint.specs.Steps.JudgedLines.{IsFaultFrom, IsJudged, ends_by, held_cut, judged_at, scope_by};
@@ -406,6 +406,7 @@ pub fn lint<R: Source, W: Target + Drop>(
     ensures lints { Lints (is_some name.entry) limits (R.remaining reader.old) (R.remaining reader.new) W.contents writer result.0 result.1 }
     ensures tells { IfOk result.1 (Tells (is_some name.entry) limits (R.remaining reader.old) (R.remaining reader.new) W.contents writer result.0) }
     ensures judged { JudgesText limits (R.remaining reader.old) result.1 }
+    ensures accepted { IfOk result.1 (JudgesAccepted (lines_checked (is_some name.entry)) limits (R.remaining reader.old) (R.remaining reader.new) W.contents writer result.0) }
     // No failure is passed over: a device failed only where that is the answer.
     ensures reader_failures { CountsReaderFault result.1 (R.failures reader.old) (R.failures reader.new) }
     ensures writer_failures { CountsWriterFault result.1 (W.failures writer) (W.failures result.0) }

@@ -6,9 +6,9 @@ use Rattle.cwr_fields.specs.Format.Cells.{HasFault}
 use Rattle.cwr_layouts.specs.declared.kinds.Kind.{Kind}
 use Rattle.cwr_layouts.specs.Format.Layouts.{FieldLayout, field_at, layout}
 use Rattle.cwr_shape.specs.declared.reasons.Reason.{Reason}
-use Rattle.cwr_shape.specs.declared.reasons.Reason.TheVariants.{UnknownKind, Misplaced, Cell, Excess}
+use Rattle.cwr_shape.specs.declared.reasons.Reason.TheVariants.{Misplaced, Cell, Excess}
 use Rattle.cwr_judge.specs.declared.refusals.Refusal.{Refusal}
-use Rattle.cwr_lint.specs.Format.FaultsOfLines.{JudgedLine, LineCut, Tells, fields_end, tells_cells}
+use Rattle.cwr_lint.specs.Format.FaultsOfLines.{JudgedLine, Tells, fields_end, tells_cells}
 
 -- a fault with that reason is told at field k
 abbrev pub IsToldWith : List Refusal → ℕ → Reason → Type 0
