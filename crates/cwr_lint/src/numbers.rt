@@ -3,7 +3,7 @@
 ghost use Rattle.std.specs.Prelude.{◌≡◌};
 ghost use Rattle.cwr_lint.specs.Steps.JudgedLines.{number_of};
 
-use crate::cells::number_at;
+use crate::cells::{number_at, type_of_header};
 use crate::following::Awaiting;
 use crate::states::{LintState, OpenGroup, OpenTransaction};
 use crate::takings::Taking;
@@ -214,16 +214,24 @@ impl WrongNumbers {
         }
     }
 
+    /// Of a line of another kind than it says in the open group: a header's, or a further record's.
+    fn of_other_in(group: &OpenGroup, kind: Kind, line: &CutLine<'_>) -> WrongNumbers {
+        match (type_of_header(kind), group.current) {
+            (None, Some(open)) => WrongNumbers::of_further(&open, line),
+            _ => WrongNumbers {
+                second: Some(group.next.expected),
+                ..WrongNumbers::NONE
+            },
+        }
+    }
+
     /// Of a line that is of another kind than it says, though the order takes it.
     fn of_other(state: &LintState, kind: Kind, line: &CutLine<'_>) -> WrongNumbers {
         match (kind, state.group) {
             (Kind::Grh, _) => WrongNumbers::of_head(&state.ids, line),
             (Kind::Trl, _) => WrongNumbers::of_trailer(state, line).first(),
             (Kind::Grt, Some(group)) => WrongNumbers::of_foot(&group, line).first(),
-            (_, Some(group)) => WrongNumbers {
-                second: Some(group.next.expected),
-                ..WrongNumbers::NONE
-            },
+            (_, Some(group)) => WrongNumbers::of_other_in(&group, kind, line),
             (_, None) => WrongNumbers::NONE,
         }
     }

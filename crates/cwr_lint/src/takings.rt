@@ -129,6 +129,19 @@ fn taking_of_header(
     }
 }
 
+/// What a line of no header's kind is taken for. One with the numbers of the next header is of another kind.
+fn taking_of_further(state: &LintState, line: &CutLine<'_>) -> Taking
+    ensures { is_end result ≡ false }
+{
+    match &state.group {
+        Some(group)
+            if group.current.is_some()
+                && is_first(line)
+                && number_at(line, 2) == Some(group.next.expected) => Taking::Other,
+        _ => Taking::Further,
+    }
+}
+
 /// What a GRT is taken for.
 fn taking_of_foot(state: &LintState, line: &CutLine<'_>) -> Taking
     ensures { is_end result ≡ false }
@@ -161,7 +174,7 @@ impl Taking {
             Kind::Trl => Taking::Ends,
             _ => match type_of_header(kind) {
                 Some(ty) => taking_of_header(state, ty, kind, line),
-                None => Taking::Further,
+                None => taking_of_further(state, line),
             },
         }
     }
