@@ -1,4 +1,10 @@
+mod CellsTold
 mod FaultsOfCells
-mod Puts
+mod JudgedLines
+mod LastRead
+mod TextsPut
+mod RawLines
+mod Running
+mod Telling
 mod TextsTold
 mod Tells

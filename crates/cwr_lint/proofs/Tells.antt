@@ -1,18 +1,39 @@
 -- A whole lint: a check up to the first fault, and what follows it.
-use Rattle.std.proofs.Common.{◌≡◌, ℕ, List, [], ◌++◌, Option, refl, sym, subst, ◌∙◌, append_assoc, append-nil}
-use Rattle.std.specs.Prelude.{Bool, true, false, Result, Ok, Err, IfOk, OnOk}
-use Rattle.std.specs.Io.KnownBytes.{Appends, Consumes}
-use Rattle.std.proofs.KnownBytes.{Appends-nil, Appends-trans, Consumes-nil}
+use Rattle.std.proofs.Common.{◌≡◌, ℕ, ◌-◌, ◌≤◌, List, [], ◌∷◌, ◌++◌, length, Option, Some, None, refl, sym, ap, subst, ◌∙◌, arith, inl, inr, append_assoc, append-nil, ap₂, drop}
+use Rattle.std.specs.Prelude.{◌⊎◌, ◌^◌, Bool, true, false, Result, Ok, Err, IfOk, IfSome, IsSomeAnd, OnOk}
+use Rattle.std.specs.Io.KnownBytes.{Appends, Consumes, IsAtEnd}
+use Rattle.std.proofs.lemmas.List.{length-append}
+use Rattle.cwr_values.specs.Format.Begins.{rows_so_far}
+use Rattle.cwr_values.proofs.RowAt.{length-rows_so_far}
+use Rattle.cwr_judge.proofs.LineRecords.{as_many}
+use Rattle.cwr_decode.specs.declared.machine.State.{State}
+use Rattle.cwr_decode.specs.declared.readings.LastRead.{LastRead}
+use Rattle.cwr_decode.specs.declared.readings.ReadFault.TheVariants as read_faults
+use Rattle.cwr_decode.specs.Steps.Represents.{IsStopped, RepresentsIn, text_of}
+use Rattle.cwr_decode.specs.Steps.Runs.{StopsRun}
+use Rattle.cwr_decode.proofs.ClosedTexts.{text_of-push}
+use Rattle.cwr_explain.proofs.RefusedLines.{refused_last}
+use Rattle.cwr_tools.specs.Steps.Verdicts.{IsReadLast, StopsAt}
+use Rattle.cwr_lint.specs.Steps.LinesRead.{HoldsRaw, IsAllRead, IsTextOf, spelled}
+use Rattle.cwr_lint.specs.Steps.Runs.{TellsRun}
+use Rattle.std.proofs.KnownBytes.{Appends-nil, Appends-trans, Consumes-nil, Consumes-trans}
 use Rattle.cwr_shape.specs.declared.limits.Limits.{Limits}
 use Rattle.cwr_judge.specs.declared.refusals.Refusal.{Refusal}
 use Rattle.cwr_explain.specs.Format.Explained.{AddsWords, IsAnswerAfter, IsAnswerTo, TakesMore}
 use Rattle.cwr_tools.specs.declared.verdicts.Verdict.{Verdict}
 use Rattle.cwr_tools.specs.declared.verdicts.Verdict.TheVariants.{Good, Refused, Truncated}
 use Rattle.cwr_tools.specs.declared.verdicts.ToolFault.{ToolFault}
-use Rattle.cwr_tools.specs.Format.Reports.{lines_checked, lines_up_to_fault}
+use Rattle.cwr_tools.specs.Format.Reports.{ItemLines, JudgesAccepted, lines_checked, lines_up_to_fault, text_on}
+use Rattle.cwr_tools.specs.Format.Texts.{good_verdict}
+use Rattle.cwr_tools.specs.Format.Verdicts.{JudgesText}
+use Rattle.cwr_tools.specs.Steps.Verdicts.{IsRightVerdict}
+use Rattle.cwr_values.specs.declared.items.Item.{Item}
+use Rattle.cwr_values.specs.Format.Values.{TransmissionValue}
+use Rattle.cwr_judge.specs.Format.Ends.{IsAccepted}
+use Rattle.cwr_judge.specs.Format.Items.{value_items}
+use Rattle.cwr_judge.proofs.Accepted.{accepted_once}
 use Rattle.cwr_tools.specs.Steps.Reports.{Reports}
-use Rattle.cwr_lint.specs.Format.Told.{IsTold}
-use Rattle.cwr_lint.specs.Steps.Lints.{Lints, Tells}
+use Rattle.cwr_lint.specs.Steps.Lints.{AreLinesRead, Lints, Tells, TellsFaults}
 
 -- nothing follows a verdict that is no refusal: what was written is what a check writes
 pub tells_good : {W : Type 0} (explained : Bool) (limits : Limits) (before after : Option (List ℕ)) (contents : W → Option (List ℕ)) (old new : W) (groups transactions records : ℕ)
@@ -25,30 +46,92 @@ pub tells_truncated : {W : Type 0} (explained : Bool) (limits : Limits) (before 
 tells_truncated false limits before after contents old new records h = h
 tells_truncated true limits before after contents old new records h = h
 
+-- all was read, by the bytes that are known
+at_end_kept : (left after : Option (List ℕ)) (bytes : List ℕ) → Consumes left after bytes → IsAtEnd left → IfSome left (λ known. IsAtEnd after)
+at_end_kept None after bytes c e = tt
+at_end_kept (Some xs) None bytes c e = absurd c
+at_end_kept (Some xs) (Some ys) bytes c e = nil_end bytes ys (sym c ∙ e)
+  where
+    nil_end : (bytes ys : List ℕ) → bytes ++ ys ≡ [] → ys ≡ []
+    nil_end [] ys e = e
+    nil_end (b ∷ bytes) ys e = absurd (omega (arith, ap length e))
+
+all_read : (before left between after : Option (List ℕ)) (input first later : List ℕ) → Consumes before left input → Consumes left between first → Consumes between after later → IsAllRead left between first ⊎ IsAllRead between after later
+    → IfSome before (λ known. IsAtEnd after ⊎ (2 ^ 64 - 1 ≤ length known))
+all_read None left between after input first later a b c r = tt
+all_read (Some known) None between after input first later a b c r = absurd a
+all_read (Some known) (Some xs) None after input first later a b c r = absurd b
+all_read (Some known) (Some xs) (Some ys) None input first later a b c r = absurd c
+all_read (Some known) (Some xs) (Some ys) (Some zs) input first later a b c (inl (inl e)) = inl (at_end_kept (Some ys) (Some zs) later c e)
+all_read (Some known) (Some xs) (Some ys) (Some zs) input first later a b c (inl (inr n)) = inr (omega (arith, n, ap length a, length-append input xs, ap length b, length-append first ys))
+all_read (Some known) (Some xs) (Some ys) (Some zs) input first later a b c (inr (inl e)) = inl e
+all_read (Some known) (Some xs) (Some ys) (Some zs) input first later a b c (inr (inr n)) = inr (omega (arith, n, ap length a, length-append input xs, ap length b, length-append first ys, ap length c, length-append later zs))
+
 -- the faults follow
-pub tells_faults : {W : Type 0} (explained : Bool) (limits : Limits) (before left after : Option (List ℕ)) (contents : W → Option (List ℕ)) (old between new : W) (refusal : Refusal) (text : List ℕ)
-    → Reports (lines_up_to_fault explained) limits before left contents old between (Ok (Refused refusal)) → IsTold refusal text → Appends (contents between) (contents new) text → TakesMore left after
-    → Tells explained limits before after contents old new (Refused refusal)
-tells_faults explained limits before left after contents old between new refusal text h told written more = record {
+built : {W : Type 0} (explained : Bool) (limits : Limits) (before left after : Option (List ℕ)) (contents : W → Option (List ℕ)) (old between new : W) (refusal : Refusal) (last : LastRead) (text : List ℕ)
+    → Reports (lines_up_to_fault explained) limits before left contents old between (Ok (Refused refusal)) → StopsAt limits (read_faults.Refused refusal) before left last → (t : TellsRun explained refusal last.bytes left after text) → Appends (contents between) (contents new) text
+    → (refused : List ℕ) → HoldsRaw refused t.raw → IfSome before (λ known. (bytes : List ℕ) × Consumes before after bytes × AreLinesRead refusal bytes refused t.tells.lines) → TellsFaults explained limits before after contents old new refusal
+built explained limits before left after contents old between new refusal last text h s t written refused holds read = record {
   given = h.0;
   left = left;
   stopped = h.1;
-  more = more.0;
-  taken = more.1;
+  more = t.read.bytes ++ t.tells.bytes;
+  taken = Consumes-trans left t.between after t.read.bytes t.tells.bytes t.read.taken t.tells.taken;
+  refused = refused;
+  lines = t.tells.lines;
+  over = t.tells.over;
   text = text;
-  told = told;
+  told = t.tells.told refused holds;
   written = subst (λ (l : List ℕ). Appends (contents old) (contents new) (l ++ text)) (append-nil ((lines_checked explained).lines h.0))
       (Appends-trans (contents old) (contents between) (contents new) ((lines_checked explained).lines h.0 ++ []) text h.2 written);
-}
+  read = read;
+  ends = λ over. t.tells.ends over refused holds;
+  all = λ e. all_read before left t.between after s.0.read.input t.read.bytes t.tells.bytes s.0.read.consumed t.read.taken t.tells.taken (rest (t.tells.all e));
+} where
+  rest : (t.raw.ended ≡ false) ⊎ IsAllRead t.between after t.tells.bytes → IsAllRead left t.between t.read.bytes ⊎ IsAllRead t.between after t.tells.bytes
+  rest (inl e) = inl (t.read.all e)
+  rest (inr r) = inr r
+
+tells_faults : {W : Type 0} (explained : Bool) (limits : Limits) (before left after : Option (List ℕ)) (contents : W → Option (List ℕ)) (old between new : W) (refusal : Refusal) (last : LastRead) (text : List ℕ)
+    → Reports (lines_up_to_fault explained) limits before left contents old between (Ok (Refused refusal)) → StopsAt limits (read_faults.Refused refusal) before left last → TellsRun explained refusal last.bytes left after text → Appends (contents between) (contents new) text
+    → Tells explained limits before after contents old new (Refused refusal)
+tells_faults explained limits None left after contents old between new refusal last text h s t written =
+    built explained limits None left after contents old between new refusal last text h s t written t.held.line t.held.holds tt
+tells_faults explained limits (Some known) left after contents old between new refusal last text h s t written =
+    built explained limits (Some known) left after contents old between new refusal last text h s t written (stopped.line.bytes ++ found.0) found.1 (
+      stop.read.input ++ (t.read.bytes ++ t.tells.bytes),
+      Consumes-trans (Some known) left after stop.read.input (t.read.bytes ++ t.tells.bytes) stop.read.consumed (Consumes-trans left t.between after t.read.bytes t.tells.bytes t.read.taken t.tells.taken),
+      record {
+        front = stopped.lines;
+        number = omega (arith, stopped.number, as_many (rows_so_far stopped.records) stopped.lines stopped.read.rows, length-rows_so_far stopped.records);
+        last = t.tells.last;
+        text = subst (λ (l : List (List ℕ)). IsTextOf t.tells.last (stop.read.input ++ (t.read.bytes ++ t.tells.bytes)) l) (append_assoc stopped.lines ((stopped.line.bytes ++ found.0) ∷ []) t.tells.lines)
+            (subst (λ (l : List ℕ). IsTextOf t.tells.last l ((stopped.lines ++ (stopped.line.bytes ++ found.0) ∷ []) ++ t.tells.lines)) (append_assoc stop.read.input t.read.bytes t.tells.bytes)
+            (t.tells.goes (stop.read.input ++ t.read.bytes) (stopped.lines ++ (stopped.line.bytes ++ found.0) ∷ []) (first_text t.raw.ended found.2)));
+      },
+    )
+  where
+    stop : StopsRun limits (read_faults.Refused refusal) (Some known) left
+    stop = s.0
+
+    stopped : IsStopped s.0.decoder s.0.read.input s.0.given refusal
+    stopped = subst (λ (state : State). RepresentsIn state s.0.decoder s.0.read.input s.0.given) s.0.leaves s.0.read.stands.here
+
+    found : (rest : List ℕ) × HoldsRaw (stopped.line.bytes ++ rest) t.raw × (s.0.read.input ++ t.read.bytes ≡ text_of stopped.lines ++ spelled t.raw.ended (stopped.line.bytes ++ rest))
+    found = t.read.line s.0.read.input (text_of stopped.lines) stopped.line.bytes s.2 (refused_last s.0.decoder s.0.read.input s.0.given refusal stopped)
+
+    first_text : (b : Bool) → s.0.read.input ++ t.read.bytes ≡ text_of stopped.lines ++ spelled b (stopped.line.bytes ++ found.0) → IsTextOf b (s.0.read.input ++ t.read.bytes) (stopped.lines ++ (stopped.line.bytes ++ found.0) ∷ [])
+    first_text true e = e ∙ sym (text_of-push stopped.lines (stopped.line.bytes ++ found.0))
+    first_text false e = ap (λ (l : List ℕ). l ++ 10 ∷ []) e ∙ append_assoc (text_of stopped.lines) (stopped.line.bytes ++ found.0) (10 ∷ []) ∙ sym (text_of-push stopped.lines (stopped.line.bytes ++ found.0))
 
 -- where the answer is a verdict
-pub tells_after : {W : Type 0} (explained : Bool) (limits : Limits) (before left after : Option (List ℕ)) (contents : W → Option (List ℕ)) (old between new : W) (refusal : Refusal) (result : Result Verdict ToolFault)
-    → Reports (lines_up_to_fault explained) limits before left contents old between (Ok (Refused refusal))
-    → IsAnswerTo (Refused refusal) result → OnOk result ((text : List ℕ) × IsTold refusal text × Appends (contents between) (contents new) text) → TakesMore left after
+pub tells_after : {W : Type 0} (explained : Bool) (limits : Limits) (before left after : Option (List ℕ)) (contents : W → Option (List ℕ)) (old between new : W) (refusal : Refusal) (last : LastRead) (result : Result Verdict ToolFault)
+    → Reports (lines_up_to_fault explained) limits before left contents old between (Ok (Refused refusal)) → StopsAt limits (read_faults.Refused refusal) before left last
+    → IsAnswerTo (Refused refusal) result → OnOk result ((text : List ℕ) × TellsRun explained refusal last.bytes left after text × Appends (contents between) (contents new) text)
     → IfOk result (Tells explained limits before after contents old new)
-tells_after explained limits before left after contents old between new refusal (Ok verdict) h answered told more =
-    subst (Tells explained limits before after contents old new) (sym answered) (tells_faults explained limits before left after contents old between new refusal told.0 h told.1 told.2 more)
-tells_after explained limits before left after contents old between new refusal (Err fault) h answered told more = tt
+tells_after explained limits before left after contents old between new refusal last (Ok verdict) h s answered told =
+    subst (Tells explained limits before after contents old new) (sym answered) (tells_faults explained limits before left after contents old between new refusal last told.0 h s told.1 told.2)
+tells_after explained limits before left after contents old between new refusal last (Err fault) h s answered told = tt
 
 -- a check and words after it
 pub lints_after : {W : Type 0} (explained : Bool) (limits : Limits) (before left after : Option (List ℕ)) (contents : W → Option (List ℕ)) (old between new : W) (checked result : Result Verdict ToolFault)
@@ -109,13 +192,13 @@ unrefused_at flag explained limits before after contents old new checked verdict
     subst (λ (b : Bool). Tells b limits before after contents old new verdict) same
     (tells_unrefused flag limits before after contents old new verdict is (subst (Reports (lines_up_to_fault flag) limits before after contents old new) e h))
 
-pub refused_at : {W : Type 0} (flag explained : Bool) (limits : Limits) (before left after : Option (List ℕ)) (contents : W → Option (List ℕ)) (old between new : W) (refusal : Refusal) (checked result : Result Verdict ToolFault)
-    → flag ≡ explained → Reports (lines_up_to_fault flag) limits before left contents old between checked → checked ≡ Ok (Refused refusal)
-    → IsAnswerTo (Refused refusal) result → OnOk result ((text : List ℕ) × IsTold refusal text × Appends (contents between) (contents new) text) → TakesMore left after
+pub refused_at : {W : Type 0} (flag explained : Bool) (limits : Limits) (before left after : Option (List ℕ)) (contents : W → Option (List ℕ)) (old between new : W) (refusal : Refusal) (last : LastRead) (checked result : Result Verdict ToolFault)
+    → flag ≡ explained → Reports (lines_up_to_fault flag) limits before left contents old between checked → StopsAt limits (read_faults.Refused refusal) before left last → checked ≡ Ok (Refused refusal)
+    → IsAnswerTo (Refused refusal) result → OnOk result ((text : List ℕ) × TellsRun explained refusal last.bytes left after text × Appends (contents between) (contents new) text)
     → IfOk result (Tells explained limits before after contents old new)
-refused_at flag explained limits before left after contents old between new refusal checked result same h e answered told more =
-    subst (λ (b : Bool). IfOk result (Tells b limits before after contents old new)) same
-    (tells_after flag limits before left after contents old between new refusal result (subst (Reports (lines_up_to_fault flag) limits before left contents old between) e h) answered told more)
+refused_at flag explained limits before left after contents old between new refusal last checked result same h s e answered told =
+    tells_after explained limits before left after contents old between new refusal last result
+    (subst (λ (b : Bool). Reports (lines_up_to_fault b) limits before left contents old between (Ok (Refused refusal))) same (subst (Reports (lines_up_to_fault flag) limits before left contents old between) e h)) s answered told
 
 pub faults_at : {W : Type 0} (flag explained : Bool) (limits : Limits) (before left after : Option (List ℕ)) (contents : W → Option (List ℕ)) (old between new : W) (refusal : Refusal) (checked result : Result Verdict ToolFault)
     → flag ≡ explained → Reports (lines_up_to_fault flag) limits before left contents old between checked → checked ≡ Ok (Refused refusal) → AddsWords contents between new → TakesMore left after → IsAnswerTo (Refused refusal) result
@@ -123,6 +206,58 @@ pub faults_at : {W : Type 0} (flag explained : Bool) (limits : Limits) (before l
 faults_at flag explained limits before left after contents old between new refusal checked result same h e words more answered =
     subst (λ (b : Bool). Lints b limits before after contents old new result) same
     (lints_after flag limits before left after contents old between new checked result h words more (subst (λ (r : Result Verdict ToolFault). IsAnswerAfter r result) (sym e) answered))
+
+-- the verdict on an accepted text, and what is written of it
+judges_accepted : {W : Type 0} (of : ItemLines) (limits : Limits) (before after : Option (List ℕ)) (contents : W → Option (List ℕ)) (old new : W) (verdict : Verdict)
+    → Reports of limits before after contents old new (Ok verdict) → JudgesAccepted of limits before after contents old new verdict
+judges_accepted of limits None after contents old new verdict h = tt
+judges_accepted of limits (Some text) after contents old new verdict h = λ v n a. by verdict v n a h.1 h.2
+  where
+    by : (it : Verdict) (v : TransmissionValue) (n : ℕ) → IsAccepted limits text v n → IsRightVerdict limits (Some text) it after h.0 → Appends (contents old) (contents new) (text_on of h.0 it)
+        → (it ≡ good_verdict v) × (after ≡ Some (drop n text)) × Appends (contents old) (contents new) (text_on of (value_items v) (good_verdict v))
+    by (Good groups transactions records) v n a t written =
+        let same = accepted_once limits text t.0 v (length t.1.input) n t.1.front.0 a in
+        let verdict_is : Good groups transactions records ≡ good_verdict v = t.3 ∙ ap good_verdict same.0 in
+        let items_are : h.0 ≡ value_items v = t.2 ∙ ap value_items same.0 in (
+          verdict_is,
+          t.1.front.1 ∙ ap (λ (k : ℕ). Some (drop k text)) same.1,
+          subst (Appends (contents old) (contents new)) (ap₂ (λ (items : List Item) (it : Verdict). text_on of items it) items_are verdict_is) written,
+        )
+    by (Refused refusal) v n a t written = absurd (t.0.right.ends.unaccepted v n a)
+    by (Truncated records) v n a t written = absurd (t.0.right.ends.unaccepted v n a)
+
+-- where a text is accepted
+pub accepted_at : {W : Type 0} (explained : Bool) (limits : Limits) (before after : Option (List ℕ)) (contents : W → Option (List ℕ)) (old new : W) (verdict : Verdict) (result : Result Verdict ToolFault) → result ≡ Ok verdict → JudgesText limits before result → IfOk result (Tells explained limits before after contents old new)
+    → IfOk result (JudgesAccepted (lines_checked explained) limits before after contents old new)
+accepted_at explained limits before after contents old new (Good groups transactions records) result e judged told =
+    subst (λ (r : Result Verdict ToolFault). IfOk r (JudgesAccepted (lines_checked explained) limits before after contents old new)) (sym e)
+    (judges_accepted (lines_checked explained) limits before after contents old new (Good groups transactions records) (subst (λ (r : Result Verdict ToolFault). IfOk r (Tells explained limits before after contents old new)) e told))
+accepted_at explained limits before after contents old new (Truncated records) result e judged told =
+    subst (λ (r : Result Verdict ToolFault). IfOk r (JudgesAccepted (lines_checked explained) limits before after contents old new)) (sym e)
+    (judges_accepted (lines_checked explained) limits before after contents old new (Truncated records) (subst (λ (r : Result Verdict ToolFault). IfOk r (Tells explained limits before after contents old new)) e told))
+accepted_at explained limits before after contents old new (Refused refusal) result e judged told =
+    subst (λ (r : Result Verdict ToolFault). IfOk r (JudgesAccepted (lines_checked explained) limits before after contents old new)) (sym e) (none before (subst (JudgesText limits before) e judged))
+  where
+    none : (known : Option (List ℕ)) → JudgesText limits known (Ok (Refused refusal)) → JudgesAccepted (lines_checked explained) limits known after contents old new (Refused refusal)
+    none None h = tt
+    none (Some text) h = λ v n a. absurd (h.unaccepted v n a)
+
+-- it isn't where it is refused, whatever is answered after that
+pub accepted_after : {W : Type 0} (explained : Bool) (limits : Limits) (before after : Option (List ℕ)) (contents : W → Option (List ℕ)) (old new : W) (refusal : Refusal) (checked result : Result Verdict ToolFault) → checked ≡ Ok (Refused refusal) → JudgesText limits before checked → IsAnswerTo (Refused refusal) result
+    → IfOk result (JudgesAccepted (lines_checked explained) limits before after contents old new)
+accepted_after explained limits before after contents old new refusal checked (Ok verdict) e judged answered =
+    subst (JudgesAccepted (lines_checked explained) limits before after contents old new) (sym answered) (none before (subst (JudgesText limits before) e judged))
+  where
+    none : (known : Option (List ℕ)) → JudgesText limits known (Ok (Refused refusal)) → JudgesAccepted (lines_checked explained) limits known after contents old new (Refused refusal)
+    none None h = tt
+    none (Some text) h = λ v n a. absurd (h.unaccepted v n a)
+accepted_after explained limits before after contents old new refusal checked (Err fault) e judged answered = tt
+
+-- what was read last
+pub read_last : (limits : Limits) (before left : Option (List ℕ)) (checked : Result Verdict ToolFault) (refusal : Refusal) (found : Option LastRead) (last : LastRead) → IfOk checked (λ verdict. IsSomeAnd found (IsReadLast limits before left verdict)) → checked ≡ Ok (Refused refusal) → found ≡ Some last
+    → StopsAt limits (read_faults.Refused refusal) before left last
+read_last limits before left checked refusal found last h e f =
+    subst (λ (o : Option LastRead). IsSomeAnd o (IsReadLast limits before left (Refused refusal))) f (subst (λ (r : Result Verdict ToolFault). IfOk r (λ verdict. IsSomeAnd found (IsReadLast limits before left verdict))) e h)
 
 pub known_ok : (checked : Result Verdict ToolFault) (v w : Verdict) → checked ≡ Ok v → v ≡ w → checked ≡ Ok w
 known_ok checked v w p q = subst (λ (x : Verdict). checked ≡ Ok x) q p

@@ -1,6 +1,6 @@
 -- Texts that are put one after another, while bytes are taken from a reader.
 use Rattle.std.proofs.Common.{◌≡◌, ℕ, false, List, [], ◌++◌, Option, refl, sym, ap, subst, ◌∙◌, append_assoc, append-nil}
-use Rattle.std.specs.Prelude.{Result, Ok, Err, OnOk}
+use Rattle.std.specs.Prelude.{Result, Ok, Err, IfOk, OnOk}
 use Rattle.std.specs.Io.KnownBytes.{Appends, Keeps}
 use Rattle.cwr_fields.specs.Format.Failures.{one_more_failure}
 use Rattle.cwr_encode.specs.declared.sinks.Sink.{Sink}
@@ -9,16 +9,13 @@ use Rattle.cwr_encode.proofs.Ends.{all_written, appends_kept}
 use Rattle.cwr_judge.specs.declared.refusals.Refusal.{Refusal}
 use Rattle.cwr_explain.specs.Format.Explained.{AddsWords, IsAnswerTo, TakesMore}
 use Rattle.cwr_explain.proofs.WordsAfter.{no_more, takes_both}
-use Rattle.cwr_levels.specs.Format.ReportLines.{fault_line, faults_line}
 use Rattle.cwr_tools.specs.declared.verdicts.Verdict.{Verdict}
 use Rattle.cwr_tools.specs.declared.verdicts.Verdict.TheVariants.{Refused}
 use Rattle.cwr_tools.specs.declared.verdicts.ToolFault.{ToolFault}
 use Rattle.cwr_tools.specs.declared.verdicts.ToolFault.TheVariants as faults
 use Rattle.cwr_tools.specs.Format.Reports.{CountsReaderFault, CountsWriterFault}
-use Rattle.cwr_lint.specs.Format.Told.{IsTold}
 use Rattle.cwr_lint.specs.Steps.Lints.{EndsRun}
-use Rattle.cwr_lint.specs.Steps.Puts.{BeginsWith, CountsBoth, CountsPut, EndsWith, IsAny, PutsAfter, PutsSome, PutsSuch, ReadsAndPuts, ReadsAndPutsSuch}
-use Rattle.cwr_lint.proofs.Puts.{always}
+use Rattle.cwr_lint.specs.Steps.Puts.{CountsBoth, CountsPut, PutsAfter, PutsWith, ReadsAndPuts, ReadsAndPutsWith}
 
 -- what is put counts for both
 put_counts : {A : Type 0} (result : Result A ToolFault) (reader old new : ℕ) → CountsPut result old new → CountsBoth result reader reader old new
@@ -103,38 +100,44 @@ err_counts A B (faults.Limit limit) a b c d h = absurd h
 pub other_err : {W A B : Type 0} (left after : Option (List ℕ)) (reader read : ℕ) (contents : W → Option (List ℕ)) (failures : W → ℕ) (text : List ℕ) (fault : ToolFault) (old new : Sink W) → ReadsAndPuts {A = A} left after reader read contents failures text (Err fault) old new → ReadsAndPuts {A = B} left after reader read contents failures text (Err fault) old new
 other_err {A = A} {B = B} left after reader read contents failures text fault old new p = record { taken = p.taken; written = p.written; unfailed = tt; counts = err_counts A B fault _ _ _ _ p.counts }
 
--- ---- what a run of these calls has told
+-- ---- texts with an answer
 
--- a first line, and more after it
-pub told_on : {W A B : Type 0} (left mid_left after : Option (List ℕ)) (reader mid_read read : ℕ) (contents : W → Option (List ℕ)) (failures : W → ℕ) (line : List ℕ) (x : A) (result : Result B ToolFault) (old mid new : Sink W)
-    → ReadsAndPutsSuch (BeginsWith line) left mid_left reader mid_read contents failures (Ok x) old mid → ReadsAndPutsSuch IsAny mid_left after mid_read read contents failures result mid new
-    → ReadsAndPutsSuch (BeginsWith line) left after reader read contents failures result old new
-told_on left mid_left after reader mid_read read contents failures line x result old mid new p q = (
+pub reads_put : {W A : Type 0} (P : A → List ℕ → Type 0) (left : Option (List ℕ)) (reader : ℕ) (contents : W → Option (List ℕ)) (failures : W → ℕ) (result : Result A ToolFault) (old new : Sink W) → PutsWith P contents failures result old new
+    → ReadsAndPutsWith P left left reader reader contents failures result old new
+reads_put P left reader contents failures result old new p = (p.0, put_alone left reader contents failures p.0 result old new p.1, p.2)
+
+with_all : {A : Type 0} (P Q : A → List ℕ → Type 0) (result : Result A ToolFault) (text more : List ℕ) → ((x : A) → P x text → Q x more) → IfOk result (λ x. P x text) → IfOk result (λ x. Q x more)
+with_all P Q (Ok x) text more f p = f x p
+with_all P Q (Err fault) text more f p = tt
+
+-- bytes are read, and then a text is put
+pub reads_then : {W A : Type 0} (P Q : A → List ℕ → Type 0) (left after : Option (List ℕ)) (reader read : ℕ) (contents : W → Option (List ℕ)) (failures : W → ℕ) (result : Result A ToolFault) (old new : Sink W) → ((x : A) (text : List ℕ) → P x text → Q x text)
+    → TakesMore left after → read ≡ reader → PutsWith P contents failures result old new → ReadsAndPutsWith Q left after reader read contents failures result old new
+reads_then P Q left after reader read contents failures result old new f taken same p =
+    (p.0, then_put left after reader read contents failures p.0 result old new taken same p.1, with_all P Q result p.0 p.0 (λ x h. f x p.0 h) p.2)
+
+-- one after the other
+pub reads_after : {W A B : Type 0} (P : A → List ℕ → Type 0) (Q R : B → List ℕ → Type 0) (left mid_left after : Option (List ℕ)) (reader mid_read read : ℕ) (contents : W → Option (List ℕ)) (failures : W → ℕ) (x : A) (result : Result B ToolFault) (old mid new : Sink W)
+    → ((text more : List ℕ) (y : B) → P x text → Q y more → R y (text ++ more))
+    → ReadsAndPutsWith P left mid_left reader mid_read contents failures (Ok x) old mid → ReadsAndPutsWith Q mid_left after mid_read read contents failures result mid new → ReadsAndPutsWith R left after reader read contents failures result old new
+reads_after P Q R left mid_left after reader mid_read read contents failures x result old mid new f p q = (
   p.0 ++ q.0,
   one_then left mid_left after reader mid_read read contents failures p.0 q.0 x result old mid new p.1 q.1,
-  always result (BeginsWith line (p.0 ++ q.0)) (p.2.0 ++ q.0, ap (λ (l : List ℕ). l ++ q.0) p.2.1 ∙ append_assoc line p.2.0 q.0),
+  with_all Q R result q.0 (p.0 ++ q.0) (λ y h. f p.0 q.0 y p.2 h) q.2,
 )
 
--- and a last line
-pub told_all : {W A B : Type 0} (left mid_left : Option (List ℕ)) (reader mid_read : ℕ) (contents : W → Option (List ℕ)) (failures : W → ℕ) (refusal : Refusal) (n m k : ℕ) (x : A) (result : Result B ToolFault) (old mid new : Sink W)
-    → ReadsAndPutsSuch (BeginsWith (fault_line refusal)) left mid_left reader mid_read contents failures (Ok x) old mid → PutsSuch (EndsWith (faults_line n m k)) contents failures result mid new
-    → ReadsAndPutsSuch (IsTold refusal) left mid_left reader mid_read contents failures result old new
-told_all {B = B} left mid_left reader mid_read contents failures refusal n m k x result old mid new p q = (
-  p.0 ++ q.0,
-  one_then left mid_left mid_left reader mid_read mid_read contents failures p.0 q.0 x result old mid new p.1 (put_alone mid_left mid_read contents failures q.0 result mid new q.1),
-  by result q.2,
-) where
-  by : (r : Result B ToolFault) → OnOk r (EndsWith (faults_line n m k) q.0) → OnOk r (IsTold refusal (p.0 ++ q.0))
-  by (Ok y) e = record {
-    more = p.2.0 ++ e.0;
-    faults = n;
-    findings = m;
-    records = k;
-    lines = ap (λ (l : List ℕ). l ++ q.0) p.2.1 ∙ append_assoc (fault_line refusal) p.2.0 q.0
-        ∙ ap (λ (l : List ℕ). fault_line refusal ++ l) (ap (λ (l : List ℕ). p.2.0 ++ l) e.1 ∙ sym (append_assoc p.2.0 e.0 (faults_line n m k)))
-        ∙ sym (append_assoc (fault_line refusal) (p.2.0 ++ e.0) (faults_line n m k));
-  }
-  by (Err fault) e = tt
+pub reads_err : {W A B : Type 0} (P : A → List ℕ → Type 0) (Q : B → List ℕ → Type 0) (left after : Option (List ℕ)) (reader read : ℕ) (contents : W → Option (List ℕ)) (failures : W → ℕ) (fault : ToolFault) (old new : Sink W) → ReadsAndPutsWith P left after reader read contents failures (Err fault) old new
+    → ReadsAndPutsWith Q left after reader read contents failures (Err fault) old new
+reads_err {A = A} {B = B} P Q left after reader read contents failures fault old new p = (p.0, other_err {A = A} {B = B} left after reader read contents failures p.0 fault old new p.1, tt)
+
+-- bytes are read first, and nothing is put
+pub read_first : {W A : Type 0} (P Q : A → List ℕ → Type 0) (left mid_left after : Option (List ℕ)) (reader mid_read read : ℕ) (contents : W → Option (List ℕ)) (failures : W → ℕ) (result : Result A ToolFault) (old new : Sink W) → ((x : A) (text : List ℕ) → P x text → Q x text) → has_failed old ≡ false
+    → TakesMore left mid_left → mid_read ≡ reader → ReadsAndPutsWith P mid_left after mid_read read contents failures result old new → ReadsAndPutsWith Q left after reader read contents failures result old new
+read_first P Q left mid_left after reader mid_read read contents failures result old new f unfailed taken same p = (
+  p.0,
+  one_then left mid_left after reader mid_read read contents failures [] p.0 (tt {0}) result old old new (read_alone left mid_left reader mid_read contents failures (tt {0}) old unfailed taken same) p.1,
+  with_all P Q result p.0 p.0 (λ x h. f x p.0 h) p.2,
+)
 
 -- ---- the faults of a run, as those of a lint
 
@@ -168,13 +171,13 @@ answers A verdict (faults.Limit limit) a b c d h = absurd h
 -- ---- how a run ends
 
 -- all that was told is written
-pub ends_told : {W : Type 0} (contents : W → Option (List ℕ)) (start : Option (List ℕ)) (new : W) (refusal : Refusal) (text : List ℕ) (sink : Sink W) (told : Result (Unit {0}) ToolFault) (a b : ℕ) (result : Result Verdict ToolFault)
-    → OnOk told (IsTold refusal text) → OnOk told (has_failed sink ≡ false) → Keeps (contents (writer_of sink)) (contents new) → HasWritten contents start text sink → EndsRun refusal told a b result
-    → OnOk result ((it : List ℕ) × IsTold refusal it × Appends start (contents new) it)
-ends_told contents start new refusal text sink (Ok u) a b (Ok verdict) is unfailed kept h e = (text, is, (all_written contents start text text sink new (written_of sink) refl unfailed kept refl h).appended)
-ends_told contents start new refusal text sink (Ok u) a b (Err fault) is unfailed kept h e = tt
-ends_told contents start new refusal text sink (Err fault) a b result is unfailed kept h e =
-    subst (λ (r : Result Verdict ToolFault). OnOk r ((it : List ℕ) × IsTold refusal it × Appends start (contents new) it)) (sym e.0) tt
+pub ends_told : {W : Type 0} (P : List ℕ → Type 0) (contents : W → Option (List ℕ)) (start : Option (List ℕ)) (new : W) (refusal : Refusal) (text : List ℕ) (sink : Sink W) (told : Result (Unit {0}) ToolFault) (a b : ℕ) (result : Result Verdict ToolFault)
+    → IfOk told (λ u. P text) → OnOk told (has_failed sink ≡ false) → Keeps (contents (writer_of sink)) (contents new) → HasWritten contents start text sink → EndsRun refusal told a b result
+    → OnOk result ((it : List ℕ) × P it × Appends start (contents new) it)
+ends_told P contents start new refusal text sink (Ok u) a b (Ok verdict) is unfailed kept h e = (text, is, (all_written contents start text text sink new (written_of sink) refl unfailed kept refl h).appended)
+ends_told P contents start new refusal text sink (Ok u) a b (Err fault) is unfailed kept h e = tt
+ends_told P contents start new refusal text sink (Err fault) a b result is unfailed kept h e =
+    subst (λ (r : Result Verdict ToolFault). OnOk r ((it : List ℕ) × P it × Appends start (contents new) it)) (sym e.0) tt
 
 -- some bytes are, however it ends
 pub ends_words : {W : Type 0} (contents : W → Option (List ℕ)) (writer new : W) (text : List ℕ) (sink : Sink W) → Keeps (contents (writer_of sink)) (contents new) → HasWritten contents (contents writer) text sink → AddsWords contents writer new

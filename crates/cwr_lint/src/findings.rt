@@ -2,9 +2,11 @@
 
 ghost use Rattle.std.specs.Prelude.{◌≡◌, false};
 ghost use Rattle.cwr_encode.specs.Steps.Sinks.{has_failed};
-ghost use Rattle.cwr_lint.specs.Steps.Puts.{PutsSome};
+ghost use Rattle.cwr_lint.specs.Format.FaultsOfLines.{AreFindings};
+ghost use Rattle.cwr_lint.specs.Steps.Puts.{PutsWith};
 
 use crate::judging::{Judged, Known};
+use crate::puts::report_number;
 use crate::states::{LintState, OpenGroup};
 use crate::takings::Taking;
 use cwr_encode::Sink;
@@ -16,11 +18,6 @@ use std::alloc::{AllocError, Global};
 
 /// The most lines up to that after a transaction whose findings are explained.
 const MOST_EXPLAINED: u64 = 100_000_000;
-
-/// A number as a report has it. It stays at `u32::MAX`.
-fn shown(number: u64) -> u32 {
-    u32::try_from(number).unwrap_or(u32::MAX)
-}
 
 /// The transaction, unless the record may not stand in it.
 fn unless_misplaced(
@@ -106,7 +103,7 @@ fn put_findings<W: Target>(
     sink: &mut Sink<W>,
 ) -> Result<(), ToolFault>
     requires { has_failed sink.old ≡ false }
-    ensures { PutsSome W.contents W.failures result sink.old sink.new }
+    ensures { PutsWith (λ _. AreFindings explained) W.contents W.failures result sink.old sink.new }
 {
     let number = group.open_transaction().number;
     let count = transaction.len() as u64;
@@ -115,8 +112,8 @@ fn put_findings<W: Target>(
     put_transaction_findings(
         explained && has_places,
         alloc,
-        shown(group.id),
-        shown(number),
+        report_number(group.id),
+        report_number(number),
         first,
         transaction,
         told,
@@ -136,7 +133,7 @@ pub(crate) fn put_ended<W: Target>(
     sink: &mut Sink<W>,
 ) -> Result<(), ToolFault>
     requires { has_failed sink.old ≡ false }
-    ensures { PutsSome W.contents W.failures result sink.old sink.new }
+    ensures { PutsWith (λ _. AreFindings explained) W.contents W.failures result sink.old sink.new }
 {
     match (ended(state, open, judged), &state.group) {
         (Some(transaction), Some(group)) => put_findings(

@@ -1,5 +1,7 @@
 //! What a lint holds where a check has met its first fault.
 
+ghost use Rattle.std.specs.Prelude.{◌≡◌, false};
+
 use crate::following::Awaiting;
 use crate::states::{LintState, OpenGroup, OpenTransaction};
 use cwr_fields::TransactionType;
@@ -44,7 +46,10 @@ fn open_group(
 
 impl LintState {
     /// After so many records that a check accepts, which have come to a stage. Of these the totals were handed out.
-    pub fn at(stage: Stage, totals: &Totals, lines: u64) -> LintState {
+    pub fn at(stage: Stage, totals: &Totals, lines: u64) -> LintState
+        ensures lines { result.lines ≡ lines }
+        ensures over { result.over ≡ false }
+    {
         let groups = u64::from(totals.groups);
         let transactions = u64::from(totals.transactions);
         let alone = LintState {
@@ -58,6 +63,9 @@ impl LintState {
             headers: transactions,
             records: Some(lines.saturating_sub(1)),
             transactions,
+            anew: 0,
+            groups_before: 0,
+            headers_before: 0,
             over: false,
         };
         let Stage::Within(ty, step) = stage else {

@@ -1,5 +1,11 @@
 //! The faults of one line.
 
+ghost use Rattle.std.specs.Prelude.{◌≡◌, ℕ, Some};
+ghost use Rattle.cwr_layouts.specs.Steps.Held.{HeldLine, held_kind};
+ghost use Rattle.cwr_shape.specs.declared.tallies.Scope.{Scope};
+ghost use Rattle.cwr_lint.specs.Format.FaultsOfLines.{IsToldAt, fields_end, reason_if};
+ghost use Rattle.cwr_lint.specs.Steps.JudgedLines.{IsJudged, IsKnown, IsReasonOfCell, judged_at, number_reason_in};
+
 use crate::cells::cell_fault;
 use crate::numbers::WrongNumbers;
 use crate::states::LintState;
@@ -16,10 +22,8 @@ pub(crate) struct Known {
     pub taken: Taking,
     /// Whether it is misplaced.
     pub misplaced: bool,
-    /// What is told of its numbers.
+    /// The numbers that belong in it where others stand. Where it is misplaced they aren't told.
     numbers: WrongNumbers,
-    /// Whether its cells are told: where it is misplaced and something stands after it, it was cut by another kind's layout.
-    has_cells: bool,
     /// Whether what stands after its last field is bad.
     has_excess: bool,
 }
@@ -33,63 +37,74 @@ pub(crate) enum Judged {
     Known(Known),
 }
 
+/// The reason, where it holds.
+fn reason_if(holds: bool, reason: Reason) -> Option<Reason>
+    ensures { result ≡ reason_if holds reason }
+{
+    if holds { Some(reason) } else { None }
+}
+
 impl Known {
     /// A line of the kind, judged at a state.
-    fn of(state: &LintState, kind: Kind, line: &CutLine<'_>) -> Known {
+    fn of(state: &LintState, kind: Kind, line: &CutLine<'_>) -> Known
+        requires { held_kind line.now ≡ Some kind }
+        ensures { IsKnown line.now result }
+    {
         let taken = Taking::of(state, kind, line);
-        let misplaced = is_misplaced(taken, state, kind, line);
-        let has_excess = line.excess();
-        let numbers = if misplaced {
-            WrongNumbers::NONE
-        } else {
-            WrongNumbers::of(state, taken, kind, line)
-        };
         Known {
             kind,
             taken,
-            misplaced,
-            numbers,
-            has_cells: !misplaced || !has_excess,
-            has_excess,
+            misplaced: is_misplaced(taken, state, kind, line),
+            numbers: WrongNumbers::of(state, taken, kind, line),
+            has_excess: line.excess(),
         }
     }
 
-    /// What is told of the cell in field `j`, from the second on.
-    fn cell_reason(&self, line: &CutLine<'_>, j: u8) -> Option<Reason> {
-        if !self.has_cells {
+    /// What is told of the number in field `j`.
+    fn number_reason(&self, j: u8) -> Option<Reason>
+        ensures { result ≡ number_reason_in self.now j }
+    {
+        if self.misplaced {
             return None;
-        }
-        let fault = cell_fault(line, j)?;
-        Some(Reason::Cell(fault))
-    }
-
-    /// What is told at field `j`: why, if anything.
-    fn reason(&self, line: &CutLine<'_>, j: u8) -> Option<Reason> {
-        if j == 1 {
-            return if self.misplaced {
-                Some(Reason::Misplaced)
-            } else {
-                None
-            };
-        }
-        if j > fields(self.kind) {
-            return if self.has_excess {
-                Some(Reason::Excess)
-            } else {
-                None
-            };
-        }
-        if let Some(reason) = self.cell_reason(line, j) {
-            return Some(reason);
         }
         let expected = self.numbers.expected(j)?;
         Some(Reason::Number { expected })
+    }
+
+    /// What is told of the cell in field `j`, from the second on. Where the line is misplaced and something stands after it, it was cut
+    /// by another kind's layout: then cells aren't told.
+    fn cell_reason(&self, line: &CutLine<'_>, j: u8) -> Option<Reason>
+        ensures { IsReasonOfCell self.now line.now j result }
+    {
+        if self.misplaced && self.has_excess {
+            return self.number_reason(j);
+        }
+        match cell_fault(line, j) {
+            Some(fault) => Some(Reason::Cell(fault)),
+            None => self.number_reason(j),
+        }
+    }
+
+    /// What is told at field `j`, from 1: why, if anything.
+    fn reason(&self, line: &CutLine<'_>, j: u8) -> Option<Reason>
+        requires { IsKnown line.now self.now }
+        ensures { (n : ℕ) (scope : Scope) → IsToldAt (judged_at n scope line.now (Judged.Known self.now)) j result }
+    {
+        if j == 1 {
+            return reason_if(self.misplaced, Reason::Misplaced);
+        }
+        if j > fields(self.kind) {
+            return reason_if(self.has_excess, Reason::Excess);
+        }
+        self.cell_reason(line, j)
     }
 }
 
 impl Judged {
     /// The line, judged at a state.
-    pub fn of(state: &LintState, line: &CutLine<'_>) -> Judged {
+    pub fn of(state: &LintState, line: &CutLine<'_>) -> Judged
+        ensures { IsJudged line.now result }
+    {
         match line.kind() {
             None => Judged::Unknown,
             Some(kind) => Judged::Known(Known::of(state, kind, line)),
@@ -97,7 +112,9 @@ impl Judged {
     }
 
     /// The number after the last field at which something may be told, which is one past the last of the kind.
-    pub fn places(&self) -> u8 {
+    pub fn places(&self) -> u8
+        ensures { (h : HeldLine) → IsJudged h self.now → result ≡ fields_end (held_kind h) }
+    {
         match self {
             Judged::Unknown => 2,
             Judged::Known(known) => fields(known.kind).saturating_add(2),
@@ -105,7 +122,10 @@ impl Judged {
     }
 
     /// What is told at field `j`, from 1: why, if anything.
-    pub fn reason(&self, line: &CutLine<'_>, j: u8) -> Option<Reason> {
+    pub fn reason(&self, line: &CutLine<'_>, j: u8) -> Option<Reason>
+        requires { IsJudged line.now self.now }
+        ensures { (n : ℕ) (scope : Scope) → IsToldAt (judged_at n scope line.now self.now) j result }
+    {
         match self {
             Judged::Unknown => Some(Reason::UnknownKind),
             Judged::Known(known) => known.reason(line, j),

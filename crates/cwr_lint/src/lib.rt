@@ -6,12 +6,15 @@ mod findings;
 mod following;
 mod front;
 mod judging;
+mod laws;
 mod linting;
 mod numbers;
+mod puts;
 mod raw_lines;
 mod states;
 mod steps;
 mod takings;
 
 pub use cells::cell_fault;
+pub use laws::cells_are_told;
 pub use linting::lint;

@@ -1,220 +1,95 @@
 //! Every fault of a transmission in one pass.
 
-ghost use Rattle.std.specs.Prelude.{◌≡◌, ℕ, true, false, List, IfOk, OnOk, IsSome};
+ghost use Rattle.std.specs.Prelude.{◌≡◌, ◌+◌, ◌^◌, ◌-◌, ◌<◌, ◌≤◌, ℕ, min, true, false, List, IfOk, OnOk, IsSome};
 ghost use Rattle.std.specs.Option.{is_some};
 ghost use Rattle.std.specs.Io.KnownBytes.{Appends, Keeps};
 ghost use Rattle.cwr_encode.specs.Steps.Sinks.{has_failed, writer_of};
 ghost use Rattle.cwr_explain.specs.Format.Explained.{AddsWords, IsAnswerTo, TakesMore};
-ghost use Rattle.cwr_levels.specs.Format.ReportLines.{fault_line, faults_line};
-ghost use Rattle.cwr_tools.specs.Format.Reports.{CountsReaderFault, CountsWriterFault};
+ghost use Rattle.cwr_layouts.specs.Steps.Held.{held_kind};
+ghost use Rattle.cwr_tools.specs.Format.Reports.{CountsReaderFault, CountsWriterFault, JudgesAccepted, lines_checked};
 ghost use Rattle.cwr_tools.specs.Format.Verdicts.{JudgesText};
-ghost use Rattle.cwr_lint.specs.Format.Told.{IsTold};
+ghost use Rattle.cwr_lint.specs.Format.FaultsOfLines.{fields_end, one_more_line};
+ghost use Rattle.cwr_lint.specs.Steps.JudgedLines.{IsFaultFrom, IsJudged, ends_by, held_cut, judged_at, scope_by};
+ghost use Rattle.cwr_lint.specs.Steps.LinesRead.{IsOfLine, held_raw};
 ghost use Rattle.cwr_lint.specs.Steps.Lints.{EndsRun, Lints, Tells};
-ghost use Rattle.cwr_lint.specs.Steps.Puts.{BeginsWith, EndsWith, IsAny, PutsAfter, PutsSome, PutsSuch, ReadsAndPutsSuch};
+ghost use Rattle.cwr_lint.specs.Steps.Puts.{PutsWith, ReadsAndPutsWith};
+ghost use Rattle.cwr_lint.specs.Steps.Runs.{BeginsAt, TakesAll, TakesFirst, TakesFrom, TakesLine, TakesNextIf, TakesRead, TellsOfLine, TellsRun, TellsSoMany, TellsToEnd};
 
 use crate::findings::{after_line, put_ended};
 use crate::judging::Judged;
+use crate::puts::{Asked, Shown, put_end, report_number};
 use crate::raw_lines::RawLine;
 use crate::states::LintState;
 use cwr_decode::{LastRead, Refusal};
 use cwr_encode::Sink;
-use cwr_explain::{explain_fault, line_at_end};
 use cwr_fields::{Source, Target};
 use cwr_layouts::{CutLine, LineBuf};
-use cwr_levels::{fault_line, faults_line, truncated_line};
 use cwr_shape::{Limits, level};
 use cwr_tools::{CheckedFront, HandedOut, ToolFault, Verdict, check_up_to_fault};
 use cwr_values::Transaction;
 use std::alloc::{AllocError, Global};
 
-/// A lint that goes on after the first fault.
+/// What a lint holds that goes on after the first fault.
 #[derive(Drop)]
-struct LintRun<'a> {
-    alloc: Global,
-    limits: Limits,
-    /// The name of the input, where what is told is explained too.
-    name: Option<&'a str>,
+struct LintRun {
     state: LintState,
     /// The records of the open transaction, as long as it has no fault.
-    open: Option<Transaction>,
+    begun: Option<Transaction>,
     /// The faults that were told. It stays at `u64::MAX`.
     faults: u64,
     /// The findings that were told. It stays at `u64::MAX`.
     findings: u64,
 }
 
-/// A number as a report has it. It stays at `u32::MAX`.
-fn shown(number: u64) -> u32 {
-    u32::try_from(number).unwrap_or(u32::MAX)
-}
-
-/// Puts the line of a fault.
-fn put_fault_line<W: Target>(fault: &Refusal, sink: &mut Sink<W>) -> Result<(), ToolFault>
-    requires { has_failed sink.old ≡ false }
-    ensures { PutsAfter W.contents W.failures (fault_line fault.now) result sink.old sink.new }
-{
-    match fault_line(fault, sink) {
-        Ok(()) => Ok(()),
-        Err(fault) => Err(ToolFault::Writer {
-            written: fault.written,
-        }),
-    }
-}
-
-/// Puts lines that explain a fault.
-fn put_words<W: Target>(words: &[u8], sink: &mut Sink<W>) -> Result<(), ToolFault>
-    requires { has_failed sink.old ≡ false }
-    ensures { PutsAfter W.contents W.failures words.now result sink.old sink.new }
-{
-    match sink.put(words) {
-        Ok(()) => Ok(()),
-        Err(fault) => Err(ToolFault::Writer {
-            written: fault.written,
-        }),
-    }
-}
-
-/// Puts that an input ended too early, after so many lines, unless it is over.
-fn put_truncated<W: Target>(is_over: bool, lines: u64, sink: &mut Sink<W>) -> Result<(), ToolFault>
-    requires { has_failed sink.old ≡ false }
-    ensures { PutsSome W.contents W.failures result sink.old sink.new }
-{
-    if is_over {
-        return Ok(());
-    }
-    match truncated_line(shown(lines), sink) {
-        Ok(()) => Ok(()),
-        Err(fault) => Err(ToolFault::Writer {
-            written: fault.written,
-        }),
-    }
-}
-
-/// Puts how many faults and findings an input has, in so many lines.
-fn put_faults_line<W: Target>(
-    faults: u64,
-    findings: u64,
-    lines: u64,
-    sink: &mut Sink<W>,
-) -> Result<(), ToolFault>
-    requires { has_failed sink.old ≡ false }
-    ensures { PutsAfter W.contents W.failures (faults_line faults findings lines) result sink.old sink.new }
-{
-    match faults_line(faults, findings, lines, sink) {
-        Ok(()) => Ok(()),
-        Err(fault) => Err(ToolFault::Writer {
-            written: fault.written,
-        }),
-    }
-}
-
-/// Puts how an input ended, of which so many lines were read, and how many faults and findings it has.
-fn put_end<W: Target>(
-    is_over: bool,
-    faults: u64,
-    findings: u64,
-    lines: u64,
-    sink: &mut Sink<W>,
-) -> Result<(), ToolFault>
-    requires { has_failed sink.old ≡ false }
-    ensures { PutsSuch (EndsWith (faults_line faults findings lines)) W.contents W.failures result sink.old sink.new }
-{
-    match put_truncated(is_over, lines, sink) {
-        Ok(()) => put_faults_line(faults, findings, lines, sink),
-        Err(fault) => Err(fault),
-    }
-}
-
-/// The bytes of a line, where it is held.
-fn bytes_of(line: Option<&RawLine>) -> Option<&[u8]> {
-    match line {
-        Some(line) => Some(line.as_slice()),
-        None => None,
-    }
-}
-
-impl LintRun<'_> {
-    /// Puts the lines that explain a fault of a line, where they are asked for.
-    fn put_explanation<W: Target>(
-        &self,
-        fault: &Refusal,
-        raw: &RawLine,
-        before: Option<&RawLine>,
-        is_first: bool,
-        sink: &mut Sink<W>,
-    ) -> Result<(), ToolFault>
-        requires { has_failed sink.old ≡ false }
-        ensures { PutsSome W.contents W.failures result sink.old sink.new }
+impl LintRun {
+    /// The fault at a field of the line that comes next, if it has one and the field is no earlier than `from`.
+    fn fault_at(&self, judged: &Judged, line: &CutLine<'_>, from: u8, field: u8) -> Option<Refusal>
+        requires { IsJudged line.now judged.now }
+        ensures { IsFaultFrom (judged_at self.now.state.lines (scope_by self.now.state.group) line.now judged.now) from field result }
     {
-        let Some(name) = self.name else {
-            return Ok(());
-        };
-        let explained = explain_fault(
-            self.alloc,
-            &self.limits,
-            name,
-            fault,
-            raw.shown(),
-            bytes_of(before),
-            raw.is_too_long(),
-            is_first,
-            self.state.stage,
-        );
-        match explained {
-            Ok(text) => put_words(text.as_bytes(), sink),
-            Err(_) => Err(ToolFault::Memory),
+        if field < from {
+            return None;
         }
-    }
-
-    /// Puts the line of a fault, and under it the lines that explain it, where they are asked for.
-    fn put_fault<W: Target>(
-        &self,
-        fault: &Refusal,
-        raw: &RawLine,
-        before: Option<&RawLine>,
-        is_first: bool,
-        sink: &mut Sink<W>,
-    ) -> Result<(), ToolFault>
-        requires { has_failed sink.old ≡ false }
-        ensures { PutsSuch (BeginsWith (fault_line fault.now)) W.contents W.failures result sink.old sink.new }
-    {
-        match put_fault_line(fault, sink) {
-            Ok(()) => self.put_explanation(fault, raw, before, is_first, sink),
-            Err(fault) => Err(fault),
-        }
-    }
-
-    /// The fault at a field of the line that comes next, if it has one.
-    fn fault_at(&self, judged: &Judged, line: &CutLine<'_>, field: u8) -> Option<Refusal> {
         let reason = judged.reason(line, field)?;
         Some(Refusal {
-            rec: shown(self.state.lines.saturating_add(1)),
+            rec: report_number(self.state.lines.saturating_add(1)),
             field,
             level: level(line.kind(), field, &reason, self.state.scope()),
             reason,
         })
     }
 
+    /// The line, with what is held beside it.
+    fn shown<'b>(&self, raw: &'b RawLine, before: Option<&'b RawLine>) -> Shown<'b> {
+        Shown {
+            raw,
+            before,
+            stage: self.state.stage,
+        }
+    }
+
     /// Tells the faults of a line from a field on. The answer is how many they are.
     fn tell<W: Target>(
         &self,
+        asked: &Asked<'_>,
         judged: &Judged,
         line: &CutLine<'_>,
         from: u8,
-        raw: &RawLine,
-        before: Option<&RawLine>,
+        shown: &Shown<'_>,
         sink: &mut Sink<W>,
     ) -> Result<u64, ToolFault>
-        requires { has_failed sink.old ≡ false }
-        ensures { PutsSome W.contents W.failures result sink.old sink.new }
+        requires unfailed { has_failed sink.old ≡ false }
+        requires judged { IsJudged line.now judged.now }
+        requires first { 1 ≤ from }
+        ensures { PutsWith (TellsSoMany (is_some asked.now.name) (judged_at self.now.state.lines (scope_by self.now.state.group) line.now judged.now) from (fields_end (held_kind line.now))) W.contents W.failures result sink.old sink.new }
     {
         let mut told: u64 = 0;
-        for field in from..judged.places() {
-            let Some(fault) = self.fault_at(judged, line, field) else {
+        for field in 1..judged.places() {
+            let Some(fault) = self.fault_at(judged, line, from, field) else {
                 continue;
             };
             let is_first = told == 0 && from == 1;
-            if let Err(stop) = self.put_fault(&fault, raw, before, is_first, sink) {
+            if let Err(stop) = asked.put_fault(&fault, shown, is_first, sink) {
                 return Err(stop);
             }
             told = told.saturating_add(1);
@@ -226,40 +101,47 @@ impl LintRun<'_> {
     /// faults they are.
     fn tell_all<W: Target>(
         &mut self,
+        asked: &Asked<'_>,
         judged: &Judged,
         line: &CutLine<'_>,
         from: u8,
-        raw: &RawLine,
-        before: Option<&RawLine>,
+        shown: &Shown<'_>,
         sink: &mut Sink<W>,
     ) -> Result<u64, ToolFault>
-        requires { has_failed sink.old ≡ false }
-        ensures { PutsSome W.contents W.failures result sink.old sink.new }
+        requires unfailed { has_failed sink.old ≡ false }
+        requires judged { IsJudged line.now judged.now }
+        requires first { 1 ≤ from }
+        ensures puts { PutsWith (TellsOfLine (is_some asked.now.name) self.old.state.lines (held_cut line.now) from) W.contents W.failures result sink.old sink.new }
+        ensures state { self.new.state ≡ self.old.state }
+        ensures faults { self.new.faults ≡ self.old.faults }
     {
-        let explained = self.name.is_some();
-        let alloc = self.alloc;
         match put_ended(
-            explained,
-            alloc,
+            asked.name.is_some(),
+            asked.alloc,
             &self.state,
-            &self.open,
+            &self.begun,
             judged,
             &mut self.findings,
             sink,
         ) {
-            Ok(()) => self.tell(judged, line, from, raw, before, sink),
+            Ok(()) => self.tell(asked, judged, line, from, shown, sink),
             Err(fault) => Err(fault),
         }
     }
 
-    /// Goes on with a line that was judged, and with which so many faults were told. It fails only for want of memory.
+    /// Goes on with a line that was judged. It fails only for want of memory.
     fn step(
         &mut self,
+        alloc: Global,
         judged: &Judged,
         line: &CutLine<'_>,
         is_good: bool,
         is_blank: bool,
-    ) -> Result<(), AllocError> {
+    ) -> Result<(), AllocError>
+        ensures lines { self.new.state.lines ≡ one_more_line self.old.state.lines }
+        ensures over { self.new.state.over ≡ ends_by judged.now }
+        ensures faults { self.new.faults ≡ self.old.faults }
+    {
         match judged {
             Judged::Known(known) => {
                 self.state
@@ -268,31 +150,32 @@ impl LintRun<'_> {
             Judged::Unknown => self.state.step_unknown(is_blank),
         }
         let in_step = self.state.stage.is_some();
-        let open = self.open.take();
-        self.open = after_line(self.alloc, open, judged, is_good, in_step, line)?;
+        let begun = self.begun.take();
+        self.begun = after_line(alloc, begun, judged, is_good, in_step, line)?;
         Ok(())
     }
 
     /// Tells what is wrong with a line from a field on, and goes on with it.
     fn take<W: Target>(
         &mut self,
+        asked: &Asked<'_>,
         line: &CutLine<'_>,
         from: u8,
-        raw: &RawLine,
-        before: Option<&RawLine>,
+        shown: &Shown<'_>,
         sink: &mut Sink<W>,
     ) -> Result<(), ToolFault>
-        requires { has_failed sink.old ≡ false }
-        ensures { PutsSome W.contents W.failures result sink.old sink.new }
+        requires unfailed { has_failed sink.old ≡ false }
+        requires first { 1 ≤ from }
+        ensures { PutsWith (λ _. TakesLine (is_some asked.now.name) (held_cut line.now) from self.old self.new) W.contents W.failures result sink.old sink.new }
     {
         let judged = Judged::of(&self.state, line);
-        let told = match self.tell_all(&judged, line, from, raw, before, sink) {
+        let told = match self.tell_all(asked, &judged, line, from, shown, sink) {
             Ok(told) => told,
             Err(fault) => return Err(fault),
         };
         self.faults = self.faults.saturating_add(told);
         let is_good = told == 0 && from == 1;
-        match self.step(&judged, line, is_good, raw.is_blank()) {
+        match self.step(asked.alloc, &judged, line, is_good, shown.raw.is_blank()) {
             Ok(()) => Ok(()),
             Err(_) => Err(ToolFault::Memory),
         }
@@ -301,16 +184,19 @@ impl LintRun<'_> {
     /// Tells what is wrong with a line that was read after another one.
     fn take_read<W: Target>(
         &mut self,
+        asked: &Asked<'_>,
         before: &RawLine,
         raw: &RawLine,
         cut: &mut LineBuf,
         sink: &mut Sink<W>,
     ) -> Result<bool, ToolFault>
-        requires { has_failed sink.old ≡ false }
-        ensures { PutsSome W.contents W.failures result sink.old sink.new }
+        requires unfailed { has_failed sink.old ≡ false }
+        requires line { IsOfLine raw.now }
+        ensures { PutsWith (λ more. TakesRead (is_some asked.now.name) (held_cut (held_raw raw.now)) self.old self.new more) W.contents W.failures result sink.old sink.new }
     {
         raw.cut_into(cut);
-        match self.take(&cut.cut(), 1, raw, Some(before), sink) {
+        let shown = self.shown(raw, Some(before));
+        match self.take(asked, &cut.cut(), 1, &shown, sink) {
             Ok(()) => Ok(true),
             Err(fault) => Err(fault),
         }
@@ -319,6 +205,7 @@ impl LintRun<'_> {
     /// Reads the line after this one, and tells what is wrong with it. The answer is whether there was one.
     fn take_next<R: Source, W: Target>(
         &mut self,
+        asked: &Asked<'_>,
         reader: &mut R,
         before: &RawLine,
         raw: &mut RawLine,
@@ -326,13 +213,13 @@ impl LintRun<'_> {
         sink: &mut Sink<W>,
     ) -> Result<bool, ToolFault>
         requires { has_failed sink.old ≡ false }
-        ensures { ReadsAndPutsSuch IsAny (R.remaining reader.old) (R.remaining reader.new) (R.failures reader.old) (R.failures reader.new) W.contents W.failures result sink.old sink.new }
+        ensures { ReadsAndPutsWith (TakesNextIf (is_some asked.now.name) (R.remaining reader.old) (R.remaining reader.new) before.now raw.new self.old self.new) (R.remaining reader.old) (R.remaining reader.new) (R.failures reader.old) (R.failures reader.new) W.contents W.failures result sink.old sink.new }
     {
         if self.state.over || !before.has_ended() {
             return Ok(false);
         }
         match raw.read_after(before.end_offset(), reader) {
-            Ok(true) => self.take_read(before, raw, cut, sink),
+            Ok(true) => self.take_read(asked, before, raw, cut, sink),
             Ok(false) => Ok(false),
             Err(_) => Err(ToolFault::Reader),
         }
@@ -341,18 +228,19 @@ impl LintRun<'_> {
     /// Reads the lines after this one, up to TRL or the end, and tells what is wrong with each.
     fn take_rest<R: Source, W: Target>(
         &mut self,
+        asked: &Asked<'_>,
         reader: &mut R,
         first: RawLine,
         cut: &mut LineBuf,
         sink: &mut Sink<W>,
     ) -> Result<(), ToolFault>
         requires { has_failed sink.old ≡ false }
-        ensures { ReadsAndPutsSuch IsAny (R.remaining reader.old) (R.remaining reader.new) (R.failures reader.old) (R.failures reader.new) W.contents W.failures result sink.old sink.new }
+        ensures { ReadsAndPutsWith (λ _. TakesAll (is_some asked.now.name) (R.remaining reader.old) (R.remaining reader.new) first.ended self.old self.new) (R.remaining reader.old) (R.remaining reader.new) (R.failures reader.old) (R.failures reader.new) W.contents W.failures result sink.old sink.new }
     {
         let mut before = first;
         let mut raw = RawLine::new();
         for _ in 0..u64::MAX {
-            match self.take_next(reader, &before, &mut raw, cut, sink) {
+            match self.take_next(asked, reader, &before, &mut raw, cut, sink) {
                 Ok(true) => {}
                 Ok(false) => break,
                 Err(fault) => return Err(fault),
@@ -365,19 +253,22 @@ impl LintRun<'_> {
     /// Tells the first fault, which a check has met at this line, and the others of the line.
     fn take_first<W: Target>(
         &mut self,
+        asked: &Asked<'_>,
         refusal: &Refusal,
         raw: &RawLine,
         cut: &mut LineBuf,
         sink: &mut Sink<W>,
     ) -> Result<(), ToolFault>
-        requires { has_failed sink.old ≡ false }
-        ensures { PutsSuch (BeginsWith (fault_line refusal.now)) W.contents W.failures result sink.old sink.new }
+        requires unfailed { has_failed sink.old ≡ false }
+        requires line { IsOfLine raw.now }
+        ensures { PutsWith (λ _. TakesFirst (is_some asked.now.name) refusal.now (held_cut (held_raw raw.now)) self.old self.new) W.contents W.failures result sink.old sink.new }
     {
         raw.cut_into(cut);
-        match self.put_fault(refusal, raw, None, true, sink) {
+        let shown = self.shown(raw, None);
+        match asked.put_fault(refusal, &shown, true, sink) {
             Ok(()) => {
                 let from = refusal.field.saturating_add(1);
-                self.take(&cut.cut(), from, raw, None, sink)
+                self.take(asked, &cut.cut(), from, &shown, sink)
             }
             Err(fault) => Err(fault),
         }
@@ -386,17 +277,19 @@ impl LintRun<'_> {
     /// Tells the first fault, which a check has met at this line, and the others of the line and of those after it.
     fn tell_from<R: Source, W: Target>(
         &mut self,
+        asked: &Asked<'_>,
         refusal: &Refusal,
         reader: &mut R,
         raw: RawLine,
         sink: &mut Sink<W>,
     ) -> Result<(), ToolFault>
-        requires { has_failed sink.old ≡ false }
-        ensures { ReadsAndPutsSuch (BeginsWith (fault_line refusal.now)) (R.remaining reader.old) (R.remaining reader.new) (R.failures reader.old) (R.failures reader.new) W.contents W.failures result sink.old sink.new }
+        requires unfailed { has_failed sink.old ≡ false }
+        requires line { IsOfLine raw }
+        ensures { ReadsAndPutsWith (λ _. TakesFrom (is_some asked.now.name) refusal.now (R.remaining reader.old) (R.remaining reader.new) raw self.old self.new) (R.remaining reader.old) (R.remaining reader.new) (R.failures reader.old) (R.failures reader.new) W.contents W.failures result sink.old sink.new }
     {
         let mut cut = LineBuf::new();
-        match self.take_first(refusal, &raw, &mut cut, sink) {
-            Ok(()) => self.take_rest(reader, raw, &mut cut, sink),
+        match self.take_first(asked, refusal, &raw, &mut cut, sink) {
+            Ok(()) => self.take_rest(asked, reader, raw, &mut cut, sink),
             Err(fault) => Err(fault),
         }
     }
@@ -404,15 +297,18 @@ impl LintRun<'_> {
     /// Tells the first fault, which a check has met at this line, and all that come after it, and how many they are.
     fn tell_to_end<R: Source, W: Target>(
         &mut self,
+        asked: &Asked<'_>,
         refusal: &Refusal,
         reader: &mut R,
         raw: RawLine,
         sink: &mut Sink<W>,
     ) -> Result<(), ToolFault>
-        requires { has_failed sink.old ≡ false }
-        ensures { ReadsAndPutsSuch (IsTold refusal.now) (R.remaining reader.old) (R.remaining reader.new) (R.failures reader.old) (R.failures reader.new) W.contents W.failures result sink.old sink.new }
+        requires unfailed { has_failed sink.old ≡ false }
+        requires line { IsOfLine raw }
+        requires begins { BeginsAt refusal.now self.old }
+        ensures { ReadsAndPutsWith (λ _. TellsToEnd (is_some asked.now.name) refusal.now (R.remaining reader.old) (R.remaining reader.new) raw) (R.remaining reader.old) (R.remaining reader.new) (R.failures reader.old) (R.failures reader.new) W.contents W.failures result sink.old sink.new }
     {
-        match self.tell_from(refusal, reader, raw, sink) {
+        match self.tell_from(asked, refusal, reader, raw, sink) {
             Ok(()) => put_end(
                 self.state.over,
                 self.faults,
@@ -428,16 +324,18 @@ impl LintRun<'_> {
     /// are.
     fn run<R: Source, W: Target>(
         &mut self,
+        asked: &Asked<'_>,
         refusal: &Refusal,
         last: &LastRead,
         reader: &mut R,
         sink: &mut Sink<W>,
     ) -> Result<(), ToolFault>
-        requires { has_failed sink.old ≡ false }
-        ensures { ReadsAndPutsSuch (IsTold refusal.now) (R.remaining reader.old) (R.remaining reader.new) (R.failures reader.old) (R.failures reader.new) W.contents W.failures result sink.old sink.new }
+        requires unfailed { has_failed sink.old ≡ false }
+        requires begins { BeginsAt refusal.now self.old }
+        ensures { ReadsAndPutsWith (λ _. TellsRun (is_some asked.now.name) refusal.now last.now.bytes (R.remaining reader.old) (R.remaining reader.new)) (R.remaining reader.old) (R.remaining reader.new) (R.failures reader.old) (R.failures reader.new) W.contents W.failures result sink.old sink.new }
     {
-        match RawLine::of_last(&line_at_end(&last.bytes), reader) {
-            Ok(raw) => self.tell_to_end(refusal, reader, raw, sink),
+        match RawLine::of_last(&last.bytes, reader) {
+            Ok(raw) => self.tell_to_end(asked, refusal, reader, raw, sink),
             Err(_) => Err(ToolFault::Reader),
         }
     }
@@ -466,16 +364,14 @@ fn finish<W: Target>(
 
 /// Goes on after the first fault, which a check has met and not told, and answers the verdict.
 fn tell_faults<R: Source, W: Target>(
-    alloc: Global,
-    limits: Limits,
-    name: Option<&str>,
+    asked: &Asked<'_>,
     refusal: Refusal,
     last: &LastRead,
     handed_out: &HandedOut,
     reader: &mut R,
     writer: W,
 ) -> (W, Result<Verdict, ToolFault>)
-    ensures told { OnOk result.1 ((text : List ℕ) × IsTold refusal text × Appends (W.contents writer) (W.contents result.0) text) }
+    ensures told { OnOk result.1 ((text : List ℕ) × TellsRun (is_some asked.now.name) refusal last.now.bytes (R.remaining reader.old) (R.remaining reader.new) text × Appends (W.contents writer) (W.contents result.0) text) }
     ensures words { AddsWords W.contents writer result.0 }
     ensures taken { TakesMore (R.remaining reader.old) (R.remaining reader.new) }
     ensures answered { IsAnswerTo (Verdict.Refused refusal) result.1 }
@@ -483,18 +379,15 @@ fn tell_faults<R: Source, W: Target>(
     ensures writer_failures { CountsWriterFault result.1 (W.failures writer) (W.failures result.0) }
     ensures handed_on { OnOk result.1 (W.handed_on result.0 ≡ true) }
 {
-    let lines = u64::from(refusal.rec).saturating_sub(1);
+    let lines = u64::from(refusal.rec.saturating_sub(1));
     let mut lint = LintRun {
-        alloc,
-        limits,
-        name,
         state: LintState::at(last.stage, &handed_out.totals, lines),
-        open: None,
+        begun: None,
         faults: 1,
         findings: handed_out.findings,
     };
     let mut sink = Sink::new(writer);
-    let told = lint.run(&refusal, last, reader, &mut sink);
+    let told = lint.run(asked, &refusal, last, reader, &mut sink);
     finish(refusal, told, sink)
 }
 
@@ -513,6 +406,7 @@ pub fn lint<R: Source, W: Target + Drop>(
     ensures lints { Lints (is_some name.entry) limits (R.remaining reader.old) (R.remaining reader.new) W.contents writer result.0 result.1 }
     ensures tells { IfOk result.1 (Tells (is_some name.entry) limits (R.remaining reader.old) (R.remaining reader.new) W.contents writer result.0) }
     ensures judged { JudgesText limits (R.remaining reader.old) result.1 }
+    ensures accepted { IfOk result.1 (JudgesAccepted (lines_checked (is_some name.entry)) limits (R.remaining reader.old) (R.remaining reader.new) W.contents writer result.0) }
     // No failure is passed over: a device failed only where that is the answer.
     ensures reader_failures { CountsReaderFault result.1 (R.failures reader.old) (R.failures reader.new) }
     ensures writer_failures { CountsWriterFault result.1 (W.failures writer) (W.failures result.0) }
@@ -527,16 +421,14 @@ pub fn lint<R: Source, W: Target + Drop>(
             Verdict::Good { .. } => (writer, Ok(verdict)),
             Verdict::Truncated { .. } => (writer, Ok(verdict)),
             Verdict::Refused(refusal) => match last {
-                Some(last) => tell_faults(
-                    alloc,
-                    limits,
-                    name,
-                    refusal,
-                    &last,
-                    &handed_out,
-                    reader,
-                    writer,
-                ),
+                Some(last) => {
+                    let asked = Asked {
+                        alloc,
+                        limits,
+                        name,
+                    };
+                    tell_faults(&asked, refusal, &last, &handed_out, reader, writer)
+                }
                 None => unreachable!(),
             },
         },

@@ -1,16 +1,21 @@
 //! Which numbers of a line are told, and what belongs there.
 
-use crate::cells::number_at;
+ghost use Rattle.std.specs.Prelude.{◌≡◌};
+ghost use Rattle.cwr_lint.specs.Steps.JudgedLines.{number_of};
+
+use crate::cells::{number_at, type_of_header};
 use crate::following::Awaiting;
 use crate::states::{LintState, OpenGroup, OpenTransaction};
 use crate::takings::Taking;
 use cwr_layouts::{CutLine, Kind};
 
-/// A count: that of the lines that are there, and that by the numbers, where it is known.
+/// A count: that of the lines that are there, and that by the numbers, where it is known. Of a transmission they are counted from the
+/// last HDR on, and those of the whole file, further HDRs left out, are right too.
 #[derive(Clone, Copy, Debug)]
 pub(crate) struct Count {
     there: u64,
     by_numbers: Option<u64>,
+    in_file: u64,
 }
 
 impl Count {
@@ -19,6 +24,7 @@ impl Count {
         Count {
             there: group.lines.saturating_add(1),
             by_numbers: group.all_records(),
+            in_file: group.lines.saturating_add(1),
         }
     }
 
@@ -27,6 +33,7 @@ impl Count {
         Count {
             there: group.headers,
             by_numbers: Some(group.transactions(None)),
+            in_file: group.headers,
         }
     }
 
@@ -35,6 +42,7 @@ impl Count {
         Count {
             there: state.since.saturating_add(1),
             by_numbers: state.all_records(),
+            in_file: state.all_lines().saturating_add(1),
         }
     }
 
@@ -43,26 +51,28 @@ impl Count {
         Count {
             there: state.headers,
             by_numbers: Some(state.all_transactions()),
+            in_file: state.all_headers(),
         }
     }
 
     /// Its groups.
-    fn of_groups(state: &LintState) -> Count {
+    pub fn of_groups(state: &LintState) -> Count {
         Count {
             there: state.groups,
             by_numbers: Some(state.last_id),
+            in_file: state.all_groups(),
         }
     }
 
-    /// Whether the number is one of the two. Where that by the numbers isn't known, any is let pass.
+    /// Whether the number is one of these. Where that by the numbers isn't known, any is let pass.
     pub fn takes(&self, number: u64) -> bool {
         match self.by_numbers {
             None => true,
-            Some(counted) => number == self.there || number == counted,
+            Some(counted) => number == self.there || number == counted || number == self.in_file,
         }
     }
 
-    /// Whether the count is known, and the cell has one of the two.
+    /// Whether the count is known, and the cell has one of these.
     pub fn is_borne_by(&self, cell: Option<u64>) -> bool {
         match cell {
             Some(number) => self.by_numbers.is_some() && self.takes(number),
@@ -121,7 +131,9 @@ impl WrongNumbers {
     };
 
     /// What belongs in field `j`, where that is told.
-    pub fn expected(&self, j: u8) -> Option<u64> {
+    pub fn expected(&self, j: u8) -> Option<u64>
+        ensures { result ≡ number_of self.now j }
+    {
         match j {
             2 => self.second,
             3 => self.third,
@@ -202,16 +214,24 @@ impl WrongNumbers {
         }
     }
 
+    /// Of a line of another kind than it says in the open group: a header's, or a further record's.
+    fn of_other_in(group: &OpenGroup, kind: Kind, line: &CutLine<'_>) -> WrongNumbers {
+        match (type_of_header(kind), group.current) {
+            (None, Some(open)) => WrongNumbers::of_further(&open, line),
+            _ => WrongNumbers {
+                second: Some(group.next.expected),
+                ..WrongNumbers::NONE
+            },
+        }
+    }
+
     /// Of a line that is of another kind than it says, though the order takes it.
     fn of_other(state: &LintState, kind: Kind, line: &CutLine<'_>) -> WrongNumbers {
         match (kind, state.group) {
             (Kind::Grh, _) => WrongNumbers::of_head(&state.ids, line),
             (Kind::Trl, _) => WrongNumbers::of_trailer(state, line).first(),
             (Kind::Grt, Some(group)) => WrongNumbers::of_foot(&group, line).first(),
-            (_, Some(group)) => WrongNumbers {
-                second: Some(group.next.expected),
-                ..WrongNumbers::NONE
-            },
+            (_, Some(group)) => WrongNumbers::of_other_in(&group, kind, line),
             (_, None) => WrongNumbers::NONE,
         }
     }

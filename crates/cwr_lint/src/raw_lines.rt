@@ -1,16 +1,84 @@
 //! The lines that a reader still has.
 
-ghost use Rattle.std.specs.Prelude.{◌≢◌, ◌≤◌, length};
+ghost use Rattle.std.specs.Prelude.{◌≡◌, ◌≢◌, ℕ, ◌+◌, ◌≤◌, ◌<◌, ◌||◌, nat_lt, List, [], ◌∷◌, ◌++◌, length, take, slice_index, true, false, IfOk, IsFalse, MatchOption};
+ghost use Rattle.std.specs.List.{list_any};
 ghost use Rattle.cwr_encode.specs.Steps.Sinks.{CountsOn};
 ghost use Rattle.cwr_explain.specs.Format.Explained.{TakesMore};
+ghost use Rattle.cwr_layouts.specs.Format.Lines.{is_lf};
+ghost use Rattle.cwr_layouts.specs.Steps.Held.{empty_line};
+ghost use Rattle.cwr_lint.specs.Steps.LinesRead.{AddsPiece, HoldsRaw, IsOfLine, ReadsLast, ReadsLineIf, ReadsPiece, ReadsRest, held_raw};
 
 use arrayvec::ArrayVec;
-use cwr_explain::LineAtEnd;
+use cwr_decode::LastBytes;
+use cwr_explain::{LineAtEnd, line_at_end};
 use cwr_fields::{DeviceFault, Source, is_spaces};
 use cwr_layouts::{LONGEST_LINE, LineBuf, LineEnd};
 use memchr::memchr;
 
 const LF: u8 = b'\n';
+
+/// The place of the first line feed.
+fn line_feed(piece: &[u8]) -> Option<usize>
+    ensures { MatchOption result (IsFalse (list_any is_lf piece.now)) (λ at. (at < length piece.now) × IsFalse (list_any is_lf (take at piece.now)) × (slice_index piece.now at ≡ 10)) }
+{
+    memchr(LF, piece)
+}
+
+/// What stands before the first line feed.
+fn before_feed(text: &[u8]) -> &[u8]
+    ensures no_lf { IsFalse (list_any is_lf result.now) }
+    ensures same { IsFalse (list_any is_lf text.now) → result.now ≡ text.now }
+{
+    match line_feed(text) {
+        Some(at) => &text[..at],
+        None => text,
+    }
+}
+
+/// Whether the text ends with a line feed.
+fn ends_with_feed(text: &[u8]) -> bool
+    ensures ended { result ≡ true → (front : List ℕ) × (text.now ≡ front ++ 10 ∷ []) }
+    ensures still_open { result ≡ false → (front : List ℕ) → text.now ≢ front ++ 10 ∷ [] }
+{
+    match text {
+        [_front @ .., LF] => true,
+        _ => false,
+    }
+}
+
+/// Takes bytes without a line feed, no more than a line may have, into an empty line buffer.
+fn take_whole(line: &mut LineBuf, bytes: &[u8])
+    requires empty { line.old ≡ empty_line }
+    requires short { length bytes.now ≤ LONGEST_LINE }
+    requires no_lf { IsFalse (list_any is_lf bytes.now) }
+    ensures { line.new ≡ record { bytes = bytes.now; ended = LineEnd.Open } }
+{
+    line.take(bytes);
+}
+
+/// Takes a byte into a line buffer that has as many as a line may have: that is one too many.
+fn take_one_more(line: &mut LineBuf)
+    requires open { line.old.ended ≡ LineEnd.Open }
+    requires full { length line.old.bytes ≡ LONGEST_LINE }
+    ensures { line.new ≡ record { bytes = line.old.bytes; ended = LineEnd.Over } }
+{
+    line.take(b" ");
+}
+
+/// Whether a line is too long once so many bytes are added, for which it has that room.
+fn is_longer(is_too_long: bool, count: usize, room: usize) -> bool
+    ensures { result ≡ (is_too_long || nat_lt room count) }
+{
+    is_too_long || room < count
+}
+
+/// Appends as many of the bytes as there is room for.
+fn extend(text: &mut ArrayVec<u8, LONGEST_LINE>, bytes: &[u8], room: usize)
+    requires { length text.old.items + room ≤ LONGEST_LINE }
+    ensures { text.new.items ≡ text.old.items ++ take room bytes.now }
+{
+    let _fits = text.try_extend_from_slice(&bytes[..room.min(bytes.len())]);
+}
 
 /// A line as it was read.
 #[derive(Drop)]
@@ -29,7 +97,10 @@ pub(crate) struct RawLine {
 
 impl RawLine {
     /// The empty line at the start of an input.
-    pub fn new() -> RawLine {
+    pub fn new() -> RawLine
+        ensures held { HoldsRaw [] result }
+        ensures unended { result.ended ≡ false }
+    {
         RawLine {
             bytes: ArrayVec::new(),
             ended: false,
@@ -40,7 +111,10 @@ impl RawLine {
     }
 
     /// Begins the line after another one.
-    fn begin(&mut self, end: u64) {
+    fn begin(&mut self, end: u64)
+        ensures held { HoldsRaw [] self.new }
+        ensures unended { self.new.ended ≡ false }
+    {
         self.bytes.truncate(0);
         self.ended = false;
         self.is_too_long = false;
@@ -49,25 +123,29 @@ impl RawLine {
     }
 
     /// Adds bytes of the line.
-    fn add(&mut self, bytes: &[u8]) {
-        let room = LONGEST_LINE.saturating_sub(self.bytes.len());
-        if bytes.len() > room {
-            self.is_too_long = true;
-        }
-        let _fits = self
-            .bytes
-            .try_extend_from_slice(&bytes[..room.min(bytes.len())]);
+    fn add(&mut self, bytes: &[u8])
+        ensures held { (line : List ℕ) → IsFalse (list_any is_lf bytes.now) → HoldsRaw line self.old → HoldsRaw (line ++ bytes.now) self.new }
+        ensures unended { self.new.ended ≡ self.old.ended }
+    {
+        let room = LONGEST_LINE - self.bytes.len();
+        self.is_too_long = is_longer(self.is_too_long, bytes.len(), room);
+        extend(&mut self.bytes, bytes, room);
         self.end = self.end.saturating_add(bytes.len() as u64);
     }
 
     /// Adds its line feed.
-    fn end(&mut self) {
+    fn end(&mut self)
+        ensures held { (line : List ℕ) → HoldsRaw line self.old → HoldsRaw line self.new }
+        ensures ended { self.new.ended ≡ true }
+    {
         self.ended = true;
         self.end = self.end.saturating_add(1);
     }
 
     /// Whether its line feed was read.
-    pub fn has_ended(&self) -> bool {
+    pub fn has_ended(&self) -> bool
+        ensures { result ≡ self.now.ended }
+    {
         self.ended
     }
 
@@ -100,23 +178,25 @@ impl RawLine {
 
     /// The line once more in a line buffer, which cuts it into cells.
     pub fn cut_into(&self, line: &mut LineBuf)
-        ensures { line.new.ended ≢ LineEnd.Open }
+        requires { IsOfLine self.now }
+        ensures { line.new ≡ held_raw self.now }
     {
         line.clear();
-        let mut taken = line.take(self.bytes.as_slice());
-        if self.is_too_long && matches!(taken.ended, LineEnd::Open) {
-            taken = line.take(b" ");
-        }
-        if matches!(taken.ended, LineEnd::Open) {
+        take_whole(line, self.bytes.as_slice());
+        if self.is_too_long {
+            take_one_more(line);
+        } else {
             line.close();
         }
     }
 
     /// Adds what a piece has of the line, its line feed counted: how many bytes, and whether the line or the input has ended with them.
     fn add_piece(&mut self, piece: &[u8]) -> (usize, bool)
-        ensures { result.0 ≤ length piece.now }
+        requires { self.old.ended ≡ false }
+        ensures within { result.0 ≤ length piece.now }
+        ensures added { AddsPiece self.old self.new piece.now result.0 result.1 }
     {
-        match memchr(LF, piece) {
+        match line_feed(piece) {
             Some(at) => {
                 self.add(&piece[..at]);
                 self.end();
@@ -129,8 +209,10 @@ impl RawLine {
         }
     }
 
-    /// Takes what the reader shows next. The answer is whether the line or the input has ended with that.
+    /// Takes what the reader shows next of an open line. The answer is whether the line or the input has ended with that.
     fn take_piece<R: Source>(&mut self, reader: &mut R) -> Result<bool, DeviceFault>
+        requires { self.old.ended ≡ false }
+        ensures read { IfOk result (ReadsPiece (R.remaining reader.old) (R.remaining reader.new) self.old self.new) }
         ensures taken { TakesMore (R.remaining reader.old) (R.remaining reader.new) }
         ensures failures { CountsOn result (R.failures reader.old) (R.failures reader.new) }
     {
@@ -143,8 +225,10 @@ impl RawLine {
         Ok(has_ended)
     }
 
-    /// Takes what is left of the line, up to its line feed or the end of the input.
+    /// Takes what is left of an open line, up to its line feed or the end of the input.
     fn take_rest<R: Source>(&mut self, reader: &mut R) -> Result<(), DeviceFault>
+        requires { self.old.ended ≡ false }
+        ensures read { IfOk result (λ _. ReadsRest (R.remaining reader.old) (R.remaining reader.new) self.old self.new) }
         ensures taken { TakesMore (R.remaining reader.old) (R.remaining reader.new) }
         ensures failures { CountsOn result (R.failures reader.old) (R.failures reader.new) }
     {
@@ -158,24 +242,35 @@ impl RawLine {
         Ok(())
     }
 
-    /// The line that was read last.
-    fn of_bytes(found: &LineAtEnd<'_>) -> RawLine {
+    /// A line of these bytes, whose line feed was read or not.
+    fn of_bytes(bytes: &[u8], ended: bool, offset: u64) -> RawLine
+        requires { IsFalse (list_any is_lf bytes.now) }
+        ensures held { HoldsRaw bytes.now result }
+        ensures ended { result.ended ≡ ended }
+    {
         let mut line = RawLine::new();
-        line.begin(found.offset);
-        line.add(found.bytes);
-        if found.ended {
+        line.begin(offset);
+        line.add(bytes);
+        if ended {
             line.end();
         }
         line
     }
 
     /// The line that was read last, of which the reader may have more.
-    pub fn of_last<R: Source>(found: &LineAtEnd<'_>, reader: &mut R) -> Result<RawLine, DeviceFault>
+    pub fn of_last<R: Source>(last: &LastBytes, reader: &mut R) -> Result<RawLine, DeviceFault>
+        ensures read { IfOk result (ReadsLast (R.remaining reader.old) (R.remaining reader.new) last.now) }
+        ensures held { IfOk result IsOfLine }
         ensures taken { TakesMore (R.remaining reader.old) (R.remaining reader.new) }
         ensures failures { CountsOn result (R.failures reader.old) (R.failures reader.new) }
     {
-        let mut line = RawLine::of_bytes(found);
-        if line.ended || line.bytes.len() < LONGEST_LINE {
+        let found = line_at_end(last);
+        let mut line = RawLine::of_bytes(
+            before_feed(found.bytes),
+            ends_with_feed(last.as_slice()),
+            found.offset,
+        );
+        if line.ended {
             return Ok(line);
         }
         match line.take_rest(reader) {
@@ -186,6 +281,7 @@ impl RawLine {
 
     /// Reads the line after another one. The answer is whether there is one.
     pub fn read_after<R: Source>(&mut self, end: u64, reader: &mut R) -> Result<bool, DeviceFault>
+        ensures read { IfOk result (ReadsLineIf (R.remaining reader.old) (R.remaining reader.new) self.new) }
         ensures taken { TakesMore (R.remaining reader.old) (R.remaining reader.new) }
         ensures failures { CountsOn result (R.failures reader.old) (R.failures reader.new) }
     {

@@ -1,5 +1,8 @@
 //! What a lint holds between two lines, but for the open transaction's records.
 
+ghost use Rattle.std.specs.Prelude.{◌≡◌};
+ghost use Rattle.cwr_lint.specs.Steps.JudgedLines.{scope_by};
+
 use crate::following::Awaiting;
 use cwr_fields::TransactionType;
 use cwr_layouts::Kind;
@@ -173,13 +176,21 @@ pub(crate) struct LintState {
     pub records: Option<u64>,
     /// By the numbers, the transactions of these.
     pub transactions: u64,
+    /// The further HDRs.
+    pub anew: u64,
+    /// The groups before the last of these, but for one that it cut off.
+    pub groups_before: u64,
+    /// The headers before it.
+    pub headers_before: u64,
     /// Whether TRL was taken.
     pub over: bool,
 }
 
 impl LintState {
     /// What is open.
-    pub fn scope(&self) -> Scope {
+    pub fn scope(&self) -> Scope
+        ensures { result ≡ scope_by self.now.group }
+    {
         match self.group {
             None => Scope::File,
             Some(group) if group.has_line => Scope::Transaction,
@@ -210,6 +221,21 @@ impl LintState {
             None => 0,
         };
         Some(self.records?.saturating_add(open).saturating_add(2))
+    }
+
+    /// The groups of the whole file, further HDRs left out.
+    pub fn all_groups(&self) -> u64 {
+        self.groups_before.saturating_add(self.groups)
+    }
+
+    /// Its headers.
+    pub fn all_headers(&self) -> u64 {
+        self.headers_before.saturating_add(self.headers)
+    }
+
+    /// Its lines.
+    pub fn all_lines(&self) -> u64 {
+        self.lines.saturating_sub(self.anew)
     }
 
     /// By the numbers, its transactions.

@@ -1,5 +1,9 @@
 //! How a lint goes on with one more line.
 
+ghost use Rattle.std.specs.Prelude.{◌≡◌, false};
+ghost use Rattle.cwr_lint.specs.Format.FaultsOfLines.{one_more_line};
+ghost use Rattle.cwr_lint.specs.Steps.JudgedLines.{is_end};
+
 use crate::cells::{number_at, role_in, symbol_in, type_in};
 use crate::following::Awaiting;
 use crate::numbers::{Belonging, Count};
@@ -63,10 +67,15 @@ impl OpenTransaction {
 }
 
 impl OpenGroup {
-    /// With one more line that is no header, of these numbers, and then so many records in the open transaction.
-    fn with_line(&self, transaction: Option<u64>, sequence: Option<u64>, run: u64) -> OpenGroup {
-        let open = self.open_transaction();
-        let belongs = Belonging::of(&open, transaction);
+    /// With one more line that is no header, of these numbers, after which this open transaction has so many records.
+    fn with_line(
+        &self,
+        open: &OpenTransaction,
+        transaction: Option<u64>,
+        sequence: Option<u64>,
+        run: u64,
+    ) -> OpenGroup {
+        let belongs = Belonging::of(open, transaction);
         let next = match self.current {
             Some(_) => self.next,
             None => self.next.passing(open.number.saturating_add(1)),
@@ -97,22 +106,30 @@ impl OpenGroup {
     /// With one more line of the numbers that stand there.
     fn with_numbers_of(&self, line: &CutLine<'_>) -> OpenGroup {
         let sequence = number_at(line, 3);
-        let run = self.open_transaction().run_with(sequence);
-        self.with_line(number_at(line, 2), sequence, run)
+        let open = self.open_transaction();
+        self.with_line(&open, number_at(line, 2), sequence, open.run_with(sequence))
     }
 
-    /// With a line of unknown kind, which may have been a header.
+    /// With a line of unknown kind, which may have been a header: where none came it is taken for one.
     fn with_unknown(&self) -> OpenGroup {
-        let run = self.open_transaction().run.saturating_add(1);
-        self.with_line(Some(self.next.expected), Some(0), run)
+        let open = self.current.unwrap_or(OpenTransaction {
+            next: Awaiting::just(0),
+            ..self.open_transaction()
+        });
+        self.with_line(
+            &open,
+            Some(self.next.expected),
+            Some(0),
+            open.run.saturating_add(1),
+        )
     }
 
     /// With a line of another kind than it says.
     fn with_other(&self, kind: Kind, line: &CutLine<'_>) -> OpenGroup {
         match kind {
             Kind::Hdr | Kind::Grh | Kind::Grt | Kind::Trl => {
-                let run = self.open_transaction().run.saturating_add(1);
-                self.with_line(None, None, run)
+                let open = self.open_transaction();
+                self.with_line(&open, None, None, open.run.saturating_add(1))
             }
             _ => self.with_numbers_of(line),
         }
@@ -182,6 +199,7 @@ impl LintState {
 
     /// After a further HDR.
     fn opened_anew(&self) -> LintState {
+        let cut_off = if self.group.is_some() { 1 } else { 0 };
         LintState {
             lines: self.lines,
             stage: None,
@@ -193,6 +211,9 @@ impl LintState {
             headers: 0,
             records: Some(0),
             transactions: 0,
+            anew: self.anew.saturating_add(1),
+            groups_before: self.all_groups().saturating_sub(cut_off),
+            headers_before: self.all_headers(),
             over: false,
         }
     }
@@ -344,7 +365,6 @@ impl LintState {
             (Taking::ClosesGroup | Taking::ClosesNone, _) => self.with_unseen(line),
             (Taking::Ends, _) => LintState {
                 stage: Some(Stage::Ended),
-                over: true,
                 ..*self
             },
             (Taking::Further, _) => self.with_further(kind, line),
@@ -352,31 +372,37 @@ impl LintState {
         }
     }
 
-    /// With one line more that was read.
-    fn counted(&self) -> LintState {
-        LintState {
-            lines: self.lines.saturating_add(1),
-            since: self.since.saturating_add(1),
-            ..*self
-        }
-    }
-
     /// Goes on with a line of the kind, taken so.
-    pub fn step(&mut self, taken: Taking, misplaced: bool, kind: Kind, line: &CutLine<'_>) {
-        *self = self.after(taken, misplaced, kind, line).counted();
+    pub fn step(&mut self, taken: Taking, misplaced: bool, kind: Kind, line: &CutLine<'_>)
+        ensures lines { self.new.lines ≡ one_more_line self.old.lines }
+        ensures over { self.new.over ≡ is_end taken }
+    {
+        let after = self.after(taken, misplaced, kind, line);
+        *self = LintState {
+            lines: self.lines.saturating_add(1),
+            since: after.since.saturating_add(1),
+            over: matches!(taken, Taking::Ends),
+            ..after
+        };
     }
 
     /// Goes on with a line of unknown kind. One of spaces alone is no record: nothing else changes.
-    pub fn step_unknown(&mut self, is_blank: bool) {
-        let counted = self.counted();
-        *self = if is_blank {
-            counted
+    pub fn step_unknown(&mut self, is_blank: bool)
+        ensures lines { self.new.lines ≡ one_more_line self.old.lines }
+        ensures over { self.new.over ≡ false }
+    {
+        let (stage, group) = if is_blank {
+            (self.stage, self.group)
         } else {
-            LintState {
-                stage: None,
-                group: self.group.map(|group| group.with_unknown()),
-                ..counted
-            }
+            (None, self.group.map(|group| group.with_unknown()))
+        };
+        *self = LintState {
+            lines: self.lines.saturating_add(1),
+            since: self.since.saturating_add(1),
+            stage,
+            group,
+            over: false,
+            ..*self
         };
     }
 }

@@ -1,5 +1,8 @@
 //! What a lint takes a line for.
 
+ghost use Rattle.std.specs.Prelude.{◌≡◌, true, false};
+ghost use Rattle.cwr_lint.specs.Steps.JudgedLines.{is_end};
+
 use crate::cells::{has_version, number_at, symbol_in, type_in, type_of_header};
 use crate::numbers::Count;
 use crate::states::{LintState, OpenGroup, OpenTransaction};
@@ -49,10 +52,8 @@ fn is_other_grt(group: &OpenGroup, line: &CutLine<'_>) -> bool {
 
 /// Whether the line bears nothing of TRL, and something stands after it.
 fn is_other_trl(state: &LintState, line: &CutLine<'_>) -> bool {
-    let groups = number_at(line, 2);
     line.excess()
-        && groups != Some(state.groups)
-        && groups != Some(state.last_id)
+        && !Count::of_groups(state).is_borne_by(number_at(line, 2))
         && !Count::of_all_records(state).is_borne_by(number_at(line, 4))
 }
 
@@ -109,7 +110,9 @@ fn taking_of_header(
     ty: TransactionType,
     kind: Kind,
     line: &CutLine<'_>,
-) -> Taking {
+) -> Taking
+    ensures { is_end result ≡ false }
+{
     let Some(group) = state.group else {
         return if is_first(line) || number_at(line, 3).is_none() {
             Taking::Header(ty)
@@ -126,8 +129,23 @@ fn taking_of_header(
     }
 }
 
+/// What a line of no header's kind is taken for. One with the numbers of the next header is of another kind.
+fn taking_of_further(state: &LintState, line: &CutLine<'_>) -> Taking
+    ensures { is_end result ≡ false }
+{
+    match &state.group {
+        Some(group)
+            if group.current.is_some()
+                && is_first(line)
+                && number_at(line, 2) == Some(group.next.expected) => Taking::Other,
+        _ => Taking::Further,
+    }
+}
+
 /// What a GRT is taken for.
-fn taking_of_foot(state: &LintState, line: &CutLine<'_>) -> Taking {
+fn taking_of_foot(state: &LintState, line: &CutLine<'_>) -> Taking
+    ensures { is_end result ≡ false }
+{
     match &state.group {
         None => Taking::ClosesNone,
         Some(group) => {
@@ -142,7 +160,9 @@ fn taking_of_foot(state: &LintState, line: &CutLine<'_>) -> Taking {
 
 impl Taking {
     /// What a line of the kind is taken for.
-    pub fn of(state: &LintState, kind: Kind, line: &CutLine<'_>) -> Taking {
+    pub fn of(state: &LintState, kind: Kind, line: &CutLine<'_>) -> Taking
+        ensures { is_end result ≡ true → kind ≡ Kind.Trl }
+    {
         match kind {
             Kind::Hdr if state.lines == 0 => Taking::Opens,
             Kind::Hdr if is_other_hdr(line) => Taking::Other,
@@ -154,7 +174,7 @@ impl Taking {
             Kind::Trl => Taking::Ends,
             _ => match type_of_header(kind) {
                 Some(ty) => taking_of_header(state, ty, kind, line),
-                None => Taking::Further,
+                None => taking_of_further(state, line),
             },
         }
     }

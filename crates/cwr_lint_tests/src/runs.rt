@@ -12,7 +12,8 @@ use std::process::Abort;
 /// The lines of a transmission, and what a lint writes of it.
 type Linted = (&'static [&'static [u8]], &'static str);
 
-/// A good one, one of whose transactions has no writer and whose last count is wrong, and one that ends too early.
+/// A good one, one of whose transactions has no writer and whose last count is wrong, and one that ends too early; one with an HDR
+/// between its groups, and one whose header is of unknown kind, with a wrong number after it.
 const LINTED: &[Linted] = &[
     (
         ONE_ACKNOWLEDGEMENT,
@@ -49,6 +50,34 @@ const LINTED: &[Linted] = &[
          TRUNCATED records 6\n\
          FAULTS 1 findings 0 records 6\n",
     ),
+    (
+        &[
+            HDR,
+            GRH_ACK,
+            ACK_0,
+            b"GRT000010000000100000003",
+            HDR,
+            b"GRHACK0000202.100000000001",
+            ACK_0,
+            b"GRT000020000000100000003",
+            b"TRL000020000000200000008",
+        ],
+        "FAULT record 5 field 1 level E misplaced\n\
+         FAULTS 1 findings 0 records 9\n",
+    ),
+    (
+        &[
+            HDR,
+            GRH_NWR,
+            b"NWX0000000000000000",
+            b"IND0000000000000002GUITAR",
+            b"GRT000010000000100000004",
+            b"TRL000010000000100000006",
+        ],
+        "FAULT record 3 field 1 level G unknown kind\n\
+         FAULT record 4 field 3 level T number expected 1\n\
+         FAULTS 2 findings 0 records 6\n",
+    ),
 ];
 
 /// What a lint of a text writes to a writer of so much room, and what it answers, where the reader fails after so many reads.
@@ -70,7 +99,7 @@ fn linted(
 
 /// The text of a row.
 fn text_of(rt: &(impl Abort + AllocGlobal), row: usize) -> Vec<u8> {
-    canonical(rt.alloc(), LINTED[row % 3].0).expect(&rt, "memory for a text")
+    canonical(rt.alloc(), LINTED[row % 5].0).expect(&rt, "memory for a text")
 }
 
 #[test]

@@ -32,7 +32,7 @@ use Rattle.cwr_program.specs.declared.faults.Fault.TheVariants as faults
 use Rattle.cwr_program.specs.declared.reports.Judgement.{Judgement}
 use Rattle.cwr_program.specs.Format.Endings.{EndsOnInput, FallsShort, IsStatusOn, Meets}
 use Rattle.cwr_program.specs.Format.Inputs.{are_standard, is_standard}
-use Rattle.cwr_program.specs.Steps.Looks.{IsLook, JudgesOn, LooksAfter, LooksOnce, follows, good_status, judged_with, judgement_in, look_of, plain_status, status_after, status_in}
+use Rattle.cwr_program.specs.Steps.Looks.{IsLook, JudgesOn, LooksAfter, LooksOnce, follows, good_status, judged_with, judgement_in, look_of, status_after, status_in}
 
 -- ---- what stands after a transmission
 
@@ -195,15 +195,3 @@ one_standard : (names : List (List ℕ)) → are_standard names ≡ true → 1 <
 one_standard [] e h = absurd (omega (arith, h))
 one_standard (name ∷ []) e h = absurd (omega (arith, h))
 one_standard (name ∷ other ∷ names) e h = absurd (true≢false (sym e))
-
-plain_ends : (limits : Limits) (before : Option (List ℕ)) (verdict : Verdict) → JudgesText limits before (Ok verdict) → EndsOnInput limits (record { whole = false; fail_on = None }) before (Ok (plain_status verdict))
-plain_ends limits None verdict judged = tt
-plain_ends limits (Some text) (verdicts.Good groups transactions records) judged =
-    (judged.0, judged.1, judged.2, record { whole = λ w. absurd (true≢false (sym w)); calm = none_from (value_items judged.0) })
-plain_ends limits (Some text) (verdicts.Refused refusal) judged = inl (refusal, judged)
-plain_ends limits (Some text) (verdicts.Truncated records) judged = inr (inl (records, judged))
-
--- where nothing else is wanted
-pub lint_ends : (limits : Limits) (before : Option (List ℕ)) (outcome : Result Verdict ToolFault) (verdict : Verdict) → outcome ≡ Ok verdict → JudgesText limits before outcome
-    → EndsOnInput limits (record { whole = false; fail_on = None }) before (Ok (plain_status verdict))
-lint_ends limits before outcome verdict e judged = plain_ends limits before verdict (subst (JudgesText limits before) e judged)

@@ -2,7 +2,7 @@
 
 ghost use Rattle.std.specs.Prelude.{◌≡◌};
 ghost use Rattle.cwr_program.specs.Format.Endings.{EndsAfterFault};
-ghost use Rattle.cwr_program.specs.Steps.Looks.{follows, plain_status, status_in};
+ghost use Rattle.cwr_program.specs.Steps.Looks.{follows, status_in};
 
 use crate::faults::{Fault, Told};
 use cwr_explain::Trailing;
@@ -47,16 +47,6 @@ pub(crate) fn follows(trailing: &Trailing) -> bool
     ensures { result ≡ follows trailing.now }
 {
     trailing.bytes > 0 || !trailing.is_all
-}
-
-/// The status of a verdict, where nothing else is wanted.
-pub(crate) fn plain_status(verdict: &Verdict) -> Status
-    ensures { result ≡ plain_status verdict.now }
-{
-    match verdict {
-        Verdict::Good { .. } => Status::Good,
-        Verdict::Refused(_) | Verdict::Truncated { .. } => Status::Refused,
-    }
 }
 
 /// The status of a verdict, where `found` says whether a finding came that is unwanted. `None` where nothing may follow the

@@ -7,7 +7,6 @@ mod file_lines;
 mod imports;
 mod inputs;
 mod joins;
-mod lints;
 mod manual;
 mod new_files;
 mod outputs;

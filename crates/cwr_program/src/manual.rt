@@ -57,14 +57,18 @@ COMMANDS
               Status 1 where a finding has that level or a worse one: F, R, T,
               G or E.
 
-   cwr lint [OPTIONS] [FILE]
-       Tells every fault of a transmission in one pass, where `cwr check`
-       stops at the first. Each has a line, by record and then by field, and
-       so has each finding. A line with their numbers is last. Where there is
-       no fault it prints what `cwr check` prints.
+   cwr lint [OPTIONS] [FILE]...
+       Tells every fault of transmissions in one pass, where `cwr check` stops
+       at the first. Each has a line, by record and then by field, and so has
+       each finding. A line with their numbers is last. Where there is no
+       fault it prints what `cwr check` prints. Several files are told as `cwr
+       check` tells them.
 
        --explain
               Explains each fault and each finding.
+
+       --quiet
+              Prints only what isn't good, and the sums.
 
    cwr json [OPTIONS] [FILE]
        Writes the data of a transmission as lines of JSON to standard output,

@@ -1,6 +1,6 @@
 //! The program between its words and its devices.
 
-ghost use Rattle.std.specs.Prelude.{◌≡◌, ◌≢◌, ◌≤◌, map, true};
+ghost use Rattle.std.specs.Prelude.{◌≡◌, ◌≢◌, ◌≤◌, map, true, None};
 ghost use Rattle.clap.specs.Values.{kind_of};
 ghost use Rattle.cwr_program.specs.Format.Endings.{EndsOnInput, IsOfInput, fault_status, wanted_in};
 ghost use Rattle.cwr_program.specs.Format.Inputs.{are_standard};
@@ -8,9 +8,8 @@ ghost use Rattle.cwr_program.specs.Format.Inputs.{are_standard};
 use crate::endings::{Status, Wanted};
 use crate::faults::{Fault, tell_fault};
 use crate::imports::{import_file, import_input};
-use crate::inputs::{DASH, Input, open_input, shown_name};
+use crate::inputs::{DASH, Input, open_input};
 use crate::joins::{Union, join_files};
-use crate::lints::lint_input;
 use crate::outputs::print_manual;
 use crate::progress::{Pace, Progress};
 use crate::reports::{Asked, Telling, report_input, telling_of};
@@ -138,6 +137,7 @@ fn judge<'a, R: Files + AllocGlobal, I: Read + Drop, P: Pace, O: Write + Drop, E
     output: O,
     error: &mut E,
 ) -> Result<Status, Fault<'a>>
+    requires { asked.now.faults ≡ true → asked.now.wanted.fail_on ≡ None }
     ensures { are_standard (map (λ name. name.now) names.now) ≡ true → EndsOnInput asked.now.limits asked.now.wanted (I.remaining standard) result }
 {
     if names.len() > 1 {
@@ -145,7 +145,7 @@ fn judge<'a, R: Files + AllocGlobal, I: Read + Drop, P: Pace, O: Write + Drop, E
     }
     let name = names.first().copied();
     let input = open_input(rt, name, &mut Some(standard), &mut *pace)?;
-    let telling = telling_of(explained, name.unwrap_or(DASH));
+    let telling = telling_of(asked, explained, name.unwrap_or(DASH));
     report_input(asked, telling, input, output, error)
 }
 
@@ -168,6 +168,7 @@ fn perform<'a, R: Files + AllocGlobal, I: Read + Drop, P: Pace, O: Write + Drop,
             fail_on: None,
         },
         quiet: false,
+        faults: false,
     };
     let (judging, explained) = match &task.work {
         Work::Check(judging) => (judging, false),
@@ -176,10 +177,15 @@ fn perform<'a, R: Files + AllocGlobal, I: Read + Drop, P: Pace, O: Write + Drop,
             let input = open_input(rt, *file, &mut Some(standard), &mut *pace)?;
             return report_input(&asked, Telling::Records, input, output, error);
         }
-        Work::Lint { file, explained } => {
-            let input = open_input(rt, *file, &mut Some(standard), &mut *pace)?;
-            let name = shown_name(file.unwrap_or(DASH));
-            return lint_input(&asked, explained.then_some(name), input, output);
+        Work::Lint {
+            files,
+            quiet,
+            explained,
+        } => {
+            asked.quiet = *quiet;
+            asked.faults = true;
+            let names = files.as_slice();
+            return judge(rt, &asked, *explained, names, standard, pace, output, error);
         }
         Work::Json { file, numbers } => {
             let telling = Telling::Data { numbers: *numbers };

@@ -1,6 +1,6 @@
 //! Transmissions that are judged, shown, or written as data.
 
-ghost use Rattle.std.specs.Prelude.{◌≡◌, true, false, OnOk, None};
+ghost use Rattle.std.specs.Prelude.{◌≡◌, true, false, not, OnOk, None};
 ghost use Rattle.cwr_tools.specs.Format.Verdicts.{JudgesText};
 ghost use Rattle.cwr_tools.specs.Format.Watching.{SeesAccepted};
 ghost use Rattle.cwr_program.specs.Format.Endings.{EndsOnInput};
@@ -16,6 +16,7 @@ use crate::progress::Pace;
 use cwr_encode::{Sink, SinkFault};
 use cwr_explain::{Trailing, explain, read_trailing};
 use cwr_fields::{Counted, Source, Target};
+use cwr_lint::lint;
 use cwr_shape::Limits;
 use cwr_tools::{ToolFault, Verdict, Watch, check_watched, json, put_verdict_line, show};
 use std::alloc::Global;
@@ -29,6 +30,8 @@ pub(crate) enum Telling<'a> {
     Findings,
     /// The same with what explains them, in which the input has that name.
     Explained(&'a str),
+    /// Every fault in the place of a refusal; with what explains them where the input's name is given.
+    Faults(Option<&'a str>),
     /// The records with their cells, and the verdict.
     Records,
     /// The data as lines of JSON, and the verdict to standard error.
@@ -38,14 +41,15 @@ pub(crate) enum Telling<'a> {
     },
 }
 
-/// What a check tells of an input, where it is explained too.
-pub(crate) fn telling_of(explained: bool, word: &str) -> Telling<'_>
-    ensures { tells_findings result ≡ true }
+/// What is told of an input that is judged, where it is explained too.
+pub(crate) fn telling_of<'a>(asked: &Asked, explained: bool, word: &'a str) -> Telling<'a>
+    ensures { tells_findings result ≡ not asked.now.faults }
 {
-    if explained {
-        Telling::Explained(shown_name(word))
-    } else {
-        Telling::Findings
+    let name = shown_name(word);
+    match (asked.faults, explained) {
+        (true, _) => Telling::Faults(explained.then_some(name)),
+        (false, true) => Telling::Explained(name),
+        (false, false) => Telling::Findings,
     }
 }
 
@@ -57,6 +61,8 @@ pub(crate) struct Asked {
     pub(crate) wanted: Wanted,
     /// Nothing is written of what is good.
     pub(crate) quiet: bool,
+    /// Every fault is told.
+    pub(crate) faults: bool,
 }
 
 /// What was made of an input that could be read: the verdict, what stands after it, and the status.
@@ -120,6 +126,11 @@ fn tell<R: Source, W: Target + Drop>(
         Telling::Explained(name) => {
             let (writer, outcome, found) = explain(alloc, limits, name, watch, reader, writer);
             (writer, outcome, look_of(found))
+        }
+        Telling::Faults(name) => {
+            let (writer, outcome) = lint(alloc, limits, name, reader, writer);
+            let look = look_after(reader, &outcome);
+            (writer, outcome, look)
         }
         Telling::Records => {
             let (writer, outcome) = show(alloc, limits, reader, writer);
@@ -222,7 +233,11 @@ pub(crate) fn tell_aside<E: Write>(
     match telling {
         // What follows stands in the explanation.
         Telling::Explained(_) => {}
-        Telling::Findings | Telling::Records => tell_following(error, name, &judgement.look),
+        Telling::Findings | Telling::Faults(_) | Telling::Records => tell_following(
+            error,
+            name,
+            &judgement.look,
+        ),
         Telling::Data { .. } => {
             // What standard error doesn't take is lost.
             let _ = put_verdict_line(

@@ -1,5 +1,7 @@
 //! Several files that are judged one after another.
 
+ghost use Rattle.std.specs.Prelude.{◌≡◌, true, None};
+
 use crate::endings::Status;
 use crate::faults::{Fault, Name, tell_fault};
 use crate::file_lines::FileLines;
@@ -80,7 +82,9 @@ pub(crate) fn report_several<'a, R: Files, I: Read + Drop, P: Pace, O: Write + D
     pace: &mut P,
     output: O,
     error: &mut E,
-) -> Result<Status, Fault<'a>> {
+) -> Result<Status, Fault<'a>>
+    requires { asked.now.faults ≡ true → asked.now.wanted.fail_on ≡ None }
+{
     let mut lines = match gathered(asked.alloc, output, Name::StandardOutput) {
         Ok(lines) => lines,
         Err(_) => return Err(Fault::Memory),
@@ -96,7 +100,7 @@ pub(crate) fn report_several<'a, R: Files, I: Read + Drop, P: Pace, O: Write + D
                 continue;
             }
         };
-        let telling = telling_of(explained, name);
+        let telling = telling_of(asked, explained, name);
         let marked = FileLines::new(lines, Some(shown_name(name)), asked.quiet);
         let (marked, judged, told) = judge_input(asked, telling, input, marked);
         match judged {

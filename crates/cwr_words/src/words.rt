@@ -34,10 +34,12 @@ pub enum Work<'a> {
     Show(Option<&'a str>),
     /// They are checked, and what is found is explained.
     Explain(Judging<'a>),
-    /// Every fault of one is told.
+    /// Every fault of them is told.
     Lint {
-        /// The name of the transmission's file, or none for that on standard input.
-        file: Option<&'a str>,
+        /// The names of the transmissions' files; without one standard input is read.
+        files: Vec<&'a str>,
+        /// Only what isn't good is printed.
+        quiet: bool,
         /// With an explanation of each.
         explained: bool,
     },
@@ -254,15 +256,15 @@ fn over_many<'a>(alloc: Global, name: &'a str, about: &'a str) -> Result<Command
 /// The subcommand that tells every fault.
 fn linting<'a>(alloc: Global) -> Result<Command<'a>, AllocError> {
     let explained = flag(alloc, EXPLAINED, "Explains each fault and each finding");
-    let file = Arg::new(alloc, FILE).help(
-        "The transmission; without it standard input is read, as it is for -",
+    let quiet = flag(alloc, QUIET, "Prints only what isn't good");
+    let files = Arg::new(alloc, FILE).num_args(1..).help(
+        "The transmissions; without one standard input is read, as it is for -",
     );
-    let command = Command::new(alloc, LINT).about(
-        "Tells every fault of a transmission in one pass",
-    );
-    with_progress(alloc, with_limits(alloc, command)?)?
+    let command = Command::new(alloc, LINT).about("Tells every fault of transmissions in one pass");
+    with_reading(alloc, command)?
         .arg(explained)?
-        .arg(file)
+        .arg(quiet)?
+        .arg(files)
 }
 
 /// The subcommand that writes JSON.
@@ -464,13 +466,14 @@ fn judging_in<'a>(alloc: Global, given: &ArgMatches<'a>) -> Result<Judging<'a>, 
 }
 
 /// The work of a lint.
-fn lint_in<'a>(given: &ArgMatches<'a>) -> Work<'a>
-    ensures { IsLintOf (found_of given.now) result }
+fn lint_in<'a>(alloc: Global, given: &ArgMatches<'a>) -> Result<Work<'a>, AllocError>
+    ensures { IfOk result (IsLintOf (found_of given.now)) }
 {
-    Work::Lint {
-        file: given.get_str(FILE),
+    Ok(Work::Lint {
+        files: names_in(alloc, given)?,
+        quiet: given.get_flag(QUIET),
         explained: given.get_flag(EXPLAINED),
-    }
+    })
 }
 
 /// The work of an export.
@@ -532,7 +535,7 @@ fn work_in<'a>(
     if name == SPLIT {
         Ok(split_in(given))
     } else if name == LINT {
-        Ok(Some(lint_in(given)))
+        Ok(Some(lint_in(alloc, given)?))
     } else if name == JSON {
         Ok(Some(export_in(given)))
     } else if name == WRITE {

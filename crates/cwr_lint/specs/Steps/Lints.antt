@@ -1,6 +1,6 @@
 -- What a whole lint has written and taken.
-use Rattle.std.specs.Prelude.{◌≡◌, ℕ, Bool, List, ◌++◌, Option, Result, Ok, Err}
-use Rattle.std.specs.Io.KnownBytes.{Appends, Consumes}
+use Rattle.std.specs.Prelude.{◌≡◌, ◌⊎◌, ℕ, ◌+◌, ◌-◌, ◌^◌, ◌≤◌, Bool, true, false, List, ◌∷◌, ◌++◌, length, Option, IfSome, Result, Ok, Err}
+use Rattle.std.specs.Io.KnownBytes.{Appends, Consumes, IsAtEnd}
 use Rattle.cwr_fields.specs.Format.Failures.{one_more_failure}
 use Rattle.cwr_shape.specs.declared.limits.Limits.{Limits}
 use Rattle.cwr_judge.specs.declared.refusals.Refusal.{Refusal}
@@ -15,6 +15,8 @@ use Rattle.cwr_tools.specs.Format.Reports.{lines_checked, lines_up_to_fault}
 use Rattle.cwr_tools.specs.Steps.Reports.{Reports}
 use Rattle.cwr_tools.specs.Steps.Verdicts.{StopsAfter}
 use Rattle.cwr_lint.specs.Format.Told.{IsTold}
+use Rattle.cwr_lint.specs.Steps.LinesRead.{IsTextOf}
+use Rattle.cwr_lint.specs.Steps.Runs.{EndsAtTrl}
 
 -- First a check is made, and what it writes is written, but no line of a refusal: with all that is said of a check of these bytes. Then
 -- words follow it; after a fault of the check there are none. More bytes may be taken from the reader.
@@ -29,16 +31,30 @@ pub record Lints {W : Type 0} (explained : Bool) (limits : Limits) (before after
   pub taken : Consumes left after more
   pub answered : IsAnswerAfter checked result
 
--- the text was refused so, after these items, and their lines were written and then what is told
+-- These bytes were read: the text of lines, of which this one is refused, and those follow it.
+pub record AreLinesRead (refusal : Refusal) (bytes : List ℕ) (refused : List ℕ) (lines : List (List ℕ)) : Type 0 where
+  pub front : List (List ℕ)
+  pub number : refusal.rec ≡ length front + 1
+  pub last : Bool
+  pub text : IsTextOf last bytes (front ++ refused ∷ lines)
+
+-- The text was refused so, after these items, and their lines were written and then what is told of the line that is refused and of those after
+-- it. Where the text's bytes are known these are its lines, up to a TRL or to its end.
 pub record TellsFaults {W : Type 0} (explained : Bool) (limits : Limits) (before after : Option (List ℕ)) (contents : W → Option (List ℕ)) (old new : W) (refusal : Refusal) : Type 0 where
   pub given : List Item
   pub left : Option (List ℕ)
   pub stopped : StopsAfter limits (read_faults.Refused refusal) before left given
   pub more : List ℕ
   pub taken : Consumes left after more
+  pub refused : List ℕ
+  pub lines : List (List ℕ)
+  pub over : Bool
   pub text : List ℕ
-  pub told : IsTold refusal text
+  pub told : IsTold explained refusal refused lines over text
   pub written : Appends (contents old) (contents new) ((lines_checked explained).lines given ++ text)
+  pub read : IfSome before (λ known. (bytes : List ℕ) × Consumes before after bytes × AreLinesRead refusal bytes refused lines)
+  pub ends : over ≡ true → EndsAtTrl (refused ∷ lines)
+  pub all : over ≡ false → IfSome before (λ known. IsAtEnd after ⊎ (2 ^ 64 - 1 ≤ length known))
 
 -- Of a text that is refused the faults are told, and the refusal first. Of any other what a check writes is written, and nothing else: the
 -- findings of the items, and the line of the verdict.

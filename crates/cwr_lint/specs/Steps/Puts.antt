@@ -1,7 +1,8 @@
 -- What the steps of a lint put to a sink and take from a reader.
-use Rattle.std.specs.Prelude.{◌≡◌, ℕ, false, List, ◌++◌, Option, Result, Ok, Err, OnOk}
+use Rattle.std.specs.Prelude.{◌≡◌, ℕ, false, List, ◌++◌, Option, Result, Ok, Err, IfOk, OnOk}
 use Rattle.cwr_fields.specs.Format.Failures.{one_more_failure}
 use Rattle.cwr_encode.specs.declared.sinks.Sink.{Sink}
+use Rattle.cwr_encode.specs.declared.sinks.SinkFault.{SinkFault}
 use Rattle.cwr_encode.specs.Steps.Sinks.{HasWritten, has_failed, writer_of}
 use Rattle.cwr_explain.specs.Format.Explained.{TakesMore}
 use Rattle.cwr_tools.specs.declared.verdicts.ToolFault.{ToolFault}
@@ -28,12 +29,14 @@ PutsSome contents failures result old new = (text : List ℕ) × PutsAfter conte
 abbrev pub PutsSuch : {W A : Type 0} → (List ℕ → Type 0) → (W → Option (List ℕ)) → (W → ℕ) → Result A ToolFault → Sink W → Sink W → Type 0
 PutsSuch P contents failures result old new = (text : List ℕ) × PutsAfter contents failures text result old new × OnOk result (P text)
 
--- the text begins with the line, or ends with it
-abbrev pub BeginsWith : List ℕ → List ℕ → Type 0
-BeginsWith line text = (more : List ℕ) × (text ≡ line ++ more)
+-- a text is put that goes with what is answered
+abbrev pub PutsWith : {W A : Type 0} → (A → List ℕ → Type 0) → (W → Option (List ℕ)) → (W → ℕ) → Result A ToolFault → Sink W → Sink W → Type 0
+PutsWith P contents failures result old new = (text : List ℕ) × PutsAfter contents failures text result old new × IfOk result (λ x. P x text)
 
-abbrev pub EndsWith : List ℕ → List ℕ → Type 0
-EndsWith line text = (more : List ℕ) × (text ≡ more ++ line)
+-- the answer of a sink, as one of a run
+abbrev pub tool_result : Result (Unit {0}) SinkFault → Result (Unit {0}) ToolFault
+tool_result (Ok u) = Ok u
+tool_result (Err fault) = Err (Writer fault.written)
 
 -- the failures of a reader and of a writer: only that of the one whose fault is answered counts one more
 abbrev pub CountsBoth : {A : Type 0} → Result A ToolFault → ℕ → ℕ → ℕ → ℕ → Type 0
@@ -50,10 +53,6 @@ pub record ReadsAndPuts {W A : Type 0} (left after : Option (List ℕ)) (reader 
   pub unfailed : OnOk result (has_failed new ≡ false)
   pub counts : CountsBoth result reader read (failures (writer_of old)) (failures (writer_of new))
 
--- such a text
-abbrev pub ReadsAndPutsSuch : {W A : Type 0} → (List ℕ → Type 0) → Option (List ℕ) → Option (List ℕ) → ℕ → ℕ → (W → Option (List ℕ)) → (W → ℕ) → Result A ToolFault → Sink W → Sink W → Type 0
-ReadsAndPutsSuch P left after reader read contents failures result old new = (text : List ℕ) × ReadsAndPuts left after reader read contents failures text result old new × OnOk result (P text)
-
--- any text
-abbrev pub IsAny : List ℕ → Type 0
-IsAny text = Unit {0}
+-- such a text goes with what is answered
+abbrev pub ReadsAndPutsWith : {W A : Type 0} → (A → List ℕ → Type 0) → Option (List ℕ) → Option (List ℕ) → ℕ → ℕ → (W → Option (List ℕ)) → (W → ℕ) → Result A ToolFault → Sink W → Sink W → Type 0
+ReadsAndPutsWith P left after reader read contents failures result old new = (text : List ℕ) × ReadsAndPuts left after reader read contents failures text result old new × IfOk result (λ x. P x text)

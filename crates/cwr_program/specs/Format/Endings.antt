@@ -80,14 +80,14 @@ IsOfInput (Check judging) = are_standard (map (λ name. name.now) judging.files.
 IsOfInput (Explain judging) = are_standard (map (λ name. name.now) judging.files.items) ≡ true
 IsOfInput (Show file) = is_standard (option_map (λ name. name.now) file) ≡ true
 IsOfInput (Json file numbers) = is_standard (option_map (λ name. name.now) file) ≡ true
-IsOfInput (Lint file explained) = is_standard (option_map (λ name. name.now) file) ≡ true
+IsOfInput (Lint files quiet explained) = are_standard (map (λ name. name.now) files.items) ≡ true
 IsOfInput work = ⊥
 
 -- what is wanted of the transmission: the options of a judgement say which findings end it
 abbrev pub wanted_in : Bool → Work → Wanted
 wanted_in whole (Check judging) = record { whole = whole; fail_on = judging.fail_on }
 wanted_in whole (Explain judging) = record { whole = whole; fail_on = judging.fail_on }
-wanted_in whole (Lint file explained) = record { whole = false; fail_on = None }
+wanted_in whole (Lint files quiet explained) = record { whole = whole; fail_on = None }
 wanted_in whole work = record { whole = whole; fail_on = None }
 
 -- the status of a fault: what was to be written may not be, or a file, a device or memory failed

@@ -64,6 +64,7 @@ look_of (Some trailing) = looks.Found trailing
 abbrev pub tells_findings : Telling → Bool
 tells_findings tellings.Findings = true
 tells_findings (tellings.Explained name) = true
+tells_findings (tellings.Faults name) = false
 tells_findings tellings.Records = false
 tells_findings (tellings.Data numbers) = false
 
@@ -84,9 +85,3 @@ judged_with verdict look None = Err tool_faults.Reader
 abbrev pub judgement_in : Wanted → Result Verdict ToolFault → Look → Bool → Result Judgement ToolFault
 judgement_in wanted (Ok verdict) look found = judged_with verdict look (status_in wanted verdict look found)
 judgement_in wanted (Err fault) look found = Err fault
-
--- the status of a verdict, where nothing else is wanted
-abbrev pub plain_status : Verdict → Status
-plain_status (Good groups transactions records) = statuses.Good
-plain_status (Refused refusal) = statuses.Refused
-plain_status (Truncated records) = statuses.Refused

@@ -53,7 +53,7 @@ abbrev pub IsSplitOf : Found → Work → Type 0
 IsSplitOf found (Check judging) = ⊥
 IsSplitOf found (Show file) = ⊥
 IsSplitOf found (Explain judging) = ⊥
-IsSplitOf found (Lint file explained) = ⊥
+IsSplitOf found (Lint files quiet explained) = ⊥
 IsSplitOf found (Json file numbers) = ⊥
 IsSplitOf found (Write file out line) = ⊥
 IsSplitOf found (Split transactions file prefix only_new) =
@@ -64,7 +64,7 @@ IsSplitOf found Manual = ⊥
 
 -- every fault of the file FILE, explained where that flag is given
 abbrev pub IsLintOf : Found → Work → Type 0
-IsLintOf found (Lint file explained) = (option_map (λ f. f.now) file ≡ first_value found (codes "FILE")) × IsFlagOf found (codes "explain") explained
+IsLintOf found (Lint files quiet explained) = AreNamesOf found (map (λ name. name.now) files.items) × IsFlagOf found (codes "quiet") quiet × IsFlagOf found (codes "explain") explained
 IsLintOf found work = ⊥
 
 -- the data of the file FILE, with numbers where that flag is given
@@ -92,7 +92,7 @@ abbrev pub IsWorkOf : List ℕ → Found → Work → Type 0
 IsWorkOf name found (Check judging) = (bytes_eq name (codes "show") ≡ false) × (bytes_eq name (codes "explain") ≡ false) × IsJudgingOf found judging
 IsWorkOf name found (Show file) = (bytes_eq name (codes "show") ≡ true) × (option_map (λ f. f.now) file ≡ first_value found (codes "FILE"))
 IsWorkOf name found (Explain judging) = (bytes_eq name (codes "explain") ≡ true) × IsJudgingOf found judging
-IsWorkOf name found (Lint file explained) = (bytes_eq name (codes "lint") ≡ true) × IsLintOf found (Lint file explained)
+IsWorkOf name found (Lint files quiet explained) = (bytes_eq name (codes "lint") ≡ true) × IsLintOf found (Lint files quiet explained)
 IsWorkOf name found (Json file numbers) = (bytes_eq name (codes "json") ≡ true) × IsExportOf found (Json file numbers)
 IsWorkOf name found (Write file out line) = (bytes_eq name (codes "write") ≡ true) × IsImportOf found (Write file out line)
 IsWorkOf name found (Split transactions file prefix only_new) = (bytes_eq name (codes "split") ≡ true) × IsSplitOf found (Split transactions file prefix only_new)

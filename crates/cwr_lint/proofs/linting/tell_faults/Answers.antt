@@ -1,14 +1,17 @@
 use Rattle.std.proofs.Common.{[], subst}
+use Rattle.std.specs.Option.{is_some}
 use Rattle.cwr_tools.specs.Format.Reports.{CountsWriterFault}
+use Rattle.cwr_lint.specs.Steps.Runs.{TellsRun}
 use Rattle.cwr_lint.proofs.TextsTold.{ends_answer, ends_reader, ends_told, ends_words, ends_writer}
 use Rattle.cwr_lint.proofs.linting.tell_faults.Goals as goal
 
-pub run-told-requires : goal.run-told-requires
-run-told-requires g c = c.new-sink.ensures.unfailed
+pub run-told-requires-clause-unfailed : goal.run-told-requires-clause-unfailed
+run-told-requires-clause-unfailed g c = c.new-sink.ensures.unfailed
 
 pub returns-clause-told : goal.returns-clause-told
 returns-clause-told g c = let told = c.run-told.ensures in
-    ends_told g.W.Target.contents (g.W.Target.contents c.args.writer) c.finish.result.0 c.args.refusal told.0 c.run-told.new.sink c.run-told.result _ _ c.finish.result.1 told.2 told.1.unfailed c.finish.ensures.kept (told.1.written (g.W.Target.contents c.args.writer) [] c.new-sink.ensures.empty) c.finish.ensures.answer
+    ends_told (TellsRun (is_some c.args.asked.now.name) c.args.refusal c.args.last.now.bytes (g.R.Source.remaining c.args.reader.now) (g.R.Source.remaining c.run-told.new.reader)) g.W.Target.contents (g.W.Target.contents c.args.writer) c.finish.result.0 c.args.refusal told.0 c.run-told.new.sink c.run-told.result _ _ c.finish.result.1 told.2 told.1.unfailed c.finish.ensures.kept
+    (told.1.written (g.W.Target.contents c.args.writer) [] c.new-sink.ensures.empty) c.finish.ensures.answer
 
 pub returns-clause-words : goal.returns-clause-words
 returns-clause-words g c = let told = c.run-told.ensures in

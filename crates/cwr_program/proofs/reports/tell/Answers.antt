@@ -1,6 +1,7 @@
 use Rattle.std.proofs.Common.{sym, ap, subst}
 use Rattle.std.specs.Prelude.{OnOk}
-use Rattle.cwr_tools.specs.Format.Reports.{lines_of_data, lines_of_findings, lines_of_records}
+use Rattle.std.specs.Option.{is_some}
+use Rattle.cwr_tools.specs.Format.Reports.{lines_checked, lines_of_data, lines_of_findings, lines_of_records}
 use Rattle.cwr_program.specs.declared.endings.Look.{Look}
 use Rattle.cwr_program.specs.Steps.Looks.{LooksAfter, tells_findings}
 use Rattle.cwr_program.proofs.EndsOnTexts.{looks_after, looks_found, sees_nothing}
@@ -31,3 +32,11 @@ pub returns-in-Data-clause-looks : goal.returns-in-Data-clause-looks
 returns-in-Data-clause-looks g c =
     looks_after (lines_of_data c.in-Data.numbers) c.args.limits (g.R.Source.remaining c.args.reader.now) (g.R.Source.remaining c.json-writer.new.reader) (g.R.Source.remaining c.look_after-look-in-Data.new.reader) g.W.Target.contents
     c.args.writer c.json-writer.result.0 c.json-writer.result.1 c.look_after-look-in-Data.result c.json-writer.ensures.accepted c.look_after-look-in-Data.ensures
+
+pub returns-in-Faults-clause-seen : goal.returns-in-Faults-clause-seen
+returns-in-Faults-clause-seen g c = sees_nothing c.args.limits (g.R.Source.remaining c.args.reader.now) c.args.watch.now c.lint-writer.result.1 (c.requires (ap tells_findings c.in-Faults.is))
+
+pub returns-in-Faults-clause-looks : goal.returns-in-Faults-clause-looks
+returns-in-Faults-clause-looks g c =
+    looks_after (lines_checked (is_some c.in-Faults.name)) c.args.limits (g.R.Source.remaining c.args.reader.now) (g.R.Source.remaining c.lint-writer.new.reader) (g.R.Source.remaining c.look_after-look-in-Faults.new.reader) g.W.Target.contents
+    c.args.writer c.lint-writer.result.0 c.lint-writer.result.1 c.look_after-look-in-Faults.result c.lint-writer.ensures.accepted c.look_after-look-in-Faults.ensures

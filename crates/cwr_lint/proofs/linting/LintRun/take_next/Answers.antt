@@ -1,22 +1,17 @@
-use Rattle.std.proofs.Common.{[]}
-use Rattle.std.specs.Prelude.{false}
-use Rattle.cwr_lint.specs.Steps.Puts.{IsAny}
-use Rattle.cwr_lint.proofs.Puts.{always}
-use Rattle.cwr_lint.proofs.TextsTold.{nothing, read_alone, read_failed, then_put}
+use Rattle.std.proofs.Common.{[], sym, subst, ◌∙◌}
+use Rattle.std.specs.Option.{is_some}
+use Rattle.cwr_lint.specs.Steps.JudgedLines.{held_cut}
+use Rattle.cwr_lint.specs.Steps.LinesRead.{ReadsLineIf, held_raw}
+use Rattle.cwr_lint.specs.Steps.Runs.{TakesNextIf, TakesRead}
+use Rattle.cwr_lint.proofs.Running.{next_taken}
+use Rattle.cwr_lint.proofs.TextsTold.{read_failed, reads_then}
 use Rattle.cwr_lint.proofs.linting.LintRun.take_next.Goals as goal
 
-pub returns-then-self : goal.returns-then-self
-returns-then-self g c = ([], nothing (g.R.Source.remaining c.args.reader.now) (g.R.Source.failures c.args.reader.now) g.W.Target.contents g.W.Target.failures false c.args.sink.now c.requires, tt)
-
 pub returns-in-Ok-true : goal.returns-in-Ok-true
-returns-in-Ok-true g c = (
-  c.take_read.ensures.0,
-  then_put (g.R.Source.remaining c.args.reader.now) (g.R.Source.remaining c.read_after.new.reader) (g.R.Source.failures c.args.reader.now) (g.R.Source.failures c.read_after.new.reader) g.W.Target.contents g.W.Target.failures c.take_read.ensures.0 c.take_read.result c.args.sink.now c.take_read.new.sink c.in-Ok-true.ensures.taken c.in-Ok-true.ensures.failures c.take_read.ensures.1,
-  always c.take_read.result (IsAny c.take_read.ensures.0) tt,
-)
-
-pub returns-in-Ok-false : goal.returns-in-Ok-false
-returns-in-Ok-false g c = ([], read_alone (g.R.Source.remaining c.args.reader.now) (g.R.Source.remaining c.read_after.new.reader) (g.R.Source.failures c.args.reader.now) (g.R.Source.failures c.read_after.new.reader) g.W.Target.contents g.W.Target.failures false c.args.sink.now c.requires c.in-Ok-false.ensures.taken c.in-Ok-false.ensures.failures, tt)
+returns-in-Ok-true g c = reads_then (TakesRead (is_some c.args.asked.now.name) (held_cut (held_raw c.read_after.new.self)) c.args.self.now c.take_read.new.self) (TakesNextIf (is_some c.args.asked.now.name) (g.R.Source.remaining c.args.reader.now) (g.R.Source.remaining c.read_after.new.reader) c.args.before.now c.read_after.new.self c.args.self.now c.take_read.new.self)
+    (g.R.Source.remaining c.args.reader.now) (g.R.Source.remaining c.read_after.new.reader) (g.R.Source.failures c.args.reader.now) (g.R.Source.failures c.read_after.new.reader) g.W.Target.contents g.W.Target.failures c.take_read.result c.args.sink.now c.take_read.new.sink
+    (λ more text t. next_taken (is_some c.args.asked.now.name) (g.R.Source.remaining c.args.reader.now) (g.R.Source.remaining c.read_after.new.reader) c.args.before.now c.read_after.new.self c.args.self.now c.take_read.new.self more text (sym c.has_ended.ensures ∙ c.if-not-has_ended.false) (subst (ReadsLineIf (g.R.Source.remaining c.args.reader.now) (g.R.Source.remaining c.read_after.new.reader) c.read_after.new.self) c.in-Ok-true.field-0-test c.in-Ok-true.ensures.read) t)
+    c.in-Ok-true.ensures.taken c.in-Ok-true.ensures.failures c.take_read.ensures
 
 pub returns-in-Err : goal.returns-in-Err
 returns-in-Err g c = ([], read_failed (g.R.Source.remaining c.args.reader.now) (g.R.Source.remaining c.read_after.new.reader) (g.R.Source.failures c.args.reader.now) (g.R.Source.failures c.read_after.new.reader) g.W.Target.contents g.W.Target.failures c.args.sink.now c.in-Err.ensures.taken c.in-Err.ensures.failures, tt)

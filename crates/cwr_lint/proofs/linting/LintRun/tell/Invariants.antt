@@ -1,6 +1,7 @@
-use Rattle.std.specs.Prelude.{Ok}
-use Rattle.cwr_lint.specs.Steps.Puts.{PutsSome}
+use Rattle.std.specs.Option.{is_some}
+use Rattle.cwr_lint.specs.Steps.JudgedLines.{judged_at, scope_by}
+use Rattle.cwr_lint.proofs.Telling.{ToldSoFar}
 use Rattle.cwr_lint.proofs.linting.LintRun.tell.Given as goal
 
 abbrev pub invariant-loop-field : goal.invariant-loop-field
-invariant-loop-field g l = PutsSome {A = Unit {0}} g.W.Target.contents g.W.Target.failures (Ok tt) l.fn.sink l.sink
+invariant-loop-field g l = ToldSoFar g.W.Target.contents g.W.Target.failures (is_some l.asked.name) (judged_at l.self.state.lines (scope_by l.self.state.group) l.line l.judged) l.from l.field l.told l.fn.sink l.sink

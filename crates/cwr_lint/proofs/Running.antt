@@ -1,0 +1,214 @@
+-- What is told of lines, one after another.
+use Rattle.std.proofs.Common.{◌≡◌, ℕ, ◌+◌, ◌-◌, ◌≤◌, min, Bool, true, false, true≢false, List, [], ◌∷◌, ◌++◌, length, Option, Some, None, refl, sym, ap, subst, ◌∙◌, arith, inl, inr, append_assoc, append-nil}
+use Rattle.std.specs.Prelude.{◌⊎◌, ◌^◌, IfSome}
+use Rattle.std.specs.Io.KnownBytes.{Consumes, IsAtEnd}
+use Rattle.std.proofs.KnownBytes.{Consumes-nil, Consumes-trans}
+use Rattle.std.proofs.lemmas.List.{length-append}
+use Rattle.cwr_judge.specs.declared.refusals.Refusal.{Refusal}
+use Rattle.cwr_levels.specs.Format.ReportLines.{faults_line}
+use Rattle.cwr_lint.specs.declared.linting.LintRun.{LintRun}
+use Rattle.cwr_lint.specs.declared.raw_lines.RawLine.{RawLine}
+use Rattle.cwr_lint.specs.Format.FaultsOfLines.{LineCut, TellsLine, TellsLines, count_after, cut_of, one_more_line}
+use Rattle.cwr_lint.specs.Format.Told.{truncated_unless}
+use Rattle.cwr_lint.specs.Steps.JudgedLines.{held_cut}
+use Rattle.cwr_lint.specs.Steps.LinesRead.{GoesOn, HoldsRaw, IsAllRead, ReadsLine, held_raw, spelled}
+use Rattle.cwr_lint.specs.Steps.Runs.{BeginsAt, EndsAtTrl, IsEndText, TakesAll, TakesFirst, TakesFrom, TakesLine, TakesLines, TakesNext, TakesNextIf, TakesNone, TakesRead, TellsToEnd}
+use Rattle.cwr_lint.proofs.RawLines.{ends_with, goes_both, goes_line, goes_none, raw_cut}
+
+-- ---- one line
+
+pub next_taken : (explained : Bool) (left after : Option (List ℕ)) (before raw : RawLine) (old new : LintRun) (more : Bool) (text : List ℕ) → before.ended ≡ true → ReadsLine left after raw → TakesRead explained (held_cut (held_raw raw)) old new more text
+    → TakesNextIf explained left after before raw old new more text
+next_taken explained left after before raw old new true text ended r t = record { goes = ended; read = r; takes = subst (λ (c : LineCut). TakesLine explained c 1 old new text) (raw_cut r.line raw r.holds) t }
+next_taken explained left after before raw old new false text ended r t = absurd t
+
+pub none_left : (left : Option (List ℕ)) (before : RawLine) (run : LintRun) → (run.state.over ≡ true) ⊎ (before.ended ≡ false) → TakesNone left left before run run []
+none_left left before run (inl e) = record { nothing = refl; same = refl; kept = Consumes-nil left; why = inl e }
+none_left left before run (inr e) = record { nothing = refl; same = refl; kept = Consumes-nil left; why = inr (inl e) }
+
+pub none_read : (left after : Option (List ℕ)) (before : RawLine) (run : LintRun) → Consumes left after [] × IfSome left (λ known. IsAtEnd after) → TakesNone left after before run run []
+none_read left after before run r = record { nothing = refl; same = refl; kept = r.0; why = inr (inr r.1) }
+
+-- ---- lines
+
+tells_more : (explained : Bool) (n : ℕ) (lines : List (List ℕ)) (line : List ℕ) (told here : List Refusal) (text more : List ℕ) → TellsLines explained n lines told text → TellsLine explained (count_after n lines) (cut_of line) 1 here more
+    → TellsLines explained n (lines ++ line ∷ []) (told ++ here) (text ++ more)
+tells_more explained n [] line told here text more p q =
+    (here, more, [], [], q, (refl, refl), ap (λ (l : List Refusal). l ++ here) p.0 ∙ sym (append-nil here), ap (λ (l : List ℕ). l ++ more) p.1 ∙ sym (append-nil more))
+tells_more explained n (first ∷ lines) line told here text more (a, b, c, d, p, rest, e, f) q = (
+  a,
+  b,
+  c ++ here,
+  d ++ more,
+  p,
+  tells_more explained (one_more_line n) lines line c here d more rest q,
+  ap (λ (l : List Refusal). l ++ here) e ∙ append_assoc a c here,
+  ap (λ (l : List ℕ). l ++ more) f ∙ append_assoc b d more,
+)
+
+count_more : (n : ℕ) (lines : List (List ℕ)) (line : List ℕ) → count_after n (lines ++ line ∷ []) ≡ one_more_line (count_after n lines)
+count_more n [] line = refl
+count_more n (first ∷ lines) line = count_more (one_more_line n) lines line
+
+pub lines_none : (explained : Bool) (left : Option (List ℕ)) (ended : Bool) (run : LintRun) → TakesLines explained left left ended ended run run []
+lines_none explained left ended run = record {
+  bytes = [];
+  taken = Consumes-nil left;
+  lines = [];
+  goes = goes_none ended;
+  told = [];
+  tells = (refl, refl);
+  counted = refl;
+  faults = λ few. omega (arith, few);
+  over = λ e. inl (refl, e);
+}
+
+pub lines_more : (explained : Bool) (left mid after : Option (List ℕ)) (ended : Bool) (before raw : RawLine) (old between new : LintRun) (text more : List ℕ) → TakesLines explained left mid ended before.ended old between text → TakesNext explained mid after before raw between new more
+    → TakesLines explained left after ended raw.ended old new (text ++ more)
+lines_more explained left mid after ended before raw old between new text more p q =
+    let line : List ℕ = q.read.line in record {
+      bytes = p.bytes ++ spelled raw.ended line;
+      taken = Consumes-trans left mid after p.bytes (spelled raw.ended line) p.taken q.read.taken;
+      lines = p.lines ++ line ∷ [];
+      goes = goes_both ended before.ended raw.ended p.bytes (spelled raw.ended line) p.lines (line ∷ []) p.goes (subst (λ (b : Bool). GoesOn b (spelled raw.ended line) (line ∷ []) raw.ended) (sym q.goes) (goes_line line raw.ended));
+      told = p.told ++ q.takes.told;
+      tells = tells_more explained old.state.lines p.lines line p.told q.takes.told text more p.tells (subst (λ (n : ℕ). TellsLine explained n (cut_of line) 1 q.takes.told more) p.counted q.takes.tells);
+      counted = q.takes.lines ∙ ap one_more_line p.counted ∙ sym (count_more old.state.lines p.lines line);
+      faults = λ few. omega (arith, p.faults few, q.takes.faults, length-append p.told q.takes.told);
+      over = λ e. inr (p.lines, line, refl, q.takes.over e);
+    }
+
+-- the lines that were read so far, of which the last one is this
+pub record RunSoFar (explained : Bool) (left now : Option (List ℕ)) (ended : Bool) (before : RawLine) (old new : LintRun) (count : ℕ) (text : List ℕ) : Type 0 where
+  pub takes : TakesLines explained left now ended before.ended old new text
+  pub all : before.ended ≡ false → (ended ≡ false) ⊎ IsAllRead left now takes.bytes
+  pub many : count ≤ length takes.bytes
+
+pub run_none : (explained : Bool) (left : Option (List ℕ)) (first : RawLine) (run : LintRun) → RunSoFar explained left left first.ended first run run 0 []
+unfolding lines_none
+run_none explained left first run = record { takes = lines_none explained left first.ended run; all = λ e. inl e; many = omega arith }
+
+pub run_more : (explained : Bool) (left mid after : Option (List ℕ)) (ended : Bool) (before raw : RawLine) (old between new : LintRun) (count : ℕ) (text more : List ℕ) → RunSoFar explained left mid ended before old between count text
+    → TakesNext explained mid after before raw between new more → RunSoFar explained left after ended raw old new (count + 1) (text ++ more)
+unfolding lines_more
+run_more explained left mid after ended before raw old between new count text more p q = record {
+  takes = lines_more explained left mid after ended before raw old between new text more p.takes q;
+  all = λ e. inr (by (q.read.all e));
+  many = omega (arith, p.many, q.read.some, length-append p.takes.bytes (spelled raw.ended q.read.line));
+} where
+  longer : (b : Bool) (line : List ℕ) → length line ≤ length (spelled b line)
+  longer true line = omega (arith, length-append line (10 ∷ []))
+  longer false line = omega arith
+
+  by : IsAllRead mid after q.read.line → IsAllRead left after (p.takes.bytes ++ spelled raw.ended q.read.line)
+  by (inl e) = inl (ends_with left mid after p.takes.bytes p.takes.taken e)
+  by (inr n) = inr (omega (arith, n, longer raw.ended q.read.line, length-append p.takes.bytes (spelled raw.ended q.read.line)))
+
+-- what stays the same where nothing more is read
+kept_end : (left mid after : Option (List ℕ)) (bytes : List ℕ) → Consumes left mid bytes → Consumes mid after [] → IfSome left (λ known. IsAtEnd mid) → IfSome left (λ known. IsAtEnd after)
+kept_end None mid after bytes c k e = tt
+kept_end (Some xs) None after bytes c k e = absurd c
+kept_end (Some xs) (Some ys) None bytes c k e = absurd k
+kept_end (Some xs) (Some ys) (Some zs) bytes c k e = sym k ∙ e
+
+-- up to the end
+pub run_ends : (explained : Bool) (left mid after : Option (List ℕ)) (ended : Bool) (before : RawLine) (old between new : LintRun) (count : ℕ) (text more : List ℕ) → RunSoFar explained left mid ended before old between count text → TakesNone mid after before between new more
+    → TakesAll explained left after ended old new (text ++ more)
+run_ends explained left mid after ended before old between new count text more p q = record {
+  last = before.ended;
+  takes = takes;
+  all = λ e. by e q.why;
+} where
+  bytes_taken : Consumes left after p.takes.bytes
+  bytes_taken = subst (Consumes left after) (append-nil p.takes.bytes) (Consumes-trans left mid after p.takes.bytes [] p.takes.taken q.kept)
+
+  told_text : text ≡ text ++ more
+  told_text = sym (append-nil text) ∙ ap (λ (l : List ℕ). text ++ l) (sym q.nothing)
+
+  takes : TakesLines explained left after ended before.ended old new (text ++ more)
+  takes = record {
+    bytes = p.takes.bytes;
+    taken = bytes_taken;
+    lines = p.takes.lines;
+    goes = p.takes.goes;
+    told = p.takes.told;
+    tells = subst (TellsLines explained old.state.lines p.takes.lines p.takes.told) told_text p.takes.tells;
+    counted = ap (λ (r : LintRun). r.state.lines) q.same ∙ p.takes.counted;
+    faults = λ few. ap (λ (r : LintRun). r.faults) q.same ∙ p.takes.faults few;
+    over = λ e. p.takes.over (sym (ap (λ (r : LintRun). r.state.over) q.same) ∙ e);
+  }
+
+  read_on : IsAllRead left mid p.takes.bytes → IsAllRead left after p.takes.bytes
+  read_on (inl e) = inl (kept_end left mid after p.takes.bytes p.takes.taken q.kept e)
+  read_on (inr n) = inr n
+
+  or_read : (ended ≡ false) ⊎ IsAllRead left mid p.takes.bytes → (ended ≡ false) ⊎ IsAllRead left after p.takes.bytes
+  or_read (inl e) = inl e
+  or_read (inr r) = inr (read_on r)
+
+  by : new.state.over ≡ false → (between.state.over ≡ true) ⊎ (before.ended ≡ false) ⊎ IfSome mid (λ known. IsAtEnd after) → (ended ≡ false) ⊎ IsAllRead left after p.takes.bytes
+  by e (inl over) = absurd (true≢false (sym over ∙ sym (ap (λ (r : LintRun). r.state.over) q.same) ∙ e))
+  by e (inr (inl feedless)) = or_read (p.all feedless)
+  by e (inr (inr end)) = inr (inl (ends_with left mid after p.takes.bytes p.takes.taken end))
+
+pub run_many : (explained : Bool) (left now : Option (List ℕ)) (ended : Bool) (before : RawLine) (old new : LintRun) (count : ℕ) (text : List ℕ) → 2 ^ 64 - 1 ≤ count → RunSoFar explained left now ended before old new count text → TakesAll explained left now ended old new text
+run_many explained left now ended before old new count text n p = record { last = before.ended; takes = p.takes; all = λ e. inr (inr (omega (arith, n, p.many))) }
+
+-- ---- all that is told
+
+pub from_taken : (explained : Bool) (refusal : Refusal) (left after : Option (List ℕ)) (raw : RawLine) (old between new : LintRun) (beside later : List ℕ) → TakesFirst explained refusal (held_cut (held_raw raw)) old between beside → TakesAll explained left after raw.ended between new later
+    → TakesFrom explained refusal left after raw old new (beside ++ later)
+from_taken explained refusal left after raw old between new beside later p q = record { between = between; beside = beside; first = p; later = later; rest = q; whole = refl }
+
+pub told_to_end : (explained : Bool) (refusal : Refusal) (left after : Option (List ℕ)) (raw : RawLine) (old new : LintRun) (findings : ℕ) (text end : List ℕ) → BeginsAt refusal old → TakesFrom explained refusal left after raw old new text
+    → IsEndText new.state.over new.faults findings new.state.lines end → TellsToEnd explained refusal left after raw (text ++ end)
+told_to_end explained refusal left after raw old new findings text end begins p e = record {
+  bytes = p.rest.takes.bytes;
+  taken = p.rest.takes.taken;
+  lines = p.rest.takes.lines;
+  last = p.rest.last;
+  goes = p.rest.takes.goes;
+  over = new.state.over;
+  told = λ refused holds. record {
+    line = p.first.line;
+    first = p.first.first;
+    others = p.first.takes.told;
+    beside = p.first.beside;
+    tells_others = subst (λ (c : LineCut). TellsLine explained (refusal.rec - 1) c (min (refusal.field + 1) (2 ^ 8 - 1)) p.first.takes.told p.first.beside) (raw_cut refused raw holds)
+        (subst (λ (n : ℕ). TellsLine explained n (held_cut (held_raw raw)) (min (refusal.field + 1) (2 ^ 8 - 1)) p.first.takes.told p.first.beside) begins.lines p.first.takes.tells);
+    later = p.rest.takes.told;
+    after = p.later;
+    tells_later = subst (λ (n : ℕ). TellsLines explained n p.rest.takes.lines p.rest.takes.told p.later) counted p.rest.takes.tells;
+    findings = findings;
+    whole = whole;
+  };
+  ends = λ over refused holds. ends_at refused holds (p.rest.takes.over over);
+  all = p.rest.all;
+} where
+  counted : p.between.state.lines ≡ one_more_line (refusal.rec - 1)
+  counted = p.first.takes.lines ∙ ap one_more_line begins.lines
+
+  lines_are : new.state.lines ≡ count_after (one_more_line (refusal.rec - 1)) p.rest.takes.lines
+  lines_are = p.rest.takes.counted ∙ ap (λ (k : ℕ). count_after k p.rest.takes.lines) counted
+
+  few : p.between.faults ≤ 2 ^ 64 - 1
+  few = omega (arith, p.first.takes.faults)
+
+  faults_are : new.faults ≡ min (1 + length p.first.takes.told + length p.rest.takes.told) (2 ^ 64 - 1)
+  faults_are = omega (arith, p.rest.takes.faults few, p.first.takes.faults, begins.faults)
+
+  end_is : end ≡ truncated_unless new.state.over (count_after (one_more_line (refusal.rec - 1)) p.rest.takes.lines)
+      ++ faults_line (min (1 + length p.first.takes.told + length p.rest.takes.told) (2 ^ 64 - 1)) findings (count_after (one_more_line (refusal.rec - 1)) p.rest.takes.lines)
+  end_is = e ∙ ap (λ (k : ℕ). truncated_unless new.state.over k ++ faults_line new.faults findings k) lines_are
+      ∙ ap (λ (k : ℕ). truncated_unless new.state.over (count_after (one_more_line (refusal.rec - 1)) p.rest.takes.lines) ++ faults_line k findings (count_after (one_more_line (refusal.rec - 1)) p.rest.takes.lines)) faults_are
+
+  text_is : text ≡ p.first.line ++ p.first.beside ++ p.later
+  text_is = p.whole ∙ ap (λ (l : List ℕ). l ++ p.later) p.first.whole
+
+  whole : text ++ end ≡ p.first.line ++ p.first.beside ++ p.later ++ truncated_unless new.state.over (count_after (one_more_line (refusal.rec - 1)) p.rest.takes.lines)
+      ++ faults_line (min (1 + length p.first.takes.told + length p.rest.takes.told) (2 ^ 64 - 1)) findings (count_after (one_more_line (refusal.rec - 1)) p.rest.takes.lines)
+  whole = ap (λ (l : List ℕ). l ++ end) text_is ∙ ap (λ (l : List ℕ). (p.first.line ++ p.first.beside ++ p.later) ++ l) end_is ∙ sym (append_assoc (p.first.line ++ p.first.beside ++ p.later) (truncated_unless new.state.over (count_after (one_more_line (refusal.rec - 1)) p.rest.takes.lines)) _)
+
+  ends_at : (refused : List ℕ) → HoldsRaw refused raw → ((p.rest.takes.lines ≡ []) × (p.between.state.over ≡ true)) ⊎ EndsAtTrl p.rest.takes.lines → EndsAtTrl (refused ∷ p.rest.takes.lines)
+  ends_at refused holds (inl (none, over)) = ([], refused, ap (λ (l : List (List ℕ)). refused ∷ l) none, ap (λ (c : LineCut). c.kind) (sym (raw_cut refused raw holds)) ∙ p.first.takes.over over)
+  ends_at refused holds (inr (front, line, is, kind)) = (refused ∷ front, line, ap (λ (l : List (List ℕ)). refused ∷ l) is, kind)

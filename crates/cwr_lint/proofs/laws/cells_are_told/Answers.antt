@@ -1,0 +1,5 @@
+use Rattle.cwr_lint.proofs.CellsTold.{cells_are_told}
+use Rattle.cwr_lint.proofs.laws.cells_are_told.Goals as goal
+
+pub returns : goal.returns
+returns c = cells_are_told

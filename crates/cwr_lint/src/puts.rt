@@ -1,0 +1,175 @@
+//! The lines that a lint puts: of one fault with what explains it, and how an input ended.
+
+ghost use Rattle.std.specs.Prelude.{◌≡◌, false};
+ghost use Rattle.std.specs.Option.{is_some};
+ghost use Rattle.cwr_encode.specs.Steps.Sinks.{has_failed};
+ghost use Rattle.cwr_levels.specs.Format.ReportLines.{fault_line, faults_line};
+ghost use Rattle.cwr_lint.specs.Format.FaultsOfLines.{IsFaultText, report_number};
+ghost use Rattle.cwr_lint.specs.Format.Told.{truncated_unless};
+ghost use Rattle.cwr_lint.specs.Steps.Puts.{PutsAfter, PutsWith, tool_result};
+ghost use Rattle.cwr_lint.specs.Steps.Runs.{AreWords, IsEndText};
+
+use crate::raw_lines::RawLine;
+use cwr_decode::Refusal;
+use cwr_encode::{Sink, SinkFault};
+use cwr_explain::explain_fault;
+use cwr_fields::Target;
+use cwr_levels::{fault_line, faults_line, truncated_line};
+use cwr_shape::{Limits, Stage};
+use cwr_tools::ToolFault;
+use std::alloc::Global;
+
+/// What is asked of a lint.
+#[derive(Clone, Copy, Debug)]
+pub(crate) struct Asked<'a> {
+    pub alloc: Global,
+    pub limits: Limits,
+    /// The name of the input, where what is told is explained too.
+    pub name: Option<&'a str>,
+}
+
+/// A line that is told, and what is held beside it.
+#[derive(Clone, Copy)]
+pub(crate) struct Shown<'a> {
+    /// The line as it was read.
+    pub raw: &'a RawLine,
+    /// The line before it, where that is held.
+    pub before: Option<&'a RawLine>,
+    /// How far the order had come before it, where that is known.
+    pub stage: Option<Stage>,
+}
+
+/// A number as a report has it. It stays at `u32::MAX`.
+pub(crate) fn report_number(number: u64) -> u32
+    ensures { result ≡ report_number number }
+{
+    number.min(u64::from(u32::MAX)) as u32
+}
+
+/// The answer of a sink, as one of a run.
+fn as_told(put: Result<(), SinkFault>) -> Result<(), ToolFault>
+    ensures { result ≡ tool_result put }
+{
+    match put {
+        Ok(()) => Ok(()),
+        Err(fault) => Err(ToolFault::Writer {
+            written: fault.written,
+        }),
+    }
+}
+
+/// Puts the line of a fault.
+fn put_fault_line<W: Target>(fault: &Refusal, sink: &mut Sink<W>) -> Result<(), ToolFault>
+    requires { has_failed sink.old ≡ false }
+    ensures { PutsAfter W.contents W.failures (fault_line fault.now) result sink.old sink.new }
+{
+    as_told(fault_line(fault, sink))
+}
+
+/// Puts lines that explain a fault.
+fn put_words<W: Target>(words: &[u8], sink: &mut Sink<W>) -> Result<(), ToolFault>
+    requires { has_failed sink.old ≡ false }
+    ensures { PutsAfter W.contents W.failures words.now result sink.old sink.new }
+{
+    as_told(sink.put(words))
+}
+
+/// Puts that an input ended too early, after so many lines, unless it is over.
+fn put_truncated<W: Target>(is_over: bool, lines: u64, sink: &mut Sink<W>) -> Result<(), ToolFault>
+    requires { has_failed sink.old ≡ false }
+    ensures { PutsAfter W.contents W.failures (truncated_unless is_over lines) result sink.old sink.new }
+{
+    match is_over {
+        true => Ok(()),
+        false => as_told(truncated_line(report_number(lines), sink)),
+    }
+}
+
+/// Puts how many faults and findings an input has, in so many lines.
+fn put_faults_line<W: Target>(
+    faults: u64,
+    findings: u64,
+    lines: u64,
+    sink: &mut Sink<W>,
+) -> Result<(), ToolFault>
+    requires { has_failed sink.old ≡ false }
+    ensures { PutsAfter W.contents W.failures (faults_line faults findings lines) result sink.old sink.new }
+{
+    as_told(faults_line(faults, findings, lines, sink))
+}
+
+/// Puts how an input ended, of which so many lines were read, and how many faults and findings it has.
+pub(crate) fn put_end<W: Target>(
+    is_over: bool,
+    faults: u64,
+    findings: u64,
+    lines: u64,
+    sink: &mut Sink<W>,
+) -> Result<(), ToolFault>
+    requires { has_failed sink.old ≡ false }
+    ensures { PutsWith (λ _. IsEndText is_over faults findings lines) W.contents W.failures result sink.old sink.new }
+{
+    match put_truncated(is_over, lines, sink) {
+        Ok(()) => put_faults_line(faults, findings, lines, sink),
+        Err(fault) => Err(fault),
+    }
+}
+
+/// The bytes of a line, where it is held.
+fn bytes_of(line: Option<&RawLine>) -> Option<&[u8]> {
+    match line {
+        Some(line) => Some(line.as_slice()),
+        None => None,
+    }
+}
+
+impl Asked<'_> {
+    /// Puts the lines that explain a fault of a line, where they are asked for. What is to be said of the whole line is said with its
+    /// first one.
+    fn put_explanation<W: Target>(
+        &self,
+        fault: &Refusal,
+        line: &Shown<'_>,
+        is_first: bool,
+        sink: &mut Sink<W>,
+    ) -> Result<(), ToolFault>
+        requires { has_failed sink.old ≡ false }
+        ensures { PutsWith (λ _. AreWords (is_some self.now.name)) W.contents W.failures result sink.old sink.new }
+    {
+        let Some(name) = self.name else {
+            return Ok(());
+        };
+        let explained = explain_fault(
+            self.alloc,
+            &self.limits,
+            name,
+            fault,
+            line.raw.shown(),
+            bytes_of(line.before),
+            line.raw.is_too_long(),
+            is_first,
+            line.stage,
+        );
+        match explained {
+            Ok(text) => put_words(text.as_bytes(), sink),
+            Err(_) => Err(ToolFault::Memory),
+        }
+    }
+
+    /// Puts the line of a fault, and under it the lines that explain it, where they are asked for.
+    pub fn put_fault<W: Target>(
+        &self,
+        fault: &Refusal,
+        line: &Shown<'_>,
+        is_first: bool,
+        sink: &mut Sink<W>,
+    ) -> Result<(), ToolFault>
+        requires { has_failed sink.old ≡ false }
+        ensures { PutsWith (λ _. IsFaultText (is_some self.now.name) fault.now) W.contents W.failures result sink.old sink.new }
+    {
+        match put_fault_line(fault, sink) {
+            Ok(()) => self.put_explanation(fault, line, is_first, sink),
+            Err(fault) => Err(fault),
+        }
+    }
+}
