@@ -38,7 +38,7 @@ rt = $(call need,rt,it is the Rattle toolchain's)
 # what is made of the manual, of the program's help and of the toolchain's licences
 made = $(addprefix $(OUT)/made/,cwr.1 cwr.bash copyright)
 
-.PHONY: all made test install install_program install_library uninstall dist deb wheel clean help
+.PHONY: all made test install install_program install_library uninstall dist deb wheel page clean help
 .DELETE_ON_ERROR:
 
 all: ## proves the program and the C library, and builds them
@@ -128,6 +128,11 @@ deb: ## packs the program and what goes with it as OUT/cwr_VERSION_amd64.deb
 
 wheel: $(OUT)/c/cwr.pc ## packs the Python package and the library as a wheel in OUT
 	tools/make_wheel $(OUT)/c/libcwr.so.1 $(VERSION) $(OUT)
+
+page: $(ARCHIVE) ## makes the page that shows a file in a browser, as OUT/cwr.html
+	$(call debian,wasm-ld,lld)
+	mkdir -p $(OUT)
+	tools/make_page $(OUT)/cwr.html
 
 clean: ## removes OUT
 	rm -rf $(OUT)
