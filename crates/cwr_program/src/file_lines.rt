@@ -20,8 +20,8 @@ enum LinePart {
     LeftOut,
 }
 
-/// Lines on a file, each with its name before it if there is one. Where they are quiet, those before the verdict are left out, and so is
-/// the verdict on what is good.
+/// Lines on a file, each with its name before it if there is one. Where they are quiet, those before the verdict or the first fault are
+/// left out, and so is the verdict on what is good.
 #[derive(Drop)]
 pub(crate) struct FileLines<'a, W> {
     lines: W,
@@ -40,6 +40,11 @@ fn write_whole<W: Target>(lines: &mut W, text: &[u8]) -> Result<(), DeviceFault>
         rest = &rest[count..];
     }
     Ok(())
+}
+
+/// Whether a text begins with the line of a refusal, of a fault, or of an end that comes too early.
+fn begins_badly(text: &[u8]) -> bool {
+    matches!(text, [b'R' | b'T', ..] | [b'F', b'A', ..])
 }
 
 /// How many bytes the first line of a text has, with its line feed: all of them where it has none.
@@ -73,12 +78,12 @@ impl<'a, W> FileLines<'a, W> {
 }
 
 impl<W: Target> FileLines<'_, W> {
-    /// Begins a line with that byte: its name is written, or it is left out. From a verdict on what isn't good on, all are passed on.
-    fn begin(&mut self, first: u8) -> Result<(), DeviceFault>
+    /// Begins the line at the front of a text: its name is written, or it is left out. From a line on what isn't good on, all are passed on.
+    fn begin(&mut self, text: &[u8]) -> Result<(), DeviceFault>
         ensures failures { self.new.failures ≡ self.old.failures }
         ensures handed_on { self.new.handed_on ≡ self.old.handed_on }
     {
-        if self.quiet && first != b'R' && first != b'T' {
+        if self.quiet && !begins_badly(text) {
             self.part = LinePart::LeftOut;
             return Ok(());
         }
@@ -98,11 +103,11 @@ impl<W: Target> FileLines<'_, W> {
         ensures failures { self.new.failures ≡ self.old.failures }
         ensures handed_on { self.new.handed_on ≡ self.old.handed_on }
     {
-        let Some(first) = text.first() else {
+        if text.is_empty() {
             return Ok(0);
-        };
+        }
         if self.part == LinePart::Start {
-            self.begin(*first)?;
+            self.begin(text)?;
         }
         let line = &text[..first_line(text)];
         let count = match self.part {

@@ -125,8 +125,20 @@ const EXPLAINED: &[u8] = b"REFUSED record 1 field 1 level E unknown kind
   note      record types are in capital letters
 ";
 
+/// What a lint writes of that line.
+const LINTED: &[u8] = b"FAULT record 1 field 1 level E unknown kind
+TRUNCATED records 1
+FAULTS 1 findings 0 records 1
+";
+
+/// What is written of two empty files.
+const TWO_EMPTY: &[u8] = b"/dev/null: TRUNCATED records 0
+/dev/null: TRUNCATED records 0
+FILES 2 good 0 refused 0 truncated 2 failed 0
+";
+
 #[rattlefmt::skip]
-static RUNS: [Run; 23] = [
+static RUNS: [Run; 27] = [
     // Where a file is named, standard input isn't read.
     (&["cwr", "check", "no/such/file.cwr"], FAILING, 3, (b"", NO_FILE)),
     (&["cwr", "check", "/dev/null"], FAILING, 1, (EMPTY, b"")),
@@ -142,6 +154,10 @@ static RUNS: [Run; 23] = [
     (&["cwr", "--version"], FAILING, 2, (b"", b"cwr 0.1.0\n")),
     (&["cwr"], FAILING, 3, (b"", READ_FAULT)),
     (&["cwr", "explain"], (&[b"hdr"], false), 1, (EXPLAINED, b"")),
+    (&["cwr", "lint"], (&[b"hdr"], false), 1, (LINTED, b"")),
+    (&["cwr", "lint", "--quiet"], (&[b"hdr"], false), 1, (LINTED, b"")),
+    (&["cwr", "lint", "--quiet", "--whole"], ONE, 0, (b"", b"")),
+    (&["cwr", "lint", "--quiet", "/dev/null", "/dev/null"], FAILING, 1, (TWO_EMPTY, b"")),
     (&["cwr"], NOTHING, 1, (EMPTY, b"")),
     (&["cwr", "check"], NOTHING, 1, (EMPTY, b"")),
     (&["cwr", "check", "--records", "5", "--groups", "1", "--transaction", "1"], NOTHING, 1, (EMPTY, b"")),

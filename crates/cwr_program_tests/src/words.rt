@@ -20,7 +20,7 @@ fn asked(rt: &(impl Abort + AllocGlobal), words: &[&str]) -> Option<(String, Lim
 
 /// Words, what they ask for, and its limits.
 #[rattlefmt::skip]
-static ASKED: [(&[&str], &str, Numbers); 17] = [
+static ASKED: [(&[&str], &str, Numbers); 19] = [
     (&["cwr"], "Check(Judging { files: [], quiet: false, fail_on: None })", LARGEST),
     (&["cwr", "check"], "Check(Judging { files: [], quiet: false, fail_on: None })", LARGEST),
     (&["cwr", "show"], "Show(None)", LARGEST),
@@ -30,6 +30,8 @@ static ASKED: [(&[&str], &str, Numbers); 17] = [
     (&["cwr", "check", "--records", "5", "--groups=2", "--transaction", "7", "a.cwr"], "Check(Judging { files: [\"a.cwr\"], quiet: false, fail_on: None })", (5, 2, 7)),
     (&["cwr", "check", "a.cwr", "-", "--quiet", "--fail-on", "G"], "Check(Judging { files: [\"a.cwr\", \"-\"], quiet: true, fail_on: Some(G) })", LARGEST),
     (&["cwr", "explain", "--fail-on=F"], "Explain(Judging { files: [], quiet: false, fail_on: Some(F) })", LARGEST),
+    (&["cwr", "lint"], "Lint { files: [], quiet: false, explained: false }", LARGEST),
+    (&["cwr", "lint", "a.cwr", "--quiet", "-", "--explain"], "Lint { files: [\"a.cwr\", \"-\"], quiet: true, explained: true }", LARGEST),
     (&["cwr", "show", "--groups", "3"], "Show(None)", (99_999_999, 3, 999_999)),
     (&["cwr", "split", "-n", "1", "a.cwr", "part-"], "Split { transactions: 1, file: \"a.cwr\", prefix: \"part-\", only_new: false }", LARGEST),
     (&["cwr", "split", "a.cwr", "-n99999999", "part-"], "Split { transactions: 99999999, file: \"a.cwr\", prefix: \"part-\", only_new: false }", LARGEST),
