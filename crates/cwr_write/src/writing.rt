@@ -1,6 +1,6 @@
 //! From lines of JSON to a transmission.
 
-ghost use Rattle.std.specs.Prelude.{◌≡◌, ◌≢◌, IfOk, OnOk, ℕ, List, [], Option, false};
+ghost use Rattle.std.specs.Prelude.{◌≡◌, ◌≢◌, IfOk, OnOk, ℕ, List, [], Option, true, false};
 ghost use Rattle.cwr_encode.specs.Steps.Encoders.{AddsRecords, Encodes, encoder_limits, is_stopped, target_of};
 ghost use Rattle.cwr_encode.specs.Steps.Finishing.{FinishesWriting};
 ghost use Rattle.cwr_write.specs.Format.Imports.{CountsReaderFault, CountsWriterFault, SaysItem, WritesWhole};
@@ -245,6 +245,8 @@ pub fn write<R: Source, W: Target>(
     ensures written { IfOk result.1 (λ w. WritesWhole limits (R.remaining reader.old) W.contents writer result.0 w.bytes) }
     ensures failures { CountsWriterFault result.1 (W.failures writer) (W.failures result.0) }
     ensures reads { CountsReaderFault result.1 (R.failures reader.old) (R.failures reader.new) }
+    // All that was written was handed on.
+    ensures handed_on { OnOk result.1 (W.handed_on result.0 ≡ true) }
 {
     let mut encoder = Encoder::new(writer, limits);
     match take_lines(alloc, most, reader, &mut encoder) {
@@ -259,6 +261,7 @@ fn finish<W: Target>(encoder: Encoder<W>, lines: u64) -> (W, Result<Written, Wri
     ensures written { IfOk result.1 (λ w. FinishesWriting W.contents W.failures encoder result.0 (Ok w.bytes)) }
     ensures failures { CountsWriterFault result.1 (W.failures (target_of encoder)) (W.failures result.0) }
     ensures unread { NoReader result.1 }
+    ensures handed_on { OnOk result.1 (W.handed_on result.0 ≡ true) }
 {
     let (writer, answer) = encoder.finish();
     match answer {
