@@ -140,6 +140,8 @@ function row(at, text, top) {
     const cell = made("span", { className: "cell", textContent: shown.replace(/[\x00-\x1f\x7f]/g, "\u2423") });
     cell.setAttribute("role", "gridcell");
     cell.dataset.field = j;
+    const field = state.layouts[text.slice(0, 3)]?.[j - 1];
+    if (field) cell.setAttribute("aria-label", `${field.name}: ${shown.trimEnd() || WORDS.blank}`);
     if (kind) cell.classList.add("kind");
     else if (derived) cell.classList.add("derived");
     for (const it of marks) if (it.field === j) cell.classList.add(it.fault ? "at" : "noted");

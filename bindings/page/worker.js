@@ -176,7 +176,7 @@ const ANSWERS = {
           const field = layouts[kind]?.find((it) => it.name === name);
           return field ? text.slice(field.start, field.start + field.width).trim() : "";
         };
-        return { line: first, last: endOf(first) - 1, group, kind, title: cell("title") || cell("creation title"), number: cell("submitter work number") || cell("submitter creation number"), status: cell("transaction status") };
+        return { line: first, last: endOf(first) - 1, group, kind, title: cell("title") || cell("creation title") || cell("submitter agreement number"), number: cell("submitter work number") || cell("submitter creation number"), status: cell("transaction status") };
       }),
     };
   },
