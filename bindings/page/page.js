@@ -301,30 +301,21 @@ async function showOutline() {
 
 async function moreWorks(from) {
   const into = by("works");
-  const only = by("faulty").checked;
-  const lines = [...state.marks.keys()];
-  let at = from;
-  let shown = 0;
-  while (at < state.works && shown < PER_PAGE) {
-    const { found } = await ask("works", { from: at, count: PER_PAGE });
-    for (const it of found) {
-      at += 1;
-      const faulty = lines.some((line) => line >= it.line && line <= it.last);
-      if (only && !faulty) continue;
-      if (it.group !== state.group) {
-        state.group = it.group;
-        into.append(made("h2", { textContent: WORDS.group(it.group) }));
-      }
-      into.append(entry(it.line, undefined, `${it.kind} ${it.title}`, [it.number, it.status].filter(Boolean).join(" · "), faulty ? "bad" : ""));
-      shown += 1;
-      if (shown === PER_PAGE) break;
+  const { found, total } = await ask("works", { from, count: PER_PAGE, only: by("faulty").checked });
+  for (const it of found) {
+    if (it.group !== state.group) {
+      state.group = it.group;
+      into.append(made("h2", { textContent: WORDS.group(it.group) }));
     }
+    const small = [it.number, it.status, it.parties.join(", ")].filter(Boolean).join(" · ");
+    into.append(entry(it.line, undefined, `${it.kind} ${it.title}`, small, it.faulty ? "bad" : ""));
   }
-  if (at < state.works) {
-    const more = made("button", { textContent: `… ${state.works - at}` });
-    more.onclick = async () => {
+  const next = from + found.length;
+  if (next < total) {
+    const more = made("button", { textContent: `… ${total - next}` });
+    more.onclick = () => {
       more.remove();
-      await moreWorks(at);
+      moreWorks(next);
     };
     into.append(more);
   }

@@ -13,6 +13,8 @@ let starts = new Float64Array(1);
 /** Of each transaction, and of each group, the line of its header. */
 let transactions = [];
 let groups = [];
+/** The transactions in which a fault or a finding is told. */
+let faulty = new Set();
 
 const letters = new TextDecoder("latin1");
 
@@ -60,6 +62,34 @@ function endOf(first) {
   let i = first + 1;
   while (i < starts.length - 1 && !begins(i) && !["GRH", "GRT", "TRL", "HDR"].includes(kindOf(i))) i += 1;
   return i;
+}
+
+/** Which transaction has the line, or -1. */
+function transactionOf(wanted) {
+  let low = 0;
+  let high = transactions.length;
+  while (low < high) {
+    const middle = (low + high) >> 1;
+    if (transactions[middle].line <= wanted) low = middle + 1;
+    else high = middle;
+  }
+  return low > 0 && wanted < endOf(transactions[low - 1].line) ? low - 1 : -1;
+}
+
+/** What the outline says of a transaction. */
+function outlined(i) {
+  const { line: first, group } = transactions[i];
+  const [{ kind, cells }] = recordsOf(first);
+  return {
+    line: first,
+    group,
+    kind,
+    title: cells.title || cells["creation title"] || cells["submitter agreement number"] || "",
+    number: cells["submitter work number"] || cells["submitter creation number"] || "",
+    status: cells["transaction status"] || "",
+    parties: parties(first),
+    faulty: faulty.has(i),
+  };
 }
 
 /** The faults, the findings and the last line of what a lint writes. */
@@ -132,18 +162,31 @@ function row(cells) {
   return `${cells.map((cell) => (/[",\r\n]/.test(cell) ? `"${cell.replaceAll('"', '""')}"` : cell)).join(",")}\r\n`;
 }
 
+const PARTIES = ["SPU", "OPU", "SWR", "OWR", "IPA"];
+
+/** What a party is called. */
+function nameOf({ cells }) {
+  const name = cells["publisher name"] || [cells["first name"], cells["last name"]].filter(Boolean).join(" ");
+  return name || cells["interested party number"] || "";
+}
+
+/** The names of a transaction's parties, each once. */
+function parties(first) {
+  return [...new Set(recordsOf(first).filter(({ kind }) => PARTIES.includes(kind)).map(nameOf).filter(Boolean))];
+}
+
 /** The works as a table: a row for each writer and publisher. */
 function table() {
   const rows = [row(["group", "transaction", "type", "work_number", "title", "iswc", "record", "name", "pr_share", "mr_share", "sr_share"])];
   transactions.forEach(({ line: first, group }) => {
     const [header, ...others] = recordsOf(first);
     const work = [String(group), header.cells["transaction sequence"] ?? "", header.kind, header.cells["submitter work number"] ?? "", header.cells.title ?? "", header.cells.iswc ?? ""];
-    const parties = others.filter(({ kind }) => ["SPU", "OPU", "SWR", "OWR"].includes(kind));
-    for (const { kind, cells } of parties) {
-      const name = cells["publisher name"] ?? [cells["first name"], cells["last name"]].filter(Boolean).join(" ");
-      rows.push(row([...work, kind, name ?? "", cells["pr share"] ?? "", cells["mr share"] ?? "", cells["sr share"] ?? ""]));
+    const owners = others.filter(({ kind }) => PARTIES.slice(0, 4).includes(kind));
+    for (const owner of owners) {
+      const { kind, cells } = owner;
+      rows.push(row([...work, kind, nameOf(owner), cells["pr share"] ?? "", cells["mr share"] ?? "", cells["sr share"] ?? ""]));
     }
-    if (parties.length === 0) rows.push(row([...work, "", "", "", "", ""]));
+    if (owners.length === 0) rows.push(row([...work, "", "", "", "", ""]));
   });
   return new TextEncoder().encode(rows.join(""));
 }
@@ -159,38 +202,23 @@ const ANSWERS = {
     bytes = new Uint8Array(await file.arrayBuffer());
     starts = cut(bytes);
     outline();
-    return { size: bytes.length, lines: starts.length - 1, groups, transactions: transactions.length, ...judged(file.name) };
+    const found = judged(file.name);
+    faulty = new Set(found.told.map((it) => transactionOf(it.line)).filter((i) => i >= 0));
+    return { size: bytes.length, lines: starts.length - 1, transactions: transactions.length, ...found };
   },
   lines({ from, count }) {
     const found = [];
     for (let i = from; i < Math.min(from + count, starts.length - 1); i += 1) found.push(line(i));
     return { from, found };
   },
-  works({ from, count }) {
-    return {
-      from,
-      found: transactions.slice(from, from + count).map(({ line: first, group }) => {
-        const kind = kindOf(first);
-        const text = line(first);
-        const cell = (name) => {
-          const field = layouts[kind]?.find((it) => it.name === name);
-          return field ? text.slice(field.start, field.start + field.width).trim() : "";
-        };
-        return { line: first, last: endOf(first) - 1, group, kind, title: cell("title") || cell("creation title") || cell("submitter agreement number"), number: cell("submitter work number") || cell("submitter creation number"), status: cell("transaction status") };
-      }),
-    };
+  works({ from, count, only }) {
+    const all = only ? [...faulty].sort((a, b) => a - b) : transactions;
+    const found = all.slice(from, from + count).map((it, i) => outlined(only ? it : from + i));
+    return { found, total: all.length };
   },
   work({ line: wanted }) {
-    let low = 0;
-    let high = transactions.length;
-    while (low < high) {
-      const middle = (low + high) >> 1;
-      if (transactions[middle].line <= wanted) low = middle + 1;
-      else high = middle;
-    }
-    const at = transactions[low - 1];
-    if (!at || wanted >= endOf(at.line)) return { records: [] };
-    return { number: low - 1, group: at.group, records: recordsOf(at.line) };
+    const i = transactionOf(wanted);
+    return i < 0 ? { records: [] } : { group: transactions[i].group, records: recordsOf(transactions[i].line) };
   },
   search({ words }) {
     return { found: search(words) };
