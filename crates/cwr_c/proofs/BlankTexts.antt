@@ -7,7 +7,7 @@ use Rattle.std.proofs.lemmas.List.{map-append, take_all}
 use Rattle.std.proofs.lemmas.List.Folds.{concat-append}
 use Rattle.cwr_layouts.specs.declared.kinds.Kind.{Kind}
 use Rattle.cwr_layouts.specs.Format.Kinds.{letters}
-use Rattle.cwr_layouts.specs.Format.Layouts.{FieldLayout, field_placed, fields_after_type, layout, placed_fields}
+use Rattle.cwr_layouts.specs.Format.Layouts.{FieldLayout, field_with_start, fields_after_type, layout, fields_with_starts}
 use Rattle.cwr_layouts.specs.Format.Records.{blank_cell}
 use Rattle.cwr_levels.proofs.OneMore.{take_more}
 use Rattle.cwr_c.specs.Format.FieldNumbers.{blank_line}
@@ -24,21 +24,21 @@ pub blank_begins : (this_kind : Kind) (line : List ℕ) (n : ℕ) → n ≡ 0 �
 blank_begins this_kind line n e h = subst (λ (k : ℕ). line ≡ blank_front this_kind k) (sym e) (h ∙ sym (append-nil (letters this_kind)))
 
 -- a field with its place is one of the fields
-of_placed : (at : ℕ) (fields : List FieldLayout) (i : ℕ) (p : ℕ × FieldLayout) → slice_get (placed_fields at fields) i ≡ Some p → slice_get fields i ≡ Some p.1
-of_placed at [] i p e = absurd (cc e)
-of_placed at (f ∷ fields) zero p e = let same : (at, f) ≡ p = cc e in ap (λ (q : ℕ × FieldLayout). Some q.1) same
-of_placed at (f ∷ fields) (suc i) p e = of_placed (at + f.width) fields i p e
+of_fields : (at : ℕ) (fields : List FieldLayout) (i : ℕ) (p : ℕ × FieldLayout) → slice_get (fields_with_starts at fields) i ≡ Some p → slice_get fields i ≡ Some p.1
+of_fields at [] i p e = absurd (cc e)
+of_fields at (f ∷ fields) zero p e = let same : (at, f) ≡ p = cc e in ap (λ (q : ℕ × FieldLayout). Some q.1) same
+of_fields at (f ∷ fields) (suc i) p e = of_fields (at + f.width) fields i p e
 
-field_behind : (this_kind : Kind) (k j : ℕ) (p : ℕ × FieldLayout) → j ≡ k + 2 → field_placed this_kind j ≡ Some p → slice_get (fields_after_type this_kind) k ≡ Some p.1
+field_behind : (this_kind : Kind) (k j : ℕ) (p : ℕ × FieldLayout) → j ≡ k + 2 → field_with_start this_kind j ≡ Some p → slice_get (fields_after_type this_kind) k ≡ Some p.1
 field_behind this_kind k j p e h =
     let some = ne_eqb j 0 (omega (arith, e)) in
     let before : j - 1 ≡ suc k = omega (arith, e) in
-    let there : slice_get (placed_fields 0 (layout this_kind)) (suc k) ≡ Some p =
-    ap (slice_get (placed_fields 0 (layout this_kind))) (sym before) ∙ sym (ap (λ (b : Bool). cond b None (slice_get (placed_fields 0 (layout this_kind)) (j - 1))) some) ∙ h in
-    of_placed 0 (layout this_kind) (suc k) p there
+    let there : slice_get (fields_with_starts 0 (layout this_kind)) (suc k) ≡ Some p =
+    ap (slice_get (fields_with_starts 0 (layout this_kind))) (sym before) ∙ sym (ap (λ (b : Bool). cond b None (slice_get (fields_with_starts 0 (layout this_kind)) (j - 1))) some) ∙ h in
+    of_fields 0 (layout this_kind) (suc k) p there
 
 -- with one field more
-pub blank_more : (this_kind : Kind) (k j n : ℕ) (p : ℕ × FieldLayout) (old new : List ℕ) → j ≡ k + 2 → n ≡ k + 1 → field_placed this_kind j ≡ Some p → old ≡ blank_front this_kind k → new ≡ old ++ blank_cell p.1.ty p.1.width → new ≡ blank_front this_kind n
+pub blank_more : (this_kind : Kind) (k j n : ℕ) (p : ℕ × FieldLayout) (old new : List ℕ) → j ≡ k + 2 → n ≡ k + 1 → field_with_start this_kind j ≡ Some p → old ≡ blank_front this_kind k → new ≡ old ++ blank_cell p.1.ty p.1.width → new ≡ blank_front this_kind n
 blank_more this_kind k j n p old new e more h front cell =
     let fields : List FieldLayout = fields_after_type this_kind in
     let blank : FieldLayout → List ℕ = λ f. blank_cell f.ty f.width in

@@ -1,25 +1,14 @@
--- What a line that was taken carries, by its bytes alone.
+-- What a line that was taken carries and a record that it holds.
 use Rattle.std.proofs.Common.{◌≡◌, ◌≢◌, ℕ, true, false, List, Option, Some, None, refl, sym, ap, ap₂, ◌∙◌, true≢false}
 use Rattle.cwr_layouts.specs.declared.kinds.Kind.{Kind}
 use Rattle.cwr_layouts.specs.declared.lines.LineEnd.{LineEnd}
 use Rattle.cwr_layouts.specs.declared.lines.LineEnd.TheVariants.{Open, Line, Over}
-use Rattle.cwr_layouts.specs.Format.Lines.{body_kind, cells_as, excess_as, without_cr}
+use Rattle.cwr_layouts.specs.Format.Lines.{body_kind, excess_as, without_cr}
 use Rattle.cwr_layouts.specs.Format.Records.{RecordValue}
-use Rattle.cwr_layouts.specs.Steps.Held.{HeldLine, IsHeld, body_by, carried_by, ended_too_long, held_body, held_cells, held_excess, held_kind, held_record}
-use Rattle.cwr_c.specs.Format.Entries.{carried, carried_as}
+use Rattle.cwr_layouts.specs.Steps.Held.{HeldLine, IsHeld, body_by, carried_by, ended_too_long, held_body, held_cells, held_excess, held_kind}
 use Rattle.cwr_c.specs.Format.LineRecords.{CarriesRecord}
-use Rattle.cwr_c.specs.Format.WholeLines.{IsLine}
+use Rattle.cwr_decode.proofs.CarriedLines.{carried_line, is_line}
 use Rattle.cwr_c.specs.Steps.Writings.{HoldsRecord}
-
--- what the bytes carry is what a held line of them does
-carried_as_held : (kind : Option Kind) (body : List ℕ) → carried_as kind body ≡ carried_by kind (cells_as kind body)
-carried_as_held None body = refl
-carried_as_held (Some this_kind) body = refl
-
-pub carried_line : (line : HeldLine) (r : RecordValue) → line.ended ≡ Line → held_record line ≡ Some r → carried (without_cr line.bytes) ≡ Some r
-carried_line line r ended carries =
-    let body : List ℕ = without_cr line.bytes in
-    carried_as_held (body_kind body) body ∙ ap (λ (e : LineEnd). carried_by (body_kind (body_by e line.bytes)) (cells_as (body_kind (body_by e line.bytes)) (body_by e line.bytes))) (sym ended) ∙ carries
 
 -- a line of a kind, with nothing bad behind its last field, isn't too long
 pub line_ended : (line : HeldLine) (kind : Kind) → line.ended ≢ Open → held_kind line ≡ Some kind → held_excess line ≡ false → line.ended ≡ Line
@@ -41,9 +30,6 @@ pub record_line_ended : (line : HeldLine) (r : RecordValue) → line.ended ≢ O
 record_line_ended line r ended h =
     let named = named_by (held_kind line) (held_cells line) r h.carried in
     line_ended line named.0 ended named.1 h.excess
-
-pub is_line : (line : HeldLine) → IsHeld line → IsLine line.bytes
-is_line line h = record { no_lf = h.no_lf; short = h.short }
 
 -- by its bytes the line carries the record
 pub carries_record : (line : HeldLine) (r : RecordValue) → line.ended ≡ Line → IsHeld line → HoldsRecord line r → CarriesRecord line.bytes r

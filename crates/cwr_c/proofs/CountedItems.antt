@@ -21,26 +21,6 @@ use Rattle.cwr_tools.specs.Format.Texts.{good_verdict}
 use Rattle.cwr_c.specs.declared.listing.Numbers.{Numbers}
 use Rattle.cwr_c.specs.Steps.Listed.{numbers_with}
 
--- ---- the records of a transmission, by its items
-
-records_of_transactions : (ts : List (List RecordValue)) → records_in (map items.Transaction ts) ≡ flat_map (λ t. t) ts
-records_of_transactions ts = flat_map-map item_records items.Transaction ts
-
-group_records_in : (g : GroupValue) → records_in (group_items g) ≡ records_of_group g
-group_records_in g =
-    ap (λ (rs : List RecordValue). g.head ∷ rs)
-    (flat_map-append item_records (map items.Transaction g.transactions) (items.GroupClosed g.foot ∷ []) ∙ ap (λ (rs : List RecordValue). rs ++ g.foot ∷ []) (records_of_transactions g.transactions))
-
-groups_records_in : (gs : List GroupValue) → records_in (flat_map group_items gs) ≡ flat_map records_of_group gs
-groups_records_in [] = refl
-groups_records_in (g ∷ gs) =
-    flat_map-append item_records (group_items g) (flat_map group_items gs) ∙ ap₂ (λ (xs ys : List RecordValue). xs ++ ys) (group_records_in g) (groups_records_in gs)
-
-pub records_in_value : (v : TransmissionValue) → records_in (value_items v) ≡ records_of v
-records_in_value v =
-    ap (λ (rs : List RecordValue). v.opening ∷ rs)
-    (flat_map-append item_records (flat_map group_items v.groups) (items.Ended ∷ []) ∙ ap (λ (rs : List RecordValue). rs ++ trailer ∷ []) (groups_records_in v.groups))
-
 -- ---- how many they are
 
 -- the numbers are those of the items

@@ -1,11 +1,7 @@
 mod PutElements
-mod EntriesPut
-mod LinesAtFront
 mod CarriedLines
 mod CountedItems
 mod ReadItems
-mod LineAfterLines
-mod IndexedText
 mod WrittenRecords
 mod WrittenLines
 mod ListedFindings

@@ -20,7 +20,7 @@ use Rattle.cwr_c.specs.declared.listing.Numbers.{Numbers}
 use Rattle.cwr_c.specs.Format.Copies.{CopiesOut}
 use Rattle.cwr_c.specs.Format.FindingNumbers.{finding_in_c, findings_in_c, item_findings}
 use Rattle.cwr_c.specs.Steps.Listed.{ListsFrom, PutsMore, numbers_with}
-use Rattle.cwr_c.specs.Steps.TakenLines.{PutsAt}
+use Rattle.cwr_decode.specs.Steps.TakenLines.{PutsAt}
 use Rattle.cwr_c.proofs.CountedItems.{IsCount, count_more}
 use Rattle.cwr_c.proofs.PutElements.{copies_more, copies_nothing}
 

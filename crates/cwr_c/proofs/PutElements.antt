@@ -2,14 +2,9 @@
 use Rattle.std.proofs.Common.{◌≡◌, ℕ, suc, ◌+◌, ◌<◌, List, [], ◌∷◌, ◌++◌, length, take, drop, refl, sym, ap, subst, ◌∙◌, arith, append_assoc, inl, inr}
 use Rattle.std.specs.Prelude.{min, set}
 use Rattle.std.proofs.Math.Seq.{take-append_seam, drop-append_seam}
-use Rattle.std.proofs.lemmas.List.{drop-drop, drop-set-lt, length-append, length-drop, length-take-le, set_split, take_all, take-append-le}
+use Rattle.std.proofs.lemmas.List.{drop-drop, length-append, length-drop, length-take-le, set_split, take_all, take-append-le}
 use Rattle.cwr_c.specs.Format.Copies.{CopiesOut}
-use Rattle.cwr_c.specs.Steps.TakenLines.{PutsAt}
-
--- what stands behind the place stays
-pub rest_stays : {X : Type 0} (n : ℕ) (x : X) (old new : List X) → PutsAt n x old new → drop (n + 1) new ≡ drop (n + 1) old
-rest_stays n x old new (inl p) = ap (drop (n + 1)) p.1 ∙ drop-set-lt (n + 1) old n x (omega arith)
-rest_stays n x old new (inr p) = ap (drop (n + 1)) p.1
+use Rattle.cwr_decode.specs.Steps.TakenLines.{PutsAt}
 
 -- nothing was put
 pub copies_nothing : {X : Type 0} (old : List X) (count : ℕ) → count ≡ 0 → CopiesOut [] old old count

@@ -16,7 +16,8 @@ use Rattle.cwr_decode.specs.Steps.TextLines.{FirstLine, IsCutOff, IsLastLine}
 use Rattle.cwr_decode.proofs.ClosedTexts.{closed_more, closed_open, closed_text, text_of-push}
 use Rattle.cwr_c.specs.Format.LineRecords.{CarriesRecord}
 use Rattle.cwr_c.specs.Steps.Writings.{GoesOn, HoldsRecord, WritesLines, WritesOn}
-use Rattle.cwr_c.proofs.CarriedLines.{carries_record, is_line, kind_by_bytes, line_ended, record_line_ended}
+use Rattle.cwr_decode.proofs.CarriedLines.{is_line}
+use Rattle.cwr_c.proofs.CarriedLines.{carries_record, kind_by_bytes, line_ended, record_line_ended}
 use Rattle.cwr_c.proofs.WrittenRecords.{goes_nowhere, goes_then}
 
 -- so many bytes of the text are these lines; the last may lack its line feed where the text ends with it

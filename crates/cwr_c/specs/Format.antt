@@ -1,7 +1,5 @@
 -- What is promised, in the words of the format.
 pub mod VerdictNumbers
-pub mod WholeLines
-pub mod Entries
 pub mod Answers
 pub mod FieldNumbers
 pub mod FindingNumbers

@@ -1,5 +1,4 @@
 -- What the code keeps, and what its calls do to that.
-pub mod TakenLines
 pub mod Reported
 pub mod Listed
 pub mod Writings

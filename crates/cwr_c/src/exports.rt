@@ -10,11 +10,11 @@ ghost use Rattle.cwr_c.specs.Steps.Reported.{TellsReport};
 use crate::codes::{blank_line, put_code};
 use crate::fields::{CwrField, find_field, kind_at, place_of};
 use crate::imports::import_text;
-use crate::indexing::{CwrLine, index};
 use crate::listing::{CwrFinding, list_findings};
 use crate::reports::{copy_out, report, what_is_asked};
 use crate::verdicts::{CwrVerdict, end_in_c, ended, in_c};
 use crate::writing::{CwrWritten, write_text, written};
+use cwr_decode::{IndexEntry, index};
 use cwr_fields::{Counted, DeviceFault, Target};
 use cwr_layouts::{Kind, letters};
 use cwr_shape::Limits;
@@ -123,7 +123,7 @@ pub extern "C" fn cwr_index(
     records: u32,
     groups: u32,
     transaction: u32,
-    lines: &mut [CwrLine],
+    lines: &mut [IndexEntry],
     verdict: &mut CwrVerdict,
 ) -> usize
     ensures { Indexes records groups transaction text.now lines.old lines.new result verdict.new }

@@ -2,9 +2,9 @@
 
 ghost use Rattle.std.specs.Prelude.{◌≡◌, ◌++◌, [], length, take, slice_get, option_and_then, option_map};
 ghost use Rattle.cwr_layouts.specs.Format.Kinds.{all_kinds, kind_of, letters as letters_of};
-ghost use Rattle.cwr_layouts.specs.Format.Layouts.{FieldLayout, field_placed};
+ghost use Rattle.cwr_layouts.specs.Format.Layouts.{FieldLayout, field_with_start};
 ghost use Rattle.cwr_layouts.specs.Steps.Views.{field_view};
-ghost use Rattle.cwr_c.specs.Format.FieldNumbers.{field_named, place_in_c, type_number};
+ghost use Rattle.cwr_c.specs.Format.FieldNumbers.{field_named, field_in_c, type_number};
 
 use cwr_fields::CellType;
 use cwr_layouts::{Field, Kind, field};
@@ -115,7 +115,7 @@ fn type_number(ty: CellType) -> u32
 
 /// The place of a field.
 pub(crate) fn place_of(place: &Field) -> CwrField
-    ensures { result ≡ place_in_c (field_view place.now) }
+    ensures { result ≡ field_in_c (field_view place.now) }
 {
     CwrField {
         start: place.start,

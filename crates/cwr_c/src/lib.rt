@@ -5,15 +5,12 @@ mod codes;
 mod exports;
 mod fields;
 mod imports;
-mod indexing;
-mod lines;
 mod listing;
 mod reports;
 mod verdicts;
 mod writing;
 
 pub use fields::CwrField;
-pub use indexing::CwrLine;
 pub use listing::CwrFinding;
 pub use verdicts::CwrVerdict;
 pub use writing::CwrWritten;

@@ -5,7 +5,7 @@ ghost use Rattle.cwr_judge.specs.Format.Items.{item_records};
 ghost use Rattle.cwr_tools.specs.Format.Verdicts.{IsVerdictOf};
 ghost use Rattle.cwr_c.specs.Format.FindingNumbers.{finding_in_c, item_findings, rule_number};
 ghost use Rattle.cwr_c.specs.Steps.Listed.{Lists, ListsFrom, PutsMore, numbers_with};
-ghost use Rattle.cwr_c.specs.Steps.TakenLines.{PutsAt};
+ghost use Rattle.cwr_decode.specs.Steps.TakenLines.{PutsAt};
 
 use crate::verdicts::level_letter;
 use cwr_decode::{ReadFault, Reading};

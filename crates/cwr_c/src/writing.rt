@@ -8,8 +8,8 @@ ghost use Rattle.cwr_c.specs.Format.LineRecords.{CarryRecords};
 ghost use Rattle.cwr_c.specs.Format.WrittenTexts.{IsCanonicalOf};
 ghost use Rattle.cwr_c.specs.Steps.Writings.{EndsWriting, GoesOn, HasCanonical, HoldsRecord, WritesLine, WritesLines, WritesOn, held_records};
 
-use crate::lines::first_line;
 use crate::verdicts::limit_number;
+use cwr_decode::first_line;
 use cwr_encode::{EncodeFault, Encoder};
 use cwr_fields::{Counted, Target};
 use cwr_layouts::{CutLine, Kind, LineBuf, Record, RecordRef};

@@ -208,7 +208,7 @@ groups_records_in (g ∷ gs) =
     flat_map-append item_records (group_items g) (flat_map group_items gs) ∙ ap₂ (λ (xs ys : List RecordValue). xs ++ ys) (group_records_in g) (groups_records_in gs)
 
 -- they have the records of the transmission
-value_records_in : (v : TransmissionValue) → records_in (value_items v) ≡ records_of v
+pub value_records_in : (v : TransmissionValue) → records_in (value_items v) ≡ records_of v
 value_records_in v =
     ap (λ (rs : List RecordValue). v.opening ∷ rs)
     (flat_map-append item_records (flat_map group_items v.groups) (Ended ∷ []) ∙ ap (λ (rs : List RecordValue). rs ++ trailer ∷ []) (groups_records_in v.groups))

@@ -8,3 +8,4 @@ pub mod Readings
 pub mod Represents
 pub mod Runs
 pub mod TextLines
+pub mod TakenLines

@@ -6,7 +6,7 @@ ghost use Rattle.cwr_decode.specs.Steps.Decoding.{StandsAfter, accepted_records,
 ghost use Rattle.cwr_decode.specs.Steps.Machines.{Empties, WaitsOutside, held_list, end_input};
 ghost use Rattle.cwr_decode.specs.Steps.Readings.{FeedsOn};
 ghost use Rattle.cwr_decode.specs.Steps.Represents.{IsRight, RepresentsSome, Represents, items_out};
-ghost use Rattle.cwr_decode.specs.Steps.LastReads.{stage_of_records};
+ghost use Rattle.cwr_decode.specs.Steps.LastReads.{counts_of_records, stage_of_records};
 ghost use Rattle.cwr_shape.specs.Steps.Stages.{stage_after};
 ghost use Rattle.cwr_shape.specs.Steps.Tallies.{IsTallyOf};
 ghost use Rattle.cwr_shape.specs.declared.symbols.Symbol.{Symbol};
@@ -14,7 +14,7 @@ ghost use Rattle.cwr_values.specs.declared.items.Item.{Item};
 
 use crate::machine::{Machine, State};
 use crate::outcomes::{Answer, Outcome};
-use cwr_shape::{Limits, Stage};
+use cwr_shape::{Counts, Limits, Stage};
 use cwr_values::{Item, Transaction};
 use std::alloc::Global;
 use std::marker::Model;
@@ -64,6 +64,13 @@ impl Decoder {
         self.machine.stage()
     }
 
+    /// What was counted of the accepted records.
+    pub fn counts(&self) -> Counts
+        ensures { result ≡ counts_of_records self.now }
+    {
+        self.machine.counts()
+    }
+
     /// How many bytes of the line that is read or waits are held, its line feed not counted, and how many records of
     /// the open transaction: at most 1,024 bytes, and at most as many records as the limit of a transaction.
     pub fn holds(&self) -> (usize, usize)
@@ -97,7 +104,11 @@ impl Decoder {
         self.machine.feed_quickly(piece)
     }
 
-    /// Takes the next piece of the input, up to the next item. `feed` after `finish` uses nothing and answers as that.
+    /// Takes bytes of the next piece, up to the next item, and answers how many bytes it used and what came of them: an
+    /// item; `More`, where the piece is used up and no item is whole; or one of the ends `Refused`, `Memory` and `Done`,
+    /// which each later call answers again. What wasn't used is fed again. The record that ends a transaction waits until
+    /// that was handed out; the next call then begins with it, and uses no byte where it is an item of its own or finds
+    /// no memory. After `finish` no byte is used, and the answer is the one that `finish` would give.
     pub fn feed(&mut self, piece: &[u8]) -> Answer
         // What it represents: some input, and the items of that. Afterwards with the used bytes, and the item answered.
         ensures used { result.used ≤ length piece.now }

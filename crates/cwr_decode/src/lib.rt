@@ -3,8 +3,10 @@
 
 mod decoders;
 mod endings;
+mod indexing;
 mod last_bytes;
 pub mod laws;
+mod lines;
 mod machine;
 mod outcomes;
 mod piecewise;
@@ -14,7 +16,9 @@ mod whole;
 pub use cwr_judge::Refusal;
 pub use decoders::Decoder;
 pub use endings::{End, end_of};
+pub use indexing::{IndexEntry, index};
 pub use last_bytes::LastBytes;
+pub use lines::first_line;
 pub use outcomes::{Answer, Outcome};
 pub use piecewise::read_pieces;
 pub use readings::{LastRead, ReadFault, Reading};

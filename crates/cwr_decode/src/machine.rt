@@ -18,7 +18,7 @@ use crate::outcomes::{Answer, Outcome};
 use cwr_fields::SpelledPair;
 use cwr_judge::{LineFault, Refusal, count_quickly, judge};
 use cwr_layouts::{CutLine, Kind, LineBuf, LineEnd, RecordRef, Taken, is_in_transaction};
-use cwr_shape::{Limits, Scope, Stage, Symbol, Tally, level};
+use cwr_shape::{Counts, Limits, Scope, Stage, Symbol, Tally, level};
 use cwr_values::{Item, PushFault, Transaction};
 use std::alloc::{AllocError, Global};
 use std::marker::Model;
@@ -238,6 +238,13 @@ impl Machine {
         ensures named { (xs : List Symbol) → IsTallyOf self.now.tally xs → result ≡ stage_after xs }
     {
         self.tally.stage()
+    }
+
+    /// What was counted of the accepted records.
+    pub fn counts(&self) -> Counts
+        ensures { result ≡ self.now.tally.counts }
+    {
+        self.tally.counts()
     }
 
     /// Whether the end of the input was taken.

@@ -5,7 +5,7 @@ ghost use Rattle.cwr_decode.specs.Steps.Decoding.{HasWaiting, accepted_records, 
 ghost use Rattle.cwr_decode.specs.Steps.Represents.{RepresentsSome, Represents};
 ghost use Rattle.cwr_decode.specs.Steps.Machines.{WaitsOutside, again};
 ghost use Rattle.cwr_decode.specs.Steps.Readings.{answer_of, CountsQuickly, CountsReader, FeedsOn, Reads, ReadsQuickly};
-ghost use Rattle.cwr_decode.specs.Steps.LastReads.{AreHeld, HoldsLast, ReadsLast, stage_of_records};
+ghost use Rattle.cwr_decode.specs.Steps.LastReads.{AreHeld, HoldsLast, ReadsLast, counts_of_records, stage_of_records};
 
 use crate::decoders::Decoder;
 use crate::last_bytes::LastBytes;
@@ -13,7 +13,7 @@ use crate::machine::State;
 use crate::outcomes::Outcome;
 use cwr_fields::Source;
 use cwr_judge::Refusal;
-use cwr_shape::{Limits, Stage};
+use cwr_shape::{Counts, Limits, Stage};
 use cwr_values::{Item, Transaction};
 use std::alloc::Global;
 use std::error::Error;
@@ -53,6 +53,8 @@ impl Error for ReadFault {}
 pub struct LastRead {
     /// How far the accepted records have come.
     pub stage: Stage,
+    /// What was counted of them.
+    pub counts: Counts,
     /// The last bytes that the reader lost.
     pub bytes: LastBytes,
 }
@@ -298,12 +300,13 @@ impl<'a, R: Source> Reading<'a, R> {
     /// What was read last, and how far the accepted records have come. After a refusal the bytes end with the refused line.
     /// `None` where the last bytes aren't held.
     pub fn last_read(&self) -> Option<LastRead>
-        ensures stage { IfSome result (λ last. last.stage ≡ stage_of_records self.now.decoder) }
+        ensures front { IfSome result (λ last. (last.stage ≡ stage_of_records self.now.decoder) × (last.counts ≡ counts_of_records self.now.decoder)) }
         ensures bytes { (read : List ℕ) → AreHeld read self.now.last → IsSomeAnd result (λ last. HoldsLast read last.bytes) }
     {
         match &self.last {
             Some(last) => Some(LastRead {
                 stage: self.decoder.stage(),
+                counts: self.decoder.counts(),
                 bytes: last.copy(),
             }),
             None => None,

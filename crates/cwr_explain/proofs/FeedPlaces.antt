@@ -1,6 +1,6 @@
 -- What stands after the last line feed of a text.
 use Rattle.std.proofs.Common.{◌≡◌, ℕ, suc, ◌+◌, ◌<◌, true, false, List, [], ◌∷◌, ◌++◌, length, take, drop, get_or, refl, sym, ap, ◌∙◌, arith, inl, inr, append_assoc, take-append-drop, drop-cons}
-use Rattle.std.specs.Prelude.{◌==◌, ◌-◌, ◌≤◌, Option, Some, None, MatchOption, IsFalse, slice_index}
+use Rattle.std.specs.Prelude.{◌==◌, ◌-◌, Some, None, slice_index}
 use Rattle.std.specs.List.{list_any}
 use Rattle.std.proofs.lemmas.Bool.{eqb-true, or_from, false_from_ne_true}
 use Rattle.std.proofs.lemmas.List.{get_or-drop, length-drop, take_all}

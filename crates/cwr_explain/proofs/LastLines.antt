@@ -1,9 +1,9 @@
 -- A text ends with one line at most, and the last bytes of a text show it.
 use Rattle.std.proofs.Common.{◌≡◌, ◌≢◌, ℕ, ◌+◌, ◌-◌, ◌<◌, ◌≤◌, Bool, true, false, List, [], ◌∷◌, ◌++◌, length, take, drop, refl, sym, ap, subst, ◌∙◌, arith, inl, inr, append_assoc, append-nil}
-use Rattle.std.specs.Prelude.{◌⊎◌, ◌||◌, ◌==◌, ◌^◌, min, IsFalse, Option, None, Some, IfSome}
+use Rattle.std.specs.Prelude.{◌⊎◌, ◌||◌, ◌==◌, IsFalse, Option, None, Some, IfSome}
 use Rattle.std.specs.List.{list_any}
 use Rattle.std.proofs.lemmas.Bool.{false≢true, true≢false}
-use Rattle.std.proofs.lemmas.List.{append_cancel_right, drop-append-le, length-append, length-drop, length-take-le, nil_from_length, take_all, take-append-drop}
+use Rattle.std.proofs.lemmas.List.{append_cancel_right, drop-append-le, length-append, length-take-le, nil_from_length, take_all, take-append-drop}
 use Rattle.std.proofs.Math.Seq.{drop-append_seam}
 use Rattle.cwr_layouts.specs.declared.lines.LineEnd.{LineEnd}
 use Rattle.cwr_layouts.specs.declared.lines.LineEnd.TheVariants as line_ends

@@ -1,17 +1,16 @@
 -- The input of a decoder that refused a line ends with that line.
-use Rattle.std.proofs.Common.{◌≡◌, ◌≢◌, ℕ, ◌+◌, ◌<◌, ◌≤◌, Bool, true, false, List, [], ◌∷◌, ◌++◌, length, refl, sym, ap, subst, ◌∙◌, arith, inl, inr, append_assoc, append-nil}
+use Rattle.std.proofs.Common.{◌≡◌, ◌≢◌, ℕ, ◌<◌, Bool, true, false, List, [], ◌∷◌, ◌++◌, length, refl, sym, ap, ◌∙◌, arith, inl, inr, append_assoc, append-nil}
 use Rattle.std.specs.Prelude.{◌⊎◌, ◌-◌, ◌||◌, ◌==◌, cond, drop}
 use Rattle.std.specs.Str.{bytes_eq}
-use Rattle.std.specs.List.{flat_map}
 use Rattle.std.proofs.lemmas.List.{append_cancel_right, length-append}
 use Rattle.cwr_layouts.specs.declared.lines.LineEnd.{LineEnd}
 use Rattle.cwr_layouts.specs.declared.lines.LineEnd.TheVariants as line_ends
 use Rattle.cwr_layouts.specs.Format.Lines.{closed}
-use Rattle.cwr_layouts.specs.Steps.Held.{HeldLine, FillsLongest, IsHeld, held_text, text_by}
+use Rattle.cwr_layouts.specs.Steps.Held.{FillsLongest, held_text, text_by}
 use Rattle.cwr_values.specs.declared.items.Item.{Item}
 use Rattle.cwr_judge.specs.declared.refusals.Refusal.{Refusal}
 use Rattle.cwr_decode.specs.Steps.Machines.{Standing}
-use Rattle.cwr_decode.specs.Steps.Represents.{EndsInLf, IsInput, IsStopped, text_of}
+use Rattle.cwr_decode.specs.Steps.Represents.{IsInput, IsStopped, text_of}
 use Rattle.cwr_decode.proofs.ClosedTexts.{closed_text}
 use Rattle.cwr_explain.specs.Steps.LinesAtEnd.{EndsWithLine, IsBeforeLine}
 use Rattle.cwr_explain.proofs.LastLines.{NoLf, starts_later}

@@ -1,21 +1,19 @@
 -- What is written, read and counted in two steps.
 use Rattle.std.proofs.Common.{◌≡◌, ℕ, zero, suc, ◌+◌, ◌-◌, ◌<◌, Bool, true, false, true≢false, List, [], ◌∷◌, ◌++◌, length, take, drop, Option, Some, None, refl, sym, ap, ap₂, subst, ◌∙◌, arith}
-use Rattle.std.specs.Prelude.{◌^◌, min, nat_eq, IfSome, IsSomeAnd, OnOk, Result, Ok, Err, is_err}
+use Rattle.std.specs.Prelude.{◌^◌, min, nat_eq, IfSome, IsSomeAnd, OnOk, Result, Ok, Err}
 use Rattle.std.specs.Io.{StartsWith}
-use Rattle.std.specs.Io.KnownBytes.{Appends, Consumes, IsAtEnd, Keeps}
+use Rattle.std.specs.Io.KnownBytes.{Consumes, IsAtEnd, Keeps}
 use Rattle.std.proofs.lemmas.Bool.{eqb-true}
 use Rattle.cwr_decode.proofs.FromReader.{consumes_taken}
-use Rattle.std.proofs.KnownBytes.{Appends-nil, Appends-trans, Consumes-kept, Consumes-nil, Consumes-trans}
+use Rattle.std.proofs.KnownBytes.{Appends-nil, Consumes-kept, Consumes-nil, Consumes-trans}
 use Rattle.std.proofs.lemmas.List.{length-append}
-use Rattle.cwr_fields.specs.Format.Failures.{one_more_failure}
 use Rattle.cwr_shape.specs.declared.limits.Limits.{Limits}
 use Rattle.cwr_tools.specs.declared.verdicts.Verdict.{Verdict}
 use Rattle.cwr_tools.specs.declared.verdicts.ToolFault.{ToolFault}
-use Rattle.cwr_tools.specs.declared.verdicts.ToolFault.TheVariants as faults
 use Rattle.cwr_tools.specs.Format.Reports.{CountsReaderFault, CountsWriterFault, JudgesAccepted, lines_of_explained}
 use Rattle.cwr_tools.specs.Steps.Reports.{Reports}
 use Rattle.cwr_explain.specs.declared.trailing.Trailing.{Trailing}
-use Rattle.cwr_explain.specs.Format.Explained.{AddsWords, FindsAfter, IsAnswerAfter, IsAnswerTo, IsTrailing, ReadsOnly, TakesMore, WritesOnly}
+use Rattle.cwr_explain.specs.Format.Explained.{AddsWords, FindsAfter, IsAnswerAfter, IsTrailing, TakesMore}
 use Rattle.cwr_explain.specs.Steps.Explained.{Explains, TakesPiece, is_good}
 
 -- known bytes that stay are none that were taken

@@ -31,6 +31,8 @@ pub(crate) enum Sequence {
 pub(crate) struct Ahead {
     /// How many there are.
     pub count: u64,
+    /// The first of them.
+    pub first: Option<u64>,
     /// Whether each is one more than the one before.
     pub goes_on: bool,
 }
@@ -71,6 +73,7 @@ impl Walk {
             next: number.saturating_add(1),
             ahead: Ahead {
                 count: 0,
+                first: None,
                 goes_on: true,
             },
             front: [0; FRONT],
@@ -81,6 +84,9 @@ impl Walk {
 
     /// Follows a number of the sequence.
     fn follow(&mut self, number: Option<u64>) {
+        if self.ahead.count == 0 {
+            self.ahead.first = number;
+        }
         self.ahead.count = self.ahead.count.saturating_add(1);
         if number != Some(self.next) {
             self.ahead.goes_on = false;

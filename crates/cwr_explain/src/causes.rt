@@ -9,11 +9,11 @@ use crate::shifts::add_shift;
 use crate::texts::{add_beginning, add_cell, add_label};
 use crate::trailing::Trailing;
 use crate::versions::add_version;
-use crate::wrong_numbers::WrongNumber;
+use crate::wrong_numbers::{WrongNumber, is_header};
 use cwr_decode::{LastRead, Refusal};
-use cwr_fields::{CellFault, first_control};
+use cwr_fields::{CellFault, TransactionType, first_control};
 use cwr_layouts::{CutLine, Field, Kind, LONGEST_LINE, field, is_carried, width};
-use cwr_shape::{LimitKind, Limits, Reason, Stage, Symbol};
+use cwr_shape::{LimitKind, Limits, Reason, Stage, Symbol, TransactionStep};
 use cwr_tools::level_words;
 use std::alloc::{AllocError, Global};
 use std::fmt::Write;
@@ -287,6 +287,52 @@ impl Refused<'_> {
         }
     }
 
+    /// Whether the line stands there once more, right after itself.
+    fn stands_twice(&self) -> bool {
+        match self.before {
+            Some(before) => *before == *self.line.bytes,
+            None => false,
+        }
+    }
+
+    /// Adds what the header of another type's transaction in a group points to.
+    fn add_other_type(
+        &self,
+        text: &mut String,
+        stage: Option<Stage>,
+        kind: Kind,
+    ) -> Result<(), AllocError> {
+        let Some(Stage::Within(ty, step)) = stage else {
+            return Ok(());
+        };
+        let header = header_of(ty);
+        let may_be_copy = header == Kind::Ack && step != TransactionStep::InGroup;
+        if !is_header(kind) || kind == header || may_be_copy {
+            return Ok(());
+        }
+        let (letters, wanted) = (letters_of(kind), letters_of(header));
+        add_label(text, "points to")?;
+        writeln!(
+            text,
+            "the group's GRH says {wanted} in bytes 4 to 6, and this is the header of a transaction of type {letters}: the type in GRH is wrong, or a GRT and a GRH are missing before this line, or its kind is mistyped"
+        )
+    }
+
+    /// Adds what a misplaced line points to.
+    fn add_order(&self, text: &mut String, stage: Option<Stage>) -> Result<(), AllocError> {
+        match (self.refusal.reason, self.kind) {
+            (Reason::Misplaced, Some(kind)) => {
+                if self.stands_twice() {
+                    add_label(text, "points to")?;
+                    text.push_str("the line before it is the same: it stands twice\n")
+                } else {
+                    self.add_other_type(text, stage, kind)
+                }
+            }
+            _ => Ok(()),
+        }
+    }
+
     /// Adds where the line may end.
     fn add_end_expected(&self, text: &mut String) -> Result<(), AllocError> {
         add_label(text, "expected")?;
@@ -365,6 +411,7 @@ impl Refused<'_> {
         self.add_field(text)?;
         self.add_found(text, &cut)?;
         self.add_points(text, &cut)?;
+        self.add_order(text, stage)?;
         self.add_expected(alloc, text, limits, stage, &cut)?;
         self.add_level(text)?;
         self.add_opening(text)?;
@@ -374,6 +421,16 @@ impl Refused<'_> {
         }
         add_returns(text, self.line.bytes)?;
         add_cut_off(text, &self.line, self.kind)
+    }
+}
+
+/// The kind of the headers of transactions of a type.
+fn header_of(ty: TransactionType) -> Kind {
+    match ty {
+        TransactionType::Agreement => Kind::Agr,
+        TransactionType::NewWork => Kind::Nwr,
+        TransactionType::RevisedWork => Kind::Rev,
+        TransactionType::Acknowledgement => Kind::Ack,
     }
 }
 

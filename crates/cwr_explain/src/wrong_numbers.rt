@@ -59,17 +59,18 @@ const GROUP: Numbered = Numbered {
 };
 
 /// Whether the record is the header of a transaction.
-fn is_header(kind: Kind) -> bool {
+pub(crate) fn is_header(kind: Kind) -> bool {
     matches!(kind, Kind::Agr | Kind::Nwr | Kind::Rev | Kind::Ack)
 }
 
-/// Adds which ones are missing between the one before and this one.
+/// Adds which ones are missing between the one before and this one. They may stand after it, where nothing after it was looked at.
 fn add_missing(
     text: &mut String,
     what: Numbered,
     neighbours: Sequences,
     found: u64,
     expected: u64,
+    after: Option<Ahead>,
 ) -> Result<(), AllocError> {
     let Numbered {
         one,
@@ -83,16 +84,40 @@ fn add_missing(
             "{several} {before} and {here} stand beside each other: "
         )?;
     }
+    if stands_after(after, expected) {
+        return write!(
+            text,
+            "the {one} with {number} {expected} stands after this line: the two changed places"
+        );
+    }
     if last == expected {
         write!(
             text,
             "the {one} with {number} {expected} is missing before this line"
-        )
+        )?;
+        text.push_str(if after.is_none() {
+            ", or stands after it"
+        } else {
+            ""
+        })
     } else {
         write!(
             text,
             "the {several} with {number} {expected} to {last} are missing before this line"
-        )
+        )?;
+        text.push_str(if after.is_none() {
+            ", or stand after it, or the number is mistyped"
+        } else {
+            ""
+        })
+    }
+}
+
+/// Whether the number that belongs here is the first one after it.
+fn stands_after(after: Option<Ahead>, expected: u64) -> bool {
+    match after {
+        Some(ahead) => ahead.first == Some(expected),
+        None => false,
     }
 }
 
@@ -178,7 +203,18 @@ impl WrongNumber<'_> {
     /// Adds what a number points to that is one more with each of what it numbers.
     fn add_in_order(&self, text: &mut String, what: Numbered) -> Result<(), AllocError> {
         if self.found > self.expected {
-            add_missing(text, what, self.neighbours(), self.found, self.expected)?;
+            let after = self.ahead;
+            add_missing(
+                text,
+                what,
+                self.neighbours(),
+                self.found,
+                self.expected,
+                after,
+            )?;
+            if stands_after(after, self.expected) {
+                return Ok(());
+            }
         } else {
             add_used(text, what, self.found, self.expected)?;
         }
@@ -225,7 +261,7 @@ impl WrongNumber<'_> {
         }
         write!(
             text,
-            "the header of this transaction has sequence {expected}, and the record {found}: it belongs to another one, or a header is missing before it"
+            "the header of this transaction has sequence {expected}, and the record {found}: it belongs to another one, or a header is missing before it, or the number is mistyped"
         )
     }
 

@@ -8,11 +8,11 @@ use Rattle.std.proofs.lemmas.List.{length-append}
 use Rattle.cwr_fields.specs.Format.Bytes.{trimmed}
 use Rattle.cwr_layouts.specs.declared.kinds.Kind.{Kind}
 use Rattle.cwr_layouts.specs.declared.kinds.Kind.TheVariants.{Hdr, Grh, Grt, Trl, Agr, Ter, Ipa, Nwr, Rev, Spu, Opu, Spt, Swr, Owr, Swt, Pwr, Alt, Ewt, Ver, Per, Rec, Orn, Com, Ack, Msg, Opt, Owt, Npn, Npr, Nwn, Npa, Net, Now, Nct, Nvt, Nat, Ins, Ind, Ari, Xrf}
-use Rattle.cwr_layouts.specs.Format.Layouts.{FieldLayout, layout, field_at, field_placed}
+use Rattle.cwr_layouts.specs.Format.Layouts.{FieldLayout, layout, field_at, field_with_start}
 use Rattle.cwr_layouts.specs.Format.Records.{RecordValue, IsRecord}
 use Rattle.cwr_layouts.specs.Format.Carried.{carried_at, record_cell}
 use Rattle.cwr_layouts.proofs.TrimmedTexts.{spaces_after}
-use Rattle.cwr_layouts.proofs.FieldStarts.{field_at-placed}
+use Rattle.cwr_layouts.proofs.FieldStarts.{field_at-start}
 use Rattle.cwr_layouts.proofs.CarriedCells.{open_some, record_cell-at}
 
 -- ---- no line is too long
@@ -119,14 +119,14 @@ some_before None found cell e = absurd (cc e)
 some_before (Some f) found cell e = (f, refl)
 
 -- the field of a cell that is carried is the field of that number
-pub carried_field : (r : RecordValue) (j : ℕ) (p : ℕ × FieldLayout) (cell : List ℕ) → Some cell ≡ record_cell r j → Some p ≡ field_placed r.kind j → carried_at r.kind j ≡ Some p.1
+pub carried_field : (r : RecordValue) (j : ℕ) (p : ℕ × FieldLayout) (cell : List ℕ) → Some cell ≡ record_cell r j → Some p ≡ field_with_start r.kind j → carried_at r.kind j ≡ Some p.1
 carried_field r j p cell e place =
     let there = some_before (carried_at r.kind j) _ cell (sym e) in
     let at : field_at r.kind j ≡ Some there.0 = (open_some (field_at r.kind j) there.0 there.1).0 in
-    there.1 ∙ sym at ∙ sym (field_at-placed r.kind j) ∙ ap (option_map (λ (q : ℕ × FieldLayout). q.1)) (sym place)
+    there.1 ∙ sym at ∙ sym (field_at-start r.kind j) ∙ ap (option_map (λ (q : ℕ × FieldLayout). q.1)) (sym place)
 
 -- its name and its cell are short
-pub short_line : (r : RecordValue) (j : ℕ) (p : ℕ × FieldLayout) (cell : List ℕ) → IsRecord r → Some cell ≡ record_cell r j → Some p ≡ field_placed r.kind j → length p.1.name + length cell ≤ 720
+pub short_line : (r : RecordValue) (j : ℕ) (p : ℕ × FieldLayout) (cell : List ℕ) → IsRecord r → Some cell ≡ record_cell r j → Some p ≡ field_with_start r.kind j → length p.1.name + length cell ≤ 720
 short_line r zero p cell h e place = absurd (cc e)
 short_line r (suc i) p cell h e place =
     let carried = carried_field r (suc i) p cell e place in

@@ -5,10 +5,10 @@ use Rattle.std.specs.Option.{option_and_then}
 use Rattle.std.proofs.lemmas.List.{take_all}
 use Rattle.std.proofs.lemmas.Option.{slice_get-get_or}
 use Rattle.cwr_layouts.specs.declared.kinds.Kind.{Kind}
-use Rattle.cwr_layouts.specs.Format.Layouts.{FieldLayout, layout, record_type, field_at, field_placed}
+use Rattle.cwr_layouts.specs.Format.Layouts.{FieldLayout, layout, record_type, field_at, field_with_start}
 use Rattle.cwr_layouts.specs.Format.Records.{RecordValue, IsRecord}
 use Rattle.cwr_layouts.specs.Format.Carried.{carried_at, record_cell}
-use Rattle.cwr_layouts.proofs.FieldStarts.{field_at-placed}
+use Rattle.cwr_layouts.proofs.FieldStarts.{field_at-start}
 use Rattle.cwr_layouts.proofs.CarriedCells.{carried_count, record_cell-at}
 use Rattle.cwr_json.proofs.FieldsShown.{carried_field}
 use Rattle.cwr_json.specs.Steps.FormTexts.{NoLow, field_member, member_of, member_text, members_beside, member_texts}
@@ -24,19 +24,19 @@ member_of-and : (o : Option FieldLayout) (cell : Option (List ℕ)) → member_o
 member_of-and None cell = refl
 member_of-and (Some f) cell = refl
 
-pub field_member-some : (r : RecordValue) (j : ℕ) (p : ℕ × FieldLayout) (cell : List ℕ) → Some cell ≡ record_cell r j → Some p ≡ field_placed r.kind j → field_member r j ≡ member_text p.1 cell
+pub field_member-some : (r : RecordValue) (j : ℕ) (p : ℕ × FieldLayout) (cell : List ℕ) → Some cell ≡ record_cell r j → Some p ≡ field_with_start r.kind j → field_member r j ≡ member_text p.1 cell
 field_member-some r j p cell e place = ap₂ (λ (o : Option FieldLayout) (found : Option (List ℕ)). member_of o found) (carried_field r j p cell e place) (sym e)
 
 pub field_member-no_cell : (r : RecordValue) (j : ℕ) → None ≡ record_cell r j → field_member r j ≡ []
 field_member-no_cell r j e = ap (member_of (carried_at r.kind j)) (sym e) ∙ member_of-none (carried_at r.kind j)
 
-pub field_member-none : (r : RecordValue) (j : ℕ) → None ≡ field_placed r.kind j → field_member r j ≡ []
+pub field_member-none : (r : RecordValue) (j : ℕ) → None ≡ field_with_start r.kind j → field_member r j ≡ []
 field_member-none r j place =
-    let none : field_at r.kind j ≡ None = sym (field_at-placed r.kind j) ∙ ap (option_map (λ (q : ℕ × FieldLayout). q.1)) (sym place) in
+    let none : field_at r.kind j ≡ None = sym (field_at-start r.kind j) ∙ ap (option_map (λ (q : ℕ × FieldLayout). q.1)) (sym place) in
     ap (λ (o : Option FieldLayout). member_of (option_and_then (λ f. cond f.derived None (Some f)) o) (record_cell r j)) none
 
 -- its cell has no low byte
-pub high_cell : (r : RecordValue) (j : ℕ) (p : ℕ × FieldLayout) (cell : List ℕ) → IsRecord r → Some cell ≡ record_cell r j → Some p ≡ field_placed r.kind j → NoLow cell
+pub high_cell : (r : RecordValue) (j : ℕ) (p : ℕ × FieldLayout) (cell : List ℕ) → IsRecord r → Some cell ≡ record_cell r j → Some p ≡ field_with_start r.kind j → NoLow cell
 high_cell r zero p cell h e place = absurd (cc e)
 high_cell r (suc i) p cell h e place =
     let at = record_cell-at r (suc i) p.1 h (carried_field r (suc i) p cell e place) in

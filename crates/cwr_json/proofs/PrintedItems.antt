@@ -14,7 +14,7 @@ use Rattle.cwr_judge.specs.Format.Items.{item_records}
 use Rattle.cwr_json.specs.declared.notes.Notes.{Notes}
 use Rattle.cwr_json.specs.Format.Forms.{records_key, records_items, with_notes, with_group_notes, item_data, item_line}
 use Rattle.cwr_json.specs.Format.Laws.{AreBelow, LinesReadBack}
-use Rattle.cwr_json.specs.Steps.FormTexts.{note_text, group_notes_text, notes_text, opening_text, placed_texts, item_text}
+use Rattle.cwr_json.specs.Steps.FormTexts.{note_text, group_notes_text, notes_text, opening_text, listed_texts, item_text}
 use Rattle.cwr_json.proofs.PrintedRecords.{items_numbers, items_printed, items_shallow}
 
 -- members have this text, and a comma before it where they come after others
@@ -71,10 +71,10 @@ notes_print (Some n) item more text p =
 abbrev only_records : List RecordValue → Members
 only_records rs = member records_key (array (records_items rs)) no_members
 
-records_print : (rs : List RecordValue) → Prints (only_records rs) (codes "\"records\":[" ++ (placed_texts 0 rs ++ codes "]}"))
+records_print : (rs : List RecordValue) → Prints (only_records rs) (codes "\"records\":[" ++ (listed_texts 0 rs ++ codes "]}"))
 unfolding print_from escape_byte
 records_print rs =
-    let inside : print_from false (items_tokens (records_items rs) ++ Token.end_object ∷ []) ≡ placed_texts 0 rs ++ codes "]}" = items_printed rs (Token.end_object ∷ []) in
+    let inside : print_from false (items_tokens (records_items rs) ++ Token.end_object ∷ []) ≡ listed_texts 0 rs ++ codes "]}" = items_printed rs (Token.end_object ∷ []) in
     record {
       first = ap (λ (l : List ℕ). codes "\"records\":[" ++ l) inside;
       later = ap (λ (l : List ℕ). codes ",\"records\":[" ++ l) inside;
@@ -86,7 +86,7 @@ item_printed notes item =
     let rs : List RecordValue = item_records item in
     let named : List ℕ = notes_text notes item in
     let key : List ℕ = codes "\"records\":[" in
-    let placed : List ℕ = placed_texts 0 rs in
+    let placed : List ℕ = listed_texts 0 rs in
     let ends : List ℕ = codes "]}" in
     let p = notes_print notes item (only_records rs) (key ++ (placed ++ ends)) (records_print rs) in
     let inside : named ++ (key ++ (placed ++ ends)) ≡ ((named ++ key) ++ placed) ++ ends =

@@ -17,7 +17,7 @@ use Rattle.cwr_layouts.specs.Format.Kinds.{letters}
 use Rattle.cwr_layouts.specs.Format.Layouts.{FieldLayout, layout}
 use Rattle.cwr_layouts.specs.Format.Records.{RecordValue, carried_fields}
 use Rattle.cwr_json.specs.Format.Forms.{key_of, character, characters, kind_key, with_cell, cell_members, record_members, records_items, item_data, item_line}
-use Rattle.cwr_json.specs.Steps.FormTexts.{spelled, spelled_byte, member_text, members_beside, member_texts, head_text, record_text, placed_text, placed_texts, item_text}
+use Rattle.cwr_json.specs.Steps.FormTexts.{spelled, spelled_byte, member_text, members_beside, member_texts, head_text, record_text, listed_text, listed_texts, item_text}
 
 -- ---- what stands for itself
 
@@ -170,11 +170,11 @@ record_numbers r = (tt, cells_numbers (carried_fields r.kind) r.cells)
 
 -- ---- an item
 
-pub placed_later : (n : ℕ) (r : RecordValue) → 0 < n → placed_text n r ≡ 44 ∷ record_text r
-placed_later zero r h = absurd (omega arith)
-placed_later (suc n) r h = refl
+pub listed_later : (n : ℕ) (r : RecordValue) → 0 < n → listed_text n r ≡ 44 ∷ record_text r
+listed_later zero r h = absurd (omega arith)
+listed_later (suc n) r h = refl
 
-later_printed : (n : ℕ) (rs : List RecordValue) (rest : List Token) → 0 < n → print_from true (items_tokens (records_items rs) ++ rest) ≡ placed_texts n rs ++ (93 ∷ print_from true rest)
+later_printed : (n : ℕ) (rs : List RecordValue) (rest : List Token) → 0 < n → print_from true (items_tokens (records_items rs) ++ rest) ≡ listed_texts n rs ++ (93 ∷ print_from true rest)
 unfolding records_items print_from
 later_printed n [] rest h = refl
 later_printed n (r ∷ rs) rest h =
@@ -182,18 +182,18 @@ later_printed n (r ∷ rs) rest h =
     let after : List ℕ = 93 ∷ print_from true rest in
     ap (print_from true) (append_assoc (json_tokens (object (record_members r))) (items_tokens (records_items rs)) rest)
     ∙ ap (λ (l : List ℕ). 44 ∷ l) (record_printed r later ∙ ap (λ (l : List ℕ). record_text r ++ l) (later_printed (n + 1) rs rest (omega arith)))
-    ∙ sym (append_assoc (44 ∷ record_text r) (placed_texts (n + 1) rs) after)
-    ∙ ap (λ (l : List ℕ). (l ++ placed_texts (n + 1) rs) ++ after) (sym (placed_later n r h))
+    ∙ sym (append_assoc (44 ∷ record_text r) (listed_texts (n + 1) rs) after)
+    ∙ ap (λ (l : List ℕ). (l ++ listed_texts (n + 1) rs) ++ after) (sym (listed_later n r h))
 
 -- the records of an item
-pub items_printed : (rs : List RecordValue) (rest : List Token) → print_from false (items_tokens (records_items rs) ++ rest) ≡ placed_texts 0 rs ++ (93 ∷ print_from true rest)
+pub items_printed : (rs : List RecordValue) (rest : List Token) → print_from false (items_tokens (records_items rs) ++ rest) ≡ listed_texts 0 rs ++ (93 ∷ print_from true rest)
 unfolding records_items print_from
 items_printed [] rest = refl
 items_printed (r ∷ rs) rest =
     let later : List Token = items_tokens (records_items rs) ++ rest in
     ap (print_from false) (append_assoc (json_tokens (object (record_members r))) (items_tokens (records_items rs)) rest)
     ∙ record_printed r later ∙ ap (λ (l : List ℕ). record_text r ++ l) (later_printed 1 rs rest (lit≤ tt))
-    ∙ sym (append_assoc (record_text r) (placed_texts 1 rs) (93 ∷ print_from true rest))
+    ∙ sym (append_assoc (record_text r) (listed_texts 1 rs) (93 ∷ print_from true rest))
 
 pub items_numbers : (rs : List RecordValue) → ItemsHaveNumbers (records_items rs)
 unfolding records_items

@@ -5,7 +5,7 @@ ghost use Rattle.cwr_encode.specs.Steps.Sinks.{Puts, has_failed, written_of};
 ghost use Rattle.cwr_judge.specs.Format.Items.{item_records};
 ghost use Rattle.cwr_values.specs.Format.Rows.{trailer};
 ghost use Rattle.cwr_json.specs.Format.Forms.{item_line};
-ghost use Rattle.cwr_json.specs.Steps.FormTexts.{opening_text, placed_text, placed_texts};
+ghost use Rattle.cwr_json.specs.Steps.FormTexts.{opening_text, listed_text, listed_texts};
 
 use crate::notes::Notes;
 use crate::records::RecordText;
@@ -26,7 +26,7 @@ fn put_text<W: Target>(text: &RecordText, sink: &mut Sink<W>) -> Result<(), Sink
 /// Puts TRL, which carries nothing.
 fn put_trailer<W: Target>(text: &mut RecordText, sink: &mut Sink<W>) -> Result<(), SinkFault>
     requires { has_failed sink.old ≡ false }
-    ensures puts { Puts W.contents W.failures (placed_texts 0 (trailer ∷ [])) result sink.old sink.new }
+    ensures puts { Puts W.contents W.failures (listed_texts 0 (trailer ∷ [])) result sink.old sink.new }
     ensures fault { IfErr result (λ f. f.written ≡ written_of sink.new) }
 {
     text.set_trailer();
@@ -34,17 +34,17 @@ fn put_trailer<W: Target>(text: &mut RecordText, sink: &mut Sink<W>) -> Result<(
 }
 
 /// Puts a record that has so many before it in its item.
-fn put_placed<W: Target>(
+fn put_listed<W: Target>(
     before: u64,
     shown: &RecordRef<'_>,
     text: &mut RecordText,
     sink: &mut Sink<W>,
 ) -> Result<(), SinkFault>
     requires { has_failed sink.old ≡ false }
-    ensures puts { Puts W.contents W.failures (placed_text before shown.now) result sink.old sink.new }
+    ensures puts { Puts W.contents W.failures (listed_text before shown.now) result sink.old sink.new }
     ensures fault { IfErr result (λ f. f.written ≡ written_of sink.new) }
 {
-    text.set_placed(before, shown);
+    text.set_listed(before, shown);
     put_text(text, sink)
 }
 
@@ -55,13 +55,13 @@ fn put_records<W: Target>(
     sink: &mut Sink<W>,
 ) -> Result<(), SinkFault>
     requires unfailed { has_failed sink.old ≡ false }
-    ensures puts { Puts W.contents W.failures (placed_texts 0 transaction.now) result sink.old sink.new }
+    ensures puts { Puts W.contents W.failures (listed_texts 0 transaction.now) result sink.old sink.new }
     ensures fault { IfErr result (λ f. f.written ≡ written_of sink.new) }
 {
     let count = transaction.len();
     let mut i: usize = 0;
     while let Some(shown) = transaction.record(i) {
-        put_placed(i as u64, &shown, text, sink)?;
+        put_listed(i as u64, &shown, text, sink)?;
         prove!(i < count);
         i += 1;
     }
@@ -75,10 +75,10 @@ fn put_alone<W: Target>(
     sink: &mut Sink<W>,
 ) -> Result<(), SinkFault>
     requires { has_failed sink.old ≡ false }
-    ensures puts { Puts W.contents W.failures (placed_texts 0 (shown.now ∷ [])) result sink.old sink.new }
+    ensures puts { Puts W.contents W.failures (listed_texts 0 (shown.now ∷ [])) result sink.old sink.new }
     ensures fault { IfErr result (λ f. f.written ≡ written_of sink.new) }
 {
-    text.set_placed(0, shown);
+    text.set_listed(0, shown);
     put_text(text, sink)
 }
 
@@ -89,7 +89,7 @@ fn put_all<W: Target>(
     sink: &mut Sink<W>,
 ) -> Result<(), SinkFault>
     requires unfailed { has_failed sink.old ≡ false }
-    ensures puts { Puts W.contents W.failures (placed_texts 0 (item_records item.now)) result sink.old sink.new }
+    ensures puts { Puts W.contents W.failures (listed_texts 0 (item_records item.now)) result sink.old sink.new }
     ensures fault { IfErr result (λ f. f.written ≡ written_of sink.new) }
 {
     match item {
@@ -124,7 +124,7 @@ fn put_begun<W: Target>(
     sink: &mut Sink<W>,
 ) -> Result<(), SinkFault>
     requires unfailed { has_failed sink.old ≡ false }
-    ensures puts { Puts W.contents W.failures (opening_text notes item.now ++ placed_texts 0 (item_records item.now)) result sink.old sink.new }
+    ensures puts { Puts W.contents W.failures (opening_text notes item.now ++ listed_texts 0 (item_records item.now)) result sink.old sink.new }
     ensures fault { IfErr result (λ f. f.written ≡ written_of sink.new) }
 {
     put_opening(notes, item, text, sink)?;

@@ -2,7 +2,7 @@
 
 ghost use Rattle.std.specs.Prelude.{◌≡◌, ◌+◌, ◌*◌, ◌≤◌, [], ◌∷◌, ◌++◌, decimal, length};
 ghost use Rattle.cwr_layouts.specs.Steps.Views.{field_view};
-ghost use Rattle.cwr_json.specs.Steps.FormTexts.{NoLow, field_member, head_text, member_text, member_texts, group_notes_text, note_text, notes_text, opening_text, placed_text, placed_texts};
+ghost use Rattle.cwr_json.specs.Steps.FormTexts.{NoLow, field_member, head_text, member_text, member_texts, group_notes_text, note_text, notes_text, opening_text, listed_text, listed_texts};
 ghost use Rattle.cwr_values.specs.Format.Rows.{trailer};
 
 use crate::notes::Notes;
@@ -166,15 +166,15 @@ impl RecordText {
 
     /// Sets the text of TRL, which carries nothing.
     pub(crate) fn set_trailer(&mut self)
-        ensures { self.new ≡ placed_texts 0 (trailer ∷ []) }
+        ensures { self.new ≡ listed_texts 0 (trailer ∷ []) }
     {
         self.text.clear();
         push(&mut self.text, b"{\"record_type\":\"TRL\"}");
     }
 
     /// Sets the text of a record that has so many before it in its item.
-    pub(crate) fn set_placed(&mut self, before: u64, shown: &RecordRef<'_>)
-        ensures { self.new ≡ placed_text before shown.now }
+    pub(crate) fn set_listed(&mut self, before: u64, shown: &RecordRef<'_>)
+        ensures { self.new ≡ listed_text before shown.now }
     {
         self.text.clear();
         if before > 0 {

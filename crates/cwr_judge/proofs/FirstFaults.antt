@@ -19,10 +19,10 @@ use Rattle.cwr_fields.proofs.CellTests.{holds_test, holds_sound}
 use Rattle.cwr_layouts.specs.declared.kinds.Kind.{Kind}
 use Rattle.cwr_layouts.specs.declared.kinds.Kind.TheVariants as kinds
 use Rattle.cwr_layouts.specs.declared.layouts.Field.{Field}
-use Rattle.cwr_layouts.specs.Format.Layouts.{FieldLayout, layout, field_at, field_placed}
+use Rattle.cwr_layouts.specs.Format.Layouts.{FieldLayout, layout, field_at, field_with_start}
 use Rattle.cwr_layouts.specs.Steps.Views.{field_view}
 use Rattle.cwr_layouts.specs.Steps.Held.{HeldLine, held_kind, held_cell}
-use Rattle.cwr_layouts.proofs.FieldStarts.{field_at-placed}
+use Rattle.cwr_layouts.proofs.FieldStarts.{field_at-start}
 use Rattle.cwr_layouts.proofs.HeldLaws.{held_cell_there}
 use Rattle.cwr_shape.specs.declared.symbols.Symbol.{Symbol}
 use Rattle.cwr_shape.specs.declared.symbols.Symbol.TheVariants.{Ipa, Grh}
@@ -35,7 +35,7 @@ use Rattle.cwr_shape.specs.Format.Candidates.{candidates, role_in, type_in}
 use Rattle.cwr_shape.specs.Format.NextSymbols.{IsBarred, IsBarredAmong}
 use Rattle.cwr_shape.proofs.WhatMayCome.{comes_any}
 use Rattle.cwr_judge.specs.Steps.Judged.{named_symbol, bar_reason, IsTextFault, IsGoodNextCell, IsFaultBy, IsGoodAt, HasReasonAt, MayComeOf, IsWrongAt, barred, IsFirstWrong, IsFirstBy, IsFirstFault}
-use Rattle.cwr_judge.proofs.NumberCells.{one_number, at_place}
+use Rattle.cwr_judge.proofs.NumberCells.{one_number, found_in_layout}
 use Rattle.cwr_judge.proofs.NextLines.{numbers_next, number_next, some_number}
 
 -- ---- symbols
@@ -102,41 +102,41 @@ text_barred limits xs kind j ty cell s bar reason holds named b e = subst (IsTex
 -- ---- fields
 
 -- each field in the layout is found, and so is its cell
-pub no_field : (kind : Kind) (j : ℕ) → 2 ≤ j → j ≤ length (layout kind) → field_placed kind j ≡ None → ⊥
+pub no_field : (kind : Kind) (j : ℕ) → 2 ≤ j → j ≤ length (layout kind) → field_with_start kind j ≡ None → ⊥
 no_field kind zero from to e = omega arith
 no_field kind (suc i) from to e =
     let d : FieldLayout = record { name = []; width = 0; ty = types.Text; derived = false } in
-    let no = sym (sym (field_at-placed kind (suc i)) ∙ ap (option_map (λ (p : ℕ × FieldLayout). p.1)) e) ∙ slice_get-get_or (layout kind) i d (omega arith) in
+    let no = sym (sym (field_at-start kind (suc i)) ∙ ap (option_map (λ (p : ℕ × FieldLayout). p.1)) e) ∙ slice_get-get_or (layout kind) i d (omega arith) in
     cc no
 
-pub no_cell : (h : HeldLine) (kind : Kind) (j : ℕ) (place : Field) → held_kind h ≡ Some kind → Some (field_view place) ≡ field_placed kind j → held_cell h j ≡ None → ⊥
+pub no_cell : (h : HeldLine) (kind : Kind) (j : ℕ) (place : Field) → held_kind h ≡ Some kind → Some (field_view place) ≡ field_with_start kind j → held_cell h j ≡ None → ⊥
 no_cell h kind j place known p none =
     let c = held_cell_there h kind j (field_view place) known (sym p) in
     let no : None ≡ Some c.cell = sym none ∙ c.found in
     cc no
 
 -- what is known of the cell in a field
-at_field : (h : HeldLine) (kind : Kind) (j : ℕ) (place : Field) (cell : List ℕ) (P : FieldLayout → List ℕ → Type 0) → Some (field_view place) ≡ field_placed kind j → Some cell ≡ held_cell h j
+at_field : (h : HeldLine) (kind : Kind) (j : ℕ) (place : Field) (cell : List ℕ) (P : FieldLayout → List ℕ → Type 0) → Some (field_view place) ≡ field_with_start kind j → Some cell ≡ held_cell h j
     → P (field_view place).1 cell → IsSomeAnd (field_at kind j) (λ f. IsSomeAnd (held_cell h j) (P f))
 at_field h kind j place cell P p there q =
-    subst (λ (o : Option FieldLayout). IsSomeAnd o (λ f. IsSomeAnd (held_cell h j) (P f))) (sym (at_place kind j place p))
+    subst (λ (o : Option FieldLayout). IsSomeAnd o (λ f. IsSomeAnd (held_cell h j) (P f))) (sym (found_in_layout kind j place p))
     (subst (λ (o : Option (List ℕ)). IsSomeAnd o (P (field_view place).1)) there q)
 
-pub good_at : (limits : LimitValues) (xs : List Symbol) (h : HeldLine) (kind : Kind) (j : ℕ) (place : Field) (cell : List ℕ) (b : Bool) → Some (field_view place) ≡ field_placed kind j → Some cell ≡ held_cell h j
+pub good_at : (limits : LimitValues) (xs : List Symbol) (h : HeldLine) (kind : Kind) (j : ℕ) (place : Field) (cell : List ℕ) (b : Bool) → Some (field_view place) ≡ field_with_start kind j → Some cell ≡ held_cell h j
     → place.derived ≡ b → IsGoodNextCell b limits xs kind j (field_view place).1 cell → IsGoodAt limits xs h kind j
 good_at limits xs h kind j place cell b p there d g =
     at_field h kind j place cell (λ f. IsGoodNextCell f.derived limits xs kind j f) p there (subst (λ (x : Bool). IsGoodNextCell x limits xs kind j (field_view place).1 cell) (sym d) g)
 
-pub fault_at : (limits : LimitValues) (xs : List Symbol) (h : HeldLine) (kind : Kind) (j : ℕ) (place : Field) (cell : List ℕ) (b : Bool) (reason : Reason) → Some (field_view place) ≡ field_placed kind j
+pub fault_at : (limits : LimitValues) (xs : List Symbol) (h : HeldLine) (kind : Kind) (j : ℕ) (place : Field) (cell : List ℕ) (b : Bool) (reason : Reason) → Some (field_view place) ≡ field_with_start kind j
     → Some cell ≡ held_cell h j → place.derived ≡ b → IsFaultBy b limits xs kind j (field_view place).1 cell reason → HasReasonAt limits xs h kind j reason
 fault_at limits xs h kind j place cell b reason p there d g =
     at_field h kind j place cell (λ f c. IsFaultBy f.derived limits xs kind j f c reason) p there (subst (λ (x : Bool). IsFaultBy x limits xs kind j (field_view place).1 cell reason) (sym d) g)
 
 -- where one of the kind may come, a number belongs in each derived field
-pub no_number : (limits : LimitValues) (xs : List Symbol) (kind : Kind) (j : ℕ) (place : Field) → 2 ≤ j → Some (field_view place) ≡ field_placed kind j → place.derived ≡ true → MayComeOf limits xs kind
+pub no_number : (limits : LimitValues) (xs : List Symbol) (kind : Kind) (j : ℕ) (place : Field) → 2 ≤ j → Some (field_view place) ≡ field_with_start kind j → place.derived ≡ true → MayComeOf limits xs kind
     → IsNumberAt xs kind j None → ⊥
 no_number limits xs kind j place from p d (s, among, may) none =
-    let some = some_number xs kind j (field_view place).1 from (at_place kind j place p) d in
+    let some = some_number xs kind j (field_view place).1 from (found_in_layout kind j place p) d in
     let no : None ≡ Some some.0 = one_number xs kind j None (number_in kind j (numbers_next xs kind)) s (candidate_kind kind s among) (comes_any limits xs s may) none (number_next xs kind j) ∙ some.1 in
     cc no
 

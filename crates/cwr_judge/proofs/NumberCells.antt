@@ -10,11 +10,11 @@ use Rattle.cwr_layouts.specs.declared.kinds.Kind.{Kind}
 use Rattle.cwr_layouts.specs.declared.kinds.Kind.TheVariants as kinds
 use Rattle.cwr_layouts.specs.declared.layouts.Field.{Field}
 use Rattle.cwr_layouts.specs.Format.Kinds.{is_in_transaction}
-use Rattle.cwr_layouts.specs.Format.Layouts.{FieldLayout, layout, field_at, field_placed}
+use Rattle.cwr_layouts.specs.Format.Layouts.{FieldLayout, layout, field_at, field_with_start}
 use Rattle.cwr_layouts.specs.Steps.Views.{field_view}
 use Rattle.cwr_layouts.specs.Format.Records.{RecordValue}
 use Rattle.cwr_layouts.specs.Steps.Held.{HeldLine, held_kind, held_cell, held_cells, held_record, carried_by}
-use Rattle.cwr_layouts.proofs.FieldStarts.{field_at-placed}
+use Rattle.cwr_layouts.proofs.FieldStarts.{field_at-start}
 use Rattle.cwr_layouts.proofs.HeldLaws.{length-held_cell}
 use Rattle.cwr_layouts.proofs.TypeWidths.{type_width-field}
 use Rattle.cwr_shape.specs.declared.symbols.Symbol.{Symbol}
@@ -36,41 +36,41 @@ one_number xs kind j m n s k (groups, h, any, (rest, e)) a b =
 
 -- ---- the field and its cell, as the tables and the line give them
 
-field_of : (kind : Kind) (j : ℕ) (place : Field) (f : FieldLayout) → Some (field_view place) ≡ field_placed kind j → field_at kind j ≡ Some f → (field_view place).1 ≡ f
+field_of : (kind : Kind) (j : ℕ) (place : Field) (f : FieldLayout) → Some (field_view place) ≡ field_with_start kind j → field_at kind j ≡ Some f → (field_view place).1 ≡ f
 field_of kind j place f p e =
-    let same : Some (field_view place).1 ≡ Some f = ap (option_map (λ (q : ℕ × FieldLayout). q.1)) p ∙ field_at-placed kind j ∙ e in
+    let same : Some (field_view place).1 ≡ Some f = ap (option_map (λ (q : ℕ × FieldLayout). q.1)) p ∙ field_at-start kind j ∙ e in
     cc same
 
-pub at_place : (kind : Kind) (j : ℕ) (place : Field) → Some (field_view place) ≡ field_placed kind j → field_at kind j ≡ Some (field_view place).1
-at_place kind j place p = sym (field_at-placed kind j) ∙ ap (option_map (λ (q : ℕ × FieldLayout). q.1)) (sym p)
+pub found_in_layout : (kind : Kind) (j : ℕ) (place : Field) → Some (field_view place) ≡ field_with_start kind j → field_at kind j ≡ Some (field_view place).1
+found_in_layout kind j place p = sym (field_at-start kind j) ∙ ap (option_map (λ (q : ℕ × FieldLayout). q.1)) (sym p)
 
 -- no field holds no number
-pub no_field_no_number : (xs : List Symbol) (h : HeldLine) (kind : Kind) (j : ℕ) → field_placed kind j ≡ None → HasNumberAt xs h kind j
+pub no_field_no_number : (xs : List Symbol) (h : HeldLine) (kind : Kind) (j : ℕ) → field_with_start kind j ≡ None → HasNumberAt xs h kind j
 no_field_no_number xs h kind j p f e d =
-    let no : None ≡ Some f = ap (option_map (λ (q : ℕ × FieldLayout). q.1)) (sym p) ∙ field_at-placed kind j ∙ e in
+    let no : None ≡ Some f = ap (option_map (λ (q : ℕ × FieldLayout). q.1)) (sym p) ∙ field_at-start kind j ∙ e in
     absurd (cc no)
 
 -- nor does a carried one
-pub carried_field : (xs : List Symbol) (h : HeldLine) (kind : Kind) (j : ℕ) (place : Field) → Some (field_view place) ≡ field_placed kind j → place.derived ≡ false → HasNumberAt xs h kind j
+pub carried_field : (xs : List Symbol) (h : HeldLine) (kind : Kind) (j : ℕ) (place : Field) → Some (field_view place) ≡ field_with_start kind j → place.derived ≡ false → HasNumberAt xs h kind j
 carried_field xs h kind j place p c f e d = absurd (true≢false (sym d ∙ sym (ap (λ (g : FieldLayout). g.derived) (field_of kind j place f p e)) ∙ c))
 
 -- a derived field in which no number belongs, or of which the line has no cell
-pub none_belongs : (xs : List Symbol) (h : HeldLine) (kind : Kind) (j : ℕ) (place : Field) → Some (field_view place) ≡ field_placed kind j → place.derived ≡ true → IsNumberAt xs kind j None
+pub none_belongs : (xs : List Symbol) (h : HeldLine) (kind : Kind) (j : ℕ) (place : Field) → Some (field_view place) ≡ field_with_start kind j → place.derived ≡ true → IsNumberAt xs kind j None
     → Lacks xs kind (HasNumberAt xs h kind j)
 none_belongs xs h kind j place p d n s k g has =
-    let c = has (field_view place).1 (at_place kind j place p) d in
+    let c = has (field_view place).1 (found_in_layout kind j place p) d in
     let no : None ≡ Some c.number = one_number xs kind j None (Some c.number) s k g n c.belongs in
     absurd (cc no)
 
-pub no_cell_no_number : (xs : List Symbol) (h : HeldLine) (kind : Kind) (j : ℕ) (place : Field) → Some (field_view place) ≡ field_placed kind j → place.derived ≡ true → None ≡ held_cell h j
+pub no_cell_no_number : (xs : List Symbol) (h : HeldLine) (kind : Kind) (j : ℕ) (place : Field) → Some (field_view place) ≡ field_with_start kind j → place.derived ≡ true → None ≡ held_cell h j
     → Lacks xs kind (HasNumberAt xs h kind j)
 no_cell_no_number xs h kind j place p d none s k g has =
-    let c = has (field_view place).1 (at_place kind j place p) d in
+    let c = has (field_view place).1 (found_in_layout kind j place p) d in
     let no : None ≡ Some (digits place.width c.number) = none ∙ c.spelled in
     absurd (cc no)
 
 -- a derived field whose cell is the number, or isn't
-pub number_cell : (xs : List Symbol) (h : HeldLine) (kind : Kind) (j number : ℕ) (place : Field) (cell : List ℕ) → held_kind h ≡ Some kind → Some (field_view place) ≡ field_placed kind j
+pub number_cell : (xs : List Symbol) (h : HeldLine) (kind : Kind) (j number : ℕ) (place : Field) (cell : List ℕ) → held_kind h ≡ Some kind → Some (field_view place) ≡ field_with_start kind j
     → Some cell ≡ held_cell h j → IsNumberAt xs kind j (Some number) → cell ≡ digits (length cell) number → HasNumberAt xs h kind j
 number_cell xs h kind j number place cell known p there n spelled f e d = record {
   number = number;
@@ -78,10 +78,10 @@ number_cell xs h kind j number place cell known p there n spelled f e d = record
   spelled = sym there ∙ ap Some (spelled ∙ ap (λ (w : ℕ). digits w number) (length-held_cell h kind j f cell known e (sym there)));
 }
 
-pub other_cell : (xs : List Symbol) (h : HeldLine) (kind : Kind) (j number : ℕ) (place : Field) (cell : List ℕ) → held_kind h ≡ Some kind → Some (field_view place) ≡ field_placed kind j
+pub other_cell : (xs : List Symbol) (h : HeldLine) (kind : Kind) (j number : ℕ) (place : Field) (cell : List ℕ) → held_kind h ≡ Some kind → Some (field_view place) ≡ field_with_start kind j
     → place.derived ≡ true → Some cell ≡ held_cell h j → IsNumberAt xs kind j (Some number) → ¬ (cell ≡ digits (length cell) number) → Lacks xs kind (HasNumberAt xs h kind j)
 other_cell xs h kind j number place cell known p d there n other s k g has =
-    let at = at_place kind j place p in
+    let at = found_in_layout kind j place p in
     let c = has (field_view place).1 at d in
     let one : Some c.number ≡ Some number = one_number xs kind j (Some c.number) (Some number) s k g c.belongs n in
     let same : c.number ≡ number = cc one in
@@ -90,10 +90,10 @@ other_cell xs h kind j number place cell known p d there n other s k g has =
     other (equal ∙ ap₂ digits (sym (length-held_cell h kind j (field_view place).1 cell known at (sym there))) same)
 
 -- the cell of a field of a type that has a width is so wide
-pub wide_as_type : (h : HeldLine) (kind : Kind) (j : ℕ) (place : Field) (cell : List ℕ) → held_kind h ≡ Some kind → Some (field_view place) ≡ field_placed kind j → Some cell ≡ held_cell h j
+pub wide_as_type : (h : HeldLine) (kind : Kind) (j : ℕ) (place : Field) (cell : List ℕ) → held_kind h ≡ Some kind → Some (field_view place) ≡ field_with_start kind j → Some cell ≡ held_cell h j
     → (w : ℕ) → type_width place.ty ≡ Some w → length cell ≡ w
 wide_as_type h kind j place cell known p there w e =
-    let at = at_place kind j place p in
+    let at = found_in_layout kind j place p in
     length-held_cell h kind j (field_view place).1 cell known at (sym there) ∙ type_width-field kind j (field_view place).1 w at e
 
 -- ---- all derived fields

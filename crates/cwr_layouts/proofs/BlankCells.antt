@@ -15,7 +15,7 @@ use Rattle.cwr_fields.specs.Format.Cells.{type_width}
 use Rattle.cwr_fields.specs.Format.Codes.{word_text}
 use Rattle.cwr_layouts.specs.declared.kinds.Kind.{Kind}
 use Rattle.cwr_layouts.specs.declared.layouts.Field.{Field}
-use Rattle.cwr_layouts.specs.Format.Layouts.{FieldLayout, layout, placed_fields, total_width}
+use Rattle.cwr_layouts.specs.Format.Layouts.{FieldLayout, layout, fields_with_starts, total_width}
 use Rattle.cwr_layouts.specs.Format.Lines.{pieces}
 use Rattle.cwr_layouts.specs.Format.Records.{blank_cell, blank_record}
 use Rattle.cwr_layouts.specs.Steps.Carried.{carried_cells, record_in}
@@ -97,34 +97,34 @@ item_at [] k d h = absurd (omega arith)
 item_at (x ∷ items) zero d h = refl
 item_at (x ∷ items) (suc k) d h = item_at items k d (omega arith)
 
-start_by : (at : ℕ) (fields : List FieldLayout) (k : ℕ) (p : ℕ × FieldLayout) → slice_get (placed_fields at fields) k ≡ Some p → p.0 ≡ at + total_width (take k fields)
+start_by : (at : ℕ) (fields : List FieldLayout) (k : ℕ) (p : ℕ × FieldLayout) → slice_get (fields_with_starts at fields) k ≡ Some p → p.0 ≡ at + total_width (take k fields)
 start_by at [] k p e = absurd (cc e)
 start_by at (f ∷ fields) zero p e = let same : (at, f) ≡ p = cc e in rw (← same) (omega arith)
 start_by at (f ∷ fields) (suc k) p e = omega (arith, start_by (at + f.width) fields k p e, sum_by-cons (λ (g : FieldLayout). g.width) f (take k fields))
 
 -- a place of the table, and what stands before it in a blank line
-pub record IsPlaceAt (kind : Kind) (k : ℕ) (place : Field) : Type 0 where
-  pub found : slice_get (placed_fields 0 (layout kind)) k ≡ Some (field_view place)
+pub record IsFieldAt (kind : Kind) (k : ℕ) (place : Field) : Type 0 where
+  pub found : slice_get (fields_with_starts 0 (layout kind)) k ≡ Some (field_view place)
   pub field : slice_get (layout kind) k ≡ Some (field_view place).1
 
-pub is_place : (kind : Kind) (items : List Field) (k : ℕ) (d : Field) → map field_view items ≡ placed_fields 0 (layout kind) → k < length items → IsPlaceAt kind k (get_or items k d)
-is_place kind items k d e h =
-    let found : slice_get (placed_fields 0 (layout kind)) k ≡ Some (field_view (get_or items k d)) =
+pub is_field_at : (kind : Kind) (items : List Field) (k : ℕ) (d : Field) → map field_view items ≡ fields_with_starts 0 (layout kind) → k < length items → IsFieldAt kind k (get_or items k d)
+is_field_at kind items k d e h =
+    let found : slice_get (fields_with_starts 0 (layout kind)) k ≡ Some (field_view (get_or items k d)) =
     ap (λ (xs : List (ℕ × FieldLayout)). slice_get xs k) (sym e) ∙ slice_get-map field_view items k ∙ ap (option_map field_view) (item_at items k d h) in
     record { found = found; field = sym (without_starts 0 (layout kind) k) ∙ ap (option_map (λ (p : ℕ × FieldLayout). p.1)) found }
 
 -- the blank cells before a field end where it starts
-pub blank_begins : (kind : Kind) (k : ℕ) (place : Field) (text : List ℕ) → IsPlaceAt kind k place → text ≡ blank_text (take k (layout kind)) → length text ≡ place.start
+pub blank_begins : (kind : Kind) (k : ℕ) (place : Field) (text : List ℕ) → IsFieldAt kind k place → text ≡ blank_text (take k (layout kind)) → length text ≡ place.start
 blank_begins kind k place text h e =
     let count : length text ≡ total_width (take k (layout kind)) =
     ap length e ∙ length-concat (take k (layout kind)) (map blank_of (take k (layout kind))) (blanks_wide (take k (layout kind)) (wide_front (layout kind) k (all_wide kind))) in
     omega (arith, count, start_by 0 (layout kind) k (field_view place) h.found)
 
-pub place_within : (kind : Kind) (k : ℕ) (place : Field) → IsPlaceAt kind k place → place.start + place.width ≤ 719
-place_within kind k place h = omega (arith, field_part_within 0 (layout kind) k (field_view place) h.found, line_width_widest kind)
+pub field_in_line : (kind : Kind) (k : ℕ) (place : Field) → IsFieldAt kind k place → place.start + place.width ≤ 719
+field_in_line kind k place h = omega (arith, field_part_within 0 (layout kind) k (field_view place) h.found, line_width_widest kind)
 
-pub place_wide : (kind : Kind) (k : ℕ) (place : Field) → IsPlaceAt kind k place → (w : ℕ) → type_width place.ty ≡ Some w → w ≡ place.width
-place_wide kind k place h w e = sym (type_width-field kind (suc k) (field_view place).1 w h.field e)
+pub width_is_type : (kind : Kind) (k : ℕ) (place : Field) → IsFieldAt kind k place → (w : ℕ) → type_width place.ty ≡ Some w → w ≡ place.width
+width_is_type kind k place h w e = sym (type_width-field kind (suc k) (field_view place).1 w h.field e)
 
 blank_next : (fields : List FieldLayout) (k : ℕ) (f : FieldLayout) → slice_get fields k ≡ Some f → blank_text (take (suc k) fields) ≡ blank_text (take k fields) ++ blank_of f
 blank_next [] k f e = absurd (cc e)
@@ -132,19 +132,19 @@ blank_next (g ∷ fields) zero f e = let same : g ≡ f = cc e in append-nil (bl
 blank_next (g ∷ fields) (suc k) f e = ap (λ (x : List ℕ). blank_of g ++ x) (blank_next fields k f e) ∙ sym (append_assoc (blank_of g) (blank_text (take k fields)) (blank_of f))
 
 -- with the blank cell of the next field
-pub blank_more : (kind : Kind) (k : ℕ) (place : Field) (old new : List ℕ) → IsPlaceAt kind k place → old ≡ blank_text (take k (layout kind)) → new ≡ old ++ blank_cell place.ty place.width
+pub blank_more : (kind : Kind) (k : ℕ) (place : Field) (old new : List ℕ) → IsFieldAt kind k place → old ≡ blank_text (take k (layout kind)) → new ≡ old ++ blank_cell place.ty place.width
     → new ≡ blank_text (take (k + 1) (layout kind))
 blank_more kind k place old new h e n =
     rw add-one (n ∙ ap (λ (x : List ℕ). x ++ blank_cell place.ty place.width) e ∙ sym (blank_next (layout kind) k (field_view place).1 h.field))
 
-pub length-placed : (at : ℕ) (fields : List FieldLayout) → length (placed_fields at fields) ≡ length fields
-length-placed at [] = refl
-length-placed at (f ∷ fields) = ap suc (length-placed (at + f.width) fields)
+pub length-with_starts : (at : ℕ) (fields : List FieldLayout) → length (fields_with_starts at fields) ≡ length fields
+length-with_starts at [] = refl
+length-with_starts at (f ∷ fields) = ap suc (length-with_starts (at + f.width) fields)
 
 -- the blank cells of all fields are the blank line
-pub blank_whole : (kind : Kind) (items : List Field) (k : ℕ) (text : List ℕ) → map field_view items ≡ placed_fields 0 (layout kind) → length items ≤ k → text ≡ blank_text (take k (layout kind)) → text ≡ blank_text (layout kind)
+pub blank_whole : (kind : Kind) (items : List Field) (k : ℕ) (text : List ℕ) → map field_view items ≡ fields_with_starts 0 (layout kind) → length items ≤ k → text ≡ blank_text (take k (layout kind)) → text ≡ blank_text (layout kind)
 blank_whole kind items k text e h t =
-    let count : length items ≡ length (layout kind) = sym (length-map items field_view) ∙ ap length e ∙ length-placed 0 (layout kind) in
+    let count : length items ≡ length (layout kind) = sym (length-map items field_view) ∙ ap length e ∙ length-with_starts 0 (layout kind) in
     t ∙ ap blank_text (take_all k (layout kind) (omega arith))
 
 -- a word that is appended is the blank cell of its field

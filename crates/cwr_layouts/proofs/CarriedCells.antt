@@ -4,16 +4,16 @@ use Rattle.std.specs.Prelude.{Option, Some, None}
 use Rattle.std.specs.List.{AllZip, zip}
 use Rattle.std.specs.Option.{option_and_then}
 use Rattle.cwr_layouts.specs.declared.kinds.Kind.{Kind}
-use Rattle.cwr_layouts.specs.Format.Layouts.{FieldLayout, layout, placed_fields, field_placed, field_at, line_width}
+use Rattle.cwr_layouts.specs.Format.Layouts.{FieldLayout, layout, fields_with_starts, field_with_start, field_at, line_width}
 use Rattle.cwr_layouts.specs.Format.Lines.{pieces}
 use Rattle.cwr_layouts.specs.Format.Records.{RecordValue, IsCellOf, IsRecord, carried_fields}
-use Rattle.cwr_layouts.specs.Format.Carried.{carried_at, carried_placed, carried_before, record_cell}
+use Rattle.cwr_layouts.specs.Format.Carried.{carried_at, carried_with_start, carried_before, record_cell}
 use Rattle.cwr_layouts.specs.Steps.Carried.{carried_cells, record_in}
 use Rattle.std.proofs.lemmas.List.{length-map}
 use Rattle.cwr_layouts.proofs.HeldLaws.{length-pieces}
 use Rattle.cwr_layouts.proofs.GoodLinesAreRows.{carried_in}
 use Rattle.cwr_layouts.proofs.CellParts.{part, piece_is_part, field_within}
-use Rattle.cwr_layouts.proofs.FieldStarts.{field_at-placed}
+use Rattle.cwr_layouts.proofs.FieldStarts.{field_at-start}
 
 -- how many of the fields are carried
 abbrev pub carried_count : List FieldLayout → ℕ
@@ -86,7 +86,7 @@ whole_of kind line r e = subst (λ (v : RecordValue). length v.cells ≡ length 
 pub record IsCarried (kind : Kind) (j : ℕ) (p : ℕ × FieldLayout) : Type 0 where
   pub place : ℕ
   pub number : j ≡ suc place
-  pub found : slice_get (placed_fields 0 (layout kind)) place ≡ Some p
+  pub found : slice_get (fields_with_starts 0 (layout kind)) place ≡ Some p
   pub field : slice_get (layout kind) place ≡ Some p.1
   pub carried : p.1.derived ≡ false
 
@@ -98,18 +98,18 @@ carried_some : (o : Option (ℕ × FieldLayout)) (q : ℕ × FieldLayout) → op
 carried_some None q e = absurd (cc e)
 carried_some (Some p) q e = let s = carried_if p.1.derived p q refl e in (ap (λ (x : ℕ × FieldLayout). Some x) s.0, s.1)
 
-pub is_carried : (kind : Kind) (j : ℕ) (p : ℕ × FieldLayout) → carried_placed kind j ≡ Some p → IsCarried kind j p
+pub is_carried : (kind : Kind) (j : ℕ) (p : ℕ × FieldLayout) → carried_with_start kind j ≡ Some p → IsCarried kind j p
 is_carried kind zero p e = absurd (cc e)
 is_carried kind (suc i) p e =
-    let s = carried_some (field_placed kind (suc i)) p e in
+    let s = carried_some (field_with_start kind (suc i)) p e in
     let some : nat_eq (suc i) 0 ≡ false = ne_eqb (suc i) 0 (λ h. omega arith) in
     let before : suc i - 1 ≡ i = omega arith in
-    let there : field_placed kind (suc i) ≡ slice_get (placed_fields 0 (layout kind)) i = rw (some, before) refl in
+    let there : field_with_start kind (suc i) ≡ slice_get (fields_with_starts 0 (layout kind)) i = rw (some, before) refl in
     record {
       place = i;
       number = refl;
       found = sym there ∙ s.0;
-      field = sym (field_at-placed kind (suc i)) ∙ ap (option_map (λ (q : ℕ × FieldLayout). q.1)) s.0;
+      field = sym (field_at-start kind (suc i)) ∙ ap (option_map (λ (q : ℕ × FieldLayout). q.1)) s.0;
       carried = s.1;
     }
 
@@ -123,8 +123,8 @@ without_places : (o : Option (ℕ × FieldLayout)) → option_and_then (λ f. co
 without_places None = refl
 without_places (Some p) = carried_as p.1.derived p
 
-pub carried_at-placed : (kind : Kind) (j : ℕ) → carried_at kind j ≡ option_map (λ (p : ℕ × FieldLayout). p.1) (carried_placed kind j)
-carried_at-placed kind j = ap (option_and_then (λ (f : FieldLayout). cond f.derived None (Some f))) (sym (field_at-placed kind j)) ∙ without_places (field_placed kind j)
+pub carried_at-placed : (kind : Kind) (j : ℕ) → carried_at kind j ≡ option_map (λ (p : ℕ × FieldLayout). p.1) (carried_with_start kind j)
+carried_at-placed kind j = ap (option_and_then (λ (f : FieldLayout). cond f.derived None (Some f))) (sym (field_at-start kind j)) ∙ without_places (field_with_start kind j)
 
 abbrev pub widths : Kind → List ℕ
 widths kind = map (λ f. f.width) (layout kind)
@@ -137,36 +137,36 @@ carried_cells-at kind line j p h =
     ∙ carried_in-at (layout kind) (pieces (widths kind) line) h.place p.1 h.field h.carried
     ∙ piece_is_part 0 (layout kind) line h.place ∙ ap (option_map (part line)) h.found
 
-cell_by : (kind : Kind) (line : List ℕ) (j : ℕ) (o : Option (ℕ × FieldLayout)) → carried_placed kind j ≡ o
+cell_by : (kind : Kind) (line : List ℕ) (j : ℕ) (o : Option (ℕ × FieldLayout)) → carried_with_start kind j ≡ o
     → option_and_then (λ _. slice_get (carried_cells kind line) (carried_before kind j)) (option_map (λ (p : ℕ × FieldLayout). p.1) o) ≡ option_map (part line) o
 cell_by kind line j None e = refl
 cell_by kind line j (Some p) e = carried_cells-at kind line j p (is_carried kind j p e)
 
 -- the carried cell of field j is the part of the line that the field takes
-pub record_cell-part : (kind : Kind) (line : List ℕ) (j : ℕ) → record_cell (record_in kind line) j ≡ option_map (part line) (carried_placed kind j)
+pub record_cell-part : (kind : Kind) (line : List ℕ) (j : ℕ) → record_cell (record_in kind line) j ≡ option_map (part line) (carried_with_start kind j)
 record_cell-part kind line j =
     ap (option_and_then (λ (_ : FieldLayout). slice_get (carried_cells kind line) (carried_before kind j))) (carried_at-placed kind j)
-    ∙ cell_by kind line j (carried_placed kind j) refl
+    ∙ cell_by kind line j (carried_with_start kind j) refl
 
 -- a carried field is a field
-pub field_placed-carried : (kind : Kind) (j : ℕ) (p : ℕ × FieldLayout) → carried_placed kind j ≡ Some p → field_placed kind j ≡ Some p
-field_placed-carried kind j p e = (carried_some (field_placed kind j) p e).0
+pub field_with_start-carried : (kind : Kind) (j : ℕ) (p : ℕ × FieldLayout) → carried_with_start kind j ≡ Some p → field_with_start kind j ≡ Some p
+field_with_start-carried kind j p e = (carried_some (field_with_start kind j) p e).0
 
 -- the part of a whole line that a carried field takes lies within it
-pub carried_within : (kind : Kind) (line : List ℕ) (j : ℕ) (p : ℕ × FieldLayout) → length line ≡ line_width kind → carried_placed kind j ≡ Some p → p.0 + p.1.width ≤ length line
-carried_within kind line j p whole e = omega (arith, field_within kind j p (field_placed-carried kind j p e))
+pub carried_within : (kind : Kind) (line : List ℕ) (j : ℕ) (p : ℕ × FieldLayout) → length line ≡ line_width kind → carried_with_start kind j ≡ Some p → p.0 + p.1.width ≤ length line
+carried_within kind line j p whole e = omega (arith, field_within kind j p (field_with_start-carried kind j p e))
 
 -- what is cut out of a line that keeps a record is its cell
-pub cell_found : (kind : Kind) (line : List ℕ) (j : ℕ) (p : ℕ × FieldLayout) (r : RecordValue) → record_in kind line ≡ r → Some p ≡ carried_placed kind j → Some (part line p) ≡ record_cell r j
+pub cell_found : (kind : Kind) (line : List ℕ) (j : ℕ) (p : ℕ × FieldLayout) (r : RecordValue) → record_in kind line ≡ r → Some p ≡ carried_with_start kind j → Some (part line p) ≡ record_cell r j
 cell_found kind line j p r same e = ap (option_map (part line)) e ∙ sym (record_cell-part kind line j) ∙ ap (λ (x : RecordValue). record_cell x j) same
 
 -- a record has no cell where its kind has no carried field
-pub no_cell_found : (kind : Kind) (line : List ℕ) (j : ℕ) (r : RecordValue) → record_in kind line ≡ r → None ≡ carried_placed kind j → None ≡ record_cell r j
+pub no_cell_found : (kind : Kind) (line : List ℕ) (j : ℕ) (r : RecordValue) → record_in kind line ≡ r → None ≡ carried_with_start kind j → None ≡ record_cell r j
 no_cell_found kind line j r same e = ap (option_map (part line)) e ∙ sym (record_cell-part kind line j) ∙ ap (λ (x : RecordValue). record_cell x j) same
 
 -- a carried field is a field of the layout
-pub field_at-carried : (kind : Kind) (j : ℕ) (p : ℕ × FieldLayout) → carried_placed kind j ≡ Some p → field_at kind j ≡ Some p.1
-field_at-carried kind j p e = sym (field_at-placed kind j) ∙ ap (option_map (λ (q : ℕ × FieldLayout). q.1)) (field_placed-carried kind j p e)
+pub field_at-carried : (kind : Kind) (j : ℕ) (p : ℕ × FieldLayout) → carried_with_start kind j ≡ Some p → field_at kind j ≡ Some p.1
+field_at-carried kind j p e = sym (field_at-start kind j) ∙ ap (option_map (λ (q : ℕ × FieldLayout). q.1)) (field_with_start-carried kind j p e)
 
 -- a field that isn't derived is carried
 pub carried_at-field : (kind : Kind) (i : ℕ) (f : FieldLayout) → slice_get (layout kind) i ≡ Some f → f.derived ≡ false → carried_at kind (suc i) ≡ Some f

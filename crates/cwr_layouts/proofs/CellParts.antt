@@ -8,7 +8,7 @@ use Rattle.cwr_fields.specs.Format.Bytes.{filled, is_control, is_plain}
 use Rattle.cwr_layouts.specs.declared.kinds.Kind.{Kind}
 use Rattle.cwr_layouts.specs.declared.lines.LineEnd.{LineEnd}
 use Rattle.cwr_layouts.specs.declared.lines.LineEnd.TheVariants.{Open, Line, Over}
-use Rattle.cwr_layouts.specs.Format.Layouts.{FieldLayout, layout, placed_fields, field_placed, total_width, line_width}
+use Rattle.cwr_layouts.specs.Format.Layouts.{FieldLayout, layout, fields_with_starts, field_with_start, total_width, line_width}
 use Rattle.cwr_layouts.specs.Format.Lines.{pieces, cells_as}
 use Rattle.cwr_layouts.specs.Steps.Held.{HeldLine, held_body, held_kind, held_cell, cell_as, IsFilled, IsKept, IsClosed, line_kept}
 use Rattle.cwr_layouts.proofs.FilledTexts.{length-filled}
@@ -33,7 +33,7 @@ plain_part text p h = plain_take p.1.width (drop p.0 text) (plain_drop p.0 text 
 
 -- a piece is the part that its field takes
 pub piece_is_part : (at : ℕ) (fields : List FieldLayout) (text : List ℕ) (i : ℕ)
-    → slice_get (pieces (map (λ f. f.width) fields) (drop at text)) i ≡ option_map (part text) (slice_get (placed_fields at fields) i)
+    → slice_get (pieces (map (λ f. f.width) fields) (drop at text)) i ≡ option_map (part text) (slice_get (fields_with_starts at fields) i)
 piece_is_part at [] text i = refl
 piece_is_part at (f ∷ fields) text zero = refl
 piece_is_part at (f ∷ fields) text (suc i) =
@@ -45,23 +45,23 @@ unless false text x y e = e
 
 -- cell j of a text of the width is the part that field j takes
 pub cell_is_part : (kind : Kind) (text : List ℕ) (j : ℕ)
-    → cell_as (Some kind) (pieces (map (λ f. f.width) (layout kind)) text) j ≡ option_map (part text) (field_placed kind j)
+    → cell_as (Some kind) (pieces (map (λ f. f.width) (layout kind)) text) j ≡ option_map (part text) (field_with_start kind j)
 cell_is_part kind text j =
-    unless (j == 0) text (slice_get (pieces (map (λ f. f.width) (layout kind)) text) (j - 1)) (slice_get (placed_fields 0 (layout kind)) (j - 1)) (piece_is_part 0 (layout kind) text (j - 1))
+    unless (j == 0) text (slice_get (pieces (map (λ f. f.width) (layout kind)) text) (j - 1)) (slice_get (fields_with_starts 0 (layout kind)) (j - 1)) (piece_is_part 0 (layout kind) text (j - 1))
 
-pub field_part_within : (at : ℕ) (fields : List FieldLayout) (i : ℕ) (p : ℕ × FieldLayout) → slice_get (placed_fields at fields) i ≡ Some p → p.0 + p.1.width ≤ at + total_width fields
+pub field_part_within : (at : ℕ) (fields : List FieldLayout) (i : ℕ) (p : ℕ × FieldLayout) → slice_get (fields_with_starts at fields) i ≡ Some p → p.0 + p.1.width ≤ at + total_width fields
 field_part_within at [] i p e = absurd cc
 field_part_within at (f ∷ fields) zero p e =
     let same : (at, f) ≡ p = cc e in
     rw (← same) (omega (arith, sum_by-cons (λ (g : FieldLayout). g.width) f fields))
 field_part_within at (f ∷ fields) (suc i) p e = omega (arith, field_part_within (at + f.width) fields i p e, sum_by-cons (λ (g : FieldLayout). g.width) f fields)
 
-within_unless : (b : Bool) (kind : Kind) (i : ℕ) (p : ℕ × FieldLayout) → cond b None (slice_get (placed_fields 0 (layout kind)) i) ≡ Some p → p.0 + p.1.width ≤ line_width kind
+within_unless : (b : Bool) (kind : Kind) (i : ℕ) (p : ℕ × FieldLayout) → cond b None (slice_get (fields_with_starts 0 (layout kind)) i) ≡ Some p → p.0 + p.1.width ≤ line_width kind
 within_unless true kind i p e = absurd cc
 within_unless false kind i p e = omega (arith, field_part_within 0 (layout kind) i p e)
 
 -- each field ends within its line
-pub field_within : (kind : Kind) (j : ℕ) (p : ℕ × FieldLayout) → field_placed kind j ≡ Some p → p.0 + p.1.width ≤ line_width kind
+pub field_within : (kind : Kind) (j : ℕ) (p : ℕ × FieldLayout) → field_with_start kind j ≡ Some p → p.0 + p.1.width ≤ line_width kind
 field_within kind j p e = within_unless (j == 0) kind (j - 1) p e
 
 -- a line that ended is filled up
@@ -72,17 +72,17 @@ filled_of text count has_return kind Line k n = k.keeps
 filled_of text count has_return kind Over k n = k.keeps
 
 -- cell j of a held line, by its kind
-pub held_cell-by_kind : (h : HeldLine) (kind : Kind) (j : ℕ) → held_kind h ≡ Some kind → held_cell h j ≡ option_map (part (filled (line_width kind) (held_body h))) (field_placed kind j)
+pub held_cell-by_kind : (h : HeldLine) (kind : Kind) (j : ℕ) → held_kind h ≡ Some kind → held_cell h j ≡ option_map (part (filled (line_width kind) (held_body h))) (field_with_start kind j)
 held_cell-by_kind h kind j e = ap (λ (o : Option Kind). cell_as o (cells_as o (held_body h)) j) e ∙ cell_is_part kind (filled (line_width kind) (held_body h)) j
 
 -- cell j is the part of the filled text that field j takes
-pub held_cell-part : (text : List ℕ) (h : HeldLine) (kind : Kind) (j : ℕ) → IsFilled text (Some kind) h → held_cell h j ≡ option_map (part text) (field_placed kind j)
+pub held_cell-part : (text : List ℕ) (h : HeldLine) (kind : Kind) (j : ℕ) → IsFilled text (Some kind) h → held_cell h j ≡ option_map (part text) (field_with_start kind j)
 held_cell-part text h kind j k =
     let parts : text ≡ filled (line_width kind) (held_body h) = k.parts in
     rw parts (held_cell-by_kind h kind j (sym k.known))
 
 -- the part of a filled text that a field takes lies within the text
-pub held_part_within : (text : List ℕ) (h : HeldLine) (kind : Kind) (j : ℕ) (p : ℕ × FieldLayout) → IsFilled text (Some kind) h → field_placed kind j ≡ Some p → p.0 + p.1.width ≤ length text
+pub held_part_within : (text : List ℕ) (h : HeldLine) (kind : Kind) (j : ℕ) (p : ℕ × FieldLayout) → IsFilled text (Some kind) h → field_with_start kind j ≡ Some p → p.0 + p.1.width ≤ length text
 held_part_within text h kind j p k e =
     let count : length text ≡ length (held_body h) + (line_width kind - length (held_body h)) = ap length k.parts ∙ length-filled (line_width kind) (held_body h) in
     omega (arith, field_within kind j p e)
@@ -96,10 +96,10 @@ filled_now text count has_return known ended kind now k e same =
     subst (λ (o : Option Kind). IsFilled text o now) same moved
 
 -- what is cut out where the field is known
-pub held_cell_found : (text : List ℕ) (h : HeldLine) (kind : Kind) (j : ℕ) (p : ℕ × FieldLayout) → IsFilled text (Some kind) h → Some p ≡ field_placed kind j
+pub held_cell_found : (text : List ℕ) (h : HeldLine) (kind : Kind) (j : ℕ) (p : ℕ × FieldLayout) → IsFilled text (Some kind) h → Some p ≡ field_with_start kind j
     → Some (part text p) ≡ held_cell h j
 held_cell_found text h kind j p k e = sym (held_cell-part text h kind j k ∙ ap (option_map (part text)) (sym e))
 
 -- a line of the kind has no cell where the kind has no field
-pub no_held_cell_found : (text : List ℕ) (h : HeldLine) (kind : Kind) (j : ℕ) → IsFilled text (Some kind) h → field_placed kind j ≡ None → held_cell h j ≡ None
+pub no_held_cell_found : (text : List ℕ) (h : HeldLine) (kind : Kind) (j : ℕ) → IsFilled text (Some kind) h → field_with_start kind j ≡ None → held_cell h j ≡ None
 no_held_cell_found text h kind j k e = held_cell-part text h kind j k ∙ ap (option_map (part text)) e

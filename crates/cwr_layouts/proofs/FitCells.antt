@@ -10,7 +10,7 @@ use Rattle.cwr_layouts.specs.declared.kinds.Kind.{Kind}
 use Rattle.cwr_layouts.specs.Format.Layouts.{FieldLayout, layout, line_width}
 use Rattle.cwr_layouts.specs.Format.Lines.{pieces}
 use Rattle.cwr_layouts.specs.Format.Records.{RecordValue, IsCellOf, IsRecord}
-use Rattle.cwr_layouts.specs.Format.Carried.{carried_at, carried_placed, record_cell, FitsAt, HasCellFault}
+use Rattle.cwr_layouts.specs.Format.Carried.{carried_at, carried_with_start, record_cell, FitsAt, HasCellFault}
 use Rattle.cwr_layouts.specs.Steps.Carried.{carried_cells, record_in}
 use Rattle.cwr_layouts.proofs.CellParts.{part}
 use Rattle.cwr_layouts.proofs.HeldLaws.{length-part}
@@ -19,12 +19,12 @@ use Rattle.cwr_layouts.proofs.CarriedCells.{record_cell-at, record_cell-part, re
 use Rattle.cwr_layouts.proofs.GoodLinesAreRows.{carried_in, pieces_wide}
 
 -- a cell that is cut out has the width of its field's type, where that has one
-pub wide_cell : (kind : Kind) (line : List ℕ) (j : ℕ) (p : ℕ × FieldLayout) → length line ≡ line_width kind → carried_placed kind j ≡ Some p
+pub wide_cell : (kind : Kind) (line : List ℕ) (j : ℕ) (p : ℕ × FieldLayout) → length line ≡ line_width kind → carried_with_start kind j ≡ Some p
     → ForSome (type_width p.1.ty) (λ w. length (part line p) ≡ w)
 wide_cell kind line j p whole e w h = length-part line p (carried_within kind line j p whole e) ∙ type_width-field kind j p.1 w (field_at-carried kind j p e) h
 
 -- what is known of the cell of a carried field
-known : (kind : Kind) (line : List ℕ) (j : ℕ) (p : ℕ × FieldLayout) (P : Option FieldLayout → Option (List ℕ) → Type 0) → carried_placed kind j ≡ Some p
+known : (kind : Kind) (line : List ℕ) (j : ℕ) (p : ℕ × FieldLayout) (P : Option FieldLayout → Option (List ℕ) → Type 0) → carried_with_start kind j ≡ Some p
     → P (Some p.1) (Some (part line p)) → P (carried_at kind j) (record_cell (record_in kind line) j)
 known kind line j p P e h =
     let field : Some p.1 ≡ carried_at kind j = sym (carried_at-placed kind j ∙ ap (option_map (λ (q : ℕ × FieldLayout). q.1)) e) in
@@ -32,19 +32,19 @@ known kind line j p P e h =
     subst (λ (o : Option FieldLayout). P o (record_cell (record_in kind line) j)) field (subst (λ (o : Option (List ℕ)). P (Some p.1) o) cell h)
 
 -- a cell that is one of its type fits
-pub fits_found : {T E : Type 0} (r : Result T E) (kind : Kind) (line : List ℕ) (j : ℕ) (p : ℕ × FieldLayout) → carried_placed kind j ≡ Some p
+pub fits_found : {T E : Type 0} (r : Result T E) (kind : Kind) (line : List ℕ) (j : ℕ) (p : ℕ × FieldLayout) → carried_with_start kind j ≡ Some p
     → OnOk r (Allows p.1.ty (part line p)) → OnOk r (FitsAt (record_in kind line) j)
 fits_found r kind line j p e h = on_ok_weaker r (known kind line j p (λ f cell. IfSome f (λ g. IfSome cell (Allows g.ty))) e) h
 
 -- a cell that has a fault is the record's
-pub fault_found : {T : Type 0} (r : Result T CellFault) (kind : Kind) (line : List ℕ) (j : ℕ) (p : ℕ × FieldLayout) → carried_placed kind j ≡ Some p
+pub fault_found : {T : Type 0} (r : Result T CellFault) (kind : Kind) (line : List ℕ) (j : ℕ) (p : ℕ × FieldLayout) → carried_with_start kind j ≡ Some p
     → IfErr r (HasFault p.1.ty (part line p)) → IfErr r (HasCellFault (record_in kind line) j)
 fault_found r kind line j p e h =
     IfErr-weaker r (HasFault p.1.ty (part line p)) (HasCellFault (record_in kind line) j)
     (λ fault. known kind line j p (λ f cell. IsSomeAnd f (λ g. IsSomeAnd cell (λ c. HasFault g.ty c fault))) e) h
 
 -- where no field is carried, nothing is judged
-pub fits_none : (r : RecordValue) (j : ℕ) → None ≡ carried_placed r.kind j → FitsAt r j
+pub fits_none : (r : RecordValue) (j : ℕ) → None ≡ carried_with_start r.kind j → FitsAt r j
 fits_none r j e =
     let none : None ≡ carried_at r.kind j = sym (carried_at-placed r.kind j ∙ ap (option_map (λ (q : ℕ × FieldLayout). q.1)) (sym e)) in
     subst (λ (o : Option FieldLayout). IfSome o (λ f. IfSome (record_cell r j) (Allows f.ty))) none tt

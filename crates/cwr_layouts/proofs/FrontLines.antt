@@ -1,6 +1,6 @@
 -- What a piece is that begins with plain text, a carriage return and a line feed.
-use Rattle.std.proofs.Common.{◌≡◌, ◌≢◌, ℕ, ◌+◌, ◌-◌, ◌<◌, ◌≤◌, Bool, true, List, [], ◌∷◌, ◌++◌, length, take, get_or, refl, sym, subst, ap, ◌∙◌, arith, append_assoc, slice_index}
-use Rattle.std.specs.Prelude.{Option, Some}
+use Rattle.std.proofs.Common.{◌≡◌, ℕ, ◌+◌, ◌≤◌, true, List, [], ◌∷◌, ◌++◌, length, take, get_or, refl, sym, subst, ap, ◌∙◌, arith}
+use Rattle.std.specs.Prelude.{Some}
 use Rattle.std.specs.List.{list_any}
 use Rattle.std.proofs.lemmas.List.{take_more, take_all, length-take-le, take-take}
 use Rattle.cwr_fields.specs.Format.Bytes.{is_plain, filled}
@@ -9,7 +9,7 @@ use Rattle.cwr_layouts.specs.declared.kinds.Kind.{Kind}
 use Rattle.cwr_layouts.specs.declared.lines.LineEnd.TheVariants.{Line}
 use Rattle.cwr_layouts.specs.Format.Kinds.{kind_of}
 use Rattle.cwr_layouts.specs.Format.Layouts.{line_width}
-use Rattle.cwr_layouts.specs.Format.Lines.{is_lf, without_cr, longest_line}
+use Rattle.cwr_layouts.specs.Format.Lines.{is_lf}
 use Rattle.cwr_layouts.specs.Steps.Held.{HeldLine, Takes, IsHeld, IsKept, IsClosed, IsFilled, empty_line, held_body, line_kept}
 use Rattle.cwr_layouts.proofs.AllKinds.{line_width_most}
 use Rattle.cwr_layouts.proofs.FilledTexts.{filled_already, line_width_least}

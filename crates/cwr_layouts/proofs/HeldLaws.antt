@@ -7,12 +7,12 @@ use Rattle.cwr_fields.specs.Format.Bytes.{filled}
 use Rattle.cwr_layouts.specs.declared.kinds.Kind.{Kind}
 use Rattle.cwr_layouts.specs.declared.lines.LineEnd.{LineEnd}
 use Rattle.cwr_layouts.specs.declared.lines.LineEnd.TheVariants.{Open, Line, Over}
-use Rattle.cwr_layouts.specs.Format.Layouts.{FieldLayout, layout, field_placed, field_at, line_width}
+use Rattle.cwr_layouts.specs.Format.Layouts.{FieldLayout, layout, field_with_start, field_at, line_width}
 use Rattle.cwr_layouts.specs.Format.Lines.{longest_line, is_too_long, line_body, body_kind, pieces, cells_as, excess_as}
 use Rattle.cwr_layouts.specs.Steps.Held.{HeldLine, IsHeld, HoldsBy, HoldsLine, IsCutAs, held_body, held_kind, held_cells, held_cell, cell_as, ended_too_long}
 use Rattle.cwr_layouts.proofs.CutLaws.{not_too_long, body_of}
 use Rattle.cwr_layouts.proofs.FilledTexts.{length-filled}
-use Rattle.cwr_layouts.proofs.FieldStarts.{field_at-placed}
+use Rattle.cwr_layouts.proofs.FieldStarts.{field_at-start}
 use Rattle.cwr_layouts.proofs.CellParts.{part, field_within, held_cell-by_kind}
 
 -- one body, too long or not, is cut in one way
@@ -54,7 +54,7 @@ pub record CellOf (h : HeldLine) (j : ℕ) (f : FieldLayout) : Type 0 where
   pub width : length cell ≡ f.width
 
 -- where the kind has the field, the line has its cell
-pub held_cell_there : (h : HeldLine) (kind : Kind) (j : ℕ) (p : ℕ × FieldLayout) → held_kind h ≡ Some kind → field_placed kind j ≡ Some p → CellOf h j p.1
+pub held_cell_there : (h : HeldLine) (kind : Kind) (j : ℕ) (p : ℕ × FieldLayout) → held_kind h ≡ Some kind → field_with_start kind j ≡ Some p → CellOf h j p.1
 held_cell_there h kind j p e g =
     let text : List ℕ = filled (line_width kind) (held_body h) in
     record {
@@ -64,22 +64,22 @@ held_cell_there h kind j p e g =
     }
 
 -- a cell has its field's width, also where the field is known with its start
-pub length-placed_cell : (h : HeldLine) (kind : Kind) (j : ℕ) (p : ℕ × FieldLayout) (cell : List ℕ) → held_kind h ≡ Some kind → field_placed kind j ≡ Some p → held_cell h j ≡ Some cell → length cell ≡ p.1.width
-length-placed_cell h kind j p cell e at there =
+pub length-field_cell : (h : HeldLine) (kind : Kind) (j : ℕ) (p : ℕ × FieldLayout) (cell : List ℕ) → held_kind h ≡ Some kind → field_with_start kind j ≡ Some p → held_cell h j ≡ Some cell → length cell ≡ p.1.width
+length-field_cell h kind j p cell e at there =
     let c = held_cell_there h kind j p e at in
     let one : Some c.cell ≡ Some cell = sym c.found ∙ there in
     let equal : c.cell ≡ cell = cc one in
     sym (ap length equal) ∙ c.width
 
 pub length-held_cell : (h : HeldLine) (kind : Kind) (j : ℕ) (f : FieldLayout) (cell : List ℕ) → held_kind h ≡ Some kind → field_at kind j ≡ Some f → held_cell h j ≡ Some cell → length cell ≡ f.width
-length-held_cell h kind j f cell e g there = by_place (field_placed kind j) refl
+length-held_cell h kind j f cell e g there = by_field (field_with_start kind j) refl
   where
-    by_place : (o : Option (ℕ × FieldLayout)) → field_placed kind j ≡ o → length cell ≡ f.width
-    by_place None at = absurd (let no : None ≡ Some f = ap (option_map (λ (p : ℕ × FieldLayout). p.1)) (sym at) ∙ field_at-placed kind j ∙ g in cc)
-    by_place (Some p) at =
-        let same : Some p.1 ≡ Some f = ap (option_map (λ (q : ℕ × FieldLayout). q.1)) (sym at) ∙ field_at-placed kind j ∙ g in
+    by_field : (o : Option (ℕ × FieldLayout)) → field_with_start kind j ≡ o → length cell ≡ f.width
+    by_field None at = absurd (let no : None ≡ Some f = ap (option_map (λ (p : ℕ × FieldLayout). p.1)) (sym at) ∙ field_at-start kind j ∙ g in cc)
+    by_field (Some p) at =
+        let same : Some p.1 ≡ Some f = ap (option_map (λ (q : ℕ × FieldLayout). q.1)) (sym at) ∙ field_at-start kind j ∙ g in
         let field : p.1 ≡ f = cc same in
-        length-placed_cell h kind j p cell e at there ∙ ap (λ (q : FieldLayout). q.width) field
+        length-field_cell h kind j p cell e at there ∙ ap (λ (q : FieldLayout). q.width) field
 
 pub length-pieces : (widths : List ℕ) (text : List ℕ) → length (pieces widths text) ≡ length widths
 length-pieces [] text = refl

@@ -9,7 +9,7 @@ use Rattle.cwr_fields.specs.Format.Cells.{Allows}
 use Rattle.cwr_layouts.specs.declared.kinds.Kind.{Kind}
 use Rattle.cwr_layouts.specs.Format.Layouts.{FieldLayout, layout, line_width}
 use Rattle.cwr_layouts.specs.Format.Records.{IsRecord}
-use Rattle.cwr_layouts.specs.Format.Carried.{carried_placed, FitsAt}
+use Rattle.cwr_layouts.specs.Format.Carried.{carried_with_start, FitsAt}
 use Rattle.cwr_layouts.specs.Steps.Carried.{record_in}
 use Rattle.cwr_layouts.proofs.CarriedCells.{is_carried, field_at-carried}
 use Rattle.cwr_layouts.proofs.CellParts.{part, plain_part}
@@ -39,20 +39,20 @@ each P (f ∷ fields) h d t zero lt = by_type f.derived f.ty (P 1) h.0 (d 0 f re
 each P (f ∷ fields) h d t (suc k) lt = each (λ j. P (suc j)) fields h.1 (λ i g. d (suc i) g) (λ i g. t (suc i) g) k (omega arith)
 
 -- the field of a carried cell
-same_field : (kind : Kind) (k : ℕ) (f : FieldLayout) (p : ℕ × FieldLayout) → slice_get (layout kind) k ≡ Some f → carried_placed kind (suc k) ≡ Some p → f ≡ p.1
+same_field : (kind : Kind) (k : ℕ) (f : FieldLayout) (p : ℕ × FieldLayout) → slice_get (layout kind) k ≡ Some f → carried_with_start kind (suc k) ≡ Some p → f ≡ p.1
 same_field kind k f p e x = let same : Some f ≡ Some p.1 = sym e ∙ field_at-carried kind (suc k) p x in cc same
 
 derived_fits : (kind : Kind) (line : List ℕ) (k : ℕ) (f : FieldLayout) → slice_get (layout kind) k ≡ Some f → f.derived ≡ true → FitsAt (record_in kind line) (suc k)
-derived_fits kind line k f e d = by (carried_placed kind (suc k)) refl
+derived_fits kind line k f e d = by (carried_with_start kind (suc k)) refl
   where
-    by : (o : Option (ℕ × FieldLayout)) → carried_placed kind (suc k) ≡ o → FitsAt (record_in kind line) (suc k)
+    by : (o : Option (ℕ × FieldLayout)) → carried_with_start kind (suc k) ≡ o → FitsAt (record_in kind line) (suc k)
     by None x = fits_none (record_in kind line) (suc k) (sym x)
     by (Some p) x = absurd (true≢false (sym d ∙ ap (λ (g : FieldLayout). g.derived) (same_field kind k f p e x) ∙ (is_carried kind (suc k) p x).carried))
 
 text_fits : (kind : Kind) (line : List ℕ) (k : ℕ) (f : FieldLayout) → is_plain line ≡ true → slice_get (layout kind) k ≡ Some f → f.ty ≡ Text → FitsAt (record_in kind line) (suc k)
-text_fits kind line k f plain e t = by (carried_placed kind (suc k)) refl
+text_fits kind line k f plain e t = by (carried_with_start kind (suc k)) refl
   where
-    by : (o : Option (ℕ × FieldLayout)) → carried_placed kind (suc k) ≡ o → FitsAt (record_in kind line) (suc k)
+    by : (o : Option (ℕ × FieldLayout)) → carried_with_start kind (suc k) ≡ o → FitsAt (record_in kind line) (suc k)
     by None x = fits_none (record_in kind line) (suc k) (sym x)
     by (Some p) x =
         let r : Result (Unit {0}) CellFault = Ok tt in

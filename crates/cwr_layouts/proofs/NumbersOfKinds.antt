@@ -1,5 +1,5 @@
 -- What is known of the numbered line of each kind.
-use Rattle.std.proofs.Common.{◌≡◌, ℕ, ◌+◌, ◌≤◌, List, ◌++◌, length, drop, refl, lit≤}
+use Rattle.std.proofs.Common.{◌≡◌, ℕ, ◌≤◌, List, ◌++◌, length, drop, refl, lit≤}
 use Rattle.std.specs.Prelude.{slice_index}
 use Rattle.cwr_fields.specs.Format.Bytes.{digits}
 use Rattle.cwr_layouts.specs.declared.kinds.Kind.{Kind}

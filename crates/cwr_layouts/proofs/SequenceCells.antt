@@ -1,11 +1,11 @@
 -- Where the two sequences of a line inside a transaction stand.
-use Rattle.std.proofs.Common.{◌≡◌, ℕ, Bool, true, false, cond, List, ◌∷◌, take, drop, option_map, slice_get, refl, sym, ap, ◌∙◌, lit≤}
-use Rattle.std.specs.Prelude.{Option, Some, None}
+use Rattle.std.proofs.Common.{◌≡◌, ℕ, true, List, ◌∷◌, take, drop, option_map, slice_get, refl, sym, ap, ◌∙◌, lit≤}
+use Rattle.std.specs.Prelude.{Some}
 use Rattle.std.proofs.lemmas.List.{take-take, drop-take, drop-drop}
 use Rattle.cwr_layouts.specs.declared.kinds.Kind.{Kind}
 use Rattle.cwr_layouts.specs.declared.kinds.Kind.TheVariants.{Hdr, Grh, Grt, Trl, Agr, Ter, Ipa, Nwr, Rev, Spu, Opu, Spt, Swr, Owr, Swt, Pwr, Alt, Ewt, Ver, Per, Rec, Orn, Com, Ack, Msg, Opt, Owt, Npn, Npr, Nwn, Npa, Net, Now, Nct, Nvt, Nat, Ins, Ind, Ari, Xrf}
 use Rattle.cwr_layouts.specs.Format.Kinds.{is_in_transaction}
-use Rattle.cwr_layouts.specs.Format.Layouts.{FieldLayout, field_placed, fields_after_type, in_transaction, layout, number, placed_fields, record_type}
+use Rattle.cwr_layouts.specs.Format.Layouts.{FieldLayout, field_with_start, fields_after_type, in_transaction, layout, number, fields_with_starts, record_type}
 use Rattle.cwr_layouts.specs.Steps.Held.{HeldLine, IsFilled, held_cell}
 use Rattle.cwr_layouts.proofs.CellParts.{part, held_cell-part}
 
@@ -56,11 +56,11 @@ sequenced Ind e = record { rest = drop 2 (fields_after_type Ind); begins = refl 
 sequenced Ari e = record { rest = drop 2 (fields_after_type Ari); begins = refl }
 sequenced Xrf e = record { rest = drop 2 (fields_after_type Xrf); begins = refl }
 
-second : (kind : Kind) → is_in_transaction kind ≡ true → field_placed kind 2 ≡ Some (3, number "transaction sequence" 8)
-second kind e = ap (λ (fields : List FieldLayout). slice_get (placed_fields 0 fields) 1) (sequenced kind e).begins
+second : (kind : Kind) → is_in_transaction kind ≡ true → field_with_start kind 2 ≡ Some (3, number "transaction sequence" 8)
+second kind e = ap (λ (fields : List FieldLayout). slice_get (fields_with_starts 0 fields) 1) (sequenced kind e).begins
 
-third : (kind : Kind) → is_in_transaction kind ≡ true → field_placed kind 3 ≡ Some (11, number "record sequence" 8)
-third kind e = ap (λ (fields : List FieldLayout). slice_get (placed_fields 0 fields) 2) (sequenced kind e).begins
+third : (kind : Kind) → is_in_transaction kind ≡ true → field_with_start kind 3 ≡ Some (11, number "record sequence" 8)
+third kind e = ap (λ (fields : List FieldLayout). slice_get (fields_with_starts 0 fields) 2) (sequenced kind e).begins
 
 -- both stand in the sixteen bytes after the record type
 pub transaction_cell : (text : List ℕ) (h : HeldLine) (kind : Kind) → IsFilled text (Some kind) h → is_in_transaction kind ≡ true → held_cell h 2 ≡ Some (take 8 (take 16 (drop 3 text)))

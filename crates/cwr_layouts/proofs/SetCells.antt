@@ -8,16 +8,16 @@ use Rattle.std.proofs.Math.Seq.{take-append_seam, drop-append_seam}
 use Rattle.cwr_fields.specs.Format.Bytes.{filled}
 use Rattle.cwr_fields.specs.Format.Cells.{Allows, type_width}
 use Rattle.cwr_layouts.specs.declared.kinds.Kind.{Kind}
-use Rattle.cwr_layouts.specs.Format.Layouts.{FieldLayout, layout, placed_fields, field_placed, field_at, line_width}
+use Rattle.cwr_layouts.specs.Format.Layouts.{FieldLayout, layout, fields_with_starts, field_with_start, field_at, line_width}
 use Rattle.cwr_layouts.specs.Format.Lines.{pieces}
 use Rattle.cwr_layouts.specs.Format.Records.{RecordValue}
-use Rattle.cwr_layouts.specs.Format.Carried.{carried_at, carried_placed, carried_before, set_cell, Sets}
+use Rattle.cwr_layouts.specs.Format.Carried.{carried_at, carried_with_start, carried_before, set_cell, Sets}
 use Rattle.cwr_layouts.specs.Steps.Carried.{carried_cells, record_in}
 use Rattle.cwr_layouts.proofs.CarriedCells.{carried_count, widths, is_carried, carried_at-placed, carried_in-set, carried_within}
 use Rattle.cwr_layouts.proofs.AllKinds.{line_width_widest}
 use Rattle.cwr_layouts.proofs.CellParts.{field_within}
 use Rattle.cwr_layouts.proofs.FilledTexts.{length-filled}
-use Rattle.cwr_layouts.proofs.FieldStarts.{field_at-placed}
+use Rattle.cwr_layouts.proofs.FieldStarts.{field_at-start}
 use Rattle.cwr_layouts.proofs.TypeWidths.{type_width-field}
 use Rattle.cwr_layouts.proofs.GoodLinesAreRows.{carried_in}
 
@@ -42,14 +42,14 @@ first_piece w e ws line t h g =
     let others : drop w (t ++ drop e line) ≡ drop w line = ap (λ (n : ℕ). drop n (t ++ drop e line)) (sym h) ∙ drop-append_seam t (drop e line) ∙ ap (λ (n : ℕ). drop n line) g in
     ap₂ (λ (x : List ℕ) (xs : List (List ℕ)). x ∷ xs) first (ap (pieces ws) others)
 
-starts_after : (at : ℕ) (fields : List FieldLayout) (i : ℕ) (p : ℕ × FieldLayout) → slice_get (placed_fields at fields) i ≡ Some p → at ≤ p.0
+starts_after : (at : ℕ) (fields : List FieldLayout) (i : ℕ) (p : ℕ × FieldLayout) → slice_get (fields_with_starts at fields) i ≡ Some p → at ≤ p.0
 starts_after at [] i p e = absurd (cc e)
 starts_after at (f ∷ fields) zero p e = let same : (at, f) ≡ p = cc e in rw (← same) (omega arith)
 starts_after at (f ∷ fields) (suc i) p e = omega (arith, starts_after (at + f.width) fields i p e)
 
 -- writing the part that a field takes sets its piece
 pieces-splice : (at k : ℕ) (fields : List FieldLayout) (line : List ℕ) (i : ℕ) (p : ℕ × FieldLayout) (t : List ℕ)
-    → slice_get (placed_fields at fields) i ≡ Some p → p.0 ≡ at + k → length t ≡ p.1.width → k + p.1.width ≤ length line
+    → slice_get (fields_with_starts at fields) i ≡ Some p → p.0 ≡ at + k → length t ≡ p.1.width → k + p.1.width ≤ length line
     → pieces (map (λ f. f.width) fields) (splice line k (k + length t) t) ≡ slice_set (pieces (map (λ f. f.width) fields) line) i t
 pieces-splice at k [] line i p t e s w h = absurd (cc e)
 pieces-splice at k (f ∷ fields) line zero p t e s w h =
@@ -69,7 +69,7 @@ pieces-splice at k (f ∷ fields) line (suc i) p t e s w h =
     ap₂ (λ (x : List ℕ) (xs : List (List ℕ)). x ∷ xs) first (ap (pieces (map (λ g. g.width) fields)) rest ∙ set)
 
 -- a cell that is written where its field stands is set in the record
-pub record_in-splice : (kind : Kind) (line : List ℕ) (j : ℕ) (p : ℕ × FieldLayout) (t : List ℕ) → length line ≡ line_width kind → carried_placed kind j ≡ Some p → length t ≡ p.1.width
+pub record_in-splice : (kind : Kind) (line : List ℕ) (j : ℕ) (p : ℕ × FieldLayout) (t : List ℕ) → length line ≡ line_width kind → carried_with_start kind j ≡ Some p → length t ≡ p.1.width
     → record_in kind (splice line p.0 (p.0 + length t) t) ≡ set_cell j t (record_in kind line)
 unfolding carried_cells
 record_in-splice kind line j p t whole e w =
@@ -92,23 +92,23 @@ length-splice line t k h =
 same_kind : (kind : Kind) (line : List ℕ) (now : RecordValue) → record_in kind line ≡ now → kind ≡ now.kind
 same_kind kind line now same = ap (λ (r : RecordValue). r.kind) same
 
-pub no_field_to_set : (kind : Kind) (line : List ℕ) (j : ℕ) (now : RecordValue) → record_in kind line ≡ now → None ≡ field_placed kind j → field_at now.kind j ≡ None
+pub no_field_to_set : (kind : Kind) (line : List ℕ) (j : ℕ) (now : RecordValue) → record_in kind line ≡ now → None ≡ field_with_start kind j → field_at now.kind j ≡ None
 no_field_to_set kind line j now same e =
-    subst (λ (k : Kind). field_at k j ≡ None) (same_kind kind line now same) (sym (field_at-placed kind j) ∙ ap (option_map (λ (p : ℕ × FieldLayout). p.1)) (sym e))
+    subst (λ (k : Kind). field_at k j ≡ None) (same_kind kind line now same) (sym (field_at-start kind j) ∙ ap (option_map (λ (p : ℕ × FieldLayout). p.1)) (sym e))
 
 -- a fact of the field that was found
-pub of_field : (kind : Kind) (line : List ℕ) (j : ℕ) (p : ℕ × FieldLayout) (now : RecordValue) (P : FieldLayout → Type 0) → record_in kind line ≡ now → Some p ≡ field_placed kind j
+pub of_field : (kind : Kind) (line : List ℕ) (j : ℕ) (p : ℕ × FieldLayout) (now : RecordValue) (P : FieldLayout → Type 0) → record_in kind line ≡ now → Some p ≡ field_with_start kind j
     → P p.1 → IsSomeAnd (field_at now.kind j) P
 of_field kind line j p now P same e h =
-    let found : Some p.1 ≡ field_at now.kind j = ap (option_map (λ (q : ℕ × FieldLayout). q.1)) e ∙ field_at-placed kind j ∙ ap (λ (k : Kind). field_at k j) (same_kind kind line now same) in
+    let found : Some p.1 ≡ field_at now.kind j = ap (option_map (λ (q : ℕ × FieldLayout). q.1)) e ∙ field_at-start kind j ∙ ap (λ (k : Kind). field_at k j) (same_kind kind line now same) in
     subst (λ (o : Option FieldLayout). IsSomeAnd o P) found h
 
 -- a field that was found and isn't derived is carried
-pub carried_found : (kind : Kind) (j : ℕ) (p : ℕ × FieldLayout) → Some p ≡ field_placed kind j → p.1.derived ≡ false → carried_placed kind j ≡ Some p
+pub carried_found : (kind : Kind) (j : ℕ) (p : ℕ × FieldLayout) → Some p ≡ field_with_start kind j → p.1.derived ≡ false → carried_with_start kind j ≡ Some p
 carried_found kind j p e d = ap (option_and_then (λ (q : ℕ × FieldLayout). cond q.1.derived None (Some q))) (sym e) ∙ ap (λ (b : Bool). cond b None (Some p)) d
 
 -- a fact of the carried field that was found
-pub of_carried : (kind : Kind) (line : List ℕ) (j : ℕ) (p : ℕ × FieldLayout) (now : RecordValue) (P : FieldLayout → Type 0) → record_in kind line ≡ now → Some p ≡ field_placed kind j
+pub of_carried : (kind : Kind) (line : List ℕ) (j : ℕ) (p : ℕ × FieldLayout) (now : RecordValue) (P : FieldLayout → Type 0) → record_in kind line ≡ now → Some p ≡ field_with_start kind j
     → p.1.derived ≡ false → P p.1 → IsSomeAnd (carried_at now.kind j) P
 of_carried kind line j p now P same e d h =
     let found : Some p.1 ≡ carried_at now.kind j =
@@ -116,20 +116,20 @@ of_carried kind line j p now P same e d h =
     subst (λ (o : Option FieldLayout). IsSomeAnd o P) found h
 
 -- no field is wider than the widest line
-pub field_most : (kind : Kind) (j : ℕ) (p : ℕ × FieldLayout) → Some p ≡ field_placed kind j → p.1.width ≤ 719
+pub field_most : (kind : Kind) (j : ℕ) (p : ℕ × FieldLayout) → Some p ≡ field_with_start kind j → p.1.width ≤ 719
 field_most kind j p e = omega (arith, field_within kind j p (sym e), line_width_widest kind)
 
 length-whole : (w : ℕ) (text cell : List ℕ) → length text ≤ w → cell ≡ filled w text → length cell ≡ w
 length-whole w text cell h e = omega (arith, ap length e, length-filled w text)
 
 -- a cell filled up to its field's width has the width of its type
-pub filled_cell_wide : (kind : Kind) (j : ℕ) (p : ℕ × FieldLayout) (text cell : List ℕ) → Some p ≡ field_placed kind j → length text ≤ p.1.width → cell ≡ filled p.1.width text
+pub filled_cell_wide : (kind : Kind) (j : ℕ) (p : ℕ × FieldLayout) (text cell : List ℕ) → Some p ≡ field_with_start kind j → length text ≤ p.1.width → cell ≡ filled p.1.width text
     → (w : ℕ) → type_width p.1.ty ≡ Some w → length cell ≡ w
 filled_cell_wide kind j p text cell e h f w t =
-    length-whole p.1.width text cell h f ∙ type_width-field kind j p.1 w (sym (field_at-placed kind j) ∙ ap (option_map (λ (q : ℕ × FieldLayout). q.1)) (sym e)) t
+    length-whole p.1.width text cell h f ∙ type_width-field kind j p.1 w (sym (field_at-start kind j) ∙ ap (option_map (λ (q : ℕ × FieldLayout). q.1)) (sym e)) t
 
 -- the part where the cell is written lies within the line
-pub part_within : (kind : Kind) (line : List ℕ) (j : ℕ) (p : ℕ × FieldLayout) (text cell slice : List ℕ) → length line ≡ line_width kind → Some p ≡ field_placed kind j
+pub part_within : (kind : Kind) (line : List ℕ) (j : ℕ) (p : ℕ × FieldLayout) (text cell slice : List ℕ) → length line ≡ line_width kind → Some p ≡ field_with_start kind j
     → length text ≤ p.1.width → cell ≡ filled p.1.width text → slice ≡ line → p.0 + length cell ≤ length slice
 part_within kind line j p text cell slice whole e h f s = omega (arith, field_within kind j p (sym e), length-whole p.1.width text cell h f, ap length s)
 
@@ -138,10 +138,10 @@ refill_same xs ws h = take_at ws (drop (length ws) xs) (length xs) h
 
 -- what a draft is whose cell was written
 pub is_set : (kind : Kind) (line : List ℕ) (j : ℕ) (p : ℕ × FieldLayout) (now : RecordValue) (text cell slice written : List ℕ) → record_in kind line ≡ now → length line ≡ line_width kind
-    → Some p ≡ field_placed kind j → p.1.derived ≡ false → length text ≤ p.1.width → cell ≡ filled p.1.width text → slice ≡ line → written ≡ splice slice p.0 (p.0 + length cell) cell
+    → Some p ≡ field_with_start kind j → p.1.derived ≡ false → length text ≤ p.1.width → cell ≡ filled p.1.width text → slice ≡ line → written ≡ splice slice p.0 (p.0 + length cell) cell
     → Allows p.1.ty cell → Sets j text now (record_in kind (refill (length line) line written))
 is_set kind line j p now text cell slice written same whole e d h f s w holds =
-    let at : carried_placed kind j ≡ Some p = carried_found kind j p e d in
+    let at : carried_with_start kind j ≡ Some p = carried_found kind j p e d in
     let wide : length cell ≡ p.1.width = length-whole p.1.width text cell h f in
     let there : written ≡ splice line p.0 (p.0 + length cell) cell = w ∙ ap (λ (x : List ℕ). splice x p.0 (p.0 + length cell) cell) s in
     let kept : length written ≡ length line = ap length there ∙ length-splice line cell p.0 (omega (arith, field_within kind j p (sym e))) in

@@ -49,7 +49,7 @@ fn number(numbers: &[u64], i: usize) -> u64
 
 /// Sets the numbers in a whole line of the kind, each in its cell.
 #[inline(always)]
-fn set_numbers(line: &mut [u8], kind: Kind, numbers: &[u64])
+pub(crate) fn set_numbers(line: &mut [u8], kind: Kind, numbers: &[u64])
     requires { length line.old ≡ line_width kind }
     ensures { line.new ≡ take 3 line.old ++ numbered_part kind numbers.now line.old }
 {

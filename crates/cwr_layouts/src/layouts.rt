@@ -2,7 +2,7 @@
 //! and the type of its cells. Derived fields hold numbers that are computed from the order of the records.
 
 ghost use Rattle.std.specs.Prelude.{◌≡◌, map};
-ghost use Rattle.cwr_layouts.specs.Format.Layouts.{layout as layout_of, placed_fields};
+ghost use Rattle.cwr_layouts.specs.Format.Layouts.{layout as layout_of, fields_with_starts};
 ghost use Rattle.cwr_layouts.specs.Steps.Views.{field_view};
 
 use crate::kinds::Kind;
@@ -524,7 +524,7 @@ static CARRIED: [Field; 4] = [
 /// The fields of a kind, in order.
 #[inline(always)]
 pub(crate) fn layout(kind: Kind) -> &'static [Field]
-    ensures { map field_view result.now ≡ placed_fields 0 (layout_of kind) }
+    ensures { map field_view result.now ≡ fields_with_starts 0 (layout_of kind) }
 {
     match kind {
         Kind::Hdr => &HDR,

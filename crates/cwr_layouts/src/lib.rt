@@ -11,6 +11,7 @@ mod lines;
 mod lookups;
 mod record_lists;
 mod records;
+mod renumbered_lines;
 
 pub use canonical_lines::CanonicalLine;
 pub use drafts::{Draft, DraftFault, SetFault};
@@ -20,3 +21,4 @@ pub use lines::{CutLine, LONGEST_LINE, LineBuf, LineEnd, Taken};
 pub use lookups::{field, fields, width};
 pub use record_lists::RecordList;
 pub use records::{Record, RecordRef};
+pub use renumbered_lines::RenumberedLine;

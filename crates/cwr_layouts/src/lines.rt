@@ -8,7 +8,7 @@ ghost use Rattle.cwr_fields.specs.Format.Bytes.{filled, is_plain};
 ghost use Rattle.cwr_layouts.specs.Format.Lines.{is_lf, without_cr, body_kind};
 ghost use Rattle.cwr_layouts.specs.Format.Kinds.{is_in_transaction, kind_of};
 ghost use Rattle.cwr_layouts.specs.Format.Records.{IsRecord};
-ghost use Rattle.cwr_layouts.specs.Steps.Held.{held_record, HeldLine, Takes, IsHeld, empty_line, held_kind, held_cell, held_excess, filled_as, return_if};
+ghost use Rattle.cwr_layouts.specs.Steps.Held.{held_record, HeldLine, Takes, IsHeld, empty_line, ended_too_long, held_body, held_kind, held_cell, held_excess, filled_as, return_if};
 
 use crate::kinds::{Kind, is_in_transaction};
 use crate::layouts::Field;
@@ -420,6 +420,22 @@ impl<'a> CutLine<'a> {
             unreachable!()
         };
         RecordRef::of_line(kind, &self.text[..width(kind)])
+    }
+
+    /// The bytes that are judged, filled up to the width of the kind: without a carriage return at the end, and of a line that is
+    /// too long the first 1,024.
+    pub(crate) fn filled(&self) -> &'a [u8]
+        ensures value { result.now ≡ filled_as (held_kind self.now) (held_body self.now) }
+        ensures short { length result.now ≤ LONGEST_LINE }
+    {
+        self.text
+    }
+
+    /// Whether the line is too long.
+    pub(crate) fn is_too_long(&self) -> bool
+        ensures { result ≡ ended_too_long self.now.ended }
+    {
+        matches!(self.ended, LineEnd::Over)
     }
 
     /// Whether what stands after the last field is bad: it isn't all spaces, or the line is too long. A line of

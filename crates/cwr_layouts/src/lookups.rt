@@ -1,8 +1,8 @@
 //! What the tables of layouts say of a kind.
 
 ghost use Rattle.std.specs.Prelude.{◌≡◌, option_map, length};
-ghost use Rattle.cwr_layouts.specs.Format.Layouts.{field_placed, layout as layout_of, line_width};
-ghost use Rattle.cwr_layouts.specs.Format.Carried.{carried_placed};
+ghost use Rattle.cwr_layouts.specs.Format.Layouts.{field_with_start, layout as layout_of, line_width};
+ghost use Rattle.cwr_layouts.specs.Format.Carried.{carried_with_start};
 ghost use Rattle.cwr_layouts.specs.Steps.Views.{field_view};
 
 use crate::kinds::Kind;
@@ -11,7 +11,7 @@ use crate::layouts::{Field, layout};
 /// Field `j` of a kind's layout, from 1. `None` where the kind has no such field.
 #[inline(always)]
 pub fn field(kind: Kind, j: u8) -> Option<Field>
-    ensures { option_map field_view result ≡ field_placed kind j }
+    ensures { option_map field_view result ≡ field_with_start kind j }
 {
     if j == 0 {
         return None;
@@ -23,7 +23,7 @@ pub fn field(kind: Kind, j: u8) -> Option<Field>
 /// where that is derived.
 #[inline(always)]
 pub(crate) fn carried_field(kind: Kind, j: u8) -> Option<Field>
-    ensures { option_map field_view result ≡ carried_placed kind j }
+    ensures { option_map field_view result ≡ carried_with_start kind j }
 {
     let place = field(kind, j)?;
     if place.derived {

@@ -9,20 +9,20 @@ use Rattle.cwr_layouts.specs.declared.kinds.Kind.{Kind}
 use Rattle.cwr_layouts.specs.Format.Layouts.{FieldLayout}
 use Rattle.cwr_layouts.specs.Format.Carried.{carried_at, carried_before, record_cell}
 use Rattle.cwr_layouts.specs.Format.Records.{RecordValue, IsRecord, IsCellOf, cell_named, carried_fields}
-use Rattle.cwr_levels.specs.Format.Fields.{IsField, place_of}
+use Rattle.cwr_levels.specs.Format.Fields.{IsField, index_of_name}
 
 found_at : (name : List ℕ) (fields : List FieldLayout) (cells : List (List ℕ)) → length cells ≡ length fields
-    → option_map (λ (p : FieldLayout × List ℕ). p.1) (find (λ p. bytes_eq p.0.name name) (zip fields cells)) ≡ slice_get cells (place_of name fields)
+    → option_map (λ (p : FieldLayout × List ℕ). p.1) (find (λ p. bytes_eq p.0.name name) (zip fields cells)) ≡ slice_get cells (index_of_name name fields)
 found_at name [] [] h = refl
 found_at name [] (c ∷ cells) h = absurd (omega (arith, h))
 found_at name (f ∷ fields) [] h = absurd (omega (arith, h))
 found_at name (f ∷ fields) (c ∷ cells) h = by (bytes_eq f.name name) (found_at name fields cells (omega (arith, h)))
   where
-    one_more : suc (place_of name fields) ≡ 1 + place_of name fields
+    one_more : suc (index_of_name name fields) ≡ 1 + index_of_name name fields
     one_more = omega arith
 
-    by : (b : Bool) → option_map (λ (p : FieldLayout × List ℕ). p.1) (find (λ p. bytes_eq p.0.name name) (zip fields cells)) ≡ slice_get cells (place_of name fields)
-        → option_map (λ (p : FieldLayout × List ℕ). p.1) (cond b (Some (f, c)) (find (λ p. bytes_eq p.0.name name) (zip fields cells))) ≡ slice_get (c ∷ cells) (cond (not b) (1 + place_of name fields) 0)
+    by : (b : Bool) → option_map (λ (p : FieldLayout × List ℕ). p.1) (find (λ p. bytes_eq p.0.name name) (zip fields cells)) ≡ slice_get cells (index_of_name name fields)
+        → option_map (λ (p : FieldLayout × List ℕ). p.1) (cond b (Some (f, c)) (find (λ p. bytes_eq p.0.name name) (zip fields cells))) ≡ slice_get (c ∷ cells) (cond (not b) (1 + index_of_name name fields) 0)
     by true e = refl
     by false e = e ∙ ap (λ (i : ℕ). slice_get (c ∷ cells) i) one_more
 

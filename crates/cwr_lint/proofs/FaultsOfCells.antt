@@ -3,11 +3,11 @@ use Rattle.std.proofs.Common.{◌≡◌, ℕ, List, Option, Some, None, sym, ap,
 use Rattle.cwr_fields.specs.declared.cell_types.CellFault.{CellFault}
 use Rattle.cwr_layouts.specs.declared.kinds.Kind.{Kind}
 use Rattle.cwr_layouts.specs.declared.layouts.Field.{Field}
-use Rattle.cwr_layouts.specs.Format.Layouts.{FieldLayout, field_at, field_placed}
+use Rattle.cwr_layouts.specs.Format.Layouts.{FieldLayout, field_at, field_with_start}
 use Rattle.cwr_layouts.specs.Steps.Held.{HeldLine, held_cell, held_kind}
 use Rattle.cwr_layouts.specs.Steps.Views.{field_view}
-use Rattle.cwr_layouts.proofs.FieldStarts.{field_at-placed}
-use Rattle.cwr_judge.proofs.NumberCells.{at_place}
+use Rattle.cwr_layouts.proofs.FieldStarts.{field_at-start}
+use Rattle.cwr_judge.proofs.NumberCells.{found_in_layout}
 use Rattle.cwr_lint.specs.Steps.CellFaults.{IsFaultAt, IsFaultOf}
 
 -- the field and the cell are those of the line
@@ -31,8 +31,8 @@ pub no_here : (h : HeldLine) (j : ℕ) (found : Option CellFault) → held_cell 
 no_here h j found none this_kind f here known at there = absurd (cc (sym none ∙ there))
 
 -- by the field's place
-pub found_in : (h : HeldLine) (kind : Kind) (j : ℕ) (place : Field) (cell : List ℕ) (found : Option CellFault) → held_kind h ≡ Some kind → Some (field_view place) ≡ field_placed kind j → Some cell ≡ held_cell h j → IsFaultOf place.ty cell found → IsFaultAt h j found
-found_in h kind j place cell found known p there is = found_at h kind j (field_view place).1 cell found known (at_place kind j place p) (sym there) is
+pub found_in : (h : HeldLine) (kind : Kind) (j : ℕ) (place : Field) (cell : List ℕ) (found : Option CellFault) → held_kind h ≡ Some kind → Some (field_view place) ≡ field_with_start kind j → Some cell ≡ held_cell h j → IsFaultOf place.ty cell found → IsFaultAt h j found
+found_in h kind j place cell found known p there is = found_at h kind j (field_view place).1 cell found known (found_in_layout kind j place p) (sym there) is
 
-pub no_field : (h : HeldLine) (kind : Kind) (j : ℕ) (found : Option CellFault) → held_kind h ≡ Some kind → field_placed kind j ≡ None → IsFaultAt h j found
-no_field h kind j found known none = no_such h kind j found known (sym (field_at-placed kind j) ∙ ap (option_map (λ (p : ℕ × FieldLayout). p.1)) none)
+pub no_field : (h : HeldLine) (kind : Kind) (j : ℕ) (found : Option CellFault) → held_kind h ≡ Some kind → field_with_start kind j ≡ None → IsFaultAt h j found
+no_field h kind j found known none = no_such h kind j found known (sym (field_at-start kind j) ∙ ap (option_map (λ (p : ℕ × FieldLayout). p.1)) none)

@@ -1,5 +1,5 @@
 -- Lines that are held as they are read.
-use Rattle.std.proofs.Common.{◌≡◌, ℕ, zero, suc, ◌+◌, ◌-◌, ◌<◌, ◌≤◌, min, Bool, true, false, ◌||◌, true≢false, List, [], ◌∷◌, ◌++◌, length, take, drop, Option, Some, None, refl, sym, ap, subst, ◌∙◌, arith, inl, inr, add-one, append_assoc, append-nil, take-append-drop}
+use Rattle.std.proofs.Common.{◌≡◌, ℕ, zero, suc, ◌+◌, ◌-◌, ◌<◌, ◌≤◌, min, Bool, true, false, cond, ◌||◌, true≢false, List, [], ◌∷◌, ◌++◌, length, take, drop, Option, Some, None, refl, sym, ap, subst, ◌∙◌, arith, inl, inr, add-one, append_assoc, append-nil, take-append-drop}
 use Rattle.std.specs.Prelude.{◌^◌, ◌==◌, nat_lt, not, slice_index, IsFalse, IsOk, IfSome, OnOk, Result, Ok, Err}
 use Rattle.std.specs.List.{list_any}
 use Rattle.std.specs.Io.{StartsWith}
@@ -9,8 +9,9 @@ use Rattle.std.proofs.lemmas.Bool.{eqb-true, false≢true, le-ltb, lt-ltb, ltb-f
 use Rattle.std.proofs.lemmas.List.{length-append, length-take, take_all, take_min}
 use Rattle.std.proofs.lemmas.List.Folds.{list_any-append}
 use Rattle.std.proofs.Math.Seq.{take-suc}
-use Rattle.cwr_layouts.specs.Format.Lines.{is_lf, is_too_long, longest_line}
-use Rattle.cwr_layouts.specs.Steps.Held.{FillsLongest, HoldsBy, IsHeld}
+use Rattle.cwr_fields.specs.Format.Bytes.{is_spaces}
+use Rattle.cwr_layouts.specs.Format.Lines.{is_lf, is_too_long, line_body, longest_line, without_cr}
+use Rattle.cwr_layouts.specs.Steps.Held.{FillsLongest, HoldsBy, IsHeld, held_body}
 use Rattle.cwr_layouts.proofs.HeldLaws.{held_line_is_cut}
 use Rattle.cwr_decode.proofs.ClosedTexts.{text_of-push}
 use Rattle.cwr_decode.proofs.FromReader.{consumes_taken}
@@ -77,13 +78,18 @@ raw_held line raw h = record {
   full = fills raw.is_too_long line raw.bytes.items h.held h.longer;
 }
 
-same_cut : (a b : LineCut) → a.kind ≡ b.kind → a.cells ≡ b.cells → a.excess ≡ b.excess → a ≡ b
-same_cut a b p q r = ap (λ (k : _). record { kind = k; cells = a.cells; excess = a.excess }) p ∙ ap (λ (c : _). record { kind = b.kind; cells = c; excess = a.excess }) q ∙ ap (λ (e : Bool). record { kind = b.kind; cells = b.cells; excess = e }) r
+same_cut : (a b : LineCut) → a.kind ≡ b.kind → a.cells ≡ b.cells → a.excess ≡ b.excess → a.blank ≡ b.blank → a ≡ b
+same_cut a b p q r s = λ i. record { kind = p i; cells = q i; excess = r i; blank = s i }
+
+-- the bytes that are judged
+body_by : (b : Bool) (line bytes : List ℕ) → bytes ≡ take longest_line line → b ≡ is_too_long line → held_body (record { bytes = bytes; ended = end_by b }) ≡ line_body line
+body_by true line bytes e l = e ∙ ap (λ (b : Bool). cond b (take longest_line line) (without_cr line)) l
+body_by false line bytes e l = ap without_cr (e ∙ take_all 1024 line (ltb-false 1024 (length line) (sym l))) ∙ ap (λ (b : Bool). cond b (take longest_line line) (without_cr line)) l
 
 pub raw_cut : (line : List ℕ) (raw : RawLine) → HoldsRaw line raw → held_cut (held_raw raw) ≡ cut_of line
 raw_cut line raw h =
     let cut = held_line_is_cut (held_raw raw) line (raw_held line raw h) (holds_by raw.is_too_long line raw.bytes.items h.held h.longer) in
-    same_cut (held_cut (held_raw raw)) (cut_of line) cut.kind cut.cells cut.excess
+    same_cut (held_cut (held_raw raw)) (cut_of line) cut.kind cut.cells cut.excess (ap is_spaces (body_by raw.is_too_long line raw.bytes.items h.held h.longer))
 
 -- ---- lines one after another
 

@@ -1,6 +1,8 @@
 -- What is told of lines, one after another.
 use Rattle.std.proofs.Common.{◌≡◌, ℕ, ◌+◌, ◌-◌, ◌≤◌, min, Bool, true, false, true≢false, List, [], ◌∷◌, ◌++◌, length, Option, Some, None, refl, sym, ap, subst, ◌∙◌, arith, inl, inr, append_assoc, append-nil}
-use Rattle.std.specs.Prelude.{◌⊎◌, ◌^◌, IfSome}
+use Rattle.std.specs.Prelude.{◌⊎◌, ◌^◌, IfSome, IsFalse}
+use Rattle.std.specs.List.{AllByRecursion, list_any}
+use Rattle.cwr_layouts.specs.Format.Lines.{is_lf}
 use Rattle.std.specs.Io.KnownBytes.{Consumes, IsAtEnd}
 use Rattle.std.proofs.KnownBytes.{Consumes-nil, Consumes-trans}
 use Rattle.std.proofs.lemmas.List.{length-append}
@@ -8,19 +10,21 @@ use Rattle.cwr_judge.specs.declared.refusals.Refusal.{Refusal}
 use Rattle.cwr_levels.specs.Format.ReportLines.{faults_line}
 use Rattle.cwr_lint.specs.declared.linting.LintRun.{LintRun}
 use Rattle.cwr_lint.specs.declared.raw_lines.RawLine.{RawLine}
-use Rattle.cwr_lint.specs.Format.FaultsOfLines.{LineCut, TellsLine, TellsLines, count_after, cut_of, one_more_line}
+use Rattle.cwr_layouts.specs.Format.Records.{RecordValue}
+use Rattle.cwr_lint.specs.Format.FaultsOfLines.{LineCut, count_after, cut_of, one_more_line}
+use Rattle.cwr_lint.specs.Steps.Walks.{Walk, WalksLine, WalksLines}
 use Rattle.cwr_lint.specs.Format.Told.{truncated_unless}
 use Rattle.cwr_lint.specs.Steps.JudgedLines.{held_cut}
 use Rattle.cwr_lint.specs.Steps.LinesRead.{GoesOn, HoldsRaw, IsAllRead, ReadsLine, held_raw, spelled}
-use Rattle.cwr_lint.specs.Steps.Runs.{BeginsAt, EndsAtTrl, IsEndText, TakesAll, TakesFirst, TakesFrom, TakesLine, TakesLines, TakesNext, TakesNextIf, TakesNone, TakesRead, TellsToEnd}
+use Rattle.cwr_lint.specs.Steps.Runs.{BeginsAt, EndsAtTrl, IsEndText, TakesAll, TakesFirst, TakesFrom, TakesLine, TakesLines, TakesNext, TakesNextIf, TakesNone, TakesRead, TellsToEnd, walk_of}
 use Rattle.cwr_lint.proofs.RawLines.{ends_with, goes_both, goes_line, goes_none, raw_cut}
 
 -- ---- one line
 
-pub next_taken : (explained : Bool) (left after : Option (List ℕ)) (before raw : RawLine) (old new : LintRun) (more : Bool) (text : List ℕ) → before.ended ≡ true → ReadsLine left after raw → TakesRead explained (held_cut (held_raw raw)) old new more text
+pub next_taken : (explained : Bool) (left after : Option (List ℕ)) (before raw : RawLine) (old new : LintRun) (more : Bool) (text : List ℕ) → old.state.over ≡ false → before.ended ≡ true → ReadsLine left after raw → TakesRead explained (held_cut (held_raw raw)) old new more text
     → TakesNextIf explained left after before raw old new more text
-next_taken explained left after before raw old new true text ended r t = record { goes = ended; read = r; takes = subst (λ (c : LineCut). TakesLine explained c 1 old new text) (raw_cut r.line raw r.holds) t }
-next_taken explained left after before raw old new false text ended r t = absurd t
+next_taken explained left after before raw old new true text on ended r t = record { on = on; goes = ended; read = r; takes = subst (λ (c : LineCut). TakesLine explained c 1 old new text) (raw_cut r.line raw r.holds) t }
+next_taken explained left after before raw old new false text on ended r t = absurd t
 
 pub none_left : (left : Option (List ℕ)) (before : RawLine) (run : LintRun) → (run.state.over ≡ true) ⊎ (before.ended ≡ false) → TakesNone left left before run run []
 none_left left before run (inl e) = record { nothing = refl; same = refl; kept = Consumes-nil left; why = inl e }
@@ -31,20 +35,36 @@ none_read left after before run r = record { nothing = refl; same = refl; kept =
 
 -- ---- lines
 
-tells_more : (explained : Bool) (n : ℕ) (lines : List (List ℕ)) (line : List ℕ) (told here : List Refusal) (text more : List ℕ) → TellsLines explained n lines told text → TellsLine explained (count_after n lines) (cut_of line) 1 here more
-    → TellsLines explained n (lines ++ line ∷ []) (told ++ here) (text ++ more)
-tells_more explained n [] line told here text more p q =
-    (here, more, [], [], q, (refl, refl), ap (λ (l : List Refusal). l ++ here) p.0 ∙ sym (append-nil here), ap (λ (l : List ℕ). l ++ more) p.1 ∙ sym (append-nil more))
-tells_more explained n (first ∷ lines) line told here text more (a, b, c, d, p, rest, e, f) q = (
+walks_more : (explained : Bool) (old between new : Walk) (lines : List (List ℕ)) (line : List ℕ) (told here : List Refusal) (text more : List ℕ) → WalksLines explained old lines told text between → between.state.over ≡ false → WalksLine explained between (cut_of line) 1 here more new
+    → WalksLines explained old (lines ++ line ∷ []) (told ++ here) (text ++ more) new
+walks_more explained old between new [] line told here text more p on q = (
+  ap (λ (w : Walk). w.state.over) (sym p.2) ∙ on,
+  new,
+  here,
+  more,
+  [],
+  [],
+  subst (λ (w : Walk). WalksLine explained w (cut_of line) 1 here more new) p.2 q,
+  (refl, refl, refl),
+  ap (λ (l : List Refusal). l ++ here) p.0 ∙ sym (append-nil here),
+  ap (λ (l : List ℕ). l ++ more) p.1 ∙ sym (append-nil more),
+)
+walks_more explained old between new (first ∷ lines) line told here text more (opened_now, w, a, b, c, d, p, rest, e, f) on q = (
+  opened_now,
+  w,
   a,
   b,
   c ++ here,
   d ++ more,
   p,
-  tells_more explained (one_more_line n) lines line c here d more rest q,
+  walks_more explained w between new lines line c here d more rest on q,
   ap (λ (l : List Refusal). l ++ here) e ∙ append_assoc a c here,
   ap (λ (l : List ℕ). l ++ more) f ∙ append_assoc b d more,
 )
+
+all_more : (lines : List (List ℕ)) (line : List ℕ) → AllByRecursion (λ l. IsFalse (list_any is_lf l)) lines → IsFalse (list_any is_lf line) → AllByRecursion (λ l. IsFalse (list_any is_lf l)) (lines ++ line ∷ [])
+all_more [] line h k = (k, tt)
+all_more (first ∷ lines) line h k = (h.0, all_more lines line h.1 k)
 
 count_more : (n : ℕ) (lines : List (List ℕ)) (line : List ℕ) → count_after n (lines ++ line ∷ []) ≡ one_more_line (count_after n lines)
 count_more n [] line = refl
@@ -56,8 +76,9 @@ lines_none explained left ended run = record {
   taken = Consumes-nil left;
   lines = [];
   goes = goes_none ended;
+  no_lf = tt;
   told = [];
-  tells = (refl, refl);
+  walks = (refl, refl, refl);
   counted = refl;
   faults = λ few. omega (arith, few);
   over = λ e. inl (refl, e);
@@ -71,8 +92,9 @@ lines_more explained left mid after ended before raw old between new text more p
       taken = Consumes-trans left mid after p.bytes (spelled raw.ended line) p.taken q.read.taken;
       lines = p.lines ++ line ∷ [];
       goes = goes_both ended before.ended raw.ended p.bytes (spelled raw.ended line) p.lines (line ∷ []) p.goes (subst (λ (b : Bool). GoesOn b (spelled raw.ended line) (line ∷ []) raw.ended) (sym q.goes) (goes_line line raw.ended));
+      no_lf = all_more p.lines line p.no_lf q.read.holds.no_lf;
       told = p.told ++ q.takes.told;
-      tells = tells_more explained old.state.lines p.lines line p.told q.takes.told text more p.tells (subst (λ (n : ℕ). TellsLine explained n (cut_of line) 1 q.takes.told more) p.counted q.takes.tells);
+      walks = walks_more explained (walk_of old) (walk_of between) (walk_of new) p.lines line p.told q.takes.told text more p.walks q.on q.takes.walks;
       counted = q.takes.lines ∙ ap one_more_line p.counted ∙ sym (count_more old.state.lines p.lines line);
       faults = λ few. omega (arith, p.faults few, q.takes.faults, length-append p.told q.takes.told);
       over = λ e. inr (p.lines, line, refl, q.takes.over e);
@@ -117,6 +139,7 @@ pub run_ends : (explained : Bool) (left mid after : Option (List ℕ)) (ended : 
 run_ends explained left mid after ended before old between new count text more p q = record {
   last = before.ended;
   takes = takes;
+  cut = λ e. or_read (p.all e);
   all = λ e. by e q.why;
 } where
   bytes_taken : Consumes left after p.takes.bytes
@@ -131,8 +154,10 @@ run_ends explained left mid after ended before old between new count text more p
     taken = bytes_taken;
     lines = p.takes.lines;
     goes = p.takes.goes;
+    no_lf = p.takes.no_lf;
     told = p.takes.told;
-    tells = subst (TellsLines explained old.state.lines p.takes.lines p.takes.told) told_text p.takes.tells;
+    walks = subst (λ (w : Walk). WalksLines explained (walk_of old) p.takes.lines p.takes.told (text ++ more) w) (sym (ap walk_of q.same))
+        (subst (λ (l : List ℕ). WalksLines explained (walk_of old) p.takes.lines p.takes.told l (walk_of between)) told_text p.takes.walks);
     counted = ap (λ (r : LintRun). r.state.lines) q.same ∙ p.takes.counted;
     faults = λ few. ap (λ (r : LintRun). r.faults) q.same ∙ p.takes.faults few;
     over = λ e. p.takes.over (sym (ap (λ (r : LintRun). r.state.over) q.same) ∙ e);
@@ -152,7 +177,7 @@ run_ends explained left mid after ended before old between new count text more p
   by e (inr (inr end)) = inr (inl (ends_with left mid after p.takes.bytes p.takes.taken end))
 
 pub run_many : (explained : Bool) (left now : Option (List ℕ)) (ended : Bool) (before : RawLine) (old new : LintRun) (count : ℕ) (text : List ℕ) → 2 ^ 64 - 1 ≤ count → RunSoFar explained left now ended before old new count text → TakesAll explained left now ended old new text
-run_many explained left now ended before old new count text n p = record { last = before.ended; takes = p.takes; all = λ e. inr (inr (omega (arith, n, p.many))) }
+run_many explained left now ended before old new count text n p = record { last = before.ended; takes = p.takes; cut = p.all; all = λ e. inr (inr (omega (arith, n, p.many))) }
 
 -- ---- all that is told
 
@@ -161,24 +186,29 @@ pub from_taken : (explained : Bool) (refusal : Refusal) (left after : Option (Li
 from_taken explained refusal left after raw old between new beside later p q = record { between = between; beside = beside; first = p; later = later; rest = q; whole = refl }
 
 pub told_to_end : (explained : Bool) (refusal : Refusal) (left after : Option (List ℕ)) (raw : RawLine) (old new : LintRun) (findings : ℕ) (text end : List ℕ) → BeginsAt refusal old → TakesFrom explained refusal left after raw old new text
-    → IsEndText new.state.over new.faults findings new.state.lines end → TellsToEnd explained refusal left after raw (text ++ end)
+    → IsEndText new.state.over new.faults findings new.state.lines end → TellsToEnd explained old.state refusal left after raw (text ++ end)
 told_to_end explained refusal left after raw old new findings text end begins p e = record {
   bytes = p.rest.takes.bytes;
   taken = p.rest.takes.taken;
   lines = p.rest.takes.lines;
   last = p.rest.last;
   goes = p.rest.takes.goes;
+  no_lf = p.rest.takes.no_lf;
+  cut = p.rest.cut;
   over = new.state.over;
   told = λ refused holds. record {
     line = p.first.line;
     first = p.first.first;
     others = p.first.takes.told;
     beside = p.first.beside;
-    tells_others = subst (λ (c : LineCut). TellsLine explained (refusal.rec - 1) c (min (refusal.field + 1) (2 ^ 8 - 1)) p.first.takes.told p.first.beside) (raw_cut refused raw holds)
-        (subst (λ (n : ℕ). TellsLine explained n (held_cut (held_raw raw)) (min (refusal.field + 1) (2 ^ 8 - 1)) p.first.takes.told p.first.beside) begins.lines p.first.takes.tells);
+    between = walk_of p.between;
+    tells_others = subst (λ (c : LineCut). WalksLine explained (record { state = old.state; begun = None }) c (min (refusal.field + 1) (2 ^ 8 - 1)) p.first.takes.told p.first.beside (walk_of p.between)) (raw_cut refused raw holds)
+        (subst (λ (b : Option (List RecordValue)). WalksLine explained (record { state = old.state; begun = b }) (held_cut (held_raw raw)) (min (refusal.field + 1) (2 ^ 8 - 1)) p.first.takes.told p.first.beside (walk_of p.between)) begins.begun p.first.takes.walks);
     later = p.rest.takes.told;
     after = p.later;
-    tells_later = subst (λ (n : ℕ). TellsLines explained n p.rest.takes.lines p.rest.takes.told p.later) counted p.rest.takes.tells;
+    last = walk_of new;
+    tells_later = p.rest.takes.walks;
+    over_is = refl;
     findings = findings;
     whole = whole;
   };

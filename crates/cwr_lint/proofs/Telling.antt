@@ -1,6 +1,7 @@
 -- What is told of one line, step by step.
 use Rattle.std.proofs.Common.{◌≡◌, ℕ, suc, ◌+◌, ◌-◌, ◌<◌, ◌≤◌, min, Bool, true, false, List, [], ◌∷◌, ◌++◌, length, Option, Some, None, refl, sym, ap, subst, ◌∙◌, arith}
-use Rattle.std.specs.Prelude.{◌^◌, Result, Ok, Err, IfOk}
+use Rattle.std.specs.Prelude.{◌^◌, ◌==◌, ◌&&◌, is_some, Result, Ok, Err, IfOk}
+use Rattle.std.proofs.lemmas.Bool.{eqb-true}
 use Rattle.std.proofs.lemmas.List.{length-append}
 use Rattle.cwr_layouts.specs.declared.kinds.Kind.{Kind}
 use Rattle.cwr_layouts.specs.declared.kinds.Kind.TheVariants.{Trl}
@@ -14,8 +15,11 @@ use Rattle.cwr_tools.specs.declared.verdicts.ToolFault.TheVariants as faults
 use Rattle.cwr_lint.specs.declared.judging.Judged.{Judged}
 use Rattle.cwr_lint.specs.declared.judging.Judged.TheVariants.{Unknown, Known as Of}
 use Rattle.cwr_lint.specs.declared.linting.LintRun.{LintRun}
-use Rattle.cwr_lint.specs.Format.FaultsOfLines.{AreFindings, IsFaultText, JudgedLine, LineCut, Tells, TellsMore, fields_end, one_more_line}
-use Rattle.cwr_lint.specs.Steps.JudgedLines.{IsFaultFrom, IsJudged, ends_by, held_cut, judged_at}
+use Rattle.cwr_layouts.specs.Format.Records.{RecordValue}
+use Rattle.cwr_lint.specs.declared.states.LintState.{LintState}
+use Rattle.cwr_lint.specs.Format.FaultsOfLines.{EndedTransaction, IsFaultText, JudgedLine, LineCut, Tells, TellsLine, TellsMore, ended_lines, fields_end, one_more_line}
+use Rattle.cwr_lint.specs.Steps.JudgedLines.{IsFaultFrom, IsJudged, ends_by, held_cut, judged_as, judged_at, scope_by}
+use Rattle.cwr_lint.specs.Steps.Walks.{AfterJudged, ended_at, ended_by, is_quiet, judged_line, state_by}
 use Rattle.cwr_lint.specs.Steps.Puts.{PutsAfter, PutsWith}
 use Rattle.cwr_lint.specs.Steps.Runs.{TakesFirst, TakesLine, TellsOfLine, TellsSoMany, more_faults}
 use Rattle.cwr_lint.proofs.TextsPut.{none_put, put_both, put_err, put_ok}
@@ -117,24 +121,41 @@ with_other P Q contents failures x y old new f p = (p.0, put_ok contents failure
 -- ---- a line
 
 -- the findings, and then the faults
-pub findings_then : (explained : Bool) (n : ℕ) (scope : Scope) (h : HeldLine) (judged : Judged) (from : ℕ) (found lines : List ℕ) (count : ℕ) → AreFindings explained found → TellsSoMany explained (judged_at n scope h judged) from (fields_end (held_kind h)) count lines
-    → TellsOfLine explained n (held_cut h) from count (found ++ lines)
-findings_then explained n scope h judged from found lines count findings s = (
-  s.0,
-  record { judged = judged_at n scope h judged; number = refl; is = refl; found = found; findings = findings; lines = lines; tells = s.1; whole = refl },
-  s.2,
-)
+pub findings_then : (explained : Bool) (n : ℕ) (scope : Scope) (h : HeldLine) (judged : Judged) (ended : Option EndedTransaction) (from : ℕ) (found lines : List ℕ) (count : ℕ) → found ≡ ended_lines explained ended → TellsSoMany explained (judged_at n scope h judged) from (fields_end (held_kind h)) count lines
+    → TellsOfLine explained (judged_at n scope h judged) ended from count (found ++ lines)
+findings_then explained n scope h judged ended from found lines count findings s = (s.0, record { lines = lines; tells = s.1; whole = ap (λ (l : List ℕ). l ++ lines) findings }, s.2)
 
 ends_known : (h : HeldLine) (judged : Judged) → IsJudged h judged → ends_by judged ≡ true → held_kind h ≡ Some Trl
 ends_known h Unknown j e = absurd (cc e)
 ends_known h (Of known) j e = j.kind ∙ ap (λ (k : Kind). Some k) (j.ends e)
 
+-- the same line, judged at the state
+tells_at : (explained : Bool) (h : HeldLine) (judged : Judged) (from : ℕ) (state : LintState) (begun : Option (List RecordValue)) (told : List Refusal) (text : List ℕ) → judged ≡ judged_as state (held_cut h)
+    → TellsLine explained (judged_at state.lines (scope_by state.group) h judged) (ended_by judged state begun) from told text → TellsLine explained (judged_line state (held_cut h)) (ended_at state begun (held_cut h)) from told text
+tells_at explained h judged from state begun told text e t = subst (λ (j : Judged). TellsLine explained (judged_at state.lines (scope_by state.group) h j) (ended_by j state begun) from told text) e t
+
+-- no fault was told
+quiet_by : (count : ℕ) (told : List Refusal) → count ≡ length told → (count == 0) ≡ is_quiet told
+quiet_by count [] e = ap (λ (n : ℕ). n == 0) e
+quiet_by count (f ∷ told) e = by (count == 0) refl
+  where
+    by : (b : Bool) → (count == 0) ≡ b → b ≡ false
+    by true z = absurd (omega (arith, e, eqb-true count 0 z))
+    by false z = refl
+
 -- it was gone on with
-pub line_taken : (explained : Bool) (h : HeldLine) (judged : Judged) (from count : ℕ) (old new : LintRun) (text : List ℕ) → IsJudged h judged → TellsOfLine explained old.state.lines (held_cut h) from count text
+pub line_taken : (explained : Bool) (h : HeldLine) (judged : Judged) (from count : ℕ) (good : Bool) (old new : LintRun) (text : List ℕ) → IsJudged h judged → judged ≡ judged_as old.state (held_cut h)
+    → TellsOfLine explained (judged_at old.state.lines (scope_by old.state.group) h judged) (ended_by judged old.state old.begun) from count text
+    → good ≡ ((count == 0) && (from == 1)) → new.state ≡ state_by judged old.state (held_cut h) → AfterJudged good judged (is_some new.state.stage) old.begun (held_cut h) new.begun
     → new.state.lines ≡ one_more_line old.state.lines → new.faults ≡ more_faults old.faults count → new.state.over ≡ ends_by judged → TakesLine explained (held_cut h) from old new text
-line_taken explained h judged from count old new text j t lines faults over = record {
+line_taken explained h judged from count good old new text j same t quiet state begun lines faults over = record {
   told = t.0;
-  tells = t.1;
+  walks = record {
+    tells = tells_at explained h judged from old.state old.begun t.0 text same t.1;
+    state = state ∙ ap (λ (k : Judged). state_by k old.state (held_cut h)) same;
+    begun = subst (λ (k : Judged). AfterJudged (is_quiet t.0 && (from == 1)) k (is_some new.state.stage) old.begun (held_cut h) new.begun) same
+        (subst (λ (b : Bool). AfterJudged b judged (is_some new.state.stage) old.begun (held_cut h) new.begun) (quiet ∙ ap (λ (b : Bool). b && (from == 1)) (quiet_by count t.0 t.2)) begun);
+  };
   lines = lines;
   faults = faults ∙ ap (more_faults old.faults) t.2;
   over = λ e. ends_known h judged j (sym over ∙ e);

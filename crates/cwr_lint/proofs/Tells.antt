@@ -16,6 +16,10 @@ use Rattle.cwr_explain.proofs.RefusedLines.{refused_last}
 use Rattle.cwr_tools.specs.Steps.Verdicts.{IsReadLast, StopsAt}
 use Rattle.cwr_lint.specs.Steps.LinesRead.{HoldsRaw, IsAllRead, IsTextOf, spelled}
 use Rattle.cwr_lint.specs.Steps.Runs.{TellsRun}
+use Rattle.cwr_lint.specs.Steps.Fronts.{state_at}
+use Rattle.cwr_lint.specs.Steps.Walks.{IsTold}
+use Rattle.cwr_shape.specs.declared.stages.Stage.{Stage}
+use Rattle.cwr_shape.specs.declared.tallies.Counts.{Counts}
 use Rattle.std.proofs.KnownBytes.{Appends-nil, Appends-trans, Consumes-nil, Consumes-trans}
 use Rattle.cwr_shape.specs.declared.limits.Limits.{Limits}
 use Rattle.cwr_judge.specs.declared.refusals.Refusal.{Refusal}
@@ -69,8 +73,8 @@ all_read (Some known) (Some xs) (Some ys) (Some zs) input first later a b c (inr
 
 -- the faults follow
 built : {W : Type 0} (explained : Bool) (limits : Limits) (before left after : Option (List ℕ)) (contents : W → Option (List ℕ)) (old between new : W) (refusal : Refusal) (last : LastRead) (text : List ℕ)
-    → Reports (lines_up_to_fault explained) limits before left contents old between (Ok (Refused refusal)) → StopsAt limits (read_faults.Refused refusal) before left last → (t : TellsRun explained refusal last.bytes left after text) → Appends (contents between) (contents new) text
-    → (refused : List ℕ) → HoldsRaw refused t.raw → IfSome before (λ known. (bytes : List ℕ) × Consumes before after bytes × AreLinesRead refusal bytes refused t.tells.lines) → TellsFaults explained limits before after contents old new refusal
+    → Reports (lines_up_to_fault explained) limits before left contents old between (Ok (Refused refusal)) → (s : StopsAt limits (read_faults.Refused refusal) before left last) → (t : TellsRun explained (state_at last.stage last.counts (refusal.rec - 1)) refusal last.bytes left after text) → Appends (contents between) (contents new) text
+    → (refused : List ℕ) → HoldsRaw refused t.raw → IfSome before (λ known. (bytes : List ℕ) × Consumes before after bytes × AreLinesRead refusal s.0.decoder.tally t.tells.last bytes refused t.tells.lines) → TellsFaults explained limits before after contents old new refusal
 built explained limits before left after contents old between new refusal last text h s t written refused holds read = record {
   given = h.0;
   left = left;
@@ -81,10 +85,14 @@ built explained limits before left after contents old between new refusal last t
   lines = t.tells.lines;
   over = t.tells.over;
   text = text;
-  told = t.tells.told refused holds;
+  last = t.tells.last;
+  tally = s.0.decoder.tally;
+  told = subst (λ (c : Counts). IsTold explained (state_at s.0.decoder.tally.stage c (refusal.rec - 1)) refusal refused t.tells.lines t.tells.over text) s.3
+      (subst (λ (g : Stage). IsTold explained (state_at g last.counts (refusal.rec - 1)) refusal refused t.tells.lines t.tells.over text) s.1 (t.tells.told refused holds));
   written = subst (λ (l : List ℕ). Appends (contents old) (contents new) (l ++ text)) (append-nil ((lines_checked explained).lines h.0))
       (Appends-trans (contents old) (contents between) (contents new) ((lines_checked explained).lines h.0 ++ []) text h.2 written);
   read = read;
+  cut = λ e. all_read before left t.between after s.0.read.input t.read.bytes t.tells.bytes s.0.read.consumed t.read.taken t.tells.taken (rest (t.tells.cut e));
   ends = λ over. t.tells.ends over refused holds;
   all = λ e. all_read before left t.between after s.0.read.input t.read.bytes t.tells.bytes s.0.read.consumed t.read.taken t.tells.taken (rest (t.tells.all e));
 } where
@@ -93,7 +101,7 @@ built explained limits before left after contents old between new refusal last t
   rest (inr r) = inr r
 
 tells_faults : {W : Type 0} (explained : Bool) (limits : Limits) (before left after : Option (List ℕ)) (contents : W → Option (List ℕ)) (old between new : W) (refusal : Refusal) (last : LastRead) (text : List ℕ)
-    → Reports (lines_up_to_fault explained) limits before left contents old between (Ok (Refused refusal)) → StopsAt limits (read_faults.Refused refusal) before left last → TellsRun explained refusal last.bytes left after text → Appends (contents between) (contents new) text
+    → Reports (lines_up_to_fault explained) limits before left contents old between (Ok (Refused refusal)) → StopsAt limits (read_faults.Refused refusal) before left last → TellsRun explained (state_at last.stage last.counts (refusal.rec - 1)) refusal last.bytes left after text → Appends (contents between) (contents new) text
     → Tells explained limits before after contents old new (Refused refusal)
 tells_faults explained limits None left after contents old between new refusal last text h s t written =
     built explained limits None left after contents old between new refusal last text h s t written t.held.line t.held.holds tt
@@ -103,8 +111,12 @@ tells_faults explained limits (Some known) left after contents old between new r
       Consumes-trans (Some known) left after stop.read.input (t.read.bytes ++ t.tells.bytes) stop.read.consumed (Consumes-trans left t.between after t.read.bytes t.tells.bytes t.read.taken t.tells.taken),
       record {
         front = stopped.lines;
+        records = stopped.records;
+        in_order = stopped.read.in_order;
+        rows = stopped.read.rows;
+        counted = stopped.read.counted;
+        no_lf = (found.1.no_lf, t.tells.no_lf);
         number = omega (arith, stopped.number, as_many (rows_so_far stopped.records) stopped.lines stopped.read.rows, length-rows_so_far stopped.records);
-        last = t.tells.last;
         text = subst (λ (l : List (List ℕ)). IsTextOf t.tells.last (stop.read.input ++ (t.read.bytes ++ t.tells.bytes)) l) (append_assoc stopped.lines ((stopped.line.bytes ++ found.0) ∷ []) t.tells.lines)
             (subst (λ (l : List ℕ). IsTextOf t.tells.last l ((stopped.lines ++ (stopped.line.bytes ++ found.0) ∷ []) ++ t.tells.lines)) (append_assoc stop.read.input t.read.bytes t.tells.bytes)
             (t.tells.goes (stop.read.input ++ t.read.bytes) (stopped.lines ++ (stopped.line.bytes ++ found.0) ∷ []) (first_text t.raw.ended found.2)));
@@ -127,7 +139,7 @@ tells_faults explained limits (Some known) left after contents old between new r
 -- where the answer is a verdict
 pub tells_after : {W : Type 0} (explained : Bool) (limits : Limits) (before left after : Option (List ℕ)) (contents : W → Option (List ℕ)) (old between new : W) (refusal : Refusal) (last : LastRead) (result : Result Verdict ToolFault)
     → Reports (lines_up_to_fault explained) limits before left contents old between (Ok (Refused refusal)) → StopsAt limits (read_faults.Refused refusal) before left last
-    → IsAnswerTo (Refused refusal) result → OnOk result ((text : List ℕ) × TellsRun explained refusal last.bytes left after text × Appends (contents between) (contents new) text)
+    → IsAnswerTo (Refused refusal) result → OnOk result ((text : List ℕ) × TellsRun explained (state_at last.stage last.counts (refusal.rec - 1)) refusal last.bytes left after text × Appends (contents between) (contents new) text)
     → IfOk result (Tells explained limits before after contents old new)
 tells_after explained limits before left after contents old between new refusal last (Ok verdict) h s answered told =
     subst (Tells explained limits before after contents old new) (sym answered) (tells_faults explained limits before left after contents old between new refusal last told.0 h s told.1 told.2)
@@ -194,7 +206,7 @@ unrefused_at flag explained limits before after contents old new checked verdict
 
 pub refused_at : {W : Type 0} (flag explained : Bool) (limits : Limits) (before left after : Option (List ℕ)) (contents : W → Option (List ℕ)) (old between new : W) (refusal : Refusal) (last : LastRead) (checked result : Result Verdict ToolFault)
     → flag ≡ explained → Reports (lines_up_to_fault flag) limits before left contents old between checked → StopsAt limits (read_faults.Refused refusal) before left last → checked ≡ Ok (Refused refusal)
-    → IsAnswerTo (Refused refusal) result → OnOk result ((text : List ℕ) × TellsRun explained refusal last.bytes left after text × Appends (contents between) (contents new) text)
+    → IsAnswerTo (Refused refusal) result → OnOk result ((text : List ℕ) × TellsRun explained (state_at last.stage last.counts (refusal.rec - 1)) refusal last.bytes left after text × Appends (contents between) (contents new) text)
     → IfOk result (Tells explained limits before after contents old new)
 refused_at flag explained limits before left after contents old between new refusal last checked result same h s e answered told =
     tells_after explained limits before left after contents old between new refusal last result

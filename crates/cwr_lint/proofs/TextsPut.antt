@@ -1,18 +1,16 @@
 -- Texts that are put one after another.
-use Rattle.std.proofs.Common.{◌≡◌, ℕ, false, List, [], ◌++◌, Option, refl, sym, subst, inl, inr, append_assoc, append-nil}
+use Rattle.std.proofs.Common.{◌≡◌, ℕ, false, List, [], ◌++◌, Option, refl, sym, subst, append_assoc, append-nil}
 use Rattle.std.specs.Prelude.{Bool, Result, Ok, Err, IfOk, OnOk, is_err}
-use Rattle.cwr_layouts.specs.Format.Records.{RecordValue}
 use Rattle.cwr_encode.specs.declared.sinks.Sink.{Sink}
 use Rattle.cwr_encode.specs.declared.sinks.SinkFault.{SinkFault}
 use Rattle.cwr_encode.specs.Steps.Sinks.{CountsOn, HasWritten, has_failed, writer_of}
 use Rattle.cwr_levels.specs.Steps.Putting.{PutsText}
 use Rattle.cwr_tools.specs.declared.verdicts.ToolFault.{ToolFault}
 use Rattle.cwr_tools.specs.declared.verdicts.ToolFault.TheVariants as faults
-use Rattle.cwr_tools.specs.Format.Reports.{transaction_lines}
 use Rattle.cwr_tools.specs.Steps.Reports.{PutsLines}
 use Rattle.cwr_judge.specs.declared.refusals.Refusal.{Refusal}
 use Rattle.cwr_levels.specs.Format.ReportLines.{fault_line}
-use Rattle.cwr_lint.specs.Format.FaultsOfLines.{AreFindings, IsFaultText}
+use Rattle.cwr_lint.specs.Format.FaultsOfLines.{IsFaultText}
 use Rattle.cwr_lint.specs.Steps.Runs.{AreWords}
 use Rattle.cwr_lint.specs.Steps.Puts.{CountsPut, PutsAfter, PutsWith, tool_result}
 
@@ -99,23 +97,18 @@ words_put contents failures text put told old new e written failed counts = subs
     by (Err fault) f c = record { written = written; unfailed = tt; counts = c }
 
 -- the lines of a transaction's findings
-pub findings_put : {W : Type 0} (explained worded : Bool) (contents : W → Option (List ℕ)) (failures : W → ℕ) (takes_memory : Bool) (group sequence first : ℕ) (t : List RecordValue) (result : Result (Unit {0}) ToolFault) (old new : Sink W) → (explained ≡ false → worded ≡ false)
-    → has_failed old ≡ false → PutsLines contents failures takes_memory (transaction_lines worded group sequence first t) result old new → PutsWith (λ (u : Unit {0}). AreFindings explained) contents failures result old new
-findings_put explained worded contents failures takes_memory group sequence first t (Ok u) old new asked unfailed p = (
-  transaction_lines worded group sequence first t,
-  record { written = p.written; unfailed = p.failed; counts = p.counts },
-  inr (record { worded = worded; asked = asked; group = group; sequence = sequence; first = first; transaction = t; lines = refl }),
-)
-findings_put explained worded contents failures takes_memory group sequence first t (Err faults.Memory) old new asked unfailed p =
-    subst (λ (s : Sink _). PutsWith (λ (u : Unit {0}). AreFindings explained) contents failures (Err faults.Memory) old s) (sym p.1) ([], lacks contents failures old, tt)
-findings_put explained worded contents failures takes_memory group sequence first t (Err (faults.Writer written)) old new asked unfailed p =
-    (transaction_lines worded group sequence first t, record { written = p.0.written; unfailed = tt; counts = p.0.counts }, tt)
-findings_put explained worded contents failures takes_memory group sequence first t (Err faults.Reader) old new asked unfailed p = absurd p
-findings_put explained worded contents failures takes_memory group sequence first t (Err (faults.Refused refusal)) old new asked unfailed p = absurd p
-findings_put explained worded contents failures takes_memory group sequence first t (Err (faults.Truncated records)) old new asked unfailed p = absurd p
-findings_put explained worded contents failures takes_memory group sequence first t (Err faults.Output) old new asked unfailed p = absurd p
-findings_put explained worded contents failures takes_memory group sequence first t (Err (faults.Limit limit)) old new asked unfailed p = absurd p
+pub findings_put : {W : Type 0} (contents : W → Option (List ℕ)) (failures : W → ℕ) (takes_memory : Bool) (text wanted : List ℕ) (result : Result (Unit {0}) ToolFault) (old new : Sink W) → text ≡ wanted
+    → has_failed old ≡ false → PutsLines contents failures takes_memory text result old new → PutsWith (λ (u : Unit {0}) (it : List ℕ). it ≡ wanted) contents failures result old new
+findings_put contents failures takes_memory text wanted (Ok u) old new e unfailed p = (text, record { written = p.written; unfailed = p.failed; counts = p.counts }, e)
+findings_put contents failures takes_memory text wanted (Err faults.Memory) old new e unfailed p =
+    subst (λ (s : Sink _). PutsWith (λ (u : Unit {0}) (it : List ℕ). it ≡ wanted) contents failures (Err faults.Memory) old s) (sym p.1) ([], lacks contents failures old, tt)
+findings_put contents failures takes_memory text wanted (Err (faults.Writer written)) old new e unfailed p = (text, record { written = p.0.written; unfailed = tt; counts = p.0.counts }, tt)
+findings_put contents failures takes_memory text wanted (Err faults.Reader) old new e unfailed p = absurd p
+findings_put contents failures takes_memory text wanted (Err (faults.Refused refusal)) old new e unfailed p = absurd p
+findings_put contents failures takes_memory text wanted (Err (faults.Truncated records)) old new e unfailed p = absurd p
+findings_put contents failures takes_memory text wanted (Err faults.Output) old new e unfailed p = absurd p
+findings_put contents failures takes_memory text wanted (Err (faults.Limit limit)) old new e unfailed p = absurd p
 
 -- no findings
-pub no_findings : {W : Type 0} (explained : Bool) (contents : W → Option (List ℕ)) (failures : W → ℕ) (sink : Sink W) → has_failed sink ≡ false → PutsWith (λ (u : Unit {0}). AreFindings explained) contents failures (Ok tt) sink sink
-no_findings explained contents failures sink unfailed = ([], none_put contents failures tt sink unfailed, inl refl)
+pub no_findings : {W : Type 0} (contents : W → Option (List ℕ)) (failures : W → ℕ) (sink : Sink W) (text : List ℕ) → [] ≡ text → has_failed sink ≡ false → PutsWith (λ (u : Unit {0}) (it : List ℕ). it ≡ text) contents failures (Ok tt) sink sink
+no_findings contents failures sink text e unfailed = ([], none_put contents failures tt sink unfailed, e)

@@ -1,9 +1,15 @@
 //! The open transaction's records, as long as it has no fault, and its findings.
 
-ghost use Rattle.std.specs.Prelude.{◌≡◌, false};
+ghost use Rattle.std.specs.Prelude.{◌≡◌, ◌⊎◌, ◌&&◌, ◌++◌, ◌∷◌, [], ◌+◌, ◌-◌, ◌^◌, min, nat_le, length, false, IfOk, None, Some, if◌then◌else◌};
 ghost use Rattle.cwr_encode.specs.Steps.Sinks.{has_failed};
-ghost use Rattle.cwr_lint.specs.Format.FaultsOfLines.{AreFindings};
+ghost use Rattle.cwr_layouts.specs.Steps.Held.{held_record};
+ghost use Rattle.cwr_values.specs.Format.Begun.{BeginsWithOneMore};
+ghost use Rattle.cwr_lint.specs.Format.FaultsOfLines.{ended_lines};
+ghost use Rattle.cwr_lint.specs.Steps.JudgedLines.{held_cut};
 ghost use Rattle.cwr_lint.specs.Steps.Puts.{PutsWith};
+ghost use Rattle.cwr_lint.specs.Steps.States.{is_whole};
+ghost use Rattle.cwr_lint.specs.declared.takings.Taking.{Taking};
+ghost use Rattle.cwr_lint.specs.Steps.Walks.{AfterCarried, AfterJudged, AfterRecord, GoesOnWith, ended_by, ended_in, ends_by_taking, ends_transaction};
 
 use crate::judging::{Judged, Known};
 use crate::puts::report_number;
@@ -19,11 +25,11 @@ use std::alloc::{AllocError, Global};
 /// The most lines up to that after a transaction whose findings are explained.
 const MOST_EXPLAINED: u64 = 100_000_000;
 
-/// The transaction, unless the record may not stand in it.
-fn unless_misplaced(
-    begun: Result<Transaction, PushFault>,
-) -> Result<Option<Transaction>, AllocError> {
-    match begun {
+/// The transaction that begins with a record, unless none does.
+fn begun_with(alloc: Global, next: RecordRef<'_>) -> Result<Option<Transaction>, AllocError>
+    ensures { IfOk result (λ new. GoesOnWith [] next.entry new) }
+{
+    match Transaction::new(alloc, next) {
         Ok(transaction) => Ok(Some(transaction)),
         Err(PushFault::Misplaced) => Ok(None),
         Err(PushFault::Memory) => Err(AllocError),
@@ -31,65 +37,108 @@ fn unless_misplaced(
 }
 
 /// The transaction with one record more, unless that may not stand in it.
-fn pushed(mut open: Transaction, record: RecordRef<'_>) -> Result<Option<Transaction>, AllocError> {
-    match open.push(record) {
-        Ok(()) => Ok(Some(open)),
+fn pushed(mut begun: Transaction, next: RecordRef<'_>) -> Result<Option<Transaction>, AllocError>
+    ensures { IfOk result (λ new. GoesOnWith begun next.entry new) }
+{
+    match begun.push(next) {
+        Ok(()) => Ok(Some(begun)),
         Err(PushFault::Misplaced) => Ok(None),
         Err(PushFault::Memory) => Err(AllocError),
+    }
+}
+
+/// The open transaction after the record of a further line, after which the lint is in step or not.
+fn after_further(
+    begun: Option<Transaction>,
+    in_step: bool,
+    next: RecordRef<'_>,
+) -> Result<Option<Transaction>, AllocError>
+    ensures { IfOk result (λ new. AfterRecord Taking.Further in_step begun next.entry new) }
+{
+    match begun {
+        Some(begun) => {
+            if in_step {
+                pushed(begun, next)
+            } else {
+                Ok(None)
+            }
+        }
+        None => Ok(None),
+    }
+}
+
+/// The open transaction after the record of a line that is taken so, and after which the lint is in step or not.
+fn after_record(
+    alloc: Global,
+    begun: Option<Transaction>,
+    taken: Taking,
+    in_step: bool,
+    next: RecordRef<'_>,
+) -> Result<Option<Transaction>, AllocError>
+    ensures { IfOk result (λ new. AfterRecord taken in_step begun next.entry new) }
+{
+    match taken {
+        Taking::Header(_) => begun_with(alloc, next),
+        Taking::Further => after_further(begun, in_step, next),
+        _ => Ok(None),
     }
 }
 
 /// The open transaction after a line without faults of a known kind, after which the lint is in step or not.
 fn after_known(
     alloc: Global,
-    open: Option<Transaction>,
+    begun: Option<Transaction>,
     known: &Known,
     in_step: bool,
     line: &CutLine<'_>,
-) -> Result<Option<Transaction>, AllocError> {
-    let Some(record) = line.record() else {
-        return Ok(None);
-    };
-    match (known.taken, open) {
-        (Taking::Header(_), _) => unless_misplaced(Transaction::new(alloc, record)),
-        (Taking::Further, Some(open)) if in_step => pushed(open, record),
-        _ => Ok(None),
+) -> Result<Option<Transaction>, AllocError>
+    ensures { IfOk result (λ new. AfterCarried known.now.taken in_step begun (held_record line.now) new) }
+{
+    match line.record() {
+        Some(next) => after_record(alloc, begun, known.taken, in_step, next),
+        None => Ok(None),
     }
 }
 
 /// The open transaction's records after a line, which is good or not.
 pub(crate) fn after_line(
     alloc: Global,
-    open: Option<Transaction>,
+    begun: Option<Transaction>,
     judged: &Judged,
     is_good: bool,
     in_step: bool,
     line: &CutLine<'_>,
-) -> Result<Option<Transaction>, AllocError> {
-    match judged {
-        Judged::Known(known) if is_good => after_known(alloc, open, known, in_step, line),
+) -> Result<Option<Transaction>, AllocError>
+    ensures { IfOk result (λ new. AfterJudged is_good judged.now in_step begun (held_cut line.now) new) }
+{
+    match (is_good, judged) {
+        (true, Judged::Known(known)) => after_known(alloc, begun, known, in_step, line),
         _ => Ok(None),
     }
 }
 
 /// Whether a line ends the open transaction.
-fn ends_transaction(judged: &Judged) -> bool {
+fn ends_transaction(judged: &Judged) -> bool
+    ensures { result ≡ ends_transaction judged.now }
+{
     match judged {
         Judged::Unknown => false,
         Judged::Known(known) => !matches!(known.taken, Taking::Further | Taking::Other),
     }
 }
 
-/// The open transaction, where a line ends it that has no fault and is whole.
-fn ended<'a>(
-    state: &LintState,
-    open: &'a Option<Transaction>,
-    judged: &Judged,
-) -> Option<&'a Transaction> {
-    if !ends_transaction(judged) || !state.is_whole() {
-        return None;
-    }
-    open.as_ref()
+/// Whether a line ends the open transaction, and that is whole.
+fn ends_whole(state: &LintState, judged: &Judged) -> bool
+    ensures { result ≡ (ends_transaction judged.now && is_whole state.now) }
+{
+    ends_transaction(judged) && state.is_whole()
+}
+
+/// Whether words stand under findings in so many records from that line on.
+fn is_worded(explained: bool, first: u64, count: u64) -> bool
+    ensures { result ≡ (explained && nat_le (first + count) 100000000) }
+{
+    explained && first.saturating_add(count) <= MOST_EXPLAINED
 }
 
 /// Puts the lines of findings in a transaction, which is that of the open group, and counts them.
@@ -103,14 +152,13 @@ fn put_findings<W: Target>(
     sink: &mut Sink<W>,
 ) -> Result<(), ToolFault>
     requires { has_failed sink.old ≡ false }
-    ensures { PutsWith (λ _. AreFindings explained) W.contents W.failures result sink.old sink.new }
+    ensures { PutsWith (λ _ text. text ≡ ended_lines explained (ended_in state.now (Some group.now) (Some transaction.now))) W.contents W.failures result sink.old sink.new }
 {
     let number = group.open_transaction().number;
     let count = transaction.len() as u64;
     let first = state.lines.saturating_sub(count).saturating_add(1);
-    let has_places = first.saturating_add(count) <= MOST_EXPLAINED;
     put_transaction_findings(
-        explained && has_places,
+        is_worded(explained, first, count),
         alloc,
         report_number(group.id),
         report_number(number),
@@ -121,22 +169,20 @@ fn put_findings<W: Target>(
     )
 }
 
-/// Puts the lines of findings in the open transaction, where a line ends it, and counts them. Nothing is put of one that had a
-/// fault, or isn't whole.
-pub(crate) fn put_ended<W: Target>(
+/// Puts the lines of findings in the open transaction, where its records and its group are known, and counts them.
+fn put_open<W: Target>(
     explained: bool,
     alloc: Global,
     state: &LintState,
-    open: &Option<Transaction>,
-    judged: &Judged,
+    begun: &Option<Transaction>,
     told: &mut u64,
     sink: &mut Sink<W>,
 ) -> Result<(), ToolFault>
     requires { has_failed sink.old ≡ false }
-    ensures { PutsWith (λ _. AreFindings explained) W.contents W.failures result sink.old sink.new }
+    ensures { PutsWith (λ _ text. text ≡ ended_lines explained (ended_in state.now state.now.group begun.now)) W.contents W.failures result sink.old sink.new }
 {
-    match (ended(state, open, judged), &state.group) {
-        (Some(transaction), Some(group)) => put_findings(
+    match (&state.group, begun) {
+        (Some(group), Some(transaction)) => put_findings(
             explained,
             alloc,
             state,
@@ -146,5 +192,26 @@ pub(crate) fn put_ended<W: Target>(
             sink,
         ),
         _ => Ok(()),
+    }
+}
+
+/// Puts the lines of findings in the open transaction, where a line ends it, and counts them. Nothing is put of one that had a
+/// fault, or isn't whole.
+pub(crate) fn put_ended<W: Target>(
+    explained: bool,
+    alloc: Global,
+    state: &LintState,
+    begun: &Option<Transaction>,
+    judged: &Judged,
+    told: &mut u64,
+    sink: &mut Sink<W>,
+) -> Result<(), ToolFault>
+    requires { has_failed sink.old ≡ false }
+    ensures { PutsWith (λ _ text. text ≡ ended_lines explained (ended_by judged.now state.now begun.now)) W.contents W.failures result sink.old sink.new }
+{
+    if ends_whole(state, judged) {
+        put_open(explained, alloc, state, begun, told, sink)
+    } else {
+        Ok(())
     }
 }

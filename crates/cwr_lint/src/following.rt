@@ -15,7 +15,7 @@ pub(crate) struct Awaiting {
 }
 
 /// Whether the number is there, and this one.
-fn is_number(found: Option<u64>, number: u64) -> bool
+pub(crate) fn is_number(found: Option<u64>, number: u64) -> bool
     ensures { result ≡ is_number found number }
 {
     match found {

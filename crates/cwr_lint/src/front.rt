@@ -1,58 +1,84 @@
 //! What a lint holds where a check has met its first fault.
 
 ghost use Rattle.std.specs.Prelude.{◌≡◌, false};
+ghost use Rattle.cwr_shape.specs.declared.stages.Stage.TheVariants.{Within};
+ghost use Rattle.cwr_lint.specs.Steps.Fronts.{group_at, group_before_header, group_with_transaction, state_at, state_inside, state_outside, transaction_at};
 
 use crate::following::Awaiting;
 use crate::states::{LintState, OpenGroup, OpenTransaction};
 use cwr_fields::TransactionType;
-use cwr_shape::{Stage, TransactionStep};
-use cwr_tools::Totals;
+use cwr_shape::{Counts, Stage, TransactionStep};
 
-/// The open group, at a step of its last transaction. So many records have come, and of these the totals were handed out.
-fn open_group(
-    ty: TransactionType,
-    step: TransactionStep,
-    totals: &Totals,
-    lines: u64,
-) -> OpenGroup {
-    let ended = u64::from(totals.in_group);
-    let handed_out = u64::from(totals.records);
-    let before = u64::from(totals.before_group);
-    let begun = OpenGroup {
-        lines: lines.saturating_sub(before),
-        ..OpenGroup::begun(&Awaiting::just(u64::from(totals.groups)), None, Some(ty), 0)
-    };
-    if step == TransactionStep::InGroup {
-        return begun;
+/// The open transaction.
+fn transaction_at(counts: &Counts) -> OpenTransaction
+    ensures { result ≡ transaction_at counts.now }
+{
+    let run = u64::from(counts.after_header).saturating_add(1);
+    OpenTransaction {
+        number: u64::from(counts.in_group).saturating_sub(1),
+        other: None,
+        next: Awaiting::just(run),
+        run_before: None,
+        run,
     }
-    let run = lines.saturating_sub(handed_out);
+}
+
+/// The open group before its first header.
+fn group_before_header(ty: TransactionType, counts: &Counts) -> OpenGroup
+    ensures { result ≡ group_before_header ty counts.now }
+{
+    let lines = u64::from(counts.after_grh).saturating_add(1);
+    OpenGroup::begun(
+        &Awaiting::just(u64::from(counts.groups)),
+        None,
+        Some(ty),
+        lines,
+    )
+}
+
+/// The open group after its first header.
+fn group_with_transaction(ty: TransactionType, counts: &Counts) -> OpenGroup
+    ensures { result ≡ group_with_transaction ty counts.now }
+{
+    let after_grh = u64::from(counts.after_grh);
+    let in_group = u64::from(counts.in_group);
+    let run = u64::from(counts.after_header).saturating_add(1);
     OpenGroup {
+        id: u64::from(counts.groups),
+        other_id: None,
+        ty: Some(ty),
+        declared: Some(ty),
         has_header: true,
         has_line: true,
-        headers: ended.saturating_add(1),
-        next: Awaiting::just(ended.saturating_add(1)),
-        ended,
-        ended_records: Some(handed_out.saturating_sub(before).saturating_sub(1)),
-        current: Some(OpenTransaction {
-            number: ended,
-            other: None,
-            next: Awaiting::just(run),
-            run_before: None,
-            run,
-        }),
-        ..begun
+        lines: after_grh.saturating_add(1),
+        headers: in_group,
+        next: Awaiting::just(in_group),
+        ended: in_group.saturating_sub(1),
+        ended_records: Some(after_grh.saturating_sub(run)),
+        current: Some(transaction_at(counts)),
+    }
+}
+
+/// The open group, at a step of its last transaction.
+fn group_at(ty: TransactionType, step: TransactionStep, counts: &Counts) -> OpenGroup
+    ensures { result ≡ group_at ty step counts.now }
+{
+    match step {
+        TransactionStep::InGroup => group_before_header(ty, counts),
+        _ => group_with_transaction(ty, counts),
     }
 }
 
 impl LintState {
-    /// After so many records that a check accepts, which have come to a stage. Of these the totals were handed out.
-    pub fn at(stage: Stage, totals: &Totals, lines: u64) -> LintState
+    /// Where no group is open.
+    fn outside(stage: Stage, counts: &Counts, lines: u64) -> LintState
+        ensures is { result ≡ state_outside stage counts.now lines }
         ensures lines { result.lines ≡ lines }
         ensures over { result.over ≡ false }
     {
-        let groups = u64::from(totals.groups);
-        let transactions = u64::from(totals.transactions);
-        let alone = LintState {
+        let groups = u64::from(counts.groups);
+        let transactions = u64::from(counts.transactions);
+        LintState {
             lines,
             stage: Some(stage),
             group: None,
@@ -67,19 +93,38 @@ impl LintState {
             groups_before: 0,
             headers_before: 0,
             over: false,
-        };
-        let Stage::Within(ty, step) = stage else {
-            return alone;
-        };
-        let group = open_group(ty, step, totals, lines);
-        let in_group = u64::from(totals.in_group);
-        let opened = if group.has_header { 1 } else { 0 };
+        }
+    }
+
+    /// Where that group is open.
+    fn inside(stage: Stage, group: OpenGroup, counts: &Counts, lines: u64) -> LintState
+        ensures is { result ≡ state_inside stage group counts.now lines }
+        ensures lines { result.lines ≡ lines }
+        ensures over { result.over ≡ false }
+    {
+        let in_group = u64::from(counts.after_grh).saturating_add(1);
         LintState {
             group: Some(group),
-            headers: transactions.saturating_add(opened),
-            records: Some(u64::from(totals.before_group).saturating_sub(1)),
-            transactions: transactions.saturating_sub(in_group),
-            ..alone
+            records: Some(lines.saturating_sub(in_group).saturating_sub(1)),
+            transactions: u64::from(counts.transactions).saturating_sub(u64::from(counts.in_group)),
+            ..LintState::outside(stage, counts, lines)
+        }
+    }
+
+    /// After so many lines of records that a check accepts, which have come to a stage, and of which that was counted.
+    pub fn at(stage: Stage, counts: &Counts, lines: u64) -> LintState
+        ensures is { result ≡ state_at stage counts.now lines }
+        ensures lines { result.lines ≡ lines }
+        ensures over { result.over ≡ false }
+    {
+        match stage {
+            Stage::Within(ty, step) => LintState::inside(
+                stage,
+                group_at(ty, step, counts),
+                counts,
+                lines,
+            ),
+            _ => LintState::outside(stage, counts, lines),
         }
     }
 }

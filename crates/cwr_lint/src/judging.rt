@@ -4,7 +4,7 @@ ghost use Rattle.std.specs.Prelude.{◌≡◌, ℕ, Some};
 ghost use Rattle.cwr_layouts.specs.Steps.Held.{HeldLine, held_kind};
 ghost use Rattle.cwr_shape.specs.declared.tallies.Scope.{Scope};
 ghost use Rattle.cwr_lint.specs.Format.FaultsOfLines.{IsToldAt, fields_end, reason_if};
-ghost use Rattle.cwr_lint.specs.Steps.JudgedLines.{IsJudged, IsKnown, IsReasonOfCell, judged_at, number_reason_in};
+ghost use Rattle.cwr_lint.specs.Steps.JudgedLines.{IsJudged, IsKnown, IsReasonOfCell, held_cut, judged_as, judged_at, known_as, number_reason_in};
 
 use crate::cells::cell_fault;
 use crate::numbers::WrongNumbers;
@@ -48,7 +48,8 @@ impl Known {
     /// A line of the kind, judged at a state.
     fn of(state: &LintState, kind: Kind, line: &CutLine<'_>) -> Known
         requires { held_kind line.now ≡ Some kind }
-        ensures { IsKnown line.now result }
+        ensures is { result ≡ known_as state.now kind (held_cut line.now) }
+        ensures known { IsKnown line.now result }
     {
         let taken = Taking::of(state, kind, line);
         Known {
@@ -103,7 +104,8 @@ impl Known {
 impl Judged {
     /// The line, judged at a state.
     pub fn of(state: &LintState, line: &CutLine<'_>) -> Judged
-        ensures { IsJudged line.now result }
+        ensures is { result ≡ judged_as state.now (held_cut line.now) }
+        ensures judged { IsJudged line.now result }
     {
         match line.kind() {
             None => Judged::Unknown,

@@ -16,5 +16,5 @@ mod steps;
 mod takings;
 
 pub use cells::cell_fault;
-pub use laws::cells_are_told;
+pub use laws::{cells_are_told, one_cell_is_refused, one_cell_is_told};
 pub use linting::lint;

@@ -1,6 +1,6 @@
 //! Every fault of a transmission in one pass.
 
-ghost use Rattle.std.specs.Prelude.{◌≡◌, ◌+◌, ◌^◌, ◌-◌, ◌<◌, ◌≤◌, ℕ, min, true, false, List, IfOk, OnOk, IsSome};
+ghost use Rattle.std.specs.Prelude.{◌≡◌, ◌==◌, ◌&&◌, ◌+◌, ◌^◌, ◌-◌, ◌<◌, ◌≤◌, ℕ, min, true, false, List, IfOk, OnOk, IsSome};
 ghost use Rattle.std.specs.Option.{is_some};
 ghost use Rattle.std.specs.Io.KnownBytes.{Appends, Keeps};
 ghost use Rattle.cwr_encode.specs.Steps.Sinks.{has_failed, writer_of};
@@ -9,6 +9,10 @@ ghost use Rattle.cwr_layouts.specs.Steps.Held.{held_kind};
 ghost use Rattle.cwr_tools.specs.Format.Reports.{CountsReaderFault, CountsWriterFault, JudgesAccepted, lines_checked};
 ghost use Rattle.cwr_tools.specs.Format.Verdicts.{JudgesText};
 ghost use Rattle.cwr_lint.specs.Format.FaultsOfLines.{fields_end, one_more_line};
+ghost use Rattle.cwr_lint.specs.Steps.Fronts.{state_at};
+ghost use Rattle.cwr_lint.specs.Steps.Walks.{AfterJudged, ended_by, state_by};
+ghost use Rattle.cwr_fields.specs.Format.Bytes.{is_spaces};
+ghost use Rattle.cwr_layouts.specs.Steps.Held.{held_body};
 ghost use Rattle.cwr_lint.specs.Steps.JudgedLines.{IsFaultFrom, IsJudged, ends_by, held_cut, judged_at, scope_by};
 ghost use Rattle.cwr_lint.specs.Steps.LinesRead.{IsOfLine, held_raw};
 ghost use Rattle.cwr_lint.specs.Steps.Lints.{EndsRun, Lints, Tells};
@@ -25,7 +29,7 @@ use cwr_encode::Sink;
 use cwr_fields::{Source, Target};
 use cwr_layouts::{CutLine, LineBuf};
 use cwr_shape::{Limits, level};
-use cwr_tools::{CheckedFront, HandedOut, ToolFault, Verdict, check_up_to_fault};
+use cwr_tools::{CheckedFront, ToolFault, Verdict, check_up_to_fault};
 use cwr_values::Transaction;
 use std::alloc::{AllocError, Global};
 
@@ -111,8 +115,9 @@ impl LintRun {
         requires unfailed { has_failed sink.old ≡ false }
         requires judged { IsJudged line.now judged.now }
         requires first { 1 ≤ from }
-        ensures puts { PutsWith (TellsOfLine (is_some asked.now.name) self.old.state.lines (held_cut line.now) from) W.contents W.failures result sink.old sink.new }
+        ensures puts { PutsWith (TellsOfLine (is_some asked.now.name) (judged_at self.old.state.lines (scope_by self.old.state.group) line.now judged.now) (ended_by judged.now self.old.state self.old.begun) from) W.contents W.failures result sink.old sink.new }
         ensures state { self.new.state ≡ self.old.state }
+        ensures begun { self.new.begun ≡ self.old.begun }
         ensures faults { self.new.faults ≡ self.old.faults }
     {
         match put_ended(
@@ -138,6 +143,9 @@ impl LintRun {
         is_good: bool,
         is_blank: bool,
     ) -> Result<(), AllocError>
+        requires { is_blank ≡ is_spaces (held_body line.now) }
+        ensures state { self.new.state ≡ state_by judged.now self.old.state (held_cut line.now) }
+        ensures begun { OnOk result (AfterJudged is_good judged.now (is_some self.new.state.stage) self.old.begun (held_cut line.now) self.new.begun) }
         ensures lines { self.new.state.lines ≡ one_more_line self.old.state.lines }
         ensures over { self.new.state.over ≡ ends_by judged.now }
         ensures faults { self.new.faults ≡ self.old.faults }
@@ -162,10 +170,12 @@ impl LintRun {
         line: &CutLine<'_>,
         from: u8,
         shown: &Shown<'_>,
+        is_blank: bool,
         sink: &mut Sink<W>,
     ) -> Result<(), ToolFault>
         requires unfailed { has_failed sink.old ≡ false }
         requires first { 1 ≤ from }
+        requires blank { is_blank ≡ is_spaces (held_body line.now) }
         ensures { PutsWith (λ _. TakesLine (is_some asked.now.name) (held_cut line.now) from self.old self.new) W.contents W.failures result sink.old sink.new }
     {
         let judged = Judged::of(&self.state, line);
@@ -174,8 +184,8 @@ impl LintRun {
             Err(fault) => return Err(fault),
         };
         self.faults = self.faults.saturating_add(told);
-        let is_good = told == 0 && from == 1;
-        match self.step(asked.alloc, &judged, line, is_good, shown.raw.is_blank()) {
+        let is_good = is_good(told, from);
+        match self.step(asked.alloc, &judged, line, is_good, is_blank) {
             Ok(()) => Ok(()),
             Err(_) => Err(ToolFault::Memory),
         }
@@ -196,7 +206,7 @@ impl LintRun {
     {
         raw.cut_into(cut);
         let shown = self.shown(raw, Some(before));
-        match self.take(asked, &cut.cut(), 1, &shown, sink) {
+        match self.take(asked, &cut.cut(), 1, &shown, raw.is_blank(), sink) {
             Ok(()) => Ok(true),
             Err(fault) => Err(fault),
         }
@@ -268,7 +278,7 @@ impl LintRun {
         match asked.put_fault(refusal, &shown, true, sink) {
             Ok(()) => {
                 let from = refusal.field.saturating_add(1);
-                self.take(asked, &cut.cut(), from, &shown, sink)
+                self.take(asked, &cut.cut(), from, &shown, raw.is_blank(), sink)
             }
             Err(fault) => Err(fault),
         }
@@ -306,7 +316,7 @@ impl LintRun {
         requires unfailed { has_failed sink.old ≡ false }
         requires line { IsOfLine raw }
         requires begins { BeginsAt refusal.now self.old }
-        ensures { ReadsAndPutsWith (λ _. TellsToEnd (is_some asked.now.name) refusal.now (R.remaining reader.old) (R.remaining reader.new) raw) (R.remaining reader.old) (R.remaining reader.new) (R.failures reader.old) (R.failures reader.new) W.contents W.failures result sink.old sink.new }
+        ensures { ReadsAndPutsWith (λ _. TellsToEnd (is_some asked.now.name) self.old.state refusal.now (R.remaining reader.old) (R.remaining reader.new) raw) (R.remaining reader.old) (R.remaining reader.new) (R.failures reader.old) (R.failures reader.new) W.contents W.failures result sink.old sink.new }
     {
         match self.tell_from(asked, refusal, reader, raw, sink) {
             Ok(()) => put_end(
@@ -332,13 +342,20 @@ impl LintRun {
     ) -> Result<(), ToolFault>
         requires unfailed { has_failed sink.old ≡ false }
         requires begins { BeginsAt refusal.now self.old }
-        ensures { ReadsAndPutsWith (λ _. TellsRun (is_some asked.now.name) refusal.now last.now.bytes (R.remaining reader.old) (R.remaining reader.new)) (R.remaining reader.old) (R.remaining reader.new) (R.failures reader.old) (R.failures reader.new) W.contents W.failures result sink.old sink.new }
+        ensures { ReadsAndPutsWith (λ _. TellsRun (is_some asked.now.name) self.old.state refusal.now last.now.bytes (R.remaining reader.old) (R.remaining reader.new)) (R.remaining reader.old) (R.remaining reader.new) (R.failures reader.old) (R.failures reader.new) W.contents W.failures result sink.old sink.new }
     {
         match RawLine::of_last(&last.bytes, reader) {
             Ok(raw) => self.tell_to_end(asked, refusal, reader, raw, sink),
             Err(_) => Err(ToolFault::Reader),
         }
     }
+}
+
+/// Whether a line has no fault of which so many were told at the fields from that one on.
+fn is_good(told: u64, from: u8) -> bool
+    ensures { result ≡ ((told == 0) && (from == 1)) }
+{
+    told == 0 && from == 1
 }
 
 /// Hands on what was put, and answers how the run ended.
@@ -362,16 +379,26 @@ fn finish<W: Target>(
     }
 }
 
+/// What is held before the line that was refused.
+fn state_before(last: &LastRead, refusal: &Refusal) -> LintState
+    ensures is { result ≡ state_at last.now.stage last.now.counts (refusal.now.rec - 1) }
+    ensures lines { result.lines ≡ refusal.now.rec - 1 }
+    ensures over { result.over ≡ false }
+{
+    let lines = u64::from(refusal.rec.saturating_sub(1));
+    LintState::at(last.stage, &last.counts, lines)
+}
+
 /// Goes on after the first fault, which a check has met and not told, and answers the verdict.
 fn tell_faults<R: Source, W: Target>(
     asked: &Asked<'_>,
     refusal: Refusal,
     last: &LastRead,
-    handed_out: &HandedOut,
+    findings: u64,
     reader: &mut R,
     writer: W,
 ) -> (W, Result<Verdict, ToolFault>)
-    ensures told { OnOk result.1 ((text : List ℕ) × TellsRun (is_some asked.now.name) refusal last.now.bytes (R.remaining reader.old) (R.remaining reader.new) text × Appends (W.contents writer) (W.contents result.0) text) }
+    ensures told { OnOk result.1 ((text : List ℕ) × TellsRun (is_some asked.now.name) (state_at last.now.stage last.now.counts (refusal.rec - 1)) refusal last.now.bytes (R.remaining reader.old) (R.remaining reader.new) text × Appends (W.contents writer) (W.contents result.0) text) }
     ensures words { AddsWords W.contents writer result.0 }
     ensures taken { TakesMore (R.remaining reader.old) (R.remaining reader.new) }
     ensures answered { IsAnswerTo (Verdict.Refused refusal) result.1 }
@@ -379,12 +406,12 @@ fn tell_faults<R: Source, W: Target>(
     ensures writer_failures { CountsWriterFault result.1 (W.failures writer) (W.failures result.0) }
     ensures handed_on { OnOk result.1 (W.handed_on result.0 ≡ true) }
 {
-    let lines = u64::from(refusal.rec.saturating_sub(1));
+    let begins = state_before(last, &refusal);
     let mut lint = LintRun {
-        state: LintState::at(last.stage, &handed_out.totals, lines),
+        state: begins,
         begun: None,
         faults: 1,
-        findings: handed_out.findings,
+        findings,
     };
     let mut sink = Sink::new(writer);
     let told = lint.run(asked, &refusal, last, reader, &mut sink);
@@ -427,7 +454,7 @@ pub fn lint<R: Source, W: Target + Drop>(
                         limits,
                         name,
                     };
-                    tell_faults(&asked, refusal, &last, &handed_out, reader, writer)
+                    tell_faults(&asked, refusal, &last, handed_out.findings, reader, writer)
                 }
                 None => unreachable!(),
             },

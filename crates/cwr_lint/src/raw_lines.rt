@@ -4,8 +4,9 @@ ghost use Rattle.std.specs.Prelude.{◌≡◌, ◌≢◌, ℕ, ◌+◌, ◌≤�
 ghost use Rattle.std.specs.List.{list_any};
 ghost use Rattle.cwr_encode.specs.Steps.Sinks.{CountsOn};
 ghost use Rattle.cwr_explain.specs.Format.Explained.{TakesMore};
-ghost use Rattle.cwr_layouts.specs.Format.Lines.{is_lf};
-ghost use Rattle.cwr_layouts.specs.Steps.Held.{empty_line};
+ghost use Rattle.cwr_fields.specs.Format.Bytes.{is_spaces};
+ghost use Rattle.cwr_layouts.specs.Format.Lines.{is_lf, without_cr};
+ghost use Rattle.cwr_layouts.specs.Steps.Held.{empty_line, held_body};
 ghost use Rattle.cwr_lint.specs.Steps.LinesRead.{AddsPiece, HoldsRaw, IsOfLine, ReadsLast, ReadsLineIf, ReadsPiece, ReadsRest, held_raw};
 
 use arrayvec::ArrayVec;
@@ -43,6 +44,16 @@ fn ends_with_feed(text: &[u8]) -> bool
     match text {
         [_front @ .., LF] => true,
         _ => false,
+    }
+}
+
+/// The text without one carriage return at its end.
+fn without_return(text: &[u8]) -> &[u8]
+    ensures { result.now ≡ without_cr text.now }
+{
+    match text {
+        [front @ .., b'\r'] => front,
+        _ => text,
     }
 }
 
@@ -160,10 +171,14 @@ impl RawLine {
     }
 
     /// Whether nothing but spaces stands in it.
-    pub fn is_blank(&self) -> bool {
-        match self.bytes.as_slice() {
-            [front @ .., b'\r'] if !self.is_too_long => is_spaces(front),
-            bytes => is_spaces(bytes),
+    pub fn is_blank(&self) -> bool
+        ensures { result ≡ is_spaces (held_body (held_raw self.now)) }
+    {
+        let bytes = self.bytes.as_slice();
+        if self.is_too_long {
+            is_spaces(bytes)
+        } else {
+            is_spaces(without_return(bytes))
         }
     }
 

@@ -11,7 +11,7 @@ use crate::progress::Pace;
 use cwr_encode::Sink;
 use cwr_fields::Counted;
 use cwr_shape::Limits;
-use cwr_write::{WriteFault, Written, put_write_outcome, write};
+use cwr_write::{WriteFault, Written, put_hint, put_write_outcome, write};
 use std::alloc::Global;
 use std::io::{Read, Write};
 use std::rt::Files;
@@ -33,10 +33,14 @@ fn import_ending<'a>(
     }
 }
 
-/// Writes to standard error how an import ended.
+/// Writes to standard error how an import ended, and below a refusal what helps.
 fn tell_import<E: Write>(outcome: &Result<Written, WriteFault>, error: &mut E) {
+    let mut sink = Sink::new(Counted::new(error));
     // What standard error doesn't take is lost.
-    let _ = put_write_outcome(outcome, &mut Sink::new(Counted::new(error)));
+    let _ = put_write_outcome(outcome, &mut sink);
+    if let Err(WriteFault::Refused(refusal)) = outcome {
+        let _ = put_hint(refusal, &mut sink);
+    }
 }
 
 /// Writes the transmission that the input's lines are, each of at most so many bytes, to the writer. Beside how that ended comes what

@@ -51,15 +51,19 @@ fn open_inputs<'a, R: Files, I: Read + Drop>(
 }
 
 /// Refuses to write to one of the inputs, or to a file that is there where only a new one may be made.
-fn refuse_out<'a, R: Files>(rt: &R, union: &Union<'a>, names: &[&'a str]) -> Result<(), Fault<'a>> {
-    let out = union.out;
+pub(crate) fn refuse_out<'a, R: Files>(
+    rt: &R,
+    out: &'a str,
+    only_new: bool,
+    names: &[&'a str],
+) -> Result<(), Fault<'a>> {
     let own = identity_of(rt, out);
     for name in names {
         if own.is_some() && identity_of_input(rt, name) == own {
             return Err(Fault::IsInput(Name::File(out)));
         }
     }
-    if union.only_new && is_there(rt, out) {
+    if only_new && is_there(rt, out) {
         return Err(Fault::IsThere(Name::File(out)));
     }
     Ok(())
@@ -135,7 +139,7 @@ pub(crate) fn join_files<
     if readers.is_empty() {
         return Ok(Status::CommandLine);
     }
-    refuse_out(rt, union, names)?;
+    refuse_out(rt, union.out, union.only_new, names)?;
     let (made, file) = create_output(rt, alloc, union.out)?;
     let Ok(writer) = gathered(alloc, Paced::new(file, out, &mut *pace), out) else {
         made.discard(rt);

@@ -12,6 +12,7 @@ mod new_files;
 mod outputs;
 mod program;
 mod progress;
+mod renumberings;
 mod reports;
 mod same_files;
 mod several;

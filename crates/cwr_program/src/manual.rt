@@ -113,6 +113,23 @@ COMMANDS
        --new  Replaces no file: where OUT is there, nothing is written, and
               the status is 2.
 
+   cwr renumber [OPTIONS] [FILE] [OUT]
+       Puts the numbers of a transmission right: transaction and record
+       sequences, group IDs, and the counts of GRT and TRL, whatever stands in
+       their cells. All else is refused as `cwr check` refuses it; findings
+       aren't told. The result is written in full width to the file OUT, as
+       `OUT.part` until it is whole, or to standard output, where a refusal
+       leaves its first lines. A file that is called OUT is replaced: the
+       second name is never read. Where OUT is the input, under whatever name,
+       nothing is written, and the status is 2.
+
+       Look first why the numbers are wrong, with `cwr explain`. A record that
+       is missing stays missing, one that stands twice stays twice, and where
+       a header is missing its records go to the work before.
+
+       --new  Replaces no file: where OUT is there, nothing is written, and
+              the status is 2.
+
    cwr manual
        Prints this manual to standard output, with status 0.
 
@@ -139,7 +156,7 @@ OPTIONS
 
        --whole
               Status 1 where bytes follow the transmission. A join then writes
-              nothing.
+              no file and no last line, nor does a renumbering to a file.
 
        These go with each command that reads.
 
@@ -165,7 +182,9 @@ OUTPUT
 
        GOOD groups G transactions T records R
               The input begins with a transmission. No byte after it is
-              judged; how many follow is told on standard error.
+              judged; how many follow is told on standard error. Of `cwr
+              renumber` these are the numbers of what is written; without OUT
+              the line goes to standard error.
 
        REFUSED record R field F level L REASON
               No transmission continues from that field of line R. L is `E`
@@ -204,7 +223,8 @@ OUTPUT
               The transmission is written.
 
        REFUSED line L ...
-              That line isn't taken, and why.
+              That line isn't taken, and why. Below it a line after two spaces
+              may say more.
 
        REFUSED the input ends before the trailer
               No line is TRL's.
@@ -231,8 +251,9 @@ FILES
 
        NAME.part
               What a file is called until it is whole; `NAME.part1` to
-              `NAME.part99` where something has that name. After a fault it is
-              removed. A run that is killed may leave it.
+              `NAME.part99` where something has that name. After a refusal or
+              a fault it is removed, if that can be done. A run that is killed
+              may leave it.
 
 EXAMPLES
        Is a file good?
@@ -292,6 +313,11 @@ EXAMPLES
            4 GRT
            5 TRL
            GOOD groups 1 transactions 1 records 5
+
+       A file from which a work was cut out by hand:
+
+           $ cwr renumber --new work_missing.cwr mended.cwr
+           GOOD groups 2 transactions 2 records 10
 
        Parts of one work each, and the whole again:
 

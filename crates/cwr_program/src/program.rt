@@ -12,6 +12,7 @@ use crate::inputs::{DASH, Input, open_input};
 use crate::joins::{Union, join_files};
 use crate::outputs::print_manual;
 use crate::progress::{Pace, Progress};
+use crate::renumberings::{Repair, repair_numbers};
 use crate::reports::{Asked, Telling, report_input, telling_of};
 use crate::several::report_several;
 use crate::splits::{Cut, split_file};
@@ -225,6 +226,20 @@ fn perform<'a, R: Files + AllocGlobal, I: Read + Drop, P: Pace, O: Write + Drop,
                 only_new: *only_new,
             };
             return join_files(rt, &union, files.as_slice(), standard, pace, output, error);
+        }
+        Work::Renumber {
+            file,
+            out,
+            only_new,
+        } => {
+            let repair = Repair {
+                limits: task.limits,
+                whole: task.whole,
+                file: *file,
+                out: *out,
+                only_new: *only_new,
+            };
+            return repair_numbers(rt, &repair, standard, &mut *pace, output, error);
         }
         Work::Manual => return print_manual(output),
     };

@@ -12,7 +12,7 @@ use Rattle.cwr_shape.specs.Format.AnyTransmission.{Any}
 use Rattle.cwr_shape.specs.Steps.Left.{StandsAt}
 use Rattle.cwr_shape.specs.Format.NextSymbols.{is_header_of, counts_of, MayCome}
 use Rattle.cwr_shape.specs.Steps.Tallies.{TallyValue, IsTallyOf, IsAdmitted, KeepsCounts, KeepsTally}
-use Rattle.cwr_shape.specs.Steps.Counting.{stage_type, counts_with, counts_with_header, counts_with_other}
+use Rattle.cwr_shape.specs.Steps.Counting.{stage_type, HaveRoom, counts_with, counts_with_header, counts_with_other}
 use Rattle.cwr_shape.proofs.TallySteps.{goes_next, stands_next}
 use Rattle.cwr_shape.proofs.LimitsByNeeds.{within_goes}
 use Rattle.cwr_shape.proofs.FirstBars.{Next, next_of, room_comes, comes_room}
@@ -47,6 +47,39 @@ keeps_next t xs s next c k n m e =
       after_grh = bounds.after_grh;
       after_header = bounds.after_header;
     }
+
+room_inside : (b : Bool) (limits : LimitValues) (c : Counts) → KeepsCounts limits c → HaveRoom (cond b (counts_with_header c) (counts_with_other c))
+room_inside true limits c k = record {
+  records = omega (arith, k.records, k.in_range.most_records);
+  groups = omega (arith, k.groups, k.in_range.most_groups);
+  transactions = omega (arith, k.transactions, k.records, k.in_range.most_records);
+  in_group = omega (arith, k.in_group, k.records, k.in_range.most_records);
+  after_grh = omega (arith, k.after_grh, k.records, k.in_range.most_records);
+  after_header = omega arith;
+}
+room_inside false limits c k = record {
+  records = omega (arith, k.records, k.in_range.most_records);
+  groups = omega (arith, k.groups, k.in_range.most_groups);
+  transactions = omega (arith, k.transactions, k.records, k.in_range.most_records);
+  in_group = omega (arith, k.in_group, k.records, k.in_range.most_records);
+  after_grh = omega (arith, k.after_grh, k.records, k.in_range.most_records);
+  after_header = omega (arith, k.after_header, k.records, k.in_range.most_records);
+}
+
+room_next : (ty : TransactionType) (limits : LimitValues) (c : Counts) (s : Symbol) → KeepsCounts limits c → HaveRoom (counts_with ty c s)
+room_next ty limits c (Grh t) k = record {
+  records = omega (arith, k.records, k.in_range.most_records);
+  groups = omega (arith, k.groups, k.in_range.most_groups);
+  transactions = omega (arith, k.transactions, k.records, k.in_range.most_records);
+  in_group = omega arith;
+  after_grh = omega arith;
+  after_header = omega arith;
+}
+room_next ty limits c s k = room_inside (is_header_of ty s) limits c k
+
+-- counts that keep to limits have room with one symbol more, too
+pub room_with : (ty : TransactionType) (limits : LimitValues) (c next : Counts) (s : Symbol) → KeepsCounts limits c → next ≡ counts_with ty c s → HaveRoom next
+room_with ty limits c next s k e = subst HaveRoom (sym e) (room_next ty limits c s k)
 
 -- What may come after some symbols that a tally represents may come after all of them.
 pub comes_for_all : (t : TallyValue) (xs ys : List Symbol) (s : Symbol) (next : Stage) (c : Counts) → Next t xs s next c → Next t ys s next c → MayCome t.limits xs s → MayCome t.limits ys s

@@ -5,3 +5,4 @@ pub mod Needs
 pub mod NextStages
 pub mod Stages
 pub mod Tallies
+pub mod Numberings

@@ -5,6 +5,7 @@ mod faults;
 pub mod laws;
 mod levels;
 mod limits;
+mod numbering;
 mod reasons;
 mod stages;
 mod symbols;
@@ -12,7 +13,8 @@ mod tallies;
 
 pub use levels::level;
 pub use limits::{LimitKind, Limits, LimitsFault};
+pub use numbering::Numbering;
 pub use reasons::{Level, Reason};
 pub use stages::{Needs, Stage, TransactionStep};
 pub use symbols::Symbol;
-pub use tallies::{Bar, Scope, Tally};
+pub use tallies::{Bar, Counts, Scope, Tally};

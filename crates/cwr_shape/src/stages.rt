@@ -291,6 +291,7 @@ impl TransactionStep {
     pub fn first(ty: TransactionType, symbol: Symbol) -> Option<TransactionStep>
         ensures some { IsSome result ↔ ContinuesIn ty (symbol ∷ []) }
         ensures value { IfSome result (StandsAtStep ty (symbol ∷ [])) }
+        ensures exact { result ≡ header_step ty symbol }
     {
         header_step(ty, symbol)
     }
@@ -302,6 +303,7 @@ impl TransactionStep {
         ensures some { (ty : TransactionType) (xs : List Symbol) → StandsAtStep ty xs self → IsSome result ↔ ContinuesIn ty (xs ++ symbol ∷ []) }
         ensures value { (ty : TransactionType) (xs : List Symbol) → StandsAtStep ty xs self → IfSome result (StandsAtStep ty (xs ++ symbol ∷ [])) }
         ensures unbegun { self ≡ TransactionStep.InGroup → result ≡ None }
+        ensures exact { result ≡ step_on self symbol }
     {
         self.on(symbol)
     }
@@ -311,6 +313,7 @@ impl TransactionStep {
     pub fn is_whole(self) -> bool
         ensures whole { (ty : TransactionType) (xs : List Symbol) → StandsAtStep ty xs self → IsTrue result ↔ IsShape ty xs }
         ensures unbegun { self ≡ TransactionStep.InGroup → IsFalse result }
+        ensures exact { result ≡ may_end self }
     {
         self.may_end()
     }
@@ -330,6 +333,7 @@ impl Stage {
     pub fn next(self, symbol: Symbol) -> Option<Stage>
         ensures some { (xs : List Symbol) → StandsAt xs self → IsSome result ↔ Continues Any (xs ++ symbol ∷ []) }
         ensures value { (xs : List Symbol) → StandsAt xs self → IfSome result (StandsAt (xs ++ symbol ∷ [])) }
+        ensures exact { result ≡ next_stage self symbol }
     {
         next(self, symbol)
     }

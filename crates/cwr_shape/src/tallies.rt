@@ -41,24 +41,24 @@ pub enum Bar {
 
 /// What is counted of the records so far.
 #[derive(Clone, Copy, Debug, PartialEq, Eq)]
-struct Counts {
+pub struct Counts {
     /// All records.
-    records: u32,
+    pub records: u32,
     /// GRH records.
-    groups: u32,
+    pub groups: u32,
     /// Transactions that have begun.
-    transactions: u32,
+    pub transactions: u32,
     /// Transactions that have begun in the open group.
-    in_group: u32,
+    pub in_group: u32,
     /// Records after the last GRH.
-    after_grh: u32,
+    pub after_grh: u32,
     /// Records after the last header in the open group.
-    after_header: u32,
+    pub after_header: u32,
 }
 
 impl Counts {
     /// Nothing was counted.
-    const NONE: Counts = Counts {
+    pub(crate) const NONE: Counts = Counts {
         records: 0,
         groups: 0,
         transactions: 0,
@@ -69,7 +69,7 @@ impl Counts {
 
     /// With one more record, which is `symbol` in a group of the type.
     #[inline(always)]
-    fn with(self, ty: TransactionType, symbol: Symbol) -> Counts
+    pub(crate) fn with(self, ty: TransactionType, symbol: Symbol) -> Counts
         requires { HaveRoom self }
         ensures { result ≡ counts_with ty self symbol }
     {
@@ -149,7 +149,7 @@ fn header_kind(ty: TransactionType) -> Kind
 
 /// Whether the record is the header of a transaction of the type.
 #[inline(always)]
-fn is_header(ty: TransactionType, symbol: Symbol) -> bool
+pub(crate) fn is_header(ty: TransactionType, symbol: Symbol) -> bool
     ensures { result ≡ is_header_of ty symbol }
 {
     match symbol {
@@ -263,6 +263,13 @@ impl Tally {
         ensures named { (xs : List Symbol) → IsTallyOf self.now xs → result ≡ stage_after xs }
     {
         self.stage
+    }
+
+    /// What was counted of the records.
+    pub fn counts(&self) -> Counts
+        ensures { result ≡ self.now.counts }
+    {
+        self.counts
     }
 
     /// What is open after the last record.

@@ -9,11 +9,11 @@ use Rattle.std.proofs.lemmas.Option.{slice_get-get_or}
 use Rattle.cwr_fields.specs.Format.Bytes.{trimmed}
 use Rattle.cwr_layouts.specs.declared.kinds.Kind.{Kind}
 use Rattle.cwr_layouts.specs.declared.kinds.Kind.TheVariants.{Hdr, Grh, Grt, Trl, Agr, Ter, Ipa, Nwr, Rev, Spu, Opu, Spt, Swr, Owr, Swt, Pwr, Alt, Ewt, Ver, Per, Rec, Orn, Com, Ack, Msg, Opt, Owt, Npn, Npr, Nwn, Npa, Net, Now, Nct, Nvt, Nat, Ins, Ind, Ari, Xrf}
-use Rattle.cwr_layouts.specs.Format.Layouts.{FieldLayout, layout, record_type, field_at, field_placed}
+use Rattle.cwr_layouts.specs.Format.Layouts.{FieldLayout, layout, record_type, field_at, field_with_start}
 use Rattle.cwr_layouts.specs.Format.Records.{RecordValue, IsRecord}
 use Rattle.cwr_layouts.specs.Format.Carried.{carried_at, record_cell}
 use Rattle.cwr_layouts.proofs.TrimmedTexts.{spaces_after}
-use Rattle.cwr_layouts.proofs.FieldStarts.{field_at-placed}
+use Rattle.cwr_layouts.proofs.FieldStarts.{field_at-start}
 use Rattle.cwr_layouts.proofs.CarriedCells.{carried_count, open_some, record_cell-at}
 use Rattle.cwr_tools.specs.Format.Texts.{cell_line, cell_lines}
 use Rattle.cwr_tools.specs.Steps.FieldLines.{line_of, field_line}
@@ -132,22 +132,22 @@ some_before None found cell e = absurd (cc e)
 some_before (Some f) found cell e = (f, refl)
 
 -- the field of a cell that is carried is the field of that number
-pub carried_field : (r : RecordValue) (j : ℕ) (p : ℕ × FieldLayout) (cell : List ℕ) → Some cell ≡ record_cell r j → Some p ≡ field_placed r.kind j → carried_at r.kind j ≡ Some p.1
+pub carried_field : (r : RecordValue) (j : ℕ) (p : ℕ × FieldLayout) (cell : List ℕ) → Some cell ≡ record_cell r j → Some p ≡ field_with_start r.kind j → carried_at r.kind j ≡ Some p.1
 carried_field r j p cell e place =
     let there = some_before (carried_at r.kind j) _ cell (sym e) in
     let at : field_at r.kind j ≡ Some there.0 = (open_some (field_at r.kind j) there.0 there.1).0 in
-    there.1 ∙ sym at ∙ sym (field_at-placed r.kind j) ∙ ap (option_map (λ (q : ℕ × FieldLayout). q.1)) (sym place)
+    there.1 ∙ sym at ∙ sym (field_at-start r.kind j) ∙ ap (option_map (λ (q : ℕ × FieldLayout). q.1)) (sym place)
 
-pub field_line-some : (r : RecordValue) (j : ℕ) (p : ℕ × FieldLayout) (cell : List ℕ) → Some cell ≡ record_cell r j → Some p ≡ field_placed r.kind j → field_line r j ≡ cell_line j p.1 cell
+pub field_line-some : (r : RecordValue) (j : ℕ) (p : ℕ × FieldLayout) (cell : List ℕ) → Some cell ≡ record_cell r j → Some p ≡ field_with_start r.kind j → field_line r j ≡ cell_line j p.1 cell
 field_line-some r j p cell e place = ap₂ (λ (o : Option FieldLayout) (found : Option (List ℕ)). line_of j o found) (carried_field r j p cell e place) (sym e)
 
-pub field_line-none : (r : RecordValue) (j : ℕ) → None ≡ field_placed r.kind j → field_line r j ≡ []
+pub field_line-none : (r : RecordValue) (j : ℕ) → None ≡ field_with_start r.kind j → field_line r j ≡ []
 field_line-none r j place =
-    let none : field_at r.kind j ≡ None = sym (field_at-placed r.kind j) ∙ ap (option_map (λ (q : ℕ × FieldLayout). q.1)) (sym place) in
+    let none : field_at r.kind j ≡ None = sym (field_at-start r.kind j) ∙ ap (option_map (λ (q : ℕ × FieldLayout). q.1)) (sym place) in
     ap (λ (o : Option FieldLayout). line_of j (option_and_then (λ f. cond f.derived None (Some f)) o) (record_cell r j)) none
 
 -- its name and its cell are short
-pub short_line : (r : RecordValue) (j : ℕ) (p : ℕ × FieldLayout) (cell : List ℕ) → IsRecord r → Some cell ≡ record_cell r j → Some p ≡ field_placed r.kind j → length p.1.name + length cell ≤ 720
+pub short_line : (r : RecordValue) (j : ℕ) (p : ℕ × FieldLayout) (cell : List ℕ) → IsRecord r → Some cell ≡ record_cell r j → Some p ≡ field_with_start r.kind j → length p.1.name + length cell ≤ 720
 short_line r zero p cell h e place = absurd (cc e)
 short_line r (suc i) p cell h e place =
     let carried = carried_field r (suc i) p cell e place in

@@ -10,7 +10,7 @@ use Rattle.cwr_decode.specs.declared.last_bytes.LastBytes.{LastBytes}
 use Rattle.cwr_decode.specs.declared.readings.LastRead.{LastRead}
 use Rattle.cwr_decode.specs.declared.readings.ReadFault.{ReadFault}
 use Rattle.cwr_decode.specs.declared.readings.ReadFault.TheVariants as faults
-use Rattle.cwr_decode.specs.Steps.LastReads.{AreHeld, HoldsLast, ReadsLast, stage_of_records}
+use Rattle.cwr_decode.specs.Steps.LastReads.{AreHeld, HoldsLast, ReadsLast, counts_of_records, stage_of_records}
 use Rattle.cwr_decode.proofs.LastHeld.{reads_on}
 use Rattle.cwr_tools.specs.declared.verdicts.Verdict.{Verdict}
 use Rattle.cwr_tools.specs.declared.verdicts.Verdict.TheVariants.{Good}
@@ -44,19 +44,19 @@ held_of_stop before after input last c h = by before (consumed_once before after
     by None e = tt
     by (Some text) e = subst (λ (l : List ℕ). HoldsLast l last) e h.held
 
-stopped_at : (limits : Limits) (fault : ReadFault) (before after : Option (List ℕ)) (given : List Item) (last : LastRead) → (stop : StopsAfter limits fault before after given) → last.stage ≡ stage_of_records stop.0.decoder
+stopped_at : (limits : Limits) (fault : ReadFault) (before after : Option (List ℕ)) (given : List Item) (last : LastRead) → (stop : StopsAfter limits fault before after given) → (last.stage ≡ stage_of_records stop.0.decoder) × (last.counts ≡ counts_of_records stop.0.decoder)
     → HoldsRead before after (Some last.bytes) → StopsAt limits fault before after last
-stopped_at limits fault before after given last stop stage h = (stop.0, stage, held_of_stop before after stop.0.read.input last.bytes stop.0.read.consumed h)
+stopped_at limits fault before after given last stop front h = (stop.0, front.0, held_of_stop before after stop.0.read.input last.bytes stop.0.read.consumed h, front.1)
 
 -- the run stopped with that fault
 fault_last : (limits : Limits) (before after : Option (List ℕ)) (given : List Item) (last : LastRead) (fault : ReadFault) (result : Result Verdict ToolFault) → (stop : StopsAfter limits fault before after given)
-    → last.stage ≡ stage_of_records stop.0.decoder → HoldsRead before after (Some last.bytes) → IsVerdictOf fault result → IfOk result (λ verdict. IsSomeAnd (Some last) (IsReadLast limits before after verdict))
-fault_last limits before after given last faults.Reader result stop stage h e = subst (λ (r : Result Verdict ToolFault). IfOk r (λ verdict. IsSomeAnd (Some last) (IsReadLast limits before after verdict))) (sym e) tt
-fault_last limits before after given last faults.Memory result stop stage h e = subst (λ (r : Result Verdict ToolFault). IfOk r (λ verdict. IsSomeAnd (Some last) (IsReadLast limits before after verdict))) (sym e) tt
-fault_last limits before after given last (faults.Refused refusal) result stop stage h e = subst (λ (r : Result Verdict ToolFault). IfOk r (λ verdict. IsSomeAnd (Some last) (IsReadLast limits before after verdict))) (sym e)
-    (stopped_at limits (faults.Refused refusal) before after given last stop stage h)
-fault_last limits before after given last (faults.Truncated records) result stop stage h e = subst (λ (r : Result Verdict ToolFault). IfOk r (λ verdict. IsSomeAnd (Some last) (IsReadLast limits before after verdict))) (sym e)
-    (stopped_at limits (faults.Truncated records) before after given last stop stage h)
+    → (last.stage ≡ stage_of_records stop.0.decoder) × (last.counts ≡ counts_of_records stop.0.decoder) → HoldsRead before after (Some last.bytes) → IsVerdictOf fault result → IfOk result (λ verdict. IsSomeAnd (Some last) (IsReadLast limits before after verdict))
+fault_last limits before after given last faults.Reader result stop front h e = subst (λ (r : Result Verdict ToolFault). IfOk r (λ verdict. IsSomeAnd (Some last) (IsReadLast limits before after verdict))) (sym e) tt
+fault_last limits before after given last faults.Memory result stop front h e = subst (λ (r : Result Verdict ToolFault). IfOk r (λ verdict. IsSomeAnd (Some last) (IsReadLast limits before after verdict))) (sym e) tt
+fault_last limits before after given last (faults.Refused refusal) result stop front h e = subst (λ (r : Result Verdict ToolFault). IfOk r (λ verdict. IsSomeAnd (Some last) (IsReadLast limits before after verdict))) (sym e)
+    (stopped_at limits (faults.Refused refusal) before after given last stop front h)
+fault_last limits before after given last (faults.Truncated records) result stop front h e = subst (λ (r : Result Verdict ToolFault). IfOk r (λ verdict. IsSomeAnd (Some last) (IsReadLast limits before after verdict))) (sym e)
+    (stopped_at limits (faults.Truncated records) before after given last stop front h)
 
 -- all was read
 good_last : (limits : Limits) (before after : Option (List ℕ)) (last : LastRead) (verdict : Verdict) (groups transactions records : ℕ) → verdict ≡ Good groups transactions records → HoldsRead before after (Some last.bytes) → IsReadLast limits before after verdict last
@@ -71,9 +71,9 @@ answers_read before after held last h same = record { read = h.read; consumed = 
 
 -- so it is answered with that fault
 pub fault_answered : (limits : Limits) (before after : Option (List ℕ)) (given : List Item) (held : Option LastBytes) (answered : Option LastRead) (fault : ReadFault) (result : Result Verdict ToolFault) → (stop : StopsAfter limits fault before after given)
-    → IfSome answered (λ last. last.stage ≡ stage_of_records stop.0.decoder) → HoldsRead before after held → AnswersHeld held answered → IsVerdictOf fault result → IfOk result (λ verdict. IsSomeAnd answered (IsReadLast limits before after verdict))
-fault_answered limits before after given held None fault result stop stage h same e = absurd (same h.read h.held)
-fault_answered limits before after given held (Some last) fault result stop stage h same e = fault_last limits before after given last fault result stop stage (answers_read before after held last h same) e
+    → IfSome answered (λ last. (last.stage ≡ stage_of_records stop.0.decoder) × (last.counts ≡ counts_of_records stop.0.decoder)) → HoldsRead before after held → AnswersHeld held answered → IsVerdictOf fault result → IfOk result (λ verdict. IsSomeAnd answered (IsReadLast limits before after verdict))
+fault_answered limits before after given held None fault result stop front h same e = absurd (same h.read h.held)
+fault_answered limits before after given held (Some last) fault result stop front h same e = fault_last limits before after given last fault result stop front (answers_read before after held last h same) e
 
 -- and where all was read
 pub good_answered : (limits : Limits) (before after : Option (List ℕ)) (held : Option LastBytes) (answered : Option LastRead) (verdict : Verdict) (groups transactions records : ℕ) → verdict ≡ Good groups transactions records

@@ -7,7 +7,7 @@ ghost use Rattle.cwr_tools.specs.Format.FindingNotes.{explained_finding, finding
 ghost use Rattle.cwr_tools.specs.Steps.OtherRecords.{AreListed, HasPassed};
 
 use crate::note_lines::NoteLines;
-use crate::other_records::{OtherRecords, parties_of, places_of, total_of};
+use crate::other_records::{OtherRecords, parties_of, positions_of, total_of};
 use crate::passed::Passed;
 use cwr_encode::{Sink, SinkFault};
 use cwr_fields::Target;
@@ -15,7 +15,7 @@ use cwr_layouts::{Kind, RecordRef};
 use cwr_levels::{Finding, Rule, finding_line};
 use cwr_values::Transaction;
 
-/// The places of the other records of which a finding at a record speaks.
+/// The positions of the other records of which a finding at a record speaks.
 fn others(
     finding: &Finding,
     transaction: &Transaction,
@@ -35,7 +35,7 @@ fn others(
             _ => OtherRecords::of(passed.writer),
         },
         Rule::V3 | Rule::V4 | Rule::V5 | Rule::V6 | Rule::V9 => {
-            places_of(finding.rule, transaction)
+            positions_of(finding.rule, transaction)
         }
         Rule::V7 => passed.publishers.copy(),
         Rule::V8 => OtherRecords::of(passed.header),
@@ -64,19 +64,19 @@ fn put_noted<W: Target>(
     first: u64,
     transaction: &Transaction,
     rule: Rule,
-    place: usize,
+    position: usize,
     lines: &mut NoteLines,
     sink: &mut Sink<W>,
 ) -> Result<(), SinkFault>
     requires unfailed { has_failed sink.old ≡ false }
     requires few { first + length transaction.now ≤ 100000000 }
-    ensures puts { Puts W.contents W.failures (noted_at first transaction.now rule place) result sink.old sink.new }
+    ensures puts { Puts W.contents W.failures (noted_at first transaction.now rule position) result sink.old sink.new }
     ensures fault { IfErr result (λ f. f.written ≡ written_of sink.new) }
 {
-    let Some(shown) = transaction.record(place) else {
+    let Some(shown) = transaction.record(position) else {
         return Ok(());
     };
-    lines.set_noted(first + place as u64, rule, &shown);
+    lines.set_noted(first + position as u64, rule, &shown);
     sink.put(lines.as_slice())
 }
 
@@ -85,18 +85,18 @@ fn put_others<W: Target>(
     first: u64,
     transaction: &Transaction,
     rule: Rule,
-    places: &[usize],
+    positions: &[usize],
     lines: &mut NoteLines,
     sink: &mut Sink<W>,
 ) -> Result<(), SinkFault>
     requires unfailed { has_failed sink.old ≡ false }
     requires few { first + length transaction.now ≤ 100000000 }
-    ensures puts { Puts W.contents W.failures (flat_map (noted_at first transaction.now rule) places.now) result sink.old sink.new }
+    ensures puts { Puts W.contents W.failures (flat_map (noted_at first transaction.now rule) positions.now) result sink.old sink.new }
     ensures fault { IfErr result (λ f. f.written ≡ written_of sink.new) }
 {
     let mut i = 0;
-    while let Some(place) = places.get(i) {
-        put_noted(first, transaction, rule, *place, lines, sink)?;
+    while let Some(position) = positions.get(i) {
+        put_noted(first, transaction, rule, *position, lines, sink)?;
         i += 1;
     }
     Ok(())

@@ -1,10 +1,10 @@
-//! The places of records in a transaction, from 0: the first ones, and how many there are.
+//! The positions of records in a transaction, from 0: the first ones, and how many there are.
 
 ghost use Rattle.std.specs.Prelude.{◌≡◌, ◌+◌, ◌<◌, ◌≤◌, ◌^◌, ◌++◌, ◌∷◌, ℕ, List, [], false, drop, length, if◌then◌else◌};
 ghost use Rattle.std.specs.Option.{option_to_list};
 ghost use Rattle.cwr_levels.specs.Format.Fields.{HasSharesFrom};
 ghost use Rattle.cwr_levels.specs.Format.Findings.{is_owner, ownership, share_of};
-ghost use Rattle.cwr_tools.specs.Format.FindingNotes.{parties_from, places, right_of};
+ghost use Rattle.cwr_tools.specs.Format.FindingNotes.{parties_from, positions, right_of};
 ghost use Rattle.cwr_tools.specs.Steps.OtherRecords.{AreListed, is_other};
 
 use arrayvec::ArrayVec;
@@ -12,7 +12,7 @@ use cwr_layouts::{Kind, RecordRef};
 use cwr_levels::{PUBLISHER_SHARES, Rule, WRITER_SHARES, cell, is_of, is_owner, number_of};
 use cwr_values::Transaction;
 
-/// The most places that are listed.
+/// The most positions that are listed.
 const MOST_OTHERS: usize = 20;
 
 /// OtherRecords of records: the first ones, and how many there are.
@@ -23,7 +23,7 @@ pub(crate) struct OtherRecords {
 }
 
 impl OtherRecords {
-    /// No place.
+    /// No position.
     pub(crate) fn none() -> OtherRecords
         ensures listed { AreListed [] result }
         ensures count { result.count ≡ 0 }
@@ -34,24 +34,24 @@ impl OtherRecords {
         }
     }
 
-    /// With one place more.
-    pub(crate) fn add(&mut self, place: usize)
+    /// With one position more.
+    pub(crate) fn add(&mut self, position: usize)
         requires { self.old.count < 10 ^ 9 }
-        ensures listed { (all : List ℕ) → AreListed all self.old → AreListed (all ++ place ∷ []) self.new }
+        ensures listed { (all : List ℕ) → AreListed all self.old → AreListed (all ++ position ∷ []) self.new }
         ensures count { self.new.count ≡ self.old.count + 1 }
     {
-        let _fits = self.listed.try_push(place);
+        let _fits = self.listed.try_push(position);
         self.count += 1;
     }
 
-    /// With the place, where it counts.
-    fn add_if(&mut self, counts: bool, place: usize)
+    /// With the position, where it counts.
+    fn add_if(&mut self, counts: bool, position: usize)
         requires { self.old.count < 10 ^ 9 }
-        ensures listed { (all : List ℕ) → AreListed all self.old → AreListed (all ++ (if counts then place ∷ [] else [])) self.new }
+        ensures listed { (all : List ℕ) → AreListed all self.old → AreListed (all ++ (if counts then position ∷ [] else [])) self.new }
         ensures count { self.new.count ≤ self.old.count + 1 }
     {
         if counts {
-            self.add(place);
+            self.add(position);
         }
     }
 
@@ -67,15 +67,15 @@ impl OtherRecords {
         }
     }
 
-    /// The place, if there is one.
-    pub(crate) fn of(place: Option<usize>) -> OtherRecords
-        ensures { AreListed (option_to_list place) result }
+    /// The position, if there is one.
+    pub(crate) fn of(position: Option<usize>) -> OtherRecords
+        ensures { AreListed (option_to_list position) result }
     {
-        let mut places = OtherRecords::none();
-        if let Some(place) = place {
-            places.add(place);
+        let mut positions = OtherRecords::none();
+        if let Some(position) = position {
+            positions.add(position);
         }
-        places
+        positions
     }
 }
 
@@ -90,10 +90,10 @@ fn is_other(rule: Rule, shown: &RecordRef<'_>) -> bool
     }
 }
 
-/// The places of the records of which the rule, on the header of a work, speaks.
-pub(crate) fn places_of(rule: Rule, transaction: &Transaction) -> OtherRecords
+/// The positions of the records of which the rule, on the header of a work, speaks.
+pub(crate) fn positions_of(rule: Rule, transaction: &Transaction) -> OtherRecords
     requires { length transaction.now ≤ 100000000 }
-    ensures { AreListed (places (is_other rule) transaction.now) result }
+    ensures { AreListed (positions (is_other rule) transaction.now) result }
 {
     let mut found = OtherRecords::none();
     for at in 0..transaction.len() {
@@ -105,7 +105,7 @@ pub(crate) fn places_of(rule: Rule, transaction: &Transaction) -> OtherRecords
     found
 }
 
-/// The places of the parties of the block whose first territory has that place.
+/// The positions of the parties of the block whose first territory has that position.
 pub(crate) fn parties_of(transaction: &Transaction, first: usize) -> OtherRecords
     requires few { length transaction.now ≤ 100000000 }
     requires there { first < length transaction.now }

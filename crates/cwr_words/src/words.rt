@@ -5,7 +5,7 @@ ghost use Rattle.std.specs.Str.{bytes_eq};
 ghost use Rattle.std.specs.Str.Parse.{digits_value, without_leading_plus};
 ghost use Rattle.clap.specs.Words.{found_of, has_subcommand, one_text};
 ghost use Rattle.cwr_shape.specs.Format.Ranges.{limit_values};
-ghost use Rattle.cwr_words.specs.Format.Words.{AreNamesOf, IsAskedBy, IsExportOf, IsImportOf, IsJoinOf, IsJudgingOf, IsLintOf, IsPlainCheck, IsSplitOf, IsWorkOf, level_named};
+ghost use Rattle.cwr_words.specs.Format.Words.{AreNamesOf, IsAskedBy, IsExportOf, IsImportOf, IsJoinOf, IsJudgingOf, IsLintOf, IsPlainCheck, IsRenumberingOf, IsSplitOf, IsWorkOf, level_named};
 
 use clap::error::ErrorKind;
 use clap::{Arg, ArgAction, ArgMatches, Command, Error, value_parser};
@@ -79,6 +79,15 @@ pub enum Work<'a> {
         /// The file that is written may replace none.
         only_new: bool,
     },
+    /// The numbers of one are put right.
+    Renumber {
+        /// The name of the transmission's file, or none for that on standard input.
+        file: Option<&'a str>,
+        /// The name of the file that is written, or none for standard output.
+        out: Option<&'a str>,
+        /// The file that is written may replace none.
+        only_new: bool,
+    },
     /// The manual is printed.
     Manual,
 }
@@ -119,6 +128,9 @@ const SPLIT: &str = "split";
 
 /// The name of the subcommand that joins.
 const JOIN: &str = "join";
+
+/// The name of the subcommand that puts numbers right.
+const RENUMBER: &str = "renumber";
 
 /// The name of the subcommand that prints the manual.
 const MANUAL: &str = "manual";
@@ -337,6 +349,20 @@ fn joining<'a>(alloc: Global) -> Result<Command<'a>, AllocError> {
         .arg(files)
 }
 
+/// The subcommand that puts numbers right.
+fn renumbering<'a>(alloc: Global) -> Result<Command<'a>, AllocError> {
+    let file = Arg::new(alloc, FILE).help(
+        "The transmission; - is standard input, and so it is without a file",
+    );
+    let out = Arg::new(alloc, OUT).help(
+        "The file that the result is written to; without it that is standard output",
+    );
+    let command = Command::new(alloc, RENUMBER).about("Puts the numbers of a transmission right");
+    with_new(alloc, with_reading(alloc, command)?)?
+        .arg(file)?
+        .arg(out)
+}
+
 /// The version of the program.
 const VERSION: &str = "0.1.0";
 
@@ -357,7 +383,8 @@ The last line on standard output:
 In the place of REFUSED `cwr lint` writes a line for each fault, and then:
   FAULTS F findings N records R              so many faults and findings were told, in R lines
 
-`cwr json` writes it to standard error, and the lines of JSON alone to standard output.
+`cwr json` writes it to standard error, and the lines of JSON alone to standard output. So does `cwr renumber` without
+OUT; GOOD then has the numbers of what is written.
 
 `cwr write` writes to standard error:
   WRITTEN lines L bytes B                    the transmission is written
@@ -402,6 +429,7 @@ fn command<'a>(alloc: Global) -> Result<Command<'a>, AllocError> {
         .subcommand(importing(alloc)?)?
         .subcommand(splitting(alloc)?)?
         .subcommand(joining(alloc)?)?
+        .subcommand(renumbering(alloc)?)?
         .subcommand(Command::new(alloc, MANUAL).about("Prints the manual"))
 }
 
@@ -524,6 +552,17 @@ fn join_in<'a>(alloc: Global, given: &ArgMatches<'a>) -> Result<Option<Work<'a>>
     }))
 }
 
+/// The work of a renumbering.
+fn renumber_in<'a>(given: &ArgMatches<'a>) -> Work<'a>
+    ensures { IsRenumberingOf (found_of given.now) result }
+{
+    Work::Renumber {
+        file: given.get_str(FILE),
+        out: given.get_str(OUT),
+        only_new: given.get_flag(NEW),
+    }
+}
+
 /// The work that a subcommand asks for. `None` where a word is missing or out of its range.
 fn work_in<'a>(
     alloc: Global,
@@ -542,6 +581,8 @@ fn work_in<'a>(
         Ok(import_in(given))
     } else if name == JOIN {
         join_in(alloc, given)
+    } else if name == RENUMBER {
+        Ok(Some(renumber_in(given)))
     } else if name == MANUAL {
         Ok(Some(Work::Manual))
     } else if name == SHOW {

@@ -1,10 +1,11 @@
 -- A draft that members fill has their cells, with each member more.
-use Rattle.std.proofs.Common.{◌≡◌, ℕ, zero, suc, ◌-◌, ◌<◌, Bool, true, false, not, cond, ◌&&◌, List, [], ◌∷◌, ◌++◌, length, map, take, get_or, Option, Some, None, refl, sym, ap, ap₂, subst, ◌∙◌, arith, true≢false, get_or-set_same, get_or-set_other}
+use Rattle.std.proofs.Common.{◌≡◌, ℕ, zero, suc, ◌-◌, ◌<◌, Bool, true, false, not, cond, ◌&&◌, List, [], ◌∷◌, ◌++◌, length, map, take, get_or, Option, Some, None, refl, sym, ap, ap₂, subst, ◌∙◌, arith, true≢false, replicate, get_or-set_same, get_or-set_other}
 use Rattle.std.proofs.Math.ListN.{set}
-use Rattle.std.specs.Prelude.{◌≤◌, ◌||◌, option_map, unwrap_or, slice_get, slice_set, IsSomeAnd, Result, Ok, Err, IfOk}
+use Rattle.std.specs.Prelude.{◌≤◌, ◌||◌, ◌==◌, option_map, unwrap_or, slice_get, slice_set, IsSomeAnd, Result, Ok, Err, IfOk, OnErr}
 use Rattle.std.specs.List.{AllZip, list_all, list_any}
 use Rattle.std.specs.Str.{bytes_eq}
-use Rattle.std.proofs.lemmas.Bool.{and_parts, not-true, or_parts, or_from, or_left, or_right}
+use Rattle.std.proofs.lemmas.List.Folds.{list_any-append}
+use Rattle.std.proofs.lemmas.Bool.{and_parts, eqb-false, eqb-true, not-true, or_parts, or_from, or_left, or_right}
 use Rattle.json.specs.Json.{Json, string, Members, no_members, member}
 use Rattle.json.specs.Strict.{keys}
 use Rattle.cwr_fields.specs.Format.Bytes.{filled}
@@ -15,14 +16,16 @@ use Rattle.cwr_layouts.specs.Format.Layouts.{FieldLayout, layout, field_at, reco
 use Rattle.cwr_layouts.specs.Format.Records.{RecordValue, IsRecord, blank_cell, blank_record, carried_fields}
 use Rattle.cwr_layouts.specs.Format.Carried.{Sets, carried_at, carried_before, set_cell}
 use Rattle.cwr_layouts.proofs.CarriedCells.{carried_count, carried_field-at, open_some}
+use Rattle.cwr_layouts.proofs.RowLaws.{letters-injective}
 use Rattle.cwr_json.specs.Format.Forms.{IsCellFrom, IsDataOf, are_distinct, characters, first_of, is_known, key_of, kind_key}
 use Rattle.cwr_json.proofs.GoodKeys.{keys_of, is_known_of, good_keys}
+use Rattle.cwr_json.proofs.OneItem.{one_cells}
 use Rattle.cwr_json.proofs.OwnData.{apart, bytes_same, same_bytes}
 use Rattle.cwr_write.specs.Steps.Filling.{IsFilled, names_field, with_last}
 
 -- ---- one member more
 
-keys-last : (ms : Members) (k : List ℕ) (j : Json) → keys (with_last ms k j) ≡ keys ms ++ k ∷ []
+pub keys-last : (ms : Members) (k : List ℕ) (j : Json) → keys (with_last ms k j) ≡ keys ms ++ k ∷ []
 unfolding with_last
 keys-last no_members k j = refl
 keys-last (member l i ms) k j = ap (λ (ks : List (List ℕ)). l ∷ ks) (keys-last ms k j)
@@ -39,9 +42,12 @@ none-last p (l ∷ ks) k h e =
     let parts = or_parts (p l) (list_any p ks) h in
     or_from (p l) (list_any p (ks ++ k ∷ [])) parts.0 (none-last p ks k parts.1 e)
 
-any-last : (p : List ℕ → Bool) (ks : List (List ℕ)) (k : List ℕ) → p k ≡ true → list_any p (ks ++ k ∷ []) ≡ true
+pub any-last : (p : List ℕ → Bool) (ks : List (List ℕ)) (k : List ℕ) → p k ≡ true → list_any p (ks ++ k ∷ []) ≡ true
 any-last p [] k e = or_left (p k) false e
 any-last p (l ∷ ks) k e = or_right (p l) (list_any p (ks ++ k ∷ [])) (any-last p ks k e)
+
+either_way : (p : List ℕ → Bool) (ks : List (List ℕ)) (k : List ℕ) → list_any p ks ≡ true → list_any p (ks ++ k ∷ []) ≡ true
+either_way p ks k h = list_any-append p ks (k ∷ []) ∙ or_left (list_any p ks) (list_any p (k ∷ [])) h
 
 -- another key is among them as before
 other-last : (p : List ℕ → Bool) (ks : List (List ℕ)) (k : List ℕ) → p k ≡ false → list_any p (ks ++ k ∷ []) ≡ list_any p ks
@@ -68,7 +74,7 @@ unfolding first_of with_last
 first-other k no_members l j e = ap (λ (b : Bool). cond b (Some j) None) e
 first-other k (member m i ms) l j e = ap (λ (o : Option Json). cond (bytes_eq k m) (Some i) o) (first-other k ms l j e)
 
-first-last : (k : List ℕ) (ms : Members) (j : Json) → list_any (bytes_eq k) (keys ms) ≡ false → first_of k (with_last ms k j) ≡ Some j
+pub first-last : (k : List ℕ) (ms : Members) (j : Json) → list_any (bytes_eq k) (keys ms) ≡ false → first_of k (with_last ms k j) ≡ Some j
 unfolding first_of with_last
 first-last k no_members j h = ap (λ (b : Bool). cond b (Some j) None) (same_bytes k)
 first-last k (member m i ms) j h =
@@ -78,7 +84,7 @@ first-last k (member m i ms) j h =
 -- ---- fields and their keys
 
 -- a field of that number, where it has the key
-named : (kind : Kind) (j : ℕ) (k : List ℕ) → names_field kind j k ≡ true → (f : FieldLayout) × (field_at kind j ≡ Some f) × (k ≡ key_of f.name)
+pub named : (kind : Kind) (j : ℕ) (k : List ℕ) → names_field kind j k ≡ true → (f : FieldLayout) × (field_at kind j ≡ Some f) × (k ≡ key_of f.name)
 named kind j k h = by (field_at kind j) refl
   where
     by : (o : Option FieldLayout) → field_at kind j ≡ o → (f : FieldLayout) × (field_at kind j ≡ Some f) × (k ≡ key_of f.name)
@@ -90,7 +96,7 @@ passes p [] i f h e = absurd (cc e)
 passes p (g ∷ fields) zero f h e = let same : g ≡ f = cc e in ap p (sym same) ∙ (and_parts (p g) (list_all p fields) h).0
 passes p (g ∷ fields) (suc i) f h e = passes p fields i f (and_parts (p g) (list_all p fields) h).1 e
 
-among : (fields : List FieldLayout) (i : ℕ) (f : FieldLayout) → slice_get fields i ≡ Some f → list_any (bytes_eq (key_of f.name)) (keys_of fields) ≡ true
+pub among : (fields : List FieldLayout) (i : ℕ) (f : FieldLayout) → slice_get fields i ≡ Some f → list_any (bytes_eq (key_of f.name)) (keys_of fields) ≡ true
 among [] i f e = absurd (cc e)
 among (g ∷ fields) zero f e =
     let same : g ≡ f = cc e in
@@ -98,7 +104,7 @@ among (g ∷ fields) zero f e =
 among (g ∷ fields) (suc i) f e = or_right (bytes_eq (key_of f.name) (key_of g.name)) _ (among fields i f e)
 
 -- where a carried field stands among the carried fields
-carried_place : (kind : Kind) (j : ℕ) (f : FieldLayout) → field_at kind j ≡ Some f → f.derived ≡ false → slice_get (carried_fields kind) (carried_before kind j) ≡ Some f
+pub carried_place : (kind : Kind) (j : ℕ) (f : FieldLayout) → field_at kind j ≡ Some f → f.derived ≡ false → slice_get (carried_fields kind) (carried_before kind j) ≡ Some f
 carried_place kind zero f e d = absurd (cc e)
 carried_place kind (suc i) f e d =
     let before : suc i - 1 ≡ i = omega arith in
@@ -143,14 +149,21 @@ set_cells (g ∷ fields) (c ∷ cells) (suc i) f ms j cell d e none from h =
 
 -- ---- drafts
 
-pub filled_none : (kind : Kind) (draft : RecordValue) (seen : List Bool) → draft ≡ blank_record kind → IsFilled kind no_members draft seen
-filled_none kind draft seen e =
+-- none of them is marked
+unmarked_in : (n j : ℕ) → get_or (replicate n false) j false ≡ false
+unmarked_in zero j = refl
+unmarked_in (suc n) zero = refl
+unmarked_in (suc n) (suc j) = unmarked_in n j
+
+pub filled_none : (kind : Kind) (draft : RecordValue) (seen : List Bool) (n : ℕ) → draft ≡ blank_record kind → seen ≡ replicate n false → IsFilled kind no_members draft seen
+filled_none kind draft seen n e empty =
     subst (λ (d : RecordValue). IsFilled kind no_members d seen) (sym e) (record {
       kind_is = refl;
       known = refl;
       once = refl;
       cells = blank_cells (carried_fields kind);
       marks = λ j k h unmarked. refl;
+      marked = λ j k h mark. absurd (true≢false (sym mark ∙ ap (λ (l : List Bool). get_or l j false) empty ∙ unmarked_in n j));
     })
 
 -- a field of another number has another key
@@ -169,7 +182,7 @@ one_place (h ∷ fields) (suc a) zero f g d e m same =
     absurd (true≢false (sym (among fields a f e) ∙ ap (λ (x : List ℕ). list_any (bytes_eq x) (keys_of fields)) keys_are ∙ not-true _ parts.0))
 one_place (h ∷ fields) (suc a) (suc b) f g d e m same = ap suc (one_place fields a b f g (and_parts (not (list_any (bytes_eq (key_of h.name)) (keys_of fields))) (are_distinct (keys_of fields)) d).1 e m same)
 
-one_number : (kind : Kind) (i j : ℕ) (f g : FieldLayout) → field_at kind i ≡ Some f → field_at kind j ≡ Some g → key_of f.name ≡ key_of g.name → i ≡ j
+pub one_number : (kind : Kind) (i j : ℕ) (f g : FieldLayout) → field_at kind i ≡ Some f → field_at kind j ≡ Some g → key_of f.name ≡ key_of g.name → i ≡ j
 one_number kind zero j f g e m same = absurd (cc e)
 one_number kind (suc i) zero f g e m same = absurd (cc m)
 one_number kind (suc i) (suc j) f g e m same = ap suc (one_place (layout kind) i j f g (good_keys kind).apart e m same)
@@ -189,6 +202,21 @@ marks_more kind ms seen j f v at lt marks i l m unmarked =
     by false e other there = refl
     by true e other there = absurd (other (one_number kind i j there.0 f there.1 at (sym there.2 ∙ bytes_same l (key_of f.name) e)))
 
+abbrev Marked : Kind → Members → List Bool → Type 0
+Marked kind ms seen = (j : ℕ) (k : List ℕ) → names_field kind j k ≡ true → get_or seen j false ≡ true → list_any (bytes_eq k) (keys ms) ≡ true
+
+marked_more : (kind : Kind) (ms : Members) (seen : List Bool) (j : ℕ) (f : FieldLayout) (v : Json) → field_at kind j ≡ Some f → j < length seen → Marked kind ms seen → Marked kind (with_last ms (key_of f.name) v) (set seen j true)
+marked_more kind ms seen j f v at lt marked i l m mark = ap (list_any (bytes_eq l)) (keys-last ms (key_of f.name) v) ∙ by (i == j) refl
+  where
+    by : (b : Bool) → (i == j) ≡ b → list_any (bytes_eq l) (keys ms ++ key_of f.name ∷ []) ≡ true
+    by true e =
+        let there = named kind i l m in
+        let here : i ≡ j = eqb-true i j e in
+        let same : there.0 ≡ f = cc (there.1, ap (field_at kind) here, at) in
+        let key_is : l ≡ key_of f.name = there.2 ∙ ap (λ (x : FieldLayout). key_of x.name) same in
+        any-last (bytes_eq l) (keys ms) (key_of f.name) (ap (λ (x : List ℕ). bytes_eq x (key_of f.name)) key_is ∙ same_bytes (key_of f.name))
+    by false e = either_way (bytes_eq l) (keys ms) (key_of f.name) (marked i l m (sym (get_or-set_other seen j i true false (eqb-false i j e)) ∙ mark))
+
 -- the key of the record type changes no cell
 pub filled_type : (kind : Kind) (ms : Members) (draft : RecordValue) (seen : List Bool) (k : List ℕ) (v : Json) → 1 < length seen → names_field kind 1 k ≡ true → get_or seen 1 false ≡ false → IsFilled kind ms draft seen
     → IsFilled kind (with_last ms k v) draft (set seen 1 true)
@@ -206,6 +234,7 @@ filled_type kind ms draft seen k v lt names unmarked h =
       once = ap are_distinct (keys-last ms k v) ∙ distinct-last (keys ms) k h.once none;
       cells = same_cells (carried_fields kind) draft.cells ms k v away h.cells;
       marks = subst (λ (x : List ℕ). Marks kind (with_last ms x v) (set seen 1 true)) (sym there.2) (marks_more kind ms seen 1 there.0 v there.1 lt h.marks);
+      marked = subst (λ (x : List ℕ). Marked kind (with_last ms x v) (set seen 1 true)) (sym there.2) (marked_more kind ms seen 1 there.0 v there.1 lt h.marked);
     }
 
 -- a cell that is set is that of its member
@@ -241,6 +270,7 @@ filled_set kind ms draft new seen j k text lt names unmarked h sets = by (carrie
           once = ap are_distinct (keys-last ms (key_of f.name) v) ∙ distinct-last (keys ms) (key_of f.name) h.once none_of;
           cells = subst (AreFrom ms_f (carried_fields kind)) (sym cells_are) (set_cells (carried_fields kind) draft.cells (carried_before kind j) f ms v (filled f.width text) parts.1 place none_of from h.cells);
           marks = marks_more kind ms seen j f v opened.0 lt h.marks;
+          marked = marked_more kind ms seen j f v opened.0 lt h.marked;
         } in
         subst (λ (x : List ℕ). IsFilled kind (with_last ms x v) new (set seen j true)) (sym key_is) filled_f
 
@@ -263,3 +293,30 @@ pub data_done : {E : Type 0} (kind : Kind) (ms : Members) (draft : RecordValue) 
     → IfOk answer (λ r. (r ≡ draft) × IsRecord draft) → IfOk answer (λ r. IsDataOf ms r)
 data_done {E = E} kind ms draft seen (Ok r) first h p = subst (λ (x : RecordValue). IsDataOf ms x) (sym p.0) (filled_data kind ms draft seen first h p.1)
 data_done {E = E} kind ms draft seen (Err e) first h p = tt
+
+-- ---- where no record has the data
+
+letters_are : (ms : Members) (kind : Kind) (r : RecordValue) → first_of kind_key ms ≡ Some (string (letters kind)) → IsDataOf ms r → r.kind ≡ kind
+letters_are ms kind r first h =
+    let named : Some (string (letters r.kind)) ≡ Some (string (letters kind)) = sym h.kind ∙ first in
+    let same : letters r.kind ≡ letters kind = cc named in
+    letters-injective r.kind kind same
+
+-- the kind that is named is the record's
+pub kind_named : (ms : Members) (kind : Kind) → first_of kind_key ms ≡ Some (string (letters kind)) → ((r : RecordValue) → r.kind ≡ kind → ¬ IsDataOf ms r) → (r : RecordValue) → ¬ IsDataOf ms r
+kind_named ms kind first none r h = none r (letters_are ms kind r first h) h
+
+-- a draft whose cells don't fit is that of no record
+pub draft_unfit : (kind : Kind) (ms : Members) (draft : RecordValue) (seen : List Bool) → first_of kind_key ms ≡ Some (string (letters kind)) → IsFilled kind ms draft seen → ¬ IsRecord draft → (r : RecordValue) → ¬ IsDataOf ms r
+draft_unfit kind ms draft seen first h unfit r d =
+    let kinds : r.kind ≡ kind = letters_are ms kind r first d in
+    let theirs : AreFrom ms (carried_fields kind) r.cells = subst (λ (k : Kind). AreFrom ms (carried_fields k) r.cells) kinds d.cells in
+    let cells : r.cells ≡ draft.cells = one_cells ms (carried_fields kind) r.cells draft.cells theirs h.cells in
+    let whole : Kind → List (List ℕ) → RecordValue = λ k cs. record { kind = k; cells = cs } in
+    let same : r ≡ draft = ap₂ whole (kinds ∙ sym h.kind_is) cells in
+    unfit (subst IsRecord same d.fits)
+
+pub data_undone : {E : Type 0} (kind : Kind) (ms : Members) (draft : RecordValue) (seen : List Bool) (answer : Result RecordValue E) → first_of kind_key ms ≡ Some (string (letters kind)) → IsFilled kind ms draft seen
+    → OnErr answer (¬ IsRecord draft) → OnErr answer ((r : RecordValue) → ¬ IsDataOf ms r)
+data_undone kind ms draft seen (Ok r) first h p = tt
+data_undone kind ms draft seen (Err e) first h p = draft_unfit kind ms draft seen first h p

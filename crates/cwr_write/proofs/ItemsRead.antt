@@ -13,8 +13,9 @@ use Rattle.cwr_layouts.specs.Format.Records.{RecordValue, IsRecord}
 use Rattle.cwr_values.specs.Format.Rows.{trailer}
 use Rattle.cwr_values.proofs.OneTransmissionOfRecords.{is_trailer}
 use Rattle.cwr_json.specs.Format.Forms.{AreRecordsData, IsRecordData, says, told}
-use Rattle.cwr_json.proofs.OwnData.{bytes_same}
-use Rattle.cwr_write.specs.Steps.Members.{IsAlone, IsDataAt, IsOnlyAt, SaysAt}
+use Rattle.cwr_json.proofs.OwnData.{bytes_same, same_bytes}
+use Rattle.cwr_write.specs.Format.AloneKinds.{IsAlone}
+use Rattle.cwr_write.specs.Steps.Members.{IsDataAt, IsOnlyAt, SaysAt}
 use Rattle.cwr_write.proofs.ToldMembers.{told_from, told_none}
 
 -- ---- members
@@ -97,3 +98,6 @@ key_same k l e = bytes_same k l (by (bytes_eq k l) e)
     by : (b : Bool) → not b ≡ false → b ≡ true
     by true h = refl
     by false h = absurd (true≢false h)
+
+pub key_other : (k l : List ℕ) → not (bytes_eq k l) ≡ true → k ≡ l → ⊥
+key_other k l e same = true≢false (sym e ∙ ap not (ap (λ (x : List ℕ). bytes_eq x l) same ∙ same_bytes l))

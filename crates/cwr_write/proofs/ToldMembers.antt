@@ -1,9 +1,9 @@
 -- The members that say something, member by member.
-use Rattle.std.proofs.Common.{◌≡◌, ℕ, ◌+◌, ◌<◌, ◌≤◌, suc, Bool, true, false, cond, ◌&&◌, true≢false, arith, List, [], ◌∷◌, ◌++◌, length, map, take, drop, get_or, Option, Some, refl, sym, ap, subst, ◌∙◌}
+use Rattle.std.proofs.Common.{◌≡◌, ℕ, ◌+◌, ◌<◌, ◌≤◌, suc, Bool, true, false, cond, ◌&&◌, true≢false, arith, List, [], ◌∷◌, ◌++◌, length, map, take, drop, get_or, Option, Some, None, refl, sym, ap, subst, ◌∙◌}
 use Rattle.std.specs.Borrow.{Bor}
 use Rattle.std.specs.Str.{bytes_eq}
-use Rattle.std.proofs.lemmas.List.{map-append, take_all, take_more}
-use Rattle.std.specs.Prelude.{Result, Ok, Err, IfOk}
+use Rattle.std.proofs.lemmas.List.{drop_all, map-append, take_all, take_more}
+use Rattle.std.specs.Prelude.{Result, Ok, Err, IfErr, IfOk, OnErr}
 use Rattle.std.proofs.Math.Seq.{drop-cons}
 use Rattle.cwr_layouts.specs.declared.kinds.Kind.{Kind}
 use Rattle.cwr_layouts.specs.Format.Kinds.{letters}
@@ -75,6 +75,33 @@ kind_found {E = E} items i m k whole answer h e names so_far named =
     by : (a : Result Kind E) → whole ≡ Some (value_view m.1) → IfOk a (λ kind. value_view m.1 ≡ string (letters kind)) → IfOk a (λ kind. whole ≡ Some (string (letters kind)))
     by (Ok kind) found n = found ∙ ap (λ (j : Json). Some j) n
     by (Err w) found n = tt
+
+pub kind_unnamed : {A E : Type 0} (items : List (Bor (List ℕ) × Value A)) (i : ℕ) (m : Bor (List ℕ) × Value A) (k : List ℕ) (whole : Option Json) (answer : Result Kind E) → i < length items → m ≡ get_or items i m
+    → (says m.0.now (value_view m.1) && bytes_eq m.0.now k) ≡ true → whole ≡ first_of k (told (members_view (drop i items))) → OnErr answer ((kind : Kind) → ¬ (value_view m.1 ≡ string (letters kind))) → OnErr answer ((kind : Kind) → ¬ (whole ≡ Some (string (letters kind))))
+kind_unnamed {E = E} items i m k whole answer h e names so_far unnamed =
+    by answer (so_far ∙ ap (first_of k) (told_from items i m h e) ∙ first_hit (says m.0.now (value_view m.1)) (bytes_eq m.0.now k) k m.0.now (value_view m.1) (told (members_view (drop (i + 1) items))) names refl) unnamed
+  where
+    by : (a : Result Kind E) → whole ≡ Some (value_view m.1) → OnErr a ((kind : Kind) → ¬ (value_view m.1 ≡ string (letters kind))) → OnErr a ((kind : Kind) → ¬ (whole ≡ Some (string (letters kind))))
+    by (Ok kind) found n = tt
+    by (Err w) found n = λ kind named. let both : Some (value_view m.1) ≡ Some (string (letters kind)) = sym found ∙ named in n kind (cc both)
+
+pub kind_reason : {A E : Type 0} (items : List (Bor (List ℕ) × Value A)) (i : ℕ) (m : Bor (List ℕ) × Value A) (k : List ℕ) (whole : Option Json) (answer : Result Kind E) (P : Option Json → E → Type 0) → i < length items → m ≡ get_or items i m
+    → (says m.0.now (value_view m.1) && bytes_eq m.0.now k) ≡ true → whole ≡ first_of k (told (members_view (drop i items))) → IfErr answer (P (Some (value_view m.1))) → IfErr answer (P whole)
+kind_reason {E = E} items i m k whole answer P h e names so_far told_so =
+    subst (λ (o : Option Json). IfErr answer (P o))
+    (sym (so_far ∙ ap (first_of k) (told_from items i m h e) ∙ first_hit (says m.0.now (value_view m.1)) (bytes_eq m.0.now k) k m.0.now (value_view m.1) (told (members_view (drop (i + 1) items))) names refl)) told_so
+
+pub none_has : {A : Type 0} (items : List (Bor (List ℕ) × Value A)) (i : ℕ) (k : List ℕ) → length items ≤ i → first_of k (told (members_view items)) ≡ first_of k (told (members_view (drop i items))) → first_of k (told (members_view items)) ≡ None
+unfolding first_of told
+none_has {A = A} items i k h so_far = so_far ∙ ap (λ (l : List (Bor (List ℕ) × Value A)). first_of k (told (members_view l))) (drop_all i items h)
+
+-- no member is left
+pub none_left : {A : Type 0} (items : List (Bor (List ℕ) × Value A)) (i : ℕ) (k : List ℕ) (j : Json) → length items ≤ i → first_of k (told (members_view items)) ≡ first_of k (told (members_view (drop i items))) → first_of k (told (members_view items)) ≡ Some j → ⊥
+unfolding first_of told
+none_left {A = A} items i k j h so_far found =
+    let none : first_of k (told (members_view (drop i items))) ≡ None = ap (λ (l : List (Bor (List ℕ) × Value A)). first_of k (told (members_view l))) (drop_all i items h) in
+    let both : Some j ≡ None = sym found ∙ so_far ∙ none in
+    cc both
 
 -- the same of a list that is equal
 pub member_in : {X : Type 0} (items others : List X) (i : ℕ) (m : X) → items ≡ others → i < length items → m ≡ get_or items i m → (i < length others) × (m ≡ get_or others i m)

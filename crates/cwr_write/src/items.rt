@@ -1,13 +1,20 @@
 //! From the value of a line to an item, and to an encoder.
 
-ghost use Rattle.std.specs.Prelude.{◌≡◌, ◌≤◌, ◌<◌, length, drop, IfOk, IfErr, false};
+ghost use Rattle.std.specs.Prelude.{◌≡◌, ◌≤◌, ◌<◌, ℕ, List, Option, length, drop, map, IfOk, IfErr, OnErr, false};
+ghost use Rattle.std.specs.Prelude.{option_map};
+ghost use Rattle.json.specs.Find.{as_array};
 ghost use Rattle.json.specs.Value.{items_view, members_view, value_view};
 ghost use Rattle.cwr_judge.specs.Format.Items.{item_records};
-ghost use Rattle.cwr_json.specs.Format.Forms.{AreRecordsData, IsItemData, records_key, told};
-ghost use Rattle.cwr_encode.specs.Steps.Encoders.{AddsRecords, encoder_limits, is_stopped};
-ghost use Rattle.cwr_write.specs.Steps.Members.{IsAlone, IsDataAt, IsOnlyAt, SaysAt};
-ghost use Rattle.cwr_write.specs.Steps.Taking.{IsFaultOf, IsOwn, given_records};
+ghost use Rattle.cwr_layouts.specs.Format.Records.{RecordValue};
+ghost use Rattle.cwr_values.specs.Format.Values.{symbol_of};
+ghost use Rattle.cwr_json.specs.Format.Forms.{AreOnlyRecords, AreRecordsData, IsItemData, records_key, told};
+ghost use Rattle.cwr_encode.specs.Steps.Encoders.{AddsRecords, Encodes, encoder_limits, is_stopped};
+ghost use Rattle.cwr_write.specs.Format.AloneKinds.{IsAlone};
+ghost use Rattle.cwr_write.specs.Steps.Members.{IsDataAt, IsKinded, IsOnlyAt, SaysAt};
+ghost use Rattle.cwr_write.specs.Format.Faults.{IsAmong, IsItemReason, IsListReason, IsOfData, NoItem};
+ghost use Rattle.cwr_write.specs.Steps.Taking.{IsFaultOf, IsLine, IsOfList, IsOwn, JudgesGiven, OnLine, given_records};
 
+use crate::hints::lack_of;
 use crate::records::{MemberList, of_record, record_of, says};
 use crate::refusals::{Key, LineFault, Why, of_key, of_line};
 use cwr_encode::{EncodeFault, Encoder};
@@ -51,7 +58,10 @@ fn first_said(members: &MemberList<'_>, from: usize) -> usize
 
 /// Where the list of records stands among a line's members: they have no other that says something.
 fn list_in(members: &MemberList<'_>) -> Result<usize, LineFault>
-    ensures { IfOk result (IsOnlyAt members.now.items records_key) }
+    ensures ok { IfOk result (IsOnlyAt members.now.items records_key) }
+    ensures err { OnErr result ((rs : List RecordValue) → ¬ AreOnlyRecords (told (members_view members.now.items)) rs) }
+    ensures why { IfErr result (λ f. IsOfData f.why) }
+    ensures reason { IfErr result (λ f. (f.record ≡ 0) × IsListReason (told (members_view members.now.items)) f.why) }
 {
     let at = first_said(members, 0);
     let Some(member) = members.get(at) else {
@@ -70,7 +80,9 @@ fn list_in(members: &MemberList<'_>) -> Result<usize, LineFault>
 
 /// The fault of a record that can't be added.
 fn push_fault(number: u32, kind: Kind, fault: PushFault) -> ItemFault
-    ensures { IsOwn result }
+    ensures own { IsOwn result }
+    ensures misplaced { IsLine result → fault ≡ PushFault.Misplaced }
+    ensures told { OnLine result (λ f. (f.record ≡ number) × (f.why ≡ Why.Misplaced)) }
 {
     match fault {
         PushFault::Memory => ItemFault::Memory,
@@ -91,8 +103,12 @@ fn transaction_of(
 ) -> Result<Transaction, ItemFault>
     requires some { 0 < length values.now }
     requires first { IsDataAt values.now 0 first.now }
+    requires inside { ¬ IsAlone first.now.kind }
     ensures ok { IfOk result (λ transaction. AreRecordsData (items_view values.now) transaction) }
+    ensures kinded { IfOk result (λ transaction. IsKinded (Item.Transaction transaction)) }
     ensures err { IfErr result IsOwn }
+    ensures none { IfErr result (λ fault. IsLine fault → NoItem (AreRecordsData (items_view values.now))) }
+    ensures reason { IfErr result (λ fault. OnLine fault (IsAmong (map value_view values.now))) }
 {
     let mut transaction = match Transaction::new(alloc, first.view()) {
         Ok(transaction) => transaction,
@@ -112,20 +128,33 @@ fn transaction_of(
     Ok(transaction)
 }
 
+/// What is told of a second record beside one that stands alone: what is wrong with it itself comes first.
+fn beside(values: &[Value<'_>], first: &Record) -> LineFault
+    requires more { 1 < length values.now }
+    requires alone { IsAlone first.now.kind }
+    requires data { IsDataAt values.now 0 first.now }
+    ensures why { IsOfData result.why }
+    ensures reason { IsAmong (map value_view values.now) result }
+{
+    match record_of(2, &values[1]) {
+        Ok(_) => of_record(2, Some(first.view().kind()), Key::None, Why::Alone),
+        Err(fault) => fault,
+    }
+}
+
 /// The item that is one record.
 fn item_alone(kind: Kind, values: &[Value<'_>], first: Record) -> Result<Item, ItemFault>
     requires some { 0 < length values.now }
     requires kind { (first.kind ≡ kind) × IsAlone kind }
     requires data { IsDataAt values.now 0 first }
     ensures ok { IfOk result (λ item. AreRecordsData (items_view values.now) (item_records item)) }
+    ensures kinded { IfOk result IsKinded }
     ensures err { IfErr result IsOwn }
+    ensures none { IfErr result (λ fault. NoItem (AreRecordsData (items_view values.now))) }
+    ensures reason { IfErr result (λ fault. OnLine fault (IsAmong (map value_view values.now))) }
 {
     if values.len() > 1 {
-        // What is wrong with the second record itself comes first.
-        return Err(ItemFault::Line(match record_of(2, &values[1]) {
-            Ok(_) => of_record(2, Some(kind), Key::None, Why::Alone),
-            Err(fault) => fault,
-        }));
+        return Err(ItemFault::Line(beside(values, &first)));
     }
     Ok(match kind {
         Kind::Hdr => Item::Opened(first),
@@ -138,7 +167,10 @@ fn item_alone(kind: Kind, values: &[Value<'_>], first: Record) -> Result<Item, I
 /// The item that values are.
 fn item_of(alloc: Global, values: &[Value<'_>]) -> Result<Item, ItemFault>
     ensures ok { IfOk result (λ item. AreRecordsData (items_view values.now) (item_records item)) }
+    ensures kinded { IfOk result IsKinded }
     ensures err { IfErr result IsOwn }
+    ensures none { IfErr result (λ fault. IsLine fault → NoItem (AreRecordsData (items_view values.now))) }
+    ensures reason { IfErr result (λ fault. OnLine fault (IsOfList (map value_view values.now))) }
 {
     let Some(first) = values.first() else {
         return Err(ItemFault::Line(of_key("records", Why::Empty)));
@@ -157,10 +189,24 @@ fn item_of(alloc: Global, values: &[Value<'_>]) -> Result<Item, ItemFault>
     }
 }
 
+/// The values of a list.
+fn values_in<'v, 'a>(value: &'v Value<'a>) -> Option<&'v [Value<'a>]>
+    ensures { option_map (λ vs. items_view vs.now) result ≡ as_array (value_view value.now) }
+{
+    if let Value::Array(values) = value {
+        Some(values.as_slice())
+    } else {
+        None
+    }
+}
+
 /// The item that the value of a line is.
 pub(crate) fn item_in(alloc: Global, value: &Value<'_>) -> Result<Item, ItemFault>
     ensures ok { IfOk result (λ item. IsItemData (value_view value.now) (item_records item)) }
+    ensures kinded { IfOk result IsKinded }
     ensures err { IfErr result IsOwn }
+    ensures none { IfErr result (λ fault. IsLine fault → NoItem (IsItemData (value_view value.now))) }
+    ensures reason { IfErr result (λ fault. OnLine fault (IsItemReason (value_view value.now))) }
 {
     let Value::Object(members) = value else {
         return Err(ItemFault::Line(of_line(Why::NotAnObject)));
@@ -172,20 +218,20 @@ pub(crate) fn item_in(alloc: Global, value: &Value<'_>) -> Result<Item, ItemFaul
     let Some(member) = members.get(at) else {
         return Err(ItemFault::Line(of_key("records", Why::Missing)));
     };
-    let Value::Array(values) = &member.1 else {
+    let Some(values) = values_in(&member.1) else {
         return Err(ItemFault::Line(of_key("records", Why::NotAList)));
     };
-    item_of(alloc, values.as_slice())
+    item_of(alloc, values)
 }
 
-/// What is told of an encoder's fault.
-pub(crate) fn encode_fault(fault: EncodeFault) -> ItemFault
+/// What is told of an encoder's fault with the item.
+pub(crate) fn encode_fault(fault: EncodeFault, item: &Item) -> ItemFault
     ensures { IsFaultOf fault result }
 {
     match fault {
         EncodeFault::OutOfOrder => ItemFault::Line(of_line(Why::OutOfOrder)),
         EncodeFault::WrongKind => ItemFault::Line(of_line(Why::WrongKind)),
-        EncodeFault::Incomplete => ItemFault::Line(of_line(Why::Incomplete)),
+        EncodeFault::Incomplete => ItemFault::Line(of_line(Why::Incomplete(lack_of(item)))),
         EncodeFault::Limit(limit) => ItemFault::Line(of_line(Why::Limit(limit))),
         EncodeFault::Writer { written } => ItemFault::Writer { written },
     }
@@ -199,6 +245,8 @@ pub(crate) fn write_item<W: Target>(
     requires { is_stopped encoder.old ≡ false }
     ensures adds { AddsRecords W.contents W.failures (given_records item.now) result encoder.old encoder.new }
     ensures limits { encoder_limits encoder.new ≡ encoder_limits encoder.old }
+    ensures judged { (start : Option (List ℕ)) (records : List RecordValue) → Encodes W.contents start records encoder.old
+        → JudgesGiven (encoder_limits encoder.old) item.now (map symbol_of records) result }
 {
     match item {
         Item::Opened(record) => encoder.open(record),

@@ -1,6 +1,6 @@
 //! Keys of fields.
 
-ghost use Rattle.std.specs.Prelude.{◌≡◌, ◌≤◌, ◌<◌, length, IfSome, IsSomeAnd, true, if◌then◌else◌};
+ghost use Rattle.std.specs.Prelude.{◌≡◌, ◌≤◌, ◌<◌, ℕ, length, MatchOption, IsSomeAnd, true, false, if◌then◌else◌};
 ghost use Rattle.std.specs.Str.{bytes_eq};
 ghost use Rattle.cwr_layouts.specs.Format.Layouts.{field_at, layout};
 ghost use Rattle.cwr_json.specs.Format.Forms.{key_byte, key_of};
@@ -43,7 +43,7 @@ fn has_key(kind: Kind, j: u8, key: &[u8]) -> bool
 
 /// The number of the field of that key, sought from the field after number `from` on, and then from the first one on.
 pub(crate) fn field_of_key(kind: Kind, key: &str, from: u8) -> Option<u8>
-    ensures { IfSome result (λ j. names_field kind j key.now ≡ true) }
+    ensures { MatchOption result ((j : ℕ) → names_field kind j key.now ≡ false) (λ j. names_field kind j key.now ≡ true) }
 {
     let count = fields(kind);
     for j in from..count {

@@ -1,10 +1,10 @@
 //! Lines of an input.
 
-ghost use Rattle.std.specs.Prelude.{◌≡◌, ◌<◌, ◌++◌, length, take, slice_index, IfOk, IsFalse, MatchOption, OnOk};
+ghost use Rattle.std.specs.Prelude.{◌≡◌, ◌<◌, ◌≤◌, ◌+◌, ◌++◌, [], length, take, slice_index, IfErr, IfOk, IsFalse, MatchOption, OnOk};
 ghost use Rattle.std.specs.List.{list_any};
 ghost use Rattle.cwr_layouts.specs.Format.Lines.{is_lf};
 ghost use Rattle.cwr_write.specs.Format.Imports.{is_blank_line};
-ghost use Rattle.cwr_write.specs.Steps.Lines.{TakesLineOf, TakesPart};
+ghost use Rattle.cwr_write.specs.Steps.Lines.{ExceedsWith, TakesLineOf, TakesPart};
 ghost use Rattle.cwr_write.specs.Steps.Taking.{CountsReading, IsUnfailed};
 
 use cwr_fields::Source;
@@ -33,8 +33,11 @@ fn line_feed(piece: &[u8]) -> Option<usize>
 
 /// Adds bytes to a line, which may have so many.
 fn add(line: &mut Vec<u8>, bytes: &[u8], most: usize) -> Result<(), ReadFault>
+    requires { length line.old.items ≤ most }
     ensures unfailed { IsUnfailed result }
     ensures added { OnOk result (line.new.items ≡ line.old.items ++ bytes.now) }
+    ensures short { OnOk result (length line.new.items ≤ most) }
+    ensures long { IfErr result (λ fault. fault ≡ ReadFault.TooLong → most < length line.old.items + length bytes.now) }
 {
     if bytes.len() > most.saturating_sub(line.len()) {
         return Err(ReadFault::TooLong);
@@ -51,8 +54,11 @@ fn take_piece<R: Source>(
     line: &mut Vec<u8>,
     most: usize,
 ) -> Result<Option<bool>, ReadFault>
+    requires { length line.old.items ≤ most }
     ensures failures { CountsReading result (R.failures reader.old) (R.failures reader.new) }
     ensures taken { IfOk result (λ ended. TakesPart (R.remaining reader.old) (R.remaining reader.new) line.old.items line.new.items ended) }
+    ensures short { OnOk result (length line.new.items ≤ most) }
+    ensures long { IfErr result (λ fault. fault ≡ ReadFault.TooLong → ExceedsWith most (R.remaining reader.old) line.old.items) }
 {
     let piece = match reader.fill() {
         Ok(piece) => piece,
@@ -84,6 +90,8 @@ pub(crate) fn next_line<R: Source>(
 ) -> Result<bool, ReadFault>
     ensures failures { CountsReading result (R.failures reader.old) (R.failures reader.new) }
     ensures taken { IfOk result (TakesLineOf (R.remaining reader.old) (R.remaining reader.new) line.new.items) }
+    ensures short { OnOk result (length line.new.items ≤ most) }
+    ensures long { IfErr result (λ fault. fault ≡ ReadFault.TooLong → ExceedsWith most (R.remaining reader.old) []) }
 {
     line.clear();
     for _ in 0..u64::MAX {
@@ -93,7 +101,8 @@ pub(crate) fn next_line<R: Source>(
             None => return Ok(!line.is_empty()),
         }
     }
-    Err(ReadFault::TooLong)
+    // No memory has a line of so many pieces.
+    Err(ReadFault::Memory)
 }
 
 /// Whether a line says nothing.

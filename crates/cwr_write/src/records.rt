@@ -1,14 +1,16 @@
 //! From the members of an object to a record.
 
-ghost use Rattle.std.specs.Prelude.{◌≡◌, ◌&&◌, ℕ, ◌<◌, ◌≤◌, List, Bool, if◌then◌else◌, length, take, Some, IfOk, IfSome, OnOk};
+ghost use Rattle.std.specs.Prelude.{◌≡◌, ◌&&◌, ◌++◌, ℕ, ◌<◌, ◌≤◌, List, Bool, true, if◌then◌else◌, length, take, Some, None, IfErr, IfOk, MatchOption, OnErr, OnOk};
 ghost use Rattle.std.specs.Str.{bytes_eq};
 ghost use Rattle.json.specs.Json.{Members, no_members, string};
 ghost use Rattle.json.specs.Value.{members_view, value_view};
 ghost use Rattle.cwr_layouts.specs.Format.Kinds.{letters};
-ghost use Rattle.cwr_layouts.specs.Format.Records.{IsRecord};
-ghost use Rattle.cwr_layouts.specs.Format.Carried.{Sets};
+ghost use Rattle.cwr_layouts.specs.Format.Layouts.{FieldLayout, field_at};
+ghost use Rattle.cwr_layouts.specs.Format.Records.{IsRecord, RecordValue};
+ghost use Rattle.cwr_layouts.specs.Format.Carried.{Sets, carried_at};
 ghost use Rattle.cwr_json.specs.Format.Forms.{IsDataOf, IsRecordData, character, characters, first_of, is_note, kind_key, says, told};
-ghost use Rattle.cwr_write.specs.Steps.Filling.{IsFilled, with_last};
+ghost use Rattle.cwr_write.specs.Format.Faults.{AreBytes, IsKindReason, IsMemberReason, IsOfData, IsRecordReason, IsValueReason};
+ghost use Rattle.cwr_write.specs.Steps.Filling.{FitsField, IsDraftReason, IsFilled, NoneFrom, has_higher, joined, with_last};
 
 use crate::keys::field_of_key;
 use crate::refusals::{Key, LineFault, Why, text_key};
@@ -45,7 +47,10 @@ fn names_kind(key: &str, value: &Value<'_>) -> bool
 
 /// The kind that a value names.
 fn kind_of(value: &Value<'_>) -> Result<Kind, Why>
-    ensures { IfOk result (λ kind. value_view value.now ≡ string (letters kind)) }
+    ensures ok { IfOk result (λ kind. value_view value.now ≡ string (letters kind)) }
+    ensures err { OnErr result ((kind : Kind) → ¬ (value_view value.now ≡ string (letters kind))) }
+    ensures why { IfErr result IsOfData }
+    ensures reason { IfErr result (IsKindReason (Some (value_view value.now))) }
 {
     let Some(text) = value.as_str() else {
         return Err(Why::NotText);
@@ -58,7 +63,10 @@ fn kind_of(value: &Value<'_>) -> Result<Kind, Why>
 
 /// The kind that the first member which names one has.
 fn kind_in(members: &MemberList<'_>) -> Result<Kind, Why>
-    ensures { IfOk result (λ kind. first_of kind_key (told (members_view members.now.items)) ≡ Some (string (letters kind))) }
+    ensures ok { IfOk result (λ kind. first_of kind_key (told (members_view members.now.items)) ≡ Some (string (letters kind))) }
+    ensures err { OnErr result ((kind : Kind) → ¬ (first_of kind_key (told (members_view members.now.items)) ≡ Some (string (letters kind)))) }
+    ensures why { IfErr result IsOfData }
+    ensures reason { IfErr result (IsKindReason (first_of kind_key (told (members_view members.now.items)))) }
 {
     for member in members {
         if names_kind(member.0, &member.1) {
@@ -76,7 +84,8 @@ type Cell = ArrayVec<u8, WIDEST_CELL>;
 
 /// The byte that the first character stands for, and how many bytes that has. It is `None` where no character up to U+00FF comes.
 fn first_byte(text: &[u8]) -> Option<(u8, usize)>
-    ensures { IfSome result (λ p. (0 < p.1) × (p.1 ≤ length text.now) × (character p.0 ≡ take p.1 text.now)) }
+    ensures { MatchOption result ((b : ℕ) (rest : List ℕ) → b < 256 → ¬ (text.now ≡ character b ++ rest))
+        (λ p. (0 < p.1) × (p.1 ≤ length text.now) × (character p.0 ≡ take p.1 text.now)) }
 {
     let first = *text.first()?;
     if first < 128 {
@@ -92,7 +101,8 @@ fn first_byte(text: &[u8]) -> Option<(u8, usize)>
 
 /// The bytes that characters up to U+00FF stand for. It is `None` for a text that has others, or that is wider than any cell.
 fn bytes_of(text: &[u8]) -> Option<Cell>
-    ensures { IfSome result (λ cell. characters cell.items ≡ text.now) }
+    ensures { MatchOption result ((cell : List ℕ) → AreBytes cell → length cell ≤ WIDEST_CELL → ¬ (characters cell ≡ text.now))
+        (λ cell. characters cell.items ≡ text.now) }
 {
     let mut cell = Cell::new();
     let mut i: usize = 0;
@@ -106,11 +116,26 @@ fn bytes_of(text: &[u8]) -> Option<Cell>
     Some(cell)
 }
 
+/// Whether a text has a byte that is in no character up to U+00FF.
+fn has_higher(text: &[u8]) -> bool
+    ensures { result ≡ has_higher text.now }
+{
+    for b in text {
+        if *b > 195 {
+            return true;
+        }
+    }
+    false
+}
+
 /// Sets a cell of a draft to the bytes that characters stand for.
 fn set_characters(draft: &mut Draft, j: u8, text: &[u8]) -> Result<(), Why>
-    ensures { OnOk result ((cell : List ℕ) × (characters cell ≡ text.now) × Sets j cell draft.old draft.new) }
+    ensures ok { OnOk result ((cell : List ℕ) × (characters cell ≡ text.now) × Sets j cell draft.old draft.new) }
+    ensures err { OnErr result ((cell : List ℕ) → characters cell ≡ text.now → ¬ FitsField draft.old.kind j cell) }
+    ensures why { IfErr result IsOfData }
+    ensures reason { IfErr result (λ why. (f : FieldLayout) → field_at draft.old.kind j ≡ Some f → IsValueReason f (Some (string text.now)) why) }
 {
-    if text.iter().any(|b| *b > 195) {
+    if has_higher(text) {
         return Err(Why::NotAByte);
     }
     let Some(cell) = bytes_of(text) else {
@@ -126,7 +151,10 @@ fn set_characters(draft: &mut Draft, j: u8, text: &[u8]) -> Result<(), Why>
 }
 
 /// Whether field `j` is computed.
-fn is_computed(kind: Kind, j: u8) -> bool {
+fn is_computed(kind: Kind, j: u8) -> bool
+    ensures none { result ≡ true → carried_at kind j ≡ None }
+    ensures derived { result ≡ true → (f : FieldLayout) → field_at kind j ≡ Some f → f.derived ≡ true }
+{
     match field(kind, j) {
         Some(place) => place.derived,
         None => false,
@@ -135,7 +163,10 @@ fn is_computed(kind: Kind, j: u8) -> bool {
 
 /// Sets a cell of a draft to a value.
 fn set_value(draft: &mut Draft, kind: Kind, j: u8, value: &Value<'_>) -> Result<(), Why>
-    ensures { OnOk result ((cell : List ℕ) × (value_view value.now ≡ string (characters cell)) × Sets j cell draft.old draft.new) }
+    ensures ok { OnOk result ((cell : List ℕ) × (value_view value.now ≡ string (characters cell)) × Sets j cell draft.old draft.new) }
+    ensures err { OnErr result (draft.old.kind ≡ kind → (cell : List ℕ) → value_view value.now ≡ string (characters cell) → ¬ FitsField kind j cell) }
+    ensures why { IfErr result IsOfData }
+    ensures reason { IfErr result (λ why. draft.old.kind ≡ kind → (f : FieldLayout) → field_at kind j ≡ Some f → IsValueReason f (Some (value_view value.now)) why) }
 {
     if is_computed(kind, j) {
         return Err(Why::Computed);
@@ -175,6 +206,11 @@ impl Filling {
     fn take(&mut self, key: &str, value: &Value<'_>) -> Result<(), (Key, Why)>
         ensures ok { OnOk result ((ms : Members) → IsFilled self.old.kind ms self.old.draft self.old.seen
             → IsFilled self.old.kind (with_last ms key.now (value_view value.now)) self.new.draft self.new.seen) }
+        ensures err { OnErr result ((ms : Members) → IsFilled self.old.kind ms self.old.draft self.old.seen
+            → NoneFrom self.old.kind (with_last ms key.now (value_view value.now))) }
+        ensures why { IfErr result (λ f. IsOfData f.1) }
+        ensures reason { IfErr result (λ f. (ms rest : Members) → IsFilled self.old.kind ms self.old.draft self.old.seen
+            → IsMemberReason self.old.kind (joined (with_last ms key.now (value_view value.now)) rest) f.0 f.1) }
         ensures kind { self.new.kind ≡ self.old.kind }
     {
         let Some(j) = field_of_key(self.kind, key, self.last) else {
@@ -198,6 +234,11 @@ impl Filling {
     fn meet(&mut self, key: &str, value: &Value<'_>) -> Result<(), (Key, Why)>
         ensures ok { OnOk result ((ms : Members) → IsFilled self.old.kind ms self.old.draft self.old.seen
             → IsFilled self.old.kind (if says key.now (value_view value.now) then with_last ms key.now (value_view value.now) else ms) self.new.draft self.new.seen) }
+        ensures err { OnErr result ((ms : Members) → IsFilled self.old.kind ms self.old.draft self.old.seen
+            → NoneFrom self.old.kind (if says key.now (value_view value.now) then with_last ms key.now (value_view value.now) else ms)) }
+        ensures why { IfErr result (λ f. IsOfData f.1) }
+        ensures reason { IfErr result (λ f. (ms rest : Members) → IsFilled self.old.kind ms self.old.draft self.old.seen
+            → IsMemberReason self.old.kind (joined (if says key.now (value_view value.now) then with_last ms key.now (value_view value.now) else ms) rest) f.0 f.1) }
         ensures kind { self.new.kind ≡ self.old.kind }
     {
         if says(key, value) {
@@ -210,7 +251,10 @@ impl Filling {
 
 /// The draft that members fill.
 fn filled(kind: Kind, members: &MemberList<'_>) -> Result<Draft, (Key, Why)>
-    ensures { IfOk result (λ draft. (seen : List Bool) × IsFilled kind (told (members_view members.now.items)) draft seen) }
+    ensures ok { IfOk result (λ draft. (seen : List Bool) × IsFilled kind (told (members_view members.now.items)) draft seen) }
+    ensures err { OnErr result ((r : RecordValue) → r.kind ≡ kind → ¬ IsDataOf (told (members_view members.now.items)) r) }
+    ensures why { IfErr result (λ f. IsOfData f.1) }
+    ensures reason { IfErr result (λ f. IsMemberReason kind (told (members_view members.now.items)) f.0 f.1) }
 {
     let mut filling = Filling::new(kind);
     for member in members {
@@ -221,7 +265,10 @@ fn filled(kind: Kind, members: &MemberList<'_>) -> Result<Draft, (Key, Why)>
 
 /// The record of a draft.
 fn done(draft: &Draft) -> Result<Record, (Key, Why)>
-    ensures { IfOk result (λ r. (r ≡ draft.now) × IsRecord draft.now) }
+    ensures ok { IfOk result (λ r. (r ≡ draft.now) × IsRecord draft.now) }
+    ensures err { OnErr result (¬ IsRecord draft.now) }
+    ensures why { IfErr result (λ f. IsOfData f.1) }
+    ensures reason { IfErr result (λ f. IsDraftReason draft.now f.0 f.1) }
 {
     match draft.done() {
         Ok(record) => Ok(record),
@@ -232,7 +279,10 @@ fn done(draft: &Draft) -> Result<Record, (Key, Why)>
 /// The record of that kind that members are.
 fn record_in(kind: Kind, members: &MemberList<'_>) -> Result<Record, (Key, Why)>
     requires { first_of kind_key (told (members_view members.now.items)) ≡ Some (string (letters kind)) }
-    ensures { IfOk result (λ r. IsDataOf (told (members_view members.now.items)) r) }
+    ensures ok { IfOk result (λ r. IsDataOf (told (members_view members.now.items)) r) }
+    ensures err { OnErr result ((r : RecordValue) → ¬ IsDataOf (told (members_view members.now.items)) r) }
+    ensures why { IfErr result (λ f. IsOfData f.1) }
+    ensures reason { IfErr result (λ f. IsMemberReason kind (told (members_view members.now.items)) f.0 f.1) }
 {
     let draft = filled(kind, members)?;
     done(&draft)
@@ -240,7 +290,10 @@ fn record_in(kind: Kind, members: &MemberList<'_>) -> Result<Record, (Key, Why)>
 
 /// The record that a value is, the one of that number in its line.
 pub(crate) fn record_of(number: u32, value: &Value<'_>) -> Result<Record, LineFault>
-    ensures { IfOk result (λ r. IsRecordData (value_view value.now) r) }
+    ensures ok { IfOk result (λ r. IsRecordData (value_view value.now) r) }
+    ensures err { OnErr result ((r : RecordValue) → ¬ IsRecordData (value_view value.now) r) }
+    ensures why { IfErr result (λ f. IsOfData f.why) }
+    ensures reason { IfErr result (λ f. (f.record ≡ number) × IsRecordReason (value_view value.now) f.kind f.key f.why) }
 {
     let Value::Object(members) = value else {
         return Err(of_record(number, None, Key::None, Why::NotAnObject));
@@ -256,7 +309,12 @@ pub(crate) fn record_of(number: u32, value: &Value<'_>) -> Result<Record, LineFa
 }
 
 /// A fault of the record of that number.
-pub(crate) fn of_record(number: u32, kind: Option<Kind>, key: Key, why: Why) -> LineFault {
+pub(crate) fn of_record(number: u32, kind: Option<Kind>, key: Key, why: Why) -> LineFault
+    ensures why { result.why ≡ why }
+    ensures key { result.key ≡ key }
+    ensures kind { result.kind ≡ kind }
+    ensures record { result.record ≡ number }
+{
     LineFault {
         record: number,
         kind,

@@ -1,5 +1,8 @@
 //! Why lines of JSON aren't written as a transmission.
 
+ghost use Rattle.std.specs.Prelude.{◌≡◌};
+
+use crate::hints::Lack;
 use arrayvec::ArrayVec;
 use cwr_encode::{Sink, SinkFault};
 use cwr_fields::{CellFault, Target};
@@ -58,8 +61,8 @@ pub enum Why {
     OutOfOrder,
     /// The transaction isn't of its group's type.
     WrongKind,
-    /// The transaction isn't whole, its group has none, or the transmission has no group.
-    Incomplete,
+    /// The transaction isn't whole, its group has none, or the transmission has no group: this is missing.
+    Incomplete(Lack),
     /// The limit would be passed.
     Limit(LimitKind),
     /// The line has more bytes than it may have.
@@ -89,7 +92,10 @@ pub struct Refusal {
 }
 
 /// A fault of the whole line.
-pub(crate) fn of_line(why: Why) -> LineFault {
+pub(crate) fn of_line(why: Why) -> LineFault
+    ensures why { result.why ≡ why }
+    ensures record { result.record ≡ 0 }
+{
     LineFault {
         record: 0,
         kind: None,
@@ -99,7 +105,10 @@ pub(crate) fn of_line(why: Why) -> LineFault {
 }
 
 /// A fault of a key of the line.
-pub(crate) fn of_key(key: &str, why: Why) -> LineFault {
+pub(crate) fn of_key(key: &str, why: Why) -> LineFault
+    ensures why { result.why ≡ why }
+    ensures record { result.record ≡ 0 }
+{
     LineFault {
         record: 0,
         kind: None,
@@ -137,7 +146,7 @@ fn words(why: &Why) -> &'static [u8] {
         Why::Alone => b"must stand alone in its line",
         Why::OutOfOrder => b"out of order",
         Why::WrongKind => b"of the wrong kind",
-        Why::Incomplete => b"incomplete",
+        Why::Incomplete(_) => b"incomplete",
         Why::Limit(LimitKind::Records) => b"limit records",
         Why::Limit(LimitKind::Groups) => b"limit groups",
         Why::Limit(LimitKind::Transaction) => b"limit transaction",
@@ -166,7 +175,7 @@ fn put_shown<W: Target>(b: u8, sink: &mut Sink<W>) -> Result<(), SinkFault> {
 }
 
 /// Puts the name of a field as a key.
-fn put_name<W: Target>(name: &str, sink: &mut Sink<W>) -> Result<(), SinkFault> {
+pub(crate) fn put_name<W: Target>(name: &str, sink: &mut Sink<W>) -> Result<(), SinkFault> {
     for b in name.as_bytes() {
         sink.put(&[if *b == b' ' || *b == b'-' { b'_' } else { *b }])?;
     }
@@ -174,7 +183,11 @@ fn put_name<W: Target>(name: &str, sink: &mut Sink<W>) -> Result<(), SinkFault> 
 }
 
 /// Puts the key of field `j`.
-fn put_key_of<W: Target>(kind: Kind, j: u8, sink: &mut Sink<W>) -> Result<(), SinkFault> {
+pub(crate) fn put_key_of<W: Target>(
+    kind: Kind,
+    j: u8,
+    sink: &mut Sink<W>,
+) -> Result<(), SinkFault> {
     match field(kind, j) {
         Some(place) => put_name(place.name, sink),
         None => Ok(()),

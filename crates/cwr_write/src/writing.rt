@@ -1,10 +1,17 @@
 //! From lines of JSON to a transmission.
 
-ghost use Rattle.std.specs.Prelude.{◌≡◌, ◌≢◌, IfOk, OnOk, ℕ, List, [], Option, true, false};
+ghost use Rattle.std.specs.Prelude.{◌≡◌, ◌≢◌, ◌<◌, ◌^◌, ◌-◌, IfOk, IfSome, OnErr, OnOk, ℕ, List, [], length, map, Option, true, false};
+ghost use Rattle.cwr_layouts.specs.Format.Records.{RecordValue};
+ghost use Rattle.cwr_layouts.specs.declared.kinds.Kind.TheVariants.{Trl};
+ghost use Rattle.cwr_shape.specs.declared.symbols.Symbol.TheVariants.{Plain};
+ghost use Rattle.cwr_shape.specs.Format.NextSymbols.{MayCome};
+ghost use Rattle.cwr_values.specs.Format.Values.{FitsIn, IsTransmission, TransmissionValue, symbol_of};
 ghost use Rattle.cwr_encode.specs.Steps.Encoders.{AddsRecords, Encodes, encoder_limits, is_stopped, target_of};
 ghost use Rattle.cwr_encode.specs.Steps.Finishing.{FinishesWriting};
 ghost use Rattle.cwr_write.specs.Format.Imports.{CountsReaderFault, CountsWriterFault, SaysItem, WritesWhole};
-ghost use Rattle.cwr_write.specs.Steps.Taking.{EndsWith, IsNoWriter, IsReachedWith, NoReader, IsRunFaultOf, IsUnreadFault, TakesLine, TakesLines, given_records};
+ghost use Rattle.cwr_write.specs.Format.Faults.{IsPlaceReason, IsReason, JudgesTrailer, reached_with};
+ghost use Rattle.cwr_write.specs.Format.Endings.{EndsAtLine, SaysTransmission, WritesTransmission};
+ghost use Rattle.cwr_write.specs.Steps.Taking.{EndsLines, EndsWith, FinishesLines, IsFinishFault, IsNoWriter, IsRunFaultOf, IsUnreadFault, JudgesNext, NoReader, Stands, TakesLine, TakesLines, given_records};
 
 use crate::items::{ItemFault, encode_fault, item_in, write_item};
 use crate::lines::{ReadFault, is_blank, next_line};
@@ -82,7 +89,7 @@ enum Reached {
 
 /// How far the lines have come with the item.
 fn reached_with(item: &Item) -> Reached
-    ensures { IsReachedWith item.now result }
+    ensures { result ≡ reached_with item.now }
 {
     match item {
         Item::Opened(_) => Reached::Opening,
@@ -95,7 +102,9 @@ fn reached_with(item: &Item) -> Reached
 /// Judges the line of TRL, which comes after a group.
 fn judge_end(reached: Reached) -> Result<(), EncodeFault>
     ensures unfailed { IsNoWriter result }
-    ensures more { OnOk result (reached ≢ Reached.End) }
+    ensures ok { OnOk result (reached ≡ Reached.GroupFoot) }
+    ensures err { OnErr result (reached ≢ Reached.GroupFoot) }
+    ensures judged { OnErr result (JudgesTrailer reached result) }
 {
     match reached {
         Reached::GroupFoot => Ok(()),
@@ -114,6 +123,8 @@ fn take_item<W: Target>(
     ensures adds { AddsRecords W.contents W.failures (given_records item.now) result encoder.old encoder.new }
     ensures limits { encoder_limits encoder.new ≡ encoder_limits encoder.old }
     ensures more { OnOk result (reached ≢ Reached.End) }
+    ensures judged { (start : Option (List ℕ)) (items : List Item) → Stands W.contents start items reached encoder.old
+        → JudgesNext (encoder_limits encoder.old) items item.now result }
 {
     match (item, reached) {
         (_, Reached::End) => Err(EncodeFault::OutOfOrder),
@@ -129,12 +140,12 @@ fn taken<W: Target>(
     encoder: &mut Encoder<W>,
 ) -> Result<Reached, ItemFault>
     requires { is_stopped encoder.old ≡ false }
-    ensures takes { TakesLine (λ i. i ≡ item.now) reached W.contents W.failures result encoder.old encoder.new }
+    ensures takes { TakesLine (λ i. i ≡ item.now) (λ limits items f. IsPlaceReason limits items item.now f.why) reached W.contents W.failures result encoder.old encoder.new }
     ensures limits { encoder_limits encoder.new ≡ encoder_limits encoder.old }
 {
     match take_item(item, reached, encoder) {
         Ok(()) => Ok(reached_with(item)),
-        Err(fault) => Err(encode_fault(fault)),
+        Err(fault) => Err(encode_fault(fault, item)),
     }
 }
 
@@ -147,7 +158,7 @@ fn take_line<W: Target>(
     encoder: &mut Encoder<W>,
 ) -> Result<Reached, ItemFault>
     requires { is_stopped encoder.old ≡ false }
-    ensures takes { TakesLine (SaysItem line.now) reached W.contents W.failures result encoder.old encoder.new }
+    ensures takes { TakesLine (SaysItem line.now) (λ limits items f. (most : ℕ) → IsReason limits most items line.now f) reached W.contents W.failures result encoder.old encoder.new }
     ensures limits { encoder_limits encoder.new ≡ encoder_limits encoder.old }
 {
     let value = match Value::from_slice(alloc, line, scratch) {
@@ -163,7 +174,7 @@ fn take_line<W: Target>(
 
 /// The fault of a run at that line.
 fn fault_at(line: u64, fault: ItemFault) -> WriteFault
-    ensures { IsRunFaultOf fault result }
+    ensures { IsRunFaultOf line fault result }
 {
     match fault {
         ItemFault::Line(fault) => WriteFault::Refused(Refusal { line, fault }),
@@ -174,7 +185,7 @@ fn fault_at(line: u64, fault: ItemFault) -> WriteFault
 
 /// The fault of a run that can't read that line.
 fn unread_at(line: u64, fault: ReadFault) -> WriteFault
-    ensures { IsUnreadFault fault result }
+    ensures { IsUnreadFault line fault result }
 {
     match fault {
         ReadFault::Reader => WriteFault::Reader,
@@ -188,7 +199,7 @@ fn unread_at(line: u64, fault: ReadFault) -> WriteFault
 
 /// How so many lines end: well where the last item is TRL.
 fn ended_with(lines: u64, reached: Reached) -> Result<u64, WriteFault>
-    ensures { EndsWith reached result }
+    ensures { EndsWith lines reached result }
 {
     match reached {
         Reached::End => Ok(lines),
@@ -203,10 +214,12 @@ fn take_lines<R: Source, W: Target>(
     reader: &mut R,
     encoder: &mut Encoder<W>,
 ) -> Result<u64, WriteFault>
-    requires { is_stopped encoder.old ≡ false }
+    requires unfailed { is_stopped encoder.old ≡ false }
+    requires fresh { Encodes W.contents (W.contents (target_of encoder.old)) [] encoder.old }
     ensures takes { TakesLines (R.remaining reader.old) W.contents W.failures result encoder.old encoder.new }
     ensures reads { CountsReaderFault result (R.failures reader.old) (R.failures reader.new) }
     ensures limits { encoder_limits encoder.new ≡ encoder_limits encoder.old }
+    ensures ends { IfSome (R.remaining reader.old) (λ text. length text < 2 ^ 64 - 1 → EndsLines (encoder_limits encoder.old) most text result) }
 {
     let mut line: Vec<u8> = Vec::new(alloc);
     let mut scratch: Scratch = Scratch::new(alloc);
@@ -245,6 +258,11 @@ pub fn write<R: Source, W: Target>(
     ensures written { IfOk result.1 (λ w. WritesWhole limits (R.remaining reader.old) W.contents writer result.0 w.bytes) }
     ensures failures { CountsWriterFault result.1 (W.failures writer) (W.failures result.0) }
     ensures reads { CountsReaderFault result.1 (R.failures reader.old) (R.failures reader.new) }
+    // Of a text of fewer than 2^64 - 1 bytes: all lines are taken, or the first up to which no transmission continues is told.
+    ensures ends { IfSome (R.remaining reader.old) (λ text. length text < 2 ^ 64 - 1 → EndsAtLine limits most text result.1) }
+    // Nothing else is refused: lines that are data of a transmission within the limits are taken, and it is written.
+    ensures takes { IfSome (R.remaining reader.old) (λ text. length text < 2 ^ 64 - 1 → (v : TransmissionValue) → IsTransmission v → FitsIn limits v
+        → SaysTransmission most text v → WritesTransmission W.contents writer result.0 v result.1) }
     // All that was written was handed on.
     ensures handed_on { OnOk result.1 (W.handed_on result.0 ≡ true) }
 {
@@ -261,12 +279,23 @@ fn finish<W: Target>(encoder: Encoder<W>, lines: u64) -> (W, Result<Written, Wri
     ensures written { IfOk result.1 (λ w. FinishesWriting W.contents W.failures encoder result.0 (Ok w.bytes)) }
     ensures failures { CountsWriterFault result.1 (W.failures (target_of encoder)) (W.failures result.0) }
     ensures unread { NoReader result.1 }
+    ensures ended { (start : Option (List ℕ)) (records : List RecordValue) → Encodes W.contents start records encoder
+        → MayCome (encoder_limits encoder) (map symbol_of records) (Plain Trl) → FinishesLines lines result.1 }
     ensures handed_on { OnOk result.1 (W.handed_on result.0 ≡ true) }
 {
     let (writer, answer) = encoder.finish();
     match answer {
         Ok(bytes) => (writer, Ok(Written { bytes, lines })),
-        Err(EncodeFault::Writer { written }) => (writer, Err(WriteFault::Writer { written })),
-        Err(_) => (writer, Err(WriteFault::Early { lines })),
+        Err(fault) => (writer, Err(finish_fault(lines, fault))),
+    }
+}
+
+/// The fault of a transmission of so many lines that doesn't end.
+fn finish_fault(lines: u64, fault: EncodeFault) -> WriteFault
+    ensures { IsFinishFault lines fault result }
+{
+    match fault {
+        EncodeFault::Writer { written } => WriteFault::Writer { written },
+        _ => WriteFault::Early { lines },
     }
 }

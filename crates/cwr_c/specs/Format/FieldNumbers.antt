@@ -7,7 +7,7 @@ use Rattle.cwr_fields.specs.Format.Bytes.{filled}
 use Rattle.cwr_fields.specs.Format.Cells.{Allows}
 use Rattle.cwr_layouts.specs.declared.kinds.Kind.{Kind}
 use Rattle.cwr_layouts.specs.Format.Kinds.{all_kinds, kind_of, letters}
-use Rattle.cwr_layouts.specs.Format.Layouts.{FieldLayout, field_placed, fields_after_type}
+use Rattle.cwr_layouts.specs.Format.Layouts.{FieldLayout, field_with_start, fields_after_type}
 use Rattle.cwr_layouts.specs.Format.Carried.{carried_at}
 use Rattle.cwr_layouts.specs.Format.Records.{blank_cell}
 use Rattle.cwr_c.specs.declared.fields.CwrField.{CwrField}
@@ -32,17 +32,17 @@ type_number (types.Constant word) = 14
 
 -- field j of the kind that the letters name, with the byte where it starts
 abbrev pub field_named : List ℕ → ℕ → Option (ℕ × FieldLayout)
-field_named kind j = option_and_then (λ k. field_placed k j) (kind_of kind)
+field_named kind j = option_and_then (λ k. field_with_start k j) (kind_of kind)
 
 -- the place of a field
-abbrev pub place_in_c : ℕ × FieldLayout → CwrField
-place_in_c p = record { start = p.0; width = p.1.width; ty = type_number p.1.ty; derived = if p.1.derived then 1 else 0 }
+abbrev pub field_in_c : ℕ × FieldLayout → CwrField
+field_in_c p = record { start = p.0; width = p.1.width; ty = type_number p.1.ty; derived = if p.1.derived then 1 else 0 }
 
 -- the field's place, and its name in the room; 0 where the kind has no such field, and then nothing changes
 abbrev pub TellsField : List ℕ → ℕ → CwrField → CwrField → List ℕ → List ℕ → ℕ → Type 0
 TellsField kind j old place room name count =
     ((field_named kind j ≡ None) × (count ≡ 0) × (place ≡ old) × (name ≡ room))
-    ⊎ ((p : ℕ × FieldLayout) × (field_named kind j ≡ Some p) × (place ≡ place_in_c p) × CopiesOut p.1.name room name count)
+    ⊎ ((p : ℕ × FieldLayout) × (field_named kind j ≡ Some p) × (place ≡ field_in_c p) × CopiesOut p.1.name room name count)
 
 -- the letters of kind number i, from 0, in the room; 0 where there are no more kinds, and then nothing changes
 abbrev pub TellsKind : ℕ → List ℕ → List ℕ → ℕ → Type 0

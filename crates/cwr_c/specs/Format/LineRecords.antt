@@ -4,8 +4,8 @@ use Rattle.std.specs.List.{AllZip, flat_map}
 use Rattle.cwr_layouts.specs.declared.kinds.Kind.TheVariants.{Trl}
 use Rattle.cwr_layouts.specs.Format.Lines.{body_kind, closed, excess_as, without_cr}
 use Rattle.cwr_layouts.specs.Format.Records.{RecordValue, IsRecord}
-use Rattle.cwr_c.specs.Format.Entries.{carried}
-use Rattle.cwr_c.specs.Format.WholeLines.{IsLine}
+use Rattle.cwr_decode.specs.Format.Entries.{carried}
+use Rattle.cwr_decode.specs.Format.WholeLines.{IsLine}
 
 -- The line carries the record: but for one carriage return at its end, it is cut by the layout of its kind, each carried cell is one of
 -- its field, and what stands after the last field is all spaces.

@@ -2,6 +2,7 @@
 use Rattle.std.specs.Prelude.{◌≡◌, ◌⊎◌, ℕ, ◌-◌, ◌^◌, ◌≤◌, min, List, [], ◌++◌, length, Option, IsSomeAnd}
 use Rattle.std.specs.Io.KnownBytes.{Consumes}
 use Rattle.cwr_shape.specs.declared.stages.Stage.{Stage}
+use Rattle.cwr_shape.specs.declared.tallies.Counts.{Counts}
 use Rattle.cwr_decode.specs.declared.last_bytes.LastBytes.{LastBytes}
 use Rattle.cwr_decode.specs.Steps.Machines.{Standing}
 
@@ -34,3 +35,7 @@ pub record ReadsLast (left after : Option (List ℕ)) (old new : Option LastByte
 -- how far the accepted records have come
 abbrev pub stage_of_records : Standing → Stage
 stage_of_records d = d.tally.stage
+
+-- what was counted of them
+abbrev pub counts_of_records : Standing → Counts
+counts_of_records d = d.tally.counts

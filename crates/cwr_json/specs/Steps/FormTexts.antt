@@ -81,14 +81,14 @@ abbrev pub opening_text : Option Notes → Item → List ℕ
 opening_text notes item = codes "{" ++ notes_text notes item ++ codes "\"records\":["
 
 -- a record after others in its item, so many
-abbrev pub placed_text : ℕ → RecordValue → List ℕ
-placed_text zero r = record_text r
-placed_text (suc before) r = codes "," ++ record_text r
+abbrev pub listed_text : ℕ → RecordValue → List ℕ
+listed_text zero r = record_text r
+listed_text (suc before) r = codes "," ++ record_text r
 
 -- records, of which so many stand before
-abbrev pub placed_texts : ℕ → List RecordValue → List ℕ
-placed_texts before rs = flat_map (λ p. placed_text p.0 p.1) (enumerate_from before rs)
+abbrev pub listed_texts : ℕ → List RecordValue → List ℕ
+listed_texts before rs = flat_map (λ p. listed_text p.0 p.1) (enumerate_from before rs)
 
 -- the line of an item
 abbrev pub item_text : Option Notes → Item → List ℕ
-item_text notes item = (opening_text notes item ++ placed_texts 0 (item_records item)) ++ codes "]}\n"
+item_text notes item = (opening_text notes item ++ listed_texts 0 (item_records item)) ++ codes "]}\n"

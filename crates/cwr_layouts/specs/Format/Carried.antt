@@ -9,7 +9,7 @@ use Rattle.cwr_layouts.specs.declared.kinds.Kind.{Kind}
 use Rattle.cwr_layouts.specs.declared.drafts.SetFault.{SetFault}
 use Rattle.cwr_layouts.specs.declared.drafts.SetFault.TheVariants.{NoSuchField, Derived, TooWide, Cell}
 use Rattle.cwr_layouts.specs.declared.drafts.DraftFault.{DraftFault}
-use Rattle.cwr_layouts.specs.Format.Layouts.{FieldLayout, layout, field_at, field_placed}
+use Rattle.cwr_layouts.specs.Format.Layouts.{FieldLayout, layout, field_at, field_with_start}
 use Rattle.cwr_layouts.specs.Format.Records.{RecordValue}
 
 -- field j of a kind, from 1, where the kind has it and it isn't derived
@@ -17,8 +17,8 @@ abbrev pub carried_at : Kind → ℕ → Option FieldLayout
 carried_at kind j = option_and_then (λ f. if f.derived then None else Some f) (field_at kind j)
 
 -- field j of a kind with the place where it starts, where the kind has it and it isn't derived
-abbrev pub carried_placed : Kind → ℕ → Option (ℕ × FieldLayout)
-carried_placed kind j = option_and_then (λ p. if p.1.derived then None else Some p) (field_placed kind j)
+abbrev pub carried_with_start : Kind → ℕ → Option (ℕ × FieldLayout)
+carried_with_start kind j = option_and_then (λ p. if p.1.derived then None else Some p) (field_with_start kind j)
 
 -- how many carried fields stand before field j: the place of its cell among the carried cells
 abbrev pub carried_before : Kind → ℕ → ℕ

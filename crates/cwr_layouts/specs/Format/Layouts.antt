@@ -342,13 +342,13 @@ abbrev pub line_width : Kind → ℕ
 line_width kind = total_width (layout kind)
 
 -- each field with the place where it starts: where the one before it ends
-abbrev pub placed_fields : ℕ → List FieldLayout → List (ℕ × FieldLayout)
-placed_fields at [] = []
-placed_fields at (f ∷ fields) = (at, f) ∷ placed_fields (at + f.width) fields
+abbrev pub fields_with_starts : ℕ → List FieldLayout → List (ℕ × FieldLayout)
+fields_with_starts at [] = []
+fields_with_starts at (f ∷ fields) = (at, f) ∷ fields_with_starts (at + f.width) fields
 
 -- field j of a kind, from 1, with the place where it starts
-abbrev pub field_placed : Kind → ℕ → Option (ℕ × FieldLayout)
-field_placed kind j = if j == 0 then None else slice_get (placed_fields 0 (layout kind)) (j - 1)
+abbrev pub field_with_start : Kind → ℕ → Option (ℕ × FieldLayout)
+field_with_start kind j = if j == 0 then None else slice_get (fields_with_starts 0 (layout kind)) (j - 1)
 
 -- field j, from 1
 abbrev pub field_at : Kind → ℕ → Option FieldLayout

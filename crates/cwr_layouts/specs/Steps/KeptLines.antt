@@ -15,16 +15,16 @@ line_at text p = take (line_width p.kind) (drop p.start text)
 abbrev pub record_at : List ℕ → LineStart → RecordValue
 record_at text p = record_in p.kind (line_at text p)
 
--- the records at these places
+-- the records at these starts
 abbrev pub kept_records : List ℕ → List LineStart → List RecordValue
-kept_records text places = map (record_at text) places
+kept_records text starts = map (record_at text) starts
 
 -- the line stands in the text, and carries a record
 pub record IsKeptLine (text : List ℕ) (p : LineStart) : Type 0 where
   pub within : p.start + line_width p.kind ≤ length text
   pub fits : IsRecord (record_at text p)
 
--- the text is the lines at these places, and no more than those
-pub record KeepsLines (text : List ℕ) (places : List LineStart) : Type 0 where
-  pub each : AllByRecursion (IsKeptLine text) places
-  pub whole : length text ≡ lines_width (kept_records text places)
+-- the text is the lines at these starts, and no more than those
+pub record KeepsLines (text : List ℕ) (starts : List LineStart) : Type 0 where
+  pub each : AllByRecursion (IsKeptLine text) starts
+  pub whole : length text ≡ lines_width (kept_records text starts)

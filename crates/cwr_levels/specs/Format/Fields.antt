@@ -9,13 +9,13 @@ use Rattle.cwr_layouts.specs.Format.Carried.{carried_at, carried_before}
 use Rattle.cwr_layouts.specs.Format.Records.{carried_fields}
 
 -- the place of the first field of that name
-abbrev pub place_of : List ℕ → List FieldLayout → ℕ
-place_of name fields = prefix_len (λ f. not (bytes_eq f.name name)) fields
+abbrev pub index_of_name : List ℕ → List FieldLayout → ℕ
+index_of_name name fields = prefix_len (λ f. not (bytes_eq f.name name)) fields
 
 -- field j of the kind is carried, has the name and is so many bytes wide
 pub record IsField (name : String) (kind : Kind) (j wide : ℕ) : Type 0 where
   pub carried : is_some (carried_at kind j) ≡ true
-  pub place : carried_before kind j ≡ place_of (codes name) (carried_fields kind)
+  pub place : carried_before kind j ≡ index_of_name (codes name) (carried_fields kind)
   pub width : unwrap_or (option_map (λ (f : FieldLayout). f.width) (slice_get (carried_fields kind) (carried_before kind j))) 0 ≡ wide
 
 -- field j of the kind is the share in the performing right, and those in the other two rights follow, each after one field more

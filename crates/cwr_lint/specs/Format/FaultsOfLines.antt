@@ -1,10 +1,11 @@
 -- The faults that a lint tells of one line.
-use Rattle.std.specs.Prelude.{◌≡◌, ◌⊎◌, ℕ, zero, suc, ◌+◌, ◌-◌, ◌^◌, ◌<◌, ◌≤◌, ◌==◌, min, Bool, true, false, not, ◌||◌, List, [], ◌∷◌, ◌++◌, length, Option, Some, None, slice_get, if◌then◌else◌}
+use Rattle.std.specs.Prelude.{◌≡◌, ◌⊎◌, ℕ, zero, suc, ◌+◌, ◌-◌, ◌^◌, ◌<◌, ◌≤◌, ◌==◌, min, Bool, true, false, not, ◌&&◌, ◌||◌, nat_le, List, [], ◌∷◌, ◌++◌, length, Option, Some, None, slice_get, if◌then◌else◌}
 use Rattle.cwr_fields.specs.declared.cell_types.CellType.{CellType}
+use Rattle.cwr_fields.specs.Format.Bytes.{is_spaces}
 use Rattle.cwr_fields.specs.Format.Cells.{Allows, HasFault}
 use Rattle.cwr_layouts.specs.declared.kinds.Kind.{Kind}
 use Rattle.cwr_layouts.specs.Format.Layouts.{FieldLayout, field_at, layout}
-use Rattle.cwr_layouts.specs.Format.Lines.{line_kind, line_cells, has_bad_excess}
+use Rattle.cwr_layouts.specs.Format.Lines.{line_body, line_kind, line_cells, has_bad_excess}
 use Rattle.cwr_layouts.specs.Format.Records.{RecordValue}
 use Rattle.cwr_shape.specs.declared.reasons.Reason.{Reason}
 use Rattle.cwr_shape.specs.declared.reasons.Reason.TheVariants.{UnknownKind, Misplaced, Cell, Number, Excess}
@@ -14,14 +15,15 @@ use Rattle.cwr_judge.specs.declared.refusals.Refusal.{Refusal}
 use Rattle.cwr_levels.specs.Format.ReportLines.{fault_line}
 use Rattle.cwr_tools.specs.Format.Reports.{transaction_lines}
 
--- a line as it is cut: its kind, its cells, and whether its excess is bad
+-- a line as it is cut: its kind, its cells, whether its excess is bad, and whether it is of spaces alone
 pub record LineCut : Type 0 where
   pub kind : Option Kind
   pub cells : List (List ℕ)
   pub excess : Bool
+  pub blank : Bool
 
 abbrev pub cut_of : List ℕ → LineCut
-cut_of line = record { kind = line_kind line; cells = line_cells line; excess = has_bad_excess line }
+cut_of line = record { kind = line_kind line; cells = line_cells line; excess = has_bad_excess line; blank = is_spaces (line_body line) }
 
 -- The line of that number, as it is judged: what is open before it, whether it is misplaced, and which numbers belong in its fields
 -- 2 to 4, where others stand.
@@ -96,30 +98,23 @@ abbrev pub fields_end : Option Kind → ℕ
 fields_end None = 2
 fields_end (Some kind) = length (layout kind) + 2
 
--- the text is that of the findings in some transaction, with words under each only where they are asked for
-pub record AreFindingsIn (explained : Bool) (text : List ℕ) : Type 0 where
-  pub worded : Bool
-  pub asked : explained ≡ false → worded ≡ false
+-- a transaction that ended: its group and its number as they are reported, the number of its first line, and its records
+pub record EndedTransaction : Type 0 where
   pub group : ℕ
   pub sequence : ℕ
   pub first : ℕ
-  pub transaction : List RecordValue
-  pub lines : text ≡ transaction_lines worded group sequence first transaction
+  pub records : List RecordValue
 
--- of no transaction, or of one
-abbrev pub AreFindings : Bool → List ℕ → Type 0
-AreFindings explained text = (text ≡ []) ⊎ AreFindingsIn explained text
+-- The lines of its findings. Words stand under each where they are asked for, and where its lines have numbers that these can name.
+abbrev pub ended_lines : Bool → Option EndedTransaction → List ℕ
+ended_lines explained None = []
+ended_lines explained (Some t) = transaction_lines (explained && nat_le (t.first + length t.records) 100000000) t.group t.sequence t.first t.records
 
--- What is told of a line after so many: the findings of the transaction that it ends, and then its faults at the fields from one on.
-pub record TellsLine (explained : Bool) (n : ℕ) (cut : LineCut) (from : ℕ) (told : List Refusal) (text : List ℕ) : Type 0 where
-  pub judged : JudgedLine
-  pub number : judged.number ≡ report_number (n + 1)
-  pub is : judged.cut ≡ cut
-  pub found : List ℕ
-  pub findings : AreFindings explained found
+-- What is told of a line that was judged: the findings of the transaction that it ends, and then its faults at the fields from one on.
+pub record TellsLine (explained : Bool) (judged : JudgedLine) (ended : Option EndedTransaction) (from : ℕ) (told : List Refusal) (text : List ℕ) : Type 0 where
   pub lines : List ℕ
-  pub tells : Tells explained judged from (fields_end cut.kind) told lines
-  pub whole : text ≡ found ++ lines
+  pub tells : Tells explained judged from (fields_end judged.cut.kind) told lines
+  pub whole : text ≡ ended_lines explained ended ++ lines
 
 -- one line more was counted; the count stays at the largest number of 64 bits
 abbrev pub one_more_line : ℕ → ℕ
@@ -128,9 +123,3 @@ one_more_line n = min (n + 1) (2 ^ 64 - 1)
 abbrev pub count_after : ℕ → List (List ℕ) → ℕ
 count_after n [] = n
 count_after n (line ∷ lines) = count_after (one_more_line n) lines
-
--- what is told of lines after so many
-abbrev pub TellsLines : Bool → ℕ → List (List ℕ) → List Refusal → List ℕ → Type 0
-TellsLines explained n [] told text = (told ≡ []) × (text ≡ [])
-TellsLines explained n (line ∷ lines) told text = (here : List Refusal) × (first : List ℕ) × (later : List Refusal) × (rest : List ℕ)
-    × TellsLine explained n (cut_of line) 1 here first × TellsLines explained (one_more_line n) lines later rest × (told ≡ here ++ later) × (text ≡ first ++ rest)

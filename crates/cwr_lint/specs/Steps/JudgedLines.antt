@@ -2,7 +2,9 @@
 use Rattle.std.specs.Prelude.{◌≡◌, ℕ, ◌+◌, ◌<◌, ◌≤◌, ◌==◌, Bool, true, false, not, ◌||◌, Option, Some, None, if◌then◌else◌}
 use Rattle.cwr_fields.specs.declared.cell_types.CellFault.{CellFault}
 use Rattle.cwr_layouts.specs.declared.kinds.Kind.TheVariants.{Trl}
-use Rattle.cwr_layouts.specs.Steps.Held.{HeldLine, held_cells, held_excess, held_kind}
+use Rattle.cwr_fields.specs.Format.Bytes.{is_spaces}
+use Rattle.cwr_layouts.specs.declared.kinds.Kind.{Kind}
+use Rattle.cwr_layouts.specs.Steps.Held.{HeldLine, held_body, held_cells, held_excess, held_kind}
 use Rattle.cwr_shape.specs.declared.tallies.Scope.{Scope}
 use Rattle.cwr_shape.specs.declared.tallies.Scope.TheVariants as scopes
 use Rattle.cwr_shape.specs.declared.reasons.Reason.{Reason}
@@ -13,24 +15,21 @@ use Rattle.cwr_lint.specs.declared.judging.Judged.{Judged}
 use Rattle.cwr_lint.specs.declared.judging.Judged.TheVariants.{Unknown, Known as Of}
 use Rattle.cwr_lint.specs.declared.numbers.WrongNumbers.{WrongNumbers}
 use Rattle.cwr_lint.specs.declared.states.OpenGroup.{OpenGroup}
-use Rattle.cwr_lint.specs.declared.takings.Taking.{Taking}
-use Rattle.cwr_lint.specs.declared.takings.Taking.TheVariants.{Ends}
+use Rattle.cwr_lint.specs.declared.states.LintState.{LintState}
 use Rattle.cwr_lint.specs.Format.FaultsOfLines.{JudgedLine, LineCut, IsToldAt, fault_in, number_reason, report_number}
 use Rattle.cwr_lint.specs.Steps.CellFaults.{IsFaultAt}
+use Rattle.cwr_lint.specs.Steps.NextStates.{is_end}
+use Rattle.cwr_lint.specs.Steps.Numbers.{wrong_numbers}
+use Rattle.cwr_lint.specs.Steps.Takings.{is_misplaced as is_taken_misplaced, taking}
 
 -- the line as it is cut
 abbrev pub held_cut : HeldLine → LineCut
-held_cut h = record { kind = held_kind h; cells = held_cells h; excess = held_excess h }
+held_cut h = record { kind = held_kind h; cells = held_cells h; excess = held_excess h; blank = is_spaces (held_body h) }
 
 -- what is open
 abbrev pub scope_by : Option OpenGroup → Scope
 scope_by None = scopes.File
 scope_by (Some group) = if group.has_line then scopes.Transaction else scopes.Group
-
--- the line is taken for TRL
-abbrev pub is_end : Taking → Bool
-is_end Ends = true
-is_end taken = false
 
 abbrev pub ends_by : Judged → Bool
 ends_by Unknown = false
@@ -61,17 +60,39 @@ abbrev pub fourth_in : Judged → Option ℕ
 fourth_in Unknown = None
 fourth_in (Of known) = known.numbers.fourth
 
+-- ---- a line, judged at a state
+
+-- one of the kind
+abbrev pub known_as : LintState → Kind → LineCut → Known
+known_as st kind l = record {
+  kind = kind;
+  taken = taking st kind l;
+  misplaced = is_taken_misplaced (taking st kind l) st kind l;
+  numbers = wrong_numbers st (taking st kind l) kind l;
+  has_excess = l.excess;
+}
+
+abbrev pub judged_by : Option Kind → LintState → LineCut → Judged
+judged_by None st l = Unknown
+judged_by (Some kind) st l = Of (known_as st kind l)
+
+abbrev pub judged_as : LintState → LineCut → Judged
+judged_as st l = judged_by l.kind st l
+
 -- the line after so many, at a place, as it was judged
-abbrev pub judged_at : ℕ → Scope → HeldLine → Judged → JudgedLine
-judged_at n scope h judged = record {
+abbrev pub judged_cut : ℕ → Scope → LineCut → Judged → JudgedLine
+judged_cut n scope l judged = record {
   number = report_number (n + 1);
   scope = scope;
-  cut = held_cut h;
+  cut = l;
   misplaced = is_misplaced judged;
   second = second_in judged;
   third = third_in judged;
   fourth = fourth_in judged;
 }
+
+abbrev pub judged_at : ℕ → Scope → HeldLine → Judged → JudgedLine
+judged_at n scope h judged = judged_cut n scope (held_cut h) judged
 
 -- what is told of the number in field j
 abbrev pub number_reason_in : Known → ℕ → Option Reason

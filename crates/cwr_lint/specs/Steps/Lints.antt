@@ -1,11 +1,17 @@
 -- What a whole lint has written and taken.
-use Rattle.std.specs.Prelude.{◌≡◌, ◌⊎◌, ℕ, ◌+◌, ◌-◌, ◌^◌, ◌≤◌, Bool, true, false, List, ◌∷◌, ◌++◌, length, Option, IfSome, Result, Ok, Err}
+use Rattle.std.specs.Prelude.{◌≡◌, ◌⊎◌, ℕ, ◌+◌, ◌-◌, ◌^◌, ◌≤◌, Bool, true, false, IsFalse, List, ◌∷◌, ◌++◌, length, map, Option, IfSome, Result, Ok, Err}
+use Rattle.std.specs.List.{AllByRecursion, AllZip, list_any}
 use Rattle.std.specs.Io.KnownBytes.{Appends, Consumes, IsAtEnd}
 use Rattle.cwr_fields.specs.Format.Failures.{one_more_failure}
 use Rattle.cwr_shape.specs.declared.limits.Limits.{Limits}
 use Rattle.cwr_judge.specs.declared.refusals.Refusal.{Refusal}
 use Rattle.cwr_values.specs.declared.items.Item.{Item}
 use Rattle.cwr_decode.specs.declared.readings.ReadFault.TheVariants as read_faults
+use Rattle.cwr_layouts.specs.Format.Lines.{IsLineOf, is_lf}
+use Rattle.cwr_layouts.specs.Format.Records.{RecordValue, IsRecord}
+use Rattle.cwr_shape.specs.Steps.Tallies.{TallyValue, IsTallyOf}
+use Rattle.cwr_values.specs.Format.Begins.{rows_so_far}
+use Rattle.cwr_values.specs.Format.Values.{symbol_of}
 use Rattle.cwr_explain.specs.Format.Explained.{IsAnswerAfter}
 use Rattle.cwr_tools.specs.declared.verdicts.Verdict.{Verdict}
 use Rattle.cwr_tools.specs.declared.verdicts.Verdict.TheVariants.{Refused}
@@ -14,9 +20,10 @@ use Rattle.cwr_tools.specs.declared.verdicts.ToolFault.TheVariants.{Writer}
 use Rattle.cwr_tools.specs.Format.Reports.{lines_checked, lines_up_to_fault}
 use Rattle.cwr_tools.specs.Steps.Reports.{Reports}
 use Rattle.cwr_tools.specs.Steps.Verdicts.{StopsAfter}
-use Rattle.cwr_lint.specs.Format.Told.{IsTold}
+use Rattle.cwr_lint.specs.Steps.Fronts.{state_at}
 use Rattle.cwr_lint.specs.Steps.LinesRead.{IsTextOf}
 use Rattle.cwr_lint.specs.Steps.Runs.{EndsAtTrl}
+use Rattle.cwr_lint.specs.Steps.Walks.{IsTold}
 
 -- First a check is made, and what it writes is written, but no line of a refusal: with all that is said of a check of these bytes. Then
 -- words follow it; after a fault of the check there are none. More bytes may be taken from the reader.
@@ -31,15 +38,20 @@ pub record Lints {W : Type 0} (explained : Bool) (limits : Limits) (before after
   pub taken : Consumes left after more
   pub answered : IsAnswerAfter checked result
 
--- These bytes were read: the text of lines, of which this one is refused, and those follow it.
-pub record AreLinesRead (refusal : Refusal) (bytes : List ℕ) (refused : List ℕ) (lines : List (List ℕ)) : Type 0 where
+-- These bytes were read: the text of lines, of which this one is refused, and those follow it. The lines before it are those of records, which
+-- the tally counts.
+pub record AreLinesRead (refusal : Refusal) (tally : TallyValue) (last : Bool) (bytes : List ℕ) (refused : List ℕ) (lines : List (List ℕ)) : Type 0 where
   pub front : List (List ℕ)
+  pub records : List RecordValue
+  pub in_order : AllByRecursion IsRecord records
+  pub rows : AllZip IsLineOf (rows_so_far records) front
+  pub counted : IsTallyOf tally (map symbol_of records)
   pub number : refusal.rec ≡ length front + 1
-  pub last : Bool
+  pub no_lf : AllByRecursion (λ line. IsFalse (list_any is_lf line)) (refused ∷ lines)
   pub text : IsTextOf last bytes (front ++ refused ∷ lines)
 
 -- The text was refused so, after these items, and their lines were written and then what is told of the line that is refused and of those after
--- it. Where the text's bytes are known these are its lines, up to a TRL or to its end.
+-- it, from what was counted of the records before. Where the text's bytes are known these are its lines, up to a TRL or to its end.
 pub record TellsFaults {W : Type 0} (explained : Bool) (limits : Limits) (before after : Option (List ℕ)) (contents : W → Option (List ℕ)) (old new : W) (refusal : Refusal) : Type 0 where
   pub given : List Item
   pub left : Option (List ℕ)
@@ -50,9 +62,12 @@ pub record TellsFaults {W : Type 0} (explained : Bool) (limits : Limits) (before
   pub lines : List (List ℕ)
   pub over : Bool
   pub text : List ℕ
-  pub told : IsTold explained refusal refused lines over text
+  pub last : Bool
+  pub tally : TallyValue
+  pub told : IsTold explained (state_at tally.stage tally.counts (refusal.rec - 1)) refusal refused lines over text
   pub written : Appends (contents old) (contents new) ((lines_checked explained).lines given ++ text)
-  pub read : IfSome before (λ known. (bytes : List ℕ) × Consumes before after bytes × AreLinesRead refusal bytes refused lines)
+  pub read : IfSome before (λ known. (bytes : List ℕ) × Consumes before after bytes × AreLinesRead refusal tally last bytes refused lines)
+  pub cut : last ≡ false → IfSome before (λ known. IsAtEnd after ⊎ (2 ^ 64 - 1 ≤ length known))
   pub ends : over ≡ true → EndsAtTrl (refused ∷ lines)
   pub all : over ≡ false → IfSome before (λ known. IsAtEnd after ⊎ (2 ^ 64 - 1 ≤ length known))
 

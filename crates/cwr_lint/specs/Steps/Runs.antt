@@ -1,14 +1,18 @@
 -- What the steps of a lint tell, and what they count.
-use Rattle.std.specs.Prelude.{◌≡◌, ◌⊎◌, ℕ, ◌+◌, ◌-◌, ◌^◌, ◌≤◌, min, Bool, true, false, List, [], ◌∷◌, ◌++◌, length, Option, Some, IfSome}
+use Rattle.std.specs.Prelude.{◌≡◌, ◌⊎◌, ℕ, ◌+◌, ◌-◌, ◌^◌, ◌≤◌, min, Bool, true, false, IsFalse, List, [], ◌∷◌, ◌++◌, length, Option, Some, None, IfSome}
+use Rattle.std.specs.List.{AllByRecursion, list_any}
 use Rattle.std.specs.Io.KnownBytes.{Consumes, IsAtEnd}
+use Rattle.cwr_layouts.specs.Format.Lines.{is_lf}
 use Rattle.cwr_layouts.specs.declared.kinds.Kind.TheVariants.{Trl}
 use Rattle.cwr_layouts.specs.Format.Lines.{line_kind}
 use Rattle.cwr_judge.specs.declared.refusals.Refusal.{Refusal}
 use Rattle.cwr_levels.specs.Format.ReportLines.{faults_line}
 use Rattle.cwr_lint.specs.declared.linting.LintRun.{LintRun}
 use Rattle.cwr_lint.specs.declared.raw_lines.RawLine.{RawLine}
-use Rattle.cwr_lint.specs.Format.FaultsOfLines.{IsFaultText, JudgedLine, LineCut, Tells, TellsLine, TellsLines, count_after, cut_of, one_more_line}
-use Rattle.cwr_lint.specs.Format.Told.{IsTold, truncated_unless}
+use Rattle.cwr_lint.specs.declared.states.LintState.{LintState}
+use Rattle.cwr_lint.specs.Format.FaultsOfLines.{EndedTransaction, IsFaultText, JudgedLine, LineCut, Tells, TellsLine, count_after, cut_of, one_more_line}
+use Rattle.cwr_lint.specs.Format.Told.{truncated_unless}
+use Rattle.cwr_lint.specs.Steps.Walks.{IsTold, Walk, WalksLine, WalksLines}
 use Rattle.cwr_lint.specs.Steps.JudgedLines.{held_cut}
 use Rattle.cwr_lint.specs.Steps.LinesRead.{GoesOn, HoldsRaw, IsAllRead, IsOfLine, ReadsLast, ReadsLine, held_raw}
 use Rattle.cwr_decode.specs.declared.last_bytes.LastBytes.{LastBytes}
@@ -22,8 +26,12 @@ abbrev pub TellsSoMany : Bool → JudgedLine → ℕ → ℕ → ℕ → List �
 TellsSoMany explained l from upto count text = (told : List Refusal) × Tells explained l from upto told text × (count ≡ length told)
 
 -- so many faults were told of a line, and before them the findings of the transaction that it ends
-abbrev pub TellsOfLine : Bool → ℕ → LineCut → ℕ → ℕ → List ℕ → Type 0
-TellsOfLine explained n cut from count text = (told : List Refusal) × TellsLine explained n cut from told text × (count ≡ length told)
+abbrev pub TellsOfLine : Bool → JudgedLine → Option EndedTransaction → ℕ → ℕ → List ℕ → Type 0
+TellsOfLine explained judged ended from count text = (told : List Refusal) × TellsLine explained judged ended from told text × (count ≡ length told)
+
+-- what a run holds between two lines
+abbrev pub walk_of : LintRun → Walk
+walk_of run = record { state = run.state; begun = run.begun }
 
 -- more faults were counted; the count stays at the largest number of 64 bits
 abbrev pub more_faults : ℕ → ℕ → ℕ
@@ -32,7 +40,7 @@ more_faults n more = min (n + more) (2 ^ 64 - 1)
 -- what is wrong with one line was told and counted; only a TRL ends a transmission
 pub record TakesLine (explained : Bool) (cut : LineCut) (from : ℕ) (old new : LintRun) (text : List ℕ) : Type 0 where
   pub told : List Refusal
-  pub tells : TellsLine explained old.state.lines cut from told text
+  pub walks : WalksLine explained (walk_of old) cut from told text (walk_of new)
   pub lines : new.state.lines ≡ one_more_line old.state.lines
   pub faults : new.faults ≡ more_faults old.faults (length told)
   pub over : new.state.over ≡ true → cut.kind ≡ Some Trl
@@ -44,6 +52,7 @@ TakesRead explained cut old new false text = ⊥
 
 -- a line was read after another one that has ended, and what is wrong with it was told
 pub record TakesNext (explained : Bool) (left after : Option (List ℕ)) (before raw : RawLine) (old new : LintRun) (text : List ℕ) : Type 0 where
+  pub on : old.state.over ≡ false
   pub goes : before.ended ≡ true
   pub read : ReadsLine left after raw
   pub takes : TakesLine explained (cut_of read.line) 1 old new text
@@ -69,8 +78,9 @@ pub record TakesLines (explained : Bool) (left after : Option (List ℕ)) (ended
   pub taken : Consumes left after bytes
   pub lines : List (List ℕ)
   pub goes : GoesOn ended bytes lines last
+  pub no_lf : AllByRecursion (λ line. IsFalse (list_any is_lf line)) lines
   pub told : List Refusal
-  pub tells : TellsLines explained old.state.lines lines told text
+  pub walks : WalksLines explained (walk_of old) lines told text (walk_of new)
   pub counted : new.state.lines ≡ count_after old.state.lines lines
   pub faults : old.faults ≤ 2 ^ 64 - 1 → new.faults ≡ more_faults old.faults (length told)
   pub over : new.state.over ≡ true → ((lines ≡ []) × (old.state.over ≡ true)) ⊎ EndsAtTrl lines
@@ -79,6 +89,7 @@ pub record TakesLines (explained : Bool) (left after : Option (List ℕ)) (ended
 pub record TakesAll (explained : Bool) (left after : Option (List ℕ)) (ended : Bool) (old new : LintRun) (text : List ℕ) : Type 0 where
   pub last : Bool
   pub takes : TakesLines explained left after ended last old new text
+  pub cut : last ≡ false → (ended ≡ false) ⊎ IsAllRead left after takes.bytes
   pub all : new.state.over ≡ false → (ended ≡ false) ⊎ IsAllRead left after takes.bytes
 
 -- The line of the refusal, and what else is wrong with the line that is refused.
@@ -98,31 +109,34 @@ pub record TakesFrom (explained : Bool) (refusal : Refusal) (left after : Option
   pub rest : TakesAll explained left after raw.ended between new later
   pub whole : text ≡ beside ++ later
 
--- the first fault is counted, and the lines before its own
+-- the first fault is counted, and the lines before its own; of no transaction the records are known
 pub record BeginsAt (refusal : Refusal) (run : LintRun) : Type 0 where
+  pub begun : run.begun ≡ None
   pub lines : run.state.lines ≡ refusal.rec - 1
   pub faults : run.faults ≡ 1
   pub over : run.state.over ≡ false
 
--- All that is told, of the line that is held as it was refused and of those after it.
-pub record TellsToEnd (explained : Bool) (refusal : Refusal) (left after : Option (List ℕ)) (raw : RawLine) (text : List ℕ) : Type 0 where
+-- All that is told, of the line that is held as it was refused, where that state was held, and of those after it.
+pub record TellsToEnd (explained : Bool) (begins : LintState) (refusal : Refusal) (left after : Option (List ℕ)) (raw : RawLine) (text : List ℕ) : Type 0 where
   pub bytes : List ℕ
   pub taken : Consumes left after bytes
   pub lines : List (List ℕ)
   pub last : Bool
   pub goes : GoesOn raw.ended bytes lines last
+  pub no_lf : AllByRecursion (λ line. IsFalse (list_any is_lf line)) lines
+  pub cut : last ≡ false → (raw.ended ≡ false) ⊎ IsAllRead left after bytes
   pub over : Bool
-  pub told : (refused : List ℕ) → HoldsRaw refused raw → IsTold explained refusal refused lines over text
+  pub told : (refused : List ℕ) → HoldsRaw refused raw → IsTold explained begins refusal refused lines over text
   pub ends : over ≡ true → (refused : List ℕ) → HoldsRaw refused raw → EndsAtTrl (refused ∷ lines)
   pub all : over ≡ false → (raw.ended ≡ false) ⊎ IsAllRead left after bytes
 
 -- the line that was refused is the one that was read last
-pub record TellsRun (explained : Bool) (refusal : Refusal) (last : LastBytes) (left after : Option (List ℕ)) (text : List ℕ) : Type 0 where
+pub record TellsRun (explained : Bool) (begins : LintState) (refusal : Refusal) (last : LastBytes) (left after : Option (List ℕ)) (text : List ℕ) : Type 0 where
   pub between : Option (List ℕ)
   pub raw : RawLine
   pub held : IsOfLine raw
   pub read : ReadsLast left between last raw
-  pub tells : TellsToEnd explained refusal between after raw text
+  pub tells : TellsToEnd explained begins refusal between after raw text
 
 -- how it ended, and how many faults there are, in how many lines
 abbrev pub IsEndText : Bool → ℕ → ℕ → ℕ → List ℕ → Type 0

@@ -19,7 +19,7 @@ use Rattle.cwr_judge.specs.Format.Items.{records_in, opens_group, is_transaction
 use Rattle.cwr_levels.specs.declared.rules.Rule.{Rule}
 use Rattle.cwr_levels.specs.declared.rules.Rule.TheVariants.{V1, V2, V3, V4, V5, V6, V7, V8, V9, V10, V11}
 use Rattle.cwr_levels.specs.declared.rules.Finding.{Finding}
-use Rattle.cwr_levels.specs.Format.Fields.{place_of}
+use Rattle.cwr_levels.specs.Format.Fields.{index_of_name}
 use Rattle.cwr_levels.specs.Format.Findings.{findings, is_a, is_owner, is_party, ownership}
 use Rattle.cwr_levels.specs.Format.ReportLines.{finding_line}
 
@@ -51,7 +51,7 @@ level_words levels.F = codes "F: the field is rejected"
 
 -- the number of the first field of that name, from 1; where the kind has none, the number after its last
 abbrev pub number_of_field : List ℕ → Kind → ℕ
-number_of_field name kind = 1 + place_of name (layout kind)
+number_of_field name kind = 1 + index_of_name name (layout kind)
 
 -- what stands in a cell
 abbrev pub value_words : List ℕ → List ℕ
@@ -81,26 +81,26 @@ noted_cells n V9 r = named_line n r (codes "title") ++ named_line n r (codes "co
 noted_cells n V10 r = named_line n r (codes "start date") ++ named_line n r (codes "end date")
 noted_cells n V11 r = named_line n r (codes "agreement role") ++ named_line n r (codes "pr share") ++ named_line n r (codes "mr share") ++ named_line n r (codes "sr share")
 
--- the same of the record at a place of a transaction, whose first record is on line n
+-- the same of the record at a position of a transaction, whose first record is on line n
 unfoldable pub noted_at : ℕ → List RecordValue → Rule → ℕ → List ℕ
-noted_at n t rule place = flat_map (noted_cells (n + place) rule) (option_to_list (slice_get t place))
+noted_at n t rule position = flat_map (noted_cells (n + position) rule) (option_to_list (slice_get t position))
 
 -- ---- the other records of which a rule speaks
 
--- the places of the records that pass, where the first has place n
-abbrev pub places_from : (RecordValue → Bool) → ℕ → List RecordValue → List ℕ
-places_from p n [] = []
-places_from p n (r ∷ rest) = if p r then n ∷ places_from p (n + 1) rest else places_from p (n + 1) rest
+-- the positions of the records that pass, where the first has position n
+abbrev pub positions_from : (RecordValue → Bool) → ℕ → List RecordValue → List ℕ
+positions_from p n [] = []
+positions_from p n (r ∷ rest) = if p r then n ∷ positions_from p (n + 1) rest else positions_from p (n + 1) rest
 
--- their places, from 0
-abbrev pub places : (RecordValue → Bool) → List RecordValue → List ℕ
-places p records = places_from p 0 records
+-- their positions, from 0
+abbrev pub positions : (RecordValue → Bool) → List RecordValue → List ℕ
+positions p records = positions_from p 0 records
 
--- the place of the last of them, if there is one
-abbrev pub last_place : (RecordValue → Bool) → List RecordValue → Option ℕ
-last_place p records = last_or None (places p records)
+-- the position of the last of them, if there is one
+abbrev pub last_position : (RecordValue → Bool) → List RecordValue → Option ℕ
+last_position p records = last_or None (positions p records)
 
--- the places of the parties of a block, where the first of the records has place n: up to the next territory after a party
+-- the positions of the parties of a block, where the first of the records has position n: up to the next territory after a party
 abbrev pub parties_from : Bool → ℕ → List RecordValue → List ℕ
 parties_from seen n [] = []
 parties_from seen n (r ∷ rest) =
@@ -114,17 +114,17 @@ is_writer r = is_a kinds.Swr r || is_a kinds.Owr r
 abbrev pub is_header : RecordValue → Bool
 is_header r = is_a kinds.Nwr r || is_a kinds.Rev r
 
--- the places of the other records of which the rule speaks, at record r of the transaction t, after k others. The publishers and
+-- the positions of the other records of which the rule speaks, at record r of the transaction t, after k others. The publishers and
 -- the header of a work all stand before its PWR and EWT.
 abbrev pub others : Rule → List RecordValue → ℕ → RecordValue → List ℕ
-others V2 t k r = option_to_list (if is_a kinds.Spt r then last_place (is_a kinds.Spu) (take k t) else last_place (is_a kinds.Swr) (take k t))
-others V3 t k r = places is_owner t
-others V4 t k r = places is_owner t
-others V5 t k r = places is_owner t
-others V6 t k r = places is_writer t
-others V7 t k r = places (is_a kinds.Spu) (take k t)
-others V8 t k r = option_to_list (last_place is_header (take k t))
-others V9 t k r = places (is_a kinds.Com) t
+others V2 t k r = option_to_list (if is_a kinds.Spt r then last_position (is_a kinds.Spu) (take k t) else last_position (is_a kinds.Swr) (take k t))
+others V3 t k r = positions is_owner t
+others V4 t k r = positions is_owner t
+others V5 t k r = positions is_owner t
+others V6 t k r = positions is_writer t
+others V7 t k r = positions (is_a kinds.Spu) (take k t)
+others V8 t k r = option_to_list (last_position is_header (take k t))
+others V9 t k r = positions (is_a kinds.Com) t
 others V11 t k r = parties_from false (k + 1) (drop (k + 1) t)
 others rule t k r = []
 

@@ -13,7 +13,7 @@ use Rattle.cwr_shape.specs.Format.Ranges.{limit_values}
 use Rattle.cwr_words.specs.declared.words.Judging.{Judging}
 use Rattle.cwr_words.specs.declared.words.Task.{Task}
 use Rattle.cwr_words.specs.declared.words.Work.{Work}
-use Rattle.cwr_words.specs.declared.words.Work.TheVariants.{Check, Show, Explain, Lint, Json, Write, Split, Join, Manual}
+use Rattle.cwr_words.specs.declared.words.Work.TheVariants.{Check, Show, Explain, Lint, Json, Write, Split, Join, Renumber, Manual}
 
 -- the flag of that id is given
 abbrev pub IsFlagOf : Found → List ℕ → Bool → Type 0
@@ -60,6 +60,7 @@ IsSplitOf found (Split transactions file prefix only_new) =
     ((text : List ℕ) → one_text found (codes "N") ≡ Some text → non_zero_u32_get transactions ≡ digits_value 10 (without_leading_plus text))
     × (first_value found (codes "FILE") ≡ Some file.now) × (first_value found (codes "PREFIX") ≡ Some prefix.now) × IsFlagOf found (codes "new") only_new
 IsSplitOf found (Join out files only_new) = ⊥
+IsSplitOf found (Renumber file out only_new) = ⊥
 IsSplitOf found Manual = ⊥
 
 -- every fault of the file FILE, explained where that flag is given
@@ -85,8 +86,14 @@ IsJoinOf found (Join out files only_new) =
     (first_value found (codes "OUT") ≡ Some out.now) × AreNamesOf found (map (λ name. name.now) files.items) × IsFlagOf found (codes "new") only_new
 IsJoinOf found work = ⊥
 
+-- the file FILE with its numbers put right, to the file OUT
+abbrev pub IsRenumberingOf : Found → Work → Type 0
+IsRenumberingOf found (Renumber file out only_new) =
+    (option_map (λ f. f.now) file ≡ first_value found (codes "FILE")) × (option_map (λ f. f.now) out ≡ first_value found (codes "OUT")) × IsFlagOf found (codes "new") only_new
+IsRenumberingOf found work = ⊥
+
 -- Work of the subcommand of that name: transmissions are checked or explained; one is shown, linted or written as JSON, that of the first file that
--- FILE names, if it names one; one is written from lines of JSON, one is split, some are joined, or the manual
+-- FILE names, if it names one; one is written from lines of JSON, one is split, some are joined, the numbers of one are put right, or the manual
 -- is printed.
 abbrev pub IsWorkOf : List ℕ → Found → Work → Type 0
 IsWorkOf name found (Check judging) = (bytes_eq name (codes "show") ≡ false) × (bytes_eq name (codes "explain") ≡ false) × IsJudgingOf found judging
@@ -97,6 +104,7 @@ IsWorkOf name found (Json file numbers) = (bytes_eq name (codes "json") ≡ true
 IsWorkOf name found (Write file out line) = (bytes_eq name (codes "write") ≡ true) × IsImportOf found (Write file out line)
 IsWorkOf name found (Split transactions file prefix only_new) = (bytes_eq name (codes "split") ≡ true) × IsSplitOf found (Split transactions file prefix only_new)
 IsWorkOf name found (Join out files only_new) = (bytes_eq name (codes "join") ≡ true) × IsJoinOf found (Join out files only_new)
+IsWorkOf name found (Renumber file out only_new) = (bytes_eq name (codes "renumber") ≡ true) × IsRenumberingOf found (Renumber file out only_new)
 IsWorkOf name found Manual = bytes_eq name (codes "manual") ≡ true
 
 -- the limits are the numbers that the options of a subcommand say

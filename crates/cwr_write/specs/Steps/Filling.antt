@@ -1,13 +1,20 @@
 -- A draft that members fill.
-use Rattle.std.specs.Prelude.{◌≡◌, ℕ, Bool, true, false, List, get_or, option_map, unwrap_or}
+use Rattle.std.specs.Prelude.{◌≡◌, ℕ, ◌≤◌, Bool, true, false, nat_lt, List, length, get_or, option_map, unwrap_or, IsSomeAnd}
 use Rattle.std.specs.List.{AllZip, list_all, list_any}
 use Rattle.std.specs.Str.{bytes_eq}
 use Rattle.json.specs.Json.{Json, Members, no_members, member}
 use Rattle.json.specs.Strict.{keys}
+use Rattle.cwr_fields.specs.Format.Bytes.{filled}
+use Rattle.cwr_fields.specs.Format.Cells.{Allows}
 use Rattle.cwr_layouts.specs.declared.kinds.Kind.{Kind}
+use Rattle.cwr_layouts.specs.Format.Carried.{HasCellFault, carried_at}
+use Rattle.cwr_write.specs.declared.refusals.Key.{Key}
+use Rattle.cwr_write.specs.declared.refusals.Key.TheVariants as said_of
+use Rattle.cwr_write.specs.declared.refusals.Why.{Why}
+use Rattle.cwr_write.specs.declared.refusals.Why.TheVariants.{Cell}
 use Rattle.cwr_layouts.specs.Format.Layouts.{field_at}
 use Rattle.cwr_layouts.specs.Format.Records.{RecordValue, carried_fields}
-use Rattle.cwr_json.specs.Format.Forms.{IsCellFrom, are_distinct, first_of, is_known, key_of}
+use Rattle.cwr_json.specs.Format.Forms.{IsCellFrom, IsDataOf, are_distinct, first_of, is_known, key_of}
 
 -- the kind has a field j, and that has the key
 abbrev pub names_field : Kind → ℕ → List ℕ → Bool
@@ -19,10 +26,33 @@ with_last no_members k j = member k j no_members
 with_last (member l i ms) k j = member l i (with_last ms k j)
 
 -- The draft, of that kind, has the cells that the members give, and each other as it is in a blank record. Each of their keys is
--- known, none comes twice, and a field that isn't marked has the key of none.
+-- known, none comes twice, and a field is marked exactly where its key is one of theirs.
 pub record IsFilled (kind : Kind) (ms : Members) (draft : RecordValue) (seen : List Bool) : Type 0 where
   pub kind_is : draft.kind ≡ kind
   pub known : list_all (is_known kind) (keys ms) ≡ true
   pub once : are_distinct (keys ms) ≡ true
   pub cells : AllZip (λ f cell. IsCellFrom f (first_of (key_of f.name) ms) cell) (carried_fields kind) draft.cells
   pub marks : (j : ℕ) (k : List ℕ) → names_field kind j k ≡ true → get_or seen j false ≡ false → list_any (bytes_eq k) (keys ms) ≡ false
+  pub marked : (j : ℕ) (k : List ℕ) → names_field kind j k ≡ true → get_or seen j false ≡ true → list_any (bytes_eq k) (keys ms) ≡ true
+
+-- it has a byte that is in no character up to U+00FF
+abbrev pub has_higher : List ℕ → Bool
+has_higher text = list_any (λ b. nat_lt 195 b) text
+
+-- the text, filled up with spaces, is a cell of field j
+abbrev pub FitsField : Kind → ℕ → List ℕ → Type 0
+FitsField kind j text = IsSomeAnd (carried_at kind j) (λ f. (length text ≤ f.width) × Allows f.ty (filled f.width text))
+
+-- members, and others after them
+unfoldable pub joined : Members → Members → Members
+joined no_members more = more
+joined (member k j ms) more = member k j (joined ms more)
+
+-- members that begin so are data of no record of the kind
+abbrev pub NoneFrom : Kind → Members → Type 0
+NoneFrom kind ms = (rest : Members) (r : RecordValue) → r.kind ≡ kind → ¬ IsDataOf (joined ms rest) r
+
+-- a cell of a draft isn't one of its field: of which field, and why
+abbrev pub IsDraftReason : RecordValue → Key → Why → Type 0
+IsDraftReason draft (said_of.Field j) (Cell fault) = HasCellFault draft j fault
+IsDraftReason draft key why = ⊥

@@ -1,5 +1,5 @@
 -- What reading a line takes from a reader.
-use Rattle.std.specs.Prelude.{◌≡◌, ◌⊎◌, ℕ, ◌<◌, Bool, true, false, IsFalse, List, [], ◌∷◌, ◌++◌, length, Option, None, Some, IfSome}
+use Rattle.std.specs.Prelude.{◌≡◌, ◌⊎◌, ℕ, ◌+◌, ◌<◌, Bool, true, false, IsFalse, List, [], ◌∷◌, ◌++◌, length, Option, None, Some, IfSome}
 use Rattle.std.specs.List.{list_any}
 use Rattle.cwr_layouts.specs.Format.Lines.{is_lf}
 
@@ -11,6 +11,13 @@ abbrev pub TakesPartOf : List ℕ → Option (List ℕ) → List ℕ → List �
 TakesPartOf text after old new None = (text ≡ []) × (after ≡ Some []) × (new ≡ old)
 TakesPartOf text after old new (Some true) = (part : List ℕ) × (rest : List ℕ) × (text ≡ part ++ 10 ∷ rest) × (after ≡ Some rest) × NoFeed part × (new ≡ old ++ part)
 TakesPartOf text after old new (Some false) = (part : List ℕ) × (rest : List ℕ) × (text ≡ part ++ rest) × (after ≡ Some rest) × NoFeed part × (new ≡ old ++ part)
+
+-- after these bytes of a line the text goes on with so many bytes of it that they are more than it may have
+abbrev pub Exceeds : ℕ → List ℕ → List ℕ → Type 0
+Exceeds most text line = (part : List ℕ) × (rest : List ℕ) × (text ≡ part ++ rest) × NoFeed part × (most < length line + length part)
+
+abbrev pub ExceedsWith : ℕ → Option (List ℕ) → List ℕ → Type 0
+ExceedsWith most left line = IfSome left (λ text. Exceeds most text line)
 
 abbrev pub TakesPart : Option (List ℕ) → Option (List ℕ) → List ℕ → List ℕ → Option Bool → Type 0
 TakesPart left after old new ended = IfSome left (λ text. TakesPartOf text after old new ended)

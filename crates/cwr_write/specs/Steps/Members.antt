@@ -1,13 +1,15 @@
 -- Members and values of a line, by where they stand.
-use Rattle.std.specs.Prelude.{◌≡◌, ℕ, ◌<◌, true, List, length, get_or}
+use Rattle.std.specs.Prelude.{◌≡◌, ℕ, ◌<◌, true, List, ◌∷◌, length, get_or}
 use Rattle.std.specs.Borrow.{Bor}
 use Rattle.json.specs.Json.{no_members, member}
 use Rattle.json.specs.declared.value.Value.{Value}
 use Rattle.json.specs.Value.{members_view, value_view}
-use Rattle.cwr_layouts.specs.declared.kinds.Kind.{Kind}
-use Rattle.cwr_layouts.specs.declared.kinds.Kind.TheVariants.{Hdr, Grh, Grt, Trl}
+use Rattle.cwr_layouts.specs.declared.kinds.Kind.TheVariants.{Hdr, Grh, Grt}
 use Rattle.cwr_layouts.specs.Format.Records.{RecordValue}
+use Rattle.cwr_values.specs.declared.items.Item.{Item}
+use Rattle.cwr_values.specs.declared.items.Item.TheVariants.{Opened, GroupOpened, Transaction, GroupClosed, Ended}
 use Rattle.cwr_json.specs.Format.Forms.{IsRecordData, says, told}
+use Rattle.cwr_write.specs.Format.AloneKinds.{IsAlone}
 
 -- the member there says something
 abbrev pub SaysAt : {A : Type 0} → List (Bor (List ℕ) × Value A) → ℕ → Type 0
@@ -27,10 +29,10 @@ pub record IsDataAt {A : Type 0} (values : List (Value A)) (at : ℕ) (r : Recor
   pub is : found ≡ get_or values at found
   pub is_data : IsRecordData (value_view found) r
 
--- a record of the kind is an item alone
-abbrev pub IsAlone : Kind → Type 0
-IsAlone Hdr = Unit {0}
-IsAlone Grh = Unit {0}
-IsAlone Grt = Unit {0}
-IsAlone Trl = Unit {0}
-IsAlone other = ⊥
+-- the item has its record's kind, and a transaction begins with a record that isn't an item alone
+abbrev pub IsKinded : Item → Type 0
+IsKinded (Opened r) = r.kind ≡ Hdr
+IsKinded (GroupOpened r) = r.kind ≡ Grh
+IsKinded (Transaction t) = (r : RecordValue) × (rest : List RecordValue) × (t ≡ r ∷ rest) × ¬ IsAlone r.kind
+IsKinded (GroupClosed r) = r.kind ≡ Grt
+IsKinded Ended = Unit {0}

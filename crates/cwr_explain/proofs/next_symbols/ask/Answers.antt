@@ -1,4 +1,4 @@
-use Rattle.std.proofs.Common.{List, ◌∷◌, [], ◌++◌, sym, subst, ◌∙◌}
+use Rattle.std.proofs.Common.{List, ◌∷◌, [], ◌++◌, sym, subst}
 use Rattle.cwr_shape.specs.declared.symbols.Symbol.{Symbol}
 use Rattle.cwr_explain.specs.Steps.Coming.{HaveCome}
 use Rattle.cwr_explain.proofs.ComingSymbols.{one_comes, one_stays}

@@ -1,6 +1,6 @@
 use Rattle.std.proofs.Common.{◌≡◌, ◌≤◌, ◌-◌, ◌++◌, ℕ, List, Option, length, take, false}
 use Rattle.cwr_encode.specs.Steps.Sinks.{HasWritten, has_failed, writer_of}
-use Rattle.cwr_json.specs.Steps.FormTexts.{placed_texts}
+use Rattle.cwr_json.specs.Steps.FormTexts.{listed_texts}
 use Rattle.cwr_json.proofs.items.put_records.Given as goal
 
 abbrev pub invariant-loop-shown : goal.invariant-loop-shown
@@ -9,7 +9,7 @@ invariant-loop-shown g l = record {
   unfailed : has_failed l.sink ≡ false;
   counts : g.W.Target.failures (writer_of l.sink) ≡ g.W.Target.failures (writer_of l.initial.sink);
   written : (start : Option (List ℕ)) (before : List ℕ) → HasWritten g.W.Target.contents start before l.initial.sink
-      → HasWritten g.W.Target.contents start (before ++ placed_texts 0 (take l.i l.transaction)) l.sink;
+      → HasWritten g.W.Target.contents start (before ++ listed_texts 0 (take l.i l.transaction)) l.sink;
 }
 
 abbrev pub decreases-loop-shown : goal.decreases-loop-shown

@@ -1,13 +1,13 @@
 use Rattle.std.proofs.Common.{◌≡◌, ℕ, ◌+◌, ◌≤◌, ◌<◌, length, None, sym, ap, ◌∙◌, arith}
 use Rattle.std.specs.Prelude.{option_map}
-use Rattle.cwr_layouts.specs.Format.Layouts.{field_placed, layout}
+use Rattle.cwr_layouts.specs.Format.Layouts.{field_with_start, layout}
 use Rattle.cwr_layouts.specs.Steps.Views.{field_view}
 use Rattle.cwr_tools.proofs.FieldNames.{no_name, none_missing, other_name, own_name}
 use Rattle.cwr_tools.proofs.note_lines.number_of_field.Goals as goal
 
 pub returns-in_default : goal.returns-in_default
 returns-in_default c =
-    let place : None ≡ field_placed c.args.kind (c.loop-before.before + 1) = sym (ap (option_map field_view) c.in_default.is) ∙ c.field.ensures in
+    let place : None ≡ field_with_start c.args.kind (c.loop-before.before + 1) = sym (ap (option_map field_view) c.in_default.is) ∙ c.field.ensures in
     let within : c.loop-before.before < length (layout c.args.kind) = omega (arith, c.loop-before-test.true, c.fields-count.ensures) in
     absurd (none_missing c.args.kind c.loop-before.before place within)
 

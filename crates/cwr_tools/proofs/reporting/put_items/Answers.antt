@@ -1,6 +1,6 @@
 use Rattle.std.proofs.Common.{◌≡◌, ℕ, List, [], ◌∷◌, Option, rules, refl, sym, ap, subst, ◌∙◌, arith}
 use Rattle.std.specs.Prelude.{Result, Ok, IfOk, IfSome, IsSomeAnd}
-use Rattle.cwr_decode.specs.Steps.LastReads.{stage_of_records}
+use Rattle.cwr_decode.specs.Steps.LastReads.{counts_of_records, stage_of_records}
 use Rattle.cwr_decode.specs.Steps.Machines.{Standing}
 use Rattle.cwr_decode.specs.Steps.Runs.{HasReadAll}
 use Rattle.cwr_decode.proofs.ItemsReadSoFar.{none_read, nothing_read_yet}
@@ -172,7 +172,7 @@ returns-in-Err-clause-last g c = λ explains.
     c.items.invariant.reporting.reading c.in-Err.ensures.reads c.in-Err.ensures.again in
     let stopped : IfOk c.verdict_of.result (λ verdict. IsSomeAnd c.last_read-in-Err.result (IsReadLast c.args.limits (g.R.Source.remaining c.args.reader.now) (g.R.Source.remaining c.next_item.new.self.reader.now) verdict))
     = fault_answered c.args.limits _ _ c.items.invariant.reporting.given c.next_item.new.self.last c.last_read-in-Err.result c.in-Err.fault c.verdict_of.result stop
-    (subst (λ (d : Standing). IfSome c.last_read-in-Err.result (λ last. last.stage ≡ stage_of_records d)) (sym same) c.last_read-in-Err.ensures.stage)
+    (subst (λ (d : Standing). IfSome c.last_read-in-Err.result (λ last. (last.stage ≡ stage_of_records d) × (last.counts ≡ counts_of_records d))) (sym same) c.last_read-in-Err.ensures.front)
     (holds_more _ _ _ _ _ (c.items.invariant.last explains) c.in-Err.ensures.last) c.last_read-in-Err.ensures.bytes c.verdict_of.ensures in
     search rules
 

@@ -4,6 +4,8 @@ use Rattle.cwr_values.specs.declared.items.Item.{Item}
 use Rattle.cwr_judge.specs.Format.Items.{item_records}
 use Rattle.cwr_json.specs.Format.Forms.{AreRecordsData}
 use Rattle.cwr_write.proofs.ItemsRead.{alone_trailer, data_all, data_first, data_of_trailer}
+use Rattle.cwr_write.specs.Format.AloneKinds.{IsAlone}
+use Rattle.cwr_write.proofs.NoItemData.{none_alone}
 use Rattle.cwr_write.proofs.items.item_alone.Goals as goal
 use Rattle.cwr_write.proofs.items.item_alone.Goals.{in-Hdr, in-Grh, in-Grt, in_default}
 
@@ -17,3 +19,6 @@ returns-clause-ok c =
       | in_default w ↦ subst (λ (i : Item). AreRecordsData (items_view c.args.values.now) (item_records i)) (sym w.result-is)
           (data_of_trailer c.args.values.now c.args.first c.requires.data (c.requires.kind.0 ∙ alone_trailer c.args.kind c.requires.kind.1 w.in_default.not-Hdr w.in_default.not-Grh w.in_default.not-Grt) whole)
     ]
+
+pub returns-then-values-gt1-clause-none : goal.returns-then-values-gt1-clause-none
+returns-then-values-gt1-clause-none c = none_alone c.args.values.now c.args.first c.requires.data (subst IsAlone (sym c.requires.kind.0) c.requires.kind.1) c.if-values-gt1.true

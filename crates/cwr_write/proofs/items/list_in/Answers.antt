@@ -1,11 +1,65 @@
-use Rattle.std.proofs.Common.{sym, ap, arith, length}
-use Rattle.cwr_json.specs.Format.Forms.{records_key}
-use Rattle.cwr_write.proofs.ItemsRead.{key_same, only_is}
+use Rattle.std.proofs.Common.{sym, ap, subst, arith, length}
+use Rattle.json.specs.Value.{members_view}
+use Rattle.cwr_write.specs.Format.Faults.{IsListReason}
+use Rattle.cwr_write.proofs.ItemReasons.{missing_reason, repeated_list, unknown_first, unknown_second}
+use Rattle.cwr_json.specs.Format.Forms.{records_key, told}
+use Rattle.cwr_write.proofs.ItemsRead.{key_other, key_same, only_is}
+use Rattle.cwr_write.proofs.NoItemData.{another_there, none_there, other_key}
 use Rattle.cwr_write.proofs.ToldMembers.{member_in}
 use Rattle.cwr_write.proofs.items.list_in.Goals as goal
 
-pub returns-in-None : goal.returns-in-None
-returns-in-None c =
+pub returns-in-None-clause-ok : goal.returns-in-None-clause-ok
+returns-in-None-clause-ok c =
     let p = member_in _ _ c.first_said-at.result c.in-Some.member.now c.deref.ensures.value c.in-Some.ensures.lookup.3.0 c.in-Some.ensures.lookup.1 in
     only_is c.args.members.now.items records_key c.first_said-at.result c.first_said-more.result c.in-Some.member.now p.0 p.1 (key_same c.in-Some.member.now.0.now records_key (sym c.if-ne.ensures)) (c.first_said-at.ensures.said p.0) c.first_said-at.ensures.same c.first_said-more.ensures.same
     (omega (arith, c.in-None.ensures.lookup, ap length c.deref-2.ensures.value))
+
+pub returns-in_default-clause-err : goal.returns-in_default-clause-err
+returns-in_default-clause-err c = none_there c.args.members.now.items c.first_said-at.result c.first_said-at.ensures.same (omega (arith, c.in_default.ensures.lookup, ap length c.deref.ensures.value))
+
+pub returns-then-ne-clause-err : goal.returns-then-ne-clause-err
+returns-then-ne-clause-err c =
+    let p = member_in _ _ c.first_said-at.result c.in-Some.member.now c.deref.ensures.value c.in-Some.ensures.lookup.3.0 c.in-Some.ensures.lookup.1 in
+    other_key c.args.members.now.items c.first_said-at.result c.in-Some.member.now p.0 p.1 (c.first_said-at.ensures.said p.0) c.first_said-at.ensures.same (key_other c.in-Some.member.now.0.now records_key (sym c.if-ne.ensures))
+
+pub returns-in-Some-get-clause-err : goal.returns-in-Some-get-clause-err
+returns-in-Some-get-clause-err c =
+    let p = member_in _ _ c.first_said-at.result c.in-Some.member.now c.deref.ensures.value c.in-Some.ensures.lookup.3.0 c.in-Some.ensures.lookup.1 in
+    let q = member_in _ _ c.first_said-more.result c.in-Some-get.other.now c.deref-2.ensures.value c.in-Some-get.ensures.lookup.3.0 c.in-Some-get.ensures.lookup.1 in
+    another_there c.args.members.now.items c.first_said-at.result c.first_said-more.result c.in-Some.member.now c.in-Some-get.other.now p.0 p.1 (c.first_said-at.ensures.said p.0) c.first_said-at.ensures.same q.0 q.1 (c.first_said-more.ensures.said q.0) c.first_said-more.ensures.same
+
+pub returns-in-Some-2-clause-err : goal.returns-in-Some-2-clause-err
+returns-in-Some-2-clause-err c =
+    let p = member_in _ _ c.first_said-at.result c.in-Some.member.now c.deref.ensures.value c.in-Some.ensures.lookup.3.0 c.in-Some.ensures.lookup.1 in
+    let q = member_in _ _ c.first_said-more.result c.in-Some-2.other.now c.deref-2.ensures.value c.in-Some-2.ensures.lookup.3.0 c.in-Some-2.ensures.lookup.1 in
+    another_there c.args.members.now.items c.first_said-at.result c.first_said-more.result c.in-Some.member.now c.in-Some-2.other.now p.0 p.1 (c.first_said-at.ensures.said p.0) c.first_said-at.ensures.same q.0 q.1 (c.first_said-more.ensures.said q.0) c.first_said-more.ensures.same
+
+pub returns-in_default-clause-reason : goal.returns-in_default-clause-reason
+returns-in_default-clause-reason c = (c.of_key.ensures.record, subst (IsListReason (told (members_view c.args.members.now.items))) (sym c.of_key.ensures.why) (missing_reason c.args.members.now.items c.first_said-at.result c.first_said-at.ensures.same (omega (arith, c.in_default.ensures.lookup, ap length c.deref.ensures.value))))
+
+pub returns-then-ne-clause-reason : goal.returns-then-ne-clause-reason
+returns-then-ne-clause-reason c =
+    let p = member_in _ _ c.first_said-at.result c.in-Some.member.now c.deref.ensures.value c.in-Some.ensures.lookup.3.0 c.in-Some.ensures.lookup.1 in (
+      c.of_key-then-ne.ensures.record,
+      subst (IsListReason (told (members_view c.args.members.now.items))) (sym c.of_key-then-ne.ensures.why)
+          (unknown_first c.args.members.now.items c.first_said-at.result c.in-Some.member.now p.0 p.1 (c.first_said-at.ensures.said p.0) c.first_said-at.ensures.same (sym c.if-ne.ensures)),
+    )
+
+pub returns-in-Some-get-clause-reason : goal.returns-in-Some-get-clause-reason
+returns-in-Some-get-clause-reason c =
+    let p = member_in _ _ c.first_said-at.result c.in-Some.member.now c.deref.ensures.value c.in-Some.ensures.lookup.3.0 c.in-Some.ensures.lookup.1 in
+    let q = member_in _ _ c.first_said-more.result c.in-Some-get.other.now c.deref-2.ensures.value c.in-Some-get.ensures.lookup.3.0 c.in-Some-get.ensures.lookup.1 in (
+      c.of_key-in-Some-get.ensures.record,
+      subst (IsListReason (told (members_view c.args.members.now.items))) (sym c.of_key-in-Some-get.ensures.why)
+          (unknown_second c.args.members.now.items c.first_said-at.result c.first_said-more.result c.in-Some.member.now c.in-Some-get.other.now p.0 p.1 (c.first_said-at.ensures.said p.0) c.first_said-at.ensures.same q.0 q.1 (c.first_said-more.ensures.said q.0) c.first_said-more.ensures.same (sym c.if-ne-2.ensures)),
+    )
+
+pub returns-in-Some-2-clause-reason : goal.returns-in-Some-2-clause-reason
+returns-in-Some-2-clause-reason c =
+    let p = member_in _ _ c.first_said-at.result c.in-Some.member.now c.deref.ensures.value c.in-Some.ensures.lookup.3.0 c.in-Some.ensures.lookup.1 in
+    let q = member_in _ _ c.first_said-more.result c.in-Some-get.other.now c.deref-2.ensures.value c.in-Some-get.ensures.lookup.3.0 c.in-Some-get.ensures.lookup.1 in (
+      c.of_key-in-Some-2.ensures.record,
+      subst (IsListReason (told (members_view c.args.members.now.items))) (sym c.of_key-in-Some-2.ensures.why)
+          (repeated_list c.args.members.now.items c.first_said-at.result c.first_said-more.result c.in-Some.member.now c.in-Some-get.other.now p.0 p.1 (c.first_said-at.ensures.said p.0) c.first_said-at.ensures.same q.0 q.1 (c.first_said-more.ensures.said q.0) c.first_said-more.ensures.same
+          (key_same c.in-Some.member.now.0.now records_key (sym c.if-ne.ensures)) (key_same c.in-Some-get.other.now.0.now records_key (sym c.if-ne-2.ensures))),
+    )

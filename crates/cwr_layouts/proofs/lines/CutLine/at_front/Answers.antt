@@ -1,10 +1,5 @@
-use Rattle.std.proofs.Common.{◌≡◌, ℕ, List, take, sym, subst, ◌∙◌, arith, ap, true}
-use Rattle.std.specs.Prelude.{Some}
-use Rattle.cwr_layouts.specs.Format.Kinds.{kind_of}
-use Rattle.cwr_layouts.specs.Format.Layouts.{line_width}
-use Rattle.cwr_layouts.specs.declared.lines.LineEnd.TheVariants.{Line}
-use Rattle.cwr_layouts.specs.Steps.Held.{IsClosed, IsHeld}
-use Rattle.cwr_layouts.proofs.FrontLines.{Begins, front, front_closed, front_held_of}
+use Rattle.std.proofs.Common.{sym, arith}
+use Rattle.cwr_layouts.proofs.FrontLines.{Begins, front_closed, front_held_of}
 use Rattle.cwr_layouts.proofs.lines.CutLine.at_front.Goals as goal
 
 pub invariant_of-line : goal.invariant_of-line

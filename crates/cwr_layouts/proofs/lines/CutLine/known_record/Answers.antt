@@ -1,10 +1,10 @@
-use Rattle.std.proofs.Common.{◌≡◌, ◌≤◌, ◌∙◌, List, ℕ, length, take, sym, ap, subst, Some, arith}
+use Rattle.std.proofs.Common.{◌≤◌, ◌∙◌, ℕ, length, take, sym, ap, subst, Some}
 use Rattle.std.proofs.lemmas.List.{length-take-le}
 use Rattle.cwr_layouts.specs.Steps.Held.{IsFilled}
 use Rattle.cwr_layouts.specs.Format.Records.{RecordValue, IsRecord}
 use Rattle.cwr_layouts.specs.Steps.Carried.{record_in}
 use Rattle.cwr_layouts.proofs.CellParts.{filled_now}
-use Rattle.cwr_layouts.proofs.HeldRecords.{known_fits, known_kind, record_held, filled_wide}
+use Rattle.cwr_layouts.proofs.HeldRecords.{known_fits, record_held, filled_wide}
 use Rattle.cwr_layouts.proofs.lines.CutLine.known_record.Goals as goal
 
 pub slice_bounds-of_line-end : goal.slice_bounds-of_line-end

@@ -5,8 +5,11 @@ use Rattle.cwr_shape.specs.Format.NextSymbols.{MayCome}
 use Rattle.cwr_shape.specs.Steps.Tallies.{TallyValue, IsTallyOf, IsAdmitted}
 use Rattle.cwr_shape.specs.Steps.Counting.{counts_with}
 use Rattle.cwr_shape.proofs.FirstBars.{next_of, may_come}
-use Rattle.cwr_shape.proofs.TallyWithOneMore.{keeps_tally, stands_more}
+use Rattle.cwr_shape.proofs.TallyWithOneMore.{keeps_tally, room_with, stands_more}
 use Rattle.cwr_shape.proofs.tallies.Tally.admit.Goals as goal
+
+pub passed_limit_at-requires : goal.passed_limit_at-requires
+passed_limit_at-requires c = room_with c.type_at.result c.self.inside.limits c.self.inside.counts c.with-counts.result c.args.symbol c.self.invariant.counts c.with-counts.ensures
 
 pub invariant_of-self : goal.invariant_of-self
 invariant_of-self c =

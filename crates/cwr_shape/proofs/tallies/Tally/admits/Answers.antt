@@ -6,7 +6,11 @@ use Rattle.cwr_shape.specs.Format.NextSymbols.{Answers}
 use Rattle.cwr_shape.specs.Steps.Tallies.{TallyValue, IsTallyOf, IsAdmitted}
 use Rattle.cwr_shape.specs.Steps.Counting.{counts_with}
 use Rattle.cwr_shape.proofs.FirstBars.{next_of, may_come, is_barred}
+use Rattle.cwr_shape.proofs.TallyWithOneMore.{room_with}
 use Rattle.cwr_shape.proofs.tallies.Tally.admits.Goals as goal
+
+pub passed_limit_at-requires : goal.passed_limit_at-requires
+passed_limit_at-requires c = room_with c.type_at.result c.self.inside.limits c.self.inside.counts c.with-counts.result c.args.symbol c.self.invariant.counts c.with-counts.ensures
 
 pub returns-in-Some-passed_limit_at-clause-answer : goal.returns-in-Some-passed_limit_at-clause-answer
 returns-in-Some-passed_limit_at-clause-answer c =

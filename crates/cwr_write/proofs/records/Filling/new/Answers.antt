@@ -1,5 +1,6 @@
+use Rattle.std.proofs.Common.{refl}
 use Rattle.cwr_write.proofs.FilledDrafts.{filled_none}
 use Rattle.cwr_write.proofs.records.Filling.new.Goals as goal
 
 pub returns-clause-filled : goal.returns-clause-filled
-returns-clause-filled c = filled_none c.args.kind _ _ c.blank.ensures
+returns-clause-filled c = filled_none c.args.kind _ _ 256 c.blank.ensures refl

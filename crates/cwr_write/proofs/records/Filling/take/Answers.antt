@@ -5,6 +5,8 @@ use Rattle.std.proofs.Math.ListN.{set}
 use Rattle.std.proofs.Common.{true}
 use Rattle.cwr_write.specs.Steps.Filling.{IsFilled, names_field, with_last}
 use Rattle.cwr_write.proofs.FilledDrafts.{filled_set, filled_type}
+use Rattle.cwr_write.proofs.RecordReasons.{repeated_reason, unknown_reason, value_reason}
+use Rattle.cwr_write.proofs.NoRecordData.{repeated_key, unfit_value, unknown_key}
 use Rattle.cwr_write.proofs.records.Filling.take.Goals as goal
 
 pub returns-then-j-eq1-clause-ok : goal.returns-then-j-eq1-clause-ok
@@ -22,7 +24,33 @@ returns-in-Ok-clause-ok c = λ ms h.
     let seen : List Bool = c.args.self.now.seen in
     let unmarked : get_or seen c.in-Some.j false ≡ false = ap (λ (j : ℕ). get_or seen j false) (sym c.from.ensures) ∙ c.if-self-from.false in
     let room : c.in-Some.j < length seen = omega arith in
-    let filled = filled_set c.args.self.now.kind ms c.args.self.now.draft c.set_value.new.draft seen c.in-Some.j c.args.key.now c.in-Ok.ensures.0 room c.in-Some.ensures unmarked h c.in-Ok.ensures.2 in
+    let filled = filled_set c.args.self.now.kind ms c.args.self.now.draft c.set_value.new.draft seen c.in-Some.j c.args.key.now c.in-Ok.ensures.ok.0 room c.in-Some.ensures unmarked h c.in-Ok.ensures.ok.2 in
     let value : IsFilled c.args.self.now.kind (with_last ms c.args.key.now (value_view c.args.value.now)) c.set_value.new.draft (set seen c.in-Some.j true) =
-    subst (λ (v : Json). IsFilled c.args.self.now.kind (with_last ms c.args.key.now v) c.set_value.new.draft (set seen c.in-Some.j true)) (sym c.in-Ok.ensures.1) filled in
+    subst (λ (v : Json). IsFilled c.args.self.now.kind (with_last ms c.args.key.now v) c.set_value.new.draft (set seen c.in-Some.j true)) (sym c.in-Ok.ensures.ok.1) filled in
     subst (λ (j : ℕ). IsFilled c.args.self.now.kind (with_last ms c.args.key.now (value_view c.args.value.now)) c.set_value.new.draft (set seen j true)) (sym c.from-2.ensures) value
+
+pub returns-in_default-clause-err : goal.returns-in_default-clause-err
+returns-in_default-clause-err c = λ ms h. unknown_key c.args.self.now.kind ms c.args.key.now (value_view c.args.value.now) c.in_default.ensures
+
+pub returns-then-self-from-clause-err : goal.returns-then-self-from-clause-err
+returns-then-self-from-clause-err c = λ ms h.
+    repeated_key c.args.self.now.kind ms c.args.key.now (value_view c.args.value.now)
+    (h.marked c.in-Some.j c.args.key.now c.in-Some.ensures (ap (λ (j : ℕ). get_or c.args.self.now.seen j false) (sym c.from.ensures) ∙ c.if-self-from.true))
+
+pub returns-in-Err-clause-err : goal.returns-in-Err-clause-err
+returns-in-Err-clause-err c = λ ms h.
+    let unmarked : get_or c.args.self.now.seen c.in-Some.j false ≡ false = ap (λ (j : ℕ). get_or c.args.self.now.seen j false) (sym c.from.ensures) ∙ c.if-self-from.false in
+    unfit_value c.args.self.now.kind ms c.args.key.now (value_view c.args.value.now) c.in-Some.j c.in-Some.ensures c.if-j-eq1.false (h.marks c.in-Some.j c.args.key.now c.in-Some.ensures unmarked) (c.in-Err.ensures.err h.kind_is)
+
+pub returns-in_default-clause-reason : goal.returns-in_default-clause-reason
+returns-in_default-clause-reason c = λ ms rest h. unknown_reason c.args.self.now.kind ms rest c.text_key.result c.args.key.now (value_view c.args.value.now) c.in_default.ensures
+
+pub returns-then-self-from-clause-reason : goal.returns-then-self-from-clause-reason
+returns-then-self-from-clause-reason c = λ ms rest h.
+    repeated_reason c.args.self.now.kind ms rest c.in-Some.j c.args.key.now (value_view c.args.value.now) c.in-Some.ensures
+    (h.marked c.in-Some.j c.args.key.now c.in-Some.ensures (ap (λ (j : ℕ). get_or c.args.self.now.seen j false) (sym c.from.ensures) ∙ c.if-self-from.true))
+
+pub returns-in-Err-clause-reason : goal.returns-in-Err-clause-reason
+returns-in-Err-clause-reason c = λ ms rest h.
+    let unmarked : get_or c.args.self.now.seen c.in-Some.j false ≡ false = ap (λ (j : ℕ). get_or c.args.self.now.seen j false) (sym c.from.ensures) ∙ c.if-self-from.false in
+    value_reason c.args.self.now.kind ms rest c.in-Some.j c.args.key.now (value_view c.args.value.now) c.in-Err.why c.in-Some.ensures (h.marks c.in-Some.j c.args.key.now c.in-Some.ensures unmarked) (c.in-Err.ensures.reason h.kind_is)

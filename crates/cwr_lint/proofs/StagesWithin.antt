@@ -1,0 +1,374 @@
+-- What comes after a stage inside a group: the header of a transaction, a further record of one, or the group's foot.
+use Rattle.std.proofs.Common.{◌≡◌, Bool, true, false, true≢false, Option, Some, None, refl, sym, ap, ◌∙◌}
+use Rattle.std.specs.Prelude.{◌&&◌, ◌||◌, not, is_some}
+use Rattle.cwr_fields.specs.declared.codes.Role.TheVariants.{Assignor, Acquirer}
+use Rattle.cwr_fields.specs.declared.codes.TransactionType.{TransactionType}
+use Rattle.cwr_fields.specs.declared.codes.TransactionType.TheVariants.{Agreement, NewWork, RevisedWork, Acknowledgement}
+use Rattle.cwr_layouts.specs.declared.kinds.Kind.TheVariants as kinds
+use Rattle.cwr_layouts.specs.Format.Kinds.{is_in_transaction}
+use Rattle.cwr_shape.specs.declared.symbols.Symbol.{Symbol}
+use Rattle.cwr_shape.specs.declared.symbols.Symbol.TheVariants.{Plain, Ipa, Grh}
+use Rattle.cwr_shape.specs.declared.stages.Stage.{Stage}
+use Rattle.cwr_shape.specs.declared.stages.Stage.TheVariants.{Within, Closed}
+use Rattle.cwr_shape.specs.declared.stages.TransactionStep.{TransactionStep}
+use Rattle.cwr_shape.specs.declared.stages.TransactionStep.TheVariants as steps
+use Rattle.cwr_shape.specs.Format.NextSymbols.{is_header_of}
+use Rattle.cwr_shape.specs.Steps.NextStages.{header_step, next_stage, within}
+use Rattle.cwr_shape.proofs.AllSymbols.{of_each}
+use Rattle.cwr_lint.specs.Steps.Cells.{type_of_header}
+use Rattle.cwr_lint.specs.Steps.States.{is_type}
+
+-- ---- words
+
+-- the step is that before the first header
+abbrev pub is_before : TransactionStep → Bool
+is_before steps.InGroup = true
+is_before step = false
+
+-- the stage is inside a transaction of a group of the type
+abbrev pub is_inside : TransactionType → Stage → Bool
+is_inside ty (Within t step) = is_type (Some t) ty && not (is_before step)
+is_inside ty stage = false
+
+-- the foot of a group
+abbrev pub is_foot : Symbol → Bool
+is_foot (Plain kinds.Grt) = true
+is_foot s = false
+
+-- the record stands in a transaction, and where its kind is that of a header then of another type's
+abbrev pub is_further : TransactionType → Symbol → Bool
+is_further ty (Plain kinds.Ipa) = false
+is_further ty (Plain kind) = is_in_transaction kind && not (is_type (type_of_header kind) ty)
+is_further ty (Ipa role) = true
+is_further ty (Grh t) = false
+
+-- the first step of a transaction of the type
+abbrev pub first_step : TransactionType → TransactionStep
+first_step Agreement = steps.Agreed
+first_step NewWork = steps.Work
+first_step RevisedWork = steps.Work
+first_step Acknowledgement = steps.Acked
+
+-- ---- tests of each symbol
+
+-- a further record leads on in the transaction
+abbrev pub goes_inside : TransactionType → Symbol → Option Stage → Bool
+goes_inside ty s None = true
+goes_inside ty s (Some to) = is_further ty s && is_inside ty to
+
+abbrev pub further_test : TransactionType → TransactionStep → Symbol → Bool
+further_test ty step s = (is_header_of ty s || is_foot s) || (goes_inside ty s (next_stage (Within ty step) s) && (not (is_some (next_stage (Within ty step) s)) || not (is_before step)))
+
+further_passes : (ty : TransactionType) (step : TransactionStep) (s : Symbol) → further_test ty step s ≡ true
+further_passes Agreement steps.InGroup s = of_each (further_test Agreement steps.InGroup) s refl
+further_passes Agreement steps.Acked s = of_each (further_test Agreement steps.Acked) s refl
+further_passes Agreement steps.Agreed s = of_each (further_test Agreement steps.Agreed) s refl
+further_passes Agreement steps.Territories s = of_each (further_test Agreement steps.Territories) s refl
+further_passes Agreement (steps.OneSide Assignor) s = of_each (further_test Agreement (steps.OneSide Assignor)) s refl
+further_passes Agreement (steps.OneSide Acquirer) s = of_each (further_test Agreement (steps.OneSide Acquirer)) s refl
+further_passes Agreement steps.Both s = of_each (further_test Agreement steps.Both) s refl
+further_passes Agreement steps.Work s = of_each (further_test Agreement steps.Work) s refl
+further_passes Agreement steps.Controlled s = of_each (further_test Agreement steps.Controlled) s refl
+further_passes Agreement steps.Other s = of_each (further_test Agreement steps.Other) s refl
+further_passes Agreement steps.Writer s = of_each (further_test Agreement steps.Writer) s refl
+further_passes Agreement steps.OtherWriter s = of_each (further_test Agreement steps.OtherWriter) s refl
+further_passes Agreement steps.Tail s = of_each (further_test Agreement steps.Tail) s refl
+further_passes NewWork steps.InGroup s = of_each (further_test NewWork steps.InGroup) s refl
+further_passes NewWork steps.Acked s = of_each (further_test NewWork steps.Acked) s refl
+further_passes NewWork steps.Agreed s = of_each (further_test NewWork steps.Agreed) s refl
+further_passes NewWork steps.Territories s = of_each (further_test NewWork steps.Territories) s refl
+further_passes NewWork (steps.OneSide Assignor) s = of_each (further_test NewWork (steps.OneSide Assignor)) s refl
+further_passes NewWork (steps.OneSide Acquirer) s = of_each (further_test NewWork (steps.OneSide Acquirer)) s refl
+further_passes NewWork steps.Both s = of_each (further_test NewWork steps.Both) s refl
+further_passes NewWork steps.Work s = of_each (further_test NewWork steps.Work) s refl
+further_passes NewWork steps.Controlled s = of_each (further_test NewWork steps.Controlled) s refl
+further_passes NewWork steps.Other s = of_each (further_test NewWork steps.Other) s refl
+further_passes NewWork steps.Writer s = of_each (further_test NewWork steps.Writer) s refl
+further_passes NewWork steps.OtherWriter s = of_each (further_test NewWork steps.OtherWriter) s refl
+further_passes NewWork steps.Tail s = of_each (further_test NewWork steps.Tail) s refl
+further_passes RevisedWork steps.InGroup s = of_each (further_test RevisedWork steps.InGroup) s refl
+further_passes RevisedWork steps.Acked s = of_each (further_test RevisedWork steps.Acked) s refl
+further_passes RevisedWork steps.Agreed s = of_each (further_test RevisedWork steps.Agreed) s refl
+further_passes RevisedWork steps.Territories s = of_each (further_test RevisedWork steps.Territories) s refl
+further_passes RevisedWork (steps.OneSide Assignor) s = of_each (further_test RevisedWork (steps.OneSide Assignor)) s refl
+further_passes RevisedWork (steps.OneSide Acquirer) s = of_each (further_test RevisedWork (steps.OneSide Acquirer)) s refl
+further_passes RevisedWork steps.Both s = of_each (further_test RevisedWork steps.Both) s refl
+further_passes RevisedWork steps.Work s = of_each (further_test RevisedWork steps.Work) s refl
+further_passes RevisedWork steps.Controlled s = of_each (further_test RevisedWork steps.Controlled) s refl
+further_passes RevisedWork steps.Other s = of_each (further_test RevisedWork steps.Other) s refl
+further_passes RevisedWork steps.Writer s = of_each (further_test RevisedWork steps.Writer) s refl
+further_passes RevisedWork steps.OtherWriter s = of_each (further_test RevisedWork steps.OtherWriter) s refl
+further_passes RevisedWork steps.Tail s = of_each (further_test RevisedWork steps.Tail) s refl
+further_passes Acknowledgement steps.InGroup s = of_each (further_test Acknowledgement steps.InGroup) s refl
+further_passes Acknowledgement steps.Acked s = of_each (further_test Acknowledgement steps.Acked) s refl
+further_passes Acknowledgement steps.Agreed s = of_each (further_test Acknowledgement steps.Agreed) s refl
+further_passes Acknowledgement steps.Territories s = of_each (further_test Acknowledgement steps.Territories) s refl
+further_passes Acknowledgement (steps.OneSide Assignor) s = of_each (further_test Acknowledgement (steps.OneSide Assignor)) s refl
+further_passes Acknowledgement (steps.OneSide Acquirer) s = of_each (further_test Acknowledgement (steps.OneSide Acquirer)) s refl
+further_passes Acknowledgement steps.Both s = of_each (further_test Acknowledgement steps.Both) s refl
+further_passes Acknowledgement steps.Work s = of_each (further_test Acknowledgement steps.Work) s refl
+further_passes Acknowledgement steps.Controlled s = of_each (further_test Acknowledgement steps.Controlled) s refl
+further_passes Acknowledgement steps.Other s = of_each (further_test Acknowledgement steps.Other) s refl
+further_passes Acknowledgement steps.Writer s = of_each (further_test Acknowledgement steps.Writer) s refl
+further_passes Acknowledgement steps.OtherWriter s = of_each (further_test Acknowledgement steps.OtherWriter) s refl
+further_passes Acknowledgement steps.Tail s = of_each (further_test Acknowledgement steps.Tail) s refl
+
+-- a header comes first in a group, or after a whole transaction
+abbrev pub header_test : TransactionType → TransactionStep → Symbol → Bool
+header_test ty step s = not (is_header_of ty s) || (not (is_some (next_stage (Within ty step) s)) || (is_before step || is_some (next_stage (Within ty step) (Plain kinds.Grt))))
+
+header_passes : (ty : TransactionType) (step : TransactionStep) (s : Symbol) → header_test ty step s ≡ true
+header_passes Agreement steps.InGroup s = of_each (header_test Agreement steps.InGroup) s refl
+header_passes Agreement steps.Acked s = of_each (header_test Agreement steps.Acked) s refl
+header_passes Agreement steps.Agreed s = of_each (header_test Agreement steps.Agreed) s refl
+header_passes Agreement steps.Territories s = of_each (header_test Agreement steps.Territories) s refl
+header_passes Agreement (steps.OneSide Assignor) s = of_each (header_test Agreement (steps.OneSide Assignor)) s refl
+header_passes Agreement (steps.OneSide Acquirer) s = of_each (header_test Agreement (steps.OneSide Acquirer)) s refl
+header_passes Agreement steps.Both s = of_each (header_test Agreement steps.Both) s refl
+header_passes Agreement steps.Work s = of_each (header_test Agreement steps.Work) s refl
+header_passes Agreement steps.Controlled s = of_each (header_test Agreement steps.Controlled) s refl
+header_passes Agreement steps.Other s = of_each (header_test Agreement steps.Other) s refl
+header_passes Agreement steps.Writer s = of_each (header_test Agreement steps.Writer) s refl
+header_passes Agreement steps.OtherWriter s = of_each (header_test Agreement steps.OtherWriter) s refl
+header_passes Agreement steps.Tail s = of_each (header_test Agreement steps.Tail) s refl
+header_passes NewWork steps.InGroup s = of_each (header_test NewWork steps.InGroup) s refl
+header_passes NewWork steps.Acked s = of_each (header_test NewWork steps.Acked) s refl
+header_passes NewWork steps.Agreed s = of_each (header_test NewWork steps.Agreed) s refl
+header_passes NewWork steps.Territories s = of_each (header_test NewWork steps.Territories) s refl
+header_passes NewWork (steps.OneSide Assignor) s = of_each (header_test NewWork (steps.OneSide Assignor)) s refl
+header_passes NewWork (steps.OneSide Acquirer) s = of_each (header_test NewWork (steps.OneSide Acquirer)) s refl
+header_passes NewWork steps.Both s = of_each (header_test NewWork steps.Both) s refl
+header_passes NewWork steps.Work s = of_each (header_test NewWork steps.Work) s refl
+header_passes NewWork steps.Controlled s = of_each (header_test NewWork steps.Controlled) s refl
+header_passes NewWork steps.Other s = of_each (header_test NewWork steps.Other) s refl
+header_passes NewWork steps.Writer s = of_each (header_test NewWork steps.Writer) s refl
+header_passes NewWork steps.OtherWriter s = of_each (header_test NewWork steps.OtherWriter) s refl
+header_passes NewWork steps.Tail s = of_each (header_test NewWork steps.Tail) s refl
+header_passes RevisedWork steps.InGroup s = of_each (header_test RevisedWork steps.InGroup) s refl
+header_passes RevisedWork steps.Acked s = of_each (header_test RevisedWork steps.Acked) s refl
+header_passes RevisedWork steps.Agreed s = of_each (header_test RevisedWork steps.Agreed) s refl
+header_passes RevisedWork steps.Territories s = of_each (header_test RevisedWork steps.Territories) s refl
+header_passes RevisedWork (steps.OneSide Assignor) s = of_each (header_test RevisedWork (steps.OneSide Assignor)) s refl
+header_passes RevisedWork (steps.OneSide Acquirer) s = of_each (header_test RevisedWork (steps.OneSide Acquirer)) s refl
+header_passes RevisedWork steps.Both s = of_each (header_test RevisedWork steps.Both) s refl
+header_passes RevisedWork steps.Work s = of_each (header_test RevisedWork steps.Work) s refl
+header_passes RevisedWork steps.Controlled s = of_each (header_test RevisedWork steps.Controlled) s refl
+header_passes RevisedWork steps.Other s = of_each (header_test RevisedWork steps.Other) s refl
+header_passes RevisedWork steps.Writer s = of_each (header_test RevisedWork steps.Writer) s refl
+header_passes RevisedWork steps.OtherWriter s = of_each (header_test RevisedWork steps.OtherWriter) s refl
+header_passes RevisedWork steps.Tail s = of_each (header_test RevisedWork steps.Tail) s refl
+header_passes Acknowledgement steps.InGroup s = of_each (header_test Acknowledgement steps.InGroup) s refl
+header_passes Acknowledgement steps.Acked s = of_each (header_test Acknowledgement steps.Acked) s refl
+header_passes Acknowledgement steps.Agreed s = of_each (header_test Acknowledgement steps.Agreed) s refl
+header_passes Acknowledgement steps.Territories s = of_each (header_test Acknowledgement steps.Territories) s refl
+header_passes Acknowledgement (steps.OneSide Assignor) s = of_each (header_test Acknowledgement (steps.OneSide Assignor)) s refl
+header_passes Acknowledgement (steps.OneSide Acquirer) s = of_each (header_test Acknowledgement (steps.OneSide Acquirer)) s refl
+header_passes Acknowledgement steps.Both s = of_each (header_test Acknowledgement steps.Both) s refl
+header_passes Acknowledgement steps.Work s = of_each (header_test Acknowledgement steps.Work) s refl
+header_passes Acknowledgement steps.Controlled s = of_each (header_test Acknowledgement steps.Controlled) s refl
+header_passes Acknowledgement steps.Other s = of_each (header_test Acknowledgement steps.Other) s refl
+header_passes Acknowledgement steps.Writer s = of_each (header_test Acknowledgement steps.Writer) s refl
+header_passes Acknowledgement steps.OtherWriter s = of_each (header_test Acknowledgement steps.OtherWriter) s refl
+header_passes Acknowledgement steps.Tail s = of_each (header_test Acknowledgement steps.Tail) s refl
+
+-- it leads to the first step
+abbrev pub is_begun : TransactionType → Option Stage → Bool
+is_begun ty None = true
+is_begun Agreement (Some (Within Agreement steps.Agreed)) = true
+is_begun NewWork (Some (Within NewWork steps.Work)) = true
+is_begun RevisedWork (Some (Within RevisedWork steps.Work)) = true
+is_begun Acknowledgement (Some (Within Acknowledgement steps.Acked)) = true
+is_begun ty (Some stage) = false
+
+abbrev pub begun_test : TransactionType → TransactionStep → Symbol → Bool
+begun_test ty step s = not (is_header_of ty s) || is_begun ty (next_stage (Within ty step) s)
+
+begun_passes : (ty : TransactionType) (step : TransactionStep) (s : Symbol) → begun_test ty step s ≡ true
+begun_passes Agreement steps.InGroup s = of_each (begun_test Agreement steps.InGroup) s refl
+begun_passes Agreement steps.Acked s = of_each (begun_test Agreement steps.Acked) s refl
+begun_passes Agreement steps.Agreed s = of_each (begun_test Agreement steps.Agreed) s refl
+begun_passes Agreement steps.Territories s = of_each (begun_test Agreement steps.Territories) s refl
+begun_passes Agreement (steps.OneSide Assignor) s = of_each (begun_test Agreement (steps.OneSide Assignor)) s refl
+begun_passes Agreement (steps.OneSide Acquirer) s = of_each (begun_test Agreement (steps.OneSide Acquirer)) s refl
+begun_passes Agreement steps.Both s = of_each (begun_test Agreement steps.Both) s refl
+begun_passes Agreement steps.Work s = of_each (begun_test Agreement steps.Work) s refl
+begun_passes Agreement steps.Controlled s = of_each (begun_test Agreement steps.Controlled) s refl
+begun_passes Agreement steps.Other s = of_each (begun_test Agreement steps.Other) s refl
+begun_passes Agreement steps.Writer s = of_each (begun_test Agreement steps.Writer) s refl
+begun_passes Agreement steps.OtherWriter s = of_each (begun_test Agreement steps.OtherWriter) s refl
+begun_passes Agreement steps.Tail s = of_each (begun_test Agreement steps.Tail) s refl
+begun_passes NewWork steps.InGroup s = of_each (begun_test NewWork steps.InGroup) s refl
+begun_passes NewWork steps.Acked s = of_each (begun_test NewWork steps.Acked) s refl
+begun_passes NewWork steps.Agreed s = of_each (begun_test NewWork steps.Agreed) s refl
+begun_passes NewWork steps.Territories s = of_each (begun_test NewWork steps.Territories) s refl
+begun_passes NewWork (steps.OneSide Assignor) s = of_each (begun_test NewWork (steps.OneSide Assignor)) s refl
+begun_passes NewWork (steps.OneSide Acquirer) s = of_each (begun_test NewWork (steps.OneSide Acquirer)) s refl
+begun_passes NewWork steps.Both s = of_each (begun_test NewWork steps.Both) s refl
+begun_passes NewWork steps.Work s = of_each (begun_test NewWork steps.Work) s refl
+begun_passes NewWork steps.Controlled s = of_each (begun_test NewWork steps.Controlled) s refl
+begun_passes NewWork steps.Other s = of_each (begun_test NewWork steps.Other) s refl
+begun_passes NewWork steps.Writer s = of_each (begun_test NewWork steps.Writer) s refl
+begun_passes NewWork steps.OtherWriter s = of_each (begun_test NewWork steps.OtherWriter) s refl
+begun_passes NewWork steps.Tail s = of_each (begun_test NewWork steps.Tail) s refl
+begun_passes RevisedWork steps.InGroup s = of_each (begun_test RevisedWork steps.InGroup) s refl
+begun_passes RevisedWork steps.Acked s = of_each (begun_test RevisedWork steps.Acked) s refl
+begun_passes RevisedWork steps.Agreed s = of_each (begun_test RevisedWork steps.Agreed) s refl
+begun_passes RevisedWork steps.Territories s = of_each (begun_test RevisedWork steps.Territories) s refl
+begun_passes RevisedWork (steps.OneSide Assignor) s = of_each (begun_test RevisedWork (steps.OneSide Assignor)) s refl
+begun_passes RevisedWork (steps.OneSide Acquirer) s = of_each (begun_test RevisedWork (steps.OneSide Acquirer)) s refl
+begun_passes RevisedWork steps.Both s = of_each (begun_test RevisedWork steps.Both) s refl
+begun_passes RevisedWork steps.Work s = of_each (begun_test RevisedWork steps.Work) s refl
+begun_passes RevisedWork steps.Controlled s = of_each (begun_test RevisedWork steps.Controlled) s refl
+begun_passes RevisedWork steps.Other s = of_each (begun_test RevisedWork steps.Other) s refl
+begun_passes RevisedWork steps.Writer s = of_each (begun_test RevisedWork steps.Writer) s refl
+begun_passes RevisedWork steps.OtherWriter s = of_each (begun_test RevisedWork steps.OtherWriter) s refl
+begun_passes RevisedWork steps.Tail s = of_each (begun_test RevisedWork steps.Tail) s refl
+begun_passes Acknowledgement steps.InGroup s = of_each (begun_test Acknowledgement steps.InGroup) s refl
+begun_passes Acknowledgement steps.Acked s = of_each (begun_test Acknowledgement steps.Acked) s refl
+begun_passes Acknowledgement steps.Agreed s = of_each (begun_test Acknowledgement steps.Agreed) s refl
+begun_passes Acknowledgement steps.Territories s = of_each (begun_test Acknowledgement steps.Territories) s refl
+begun_passes Acknowledgement (steps.OneSide Assignor) s = of_each (begun_test Acknowledgement (steps.OneSide Assignor)) s refl
+begun_passes Acknowledgement (steps.OneSide Acquirer) s = of_each (begun_test Acknowledgement (steps.OneSide Acquirer)) s refl
+begun_passes Acknowledgement steps.Both s = of_each (begun_test Acknowledgement steps.Both) s refl
+begun_passes Acknowledgement steps.Work s = of_each (begun_test Acknowledgement steps.Work) s refl
+begun_passes Acknowledgement steps.Controlled s = of_each (begun_test Acknowledgement steps.Controlled) s refl
+begun_passes Acknowledgement steps.Other s = of_each (begun_test Acknowledgement steps.Other) s refl
+begun_passes Acknowledgement steps.Writer s = of_each (begun_test Acknowledgement steps.Writer) s refl
+begun_passes Acknowledgement steps.OtherWriter s = of_each (begun_test Acknowledgement steps.OtherWriter) s refl
+begun_passes Acknowledgement steps.Tail s = of_each (begun_test Acknowledgement steps.Tail) s refl
+
+-- ---- what that says
+
+or_left : (a b : Bool) → (a || b) ≡ true → a ≡ false → b ≡ true
+or_left true b h e = absurd (true≢false e)
+or_left false b h e = h
+
+and_both : (a b : Bool) → (a && b) ≡ true → (a ≡ true) × (b ≡ true)
+and_both true true h = (refl, refl)
+and_both true false h = absurd (true≢false (sym h))
+and_both false b h = absurd (true≢false (sym h))
+
+not_true : (b : Bool) → b ≡ true → not b ≡ false
+not_true b h = ap not h
+
+not_false : (b : Bool) → not b ≡ true → b ≡ false
+not_false true h = absurd (true≢false (sym h))
+not_false false h = refl
+
+some_there : (stage to : Stage) (s : Symbol) → next_stage stage s ≡ Some to → is_some (next_stage stage s) ≡ true
+some_there stage to s e = ap is_some e
+
+-- a further record
+pub record IsFurther (ty : TransactionType) (step : TransactionStep) (s : Symbol) (to : Stage) : Type 0 where
+  pub further : is_further ty s ≡ true
+  pub inside : is_inside ty to ≡ true
+  pub begun : is_before step ≡ false
+
+pub further_goes : (ty : TransactionType) (step : TransactionStep) (s : Symbol) (to : Stage) → next_stage (Within ty step) s ≡ Some to → is_header_of ty s ≡ false → is_foot s ≡ false → IsFurther ty step s to
+further_goes ty step s to e no_header no_foot =
+    let none : (is_header_of ty s || is_foot s) ≡ false = ap (λ (b : Bool). b || is_foot s) no_header ∙ no_foot in
+    let both = and_both (goes_inside ty s (next_stage (Within ty step) s)) (not (is_some (next_stage (Within ty step) s)) || not (is_before step)) (or_left (is_header_of ty s || is_foot s) _ (further_passes ty step s) none) in
+    let goes : (is_further ty s && is_inside ty to) ≡ true = sym (ap (goes_inside ty s) e) ∙ both.0 in
+    let parts = and_both (is_further ty s) (is_inside ty to) goes in
+    record { further = parts.0; inside = parts.1; begun = not_false (is_before step) (or_left (not (is_some (next_stage (Within ty step) s))) (not (is_before step)) both.1 (not_true _ (some_there (Within ty step) to s e))) }
+
+-- inside a transaction of the type
+pub inside_is : (ty : TransactionType) (to : Stage) → is_inside ty to ≡ true → (step : TransactionStep) × (to ≡ Within ty step) × (is_before step ≡ false)
+inside_is Agreement (Within Agreement step) h = (step, refl, not_false (is_before step) h)
+inside_is NewWork (Within NewWork step) h = (step, refl, not_false (is_before step) h)
+inside_is RevisedWork (Within RevisedWork step) h = (step, refl, not_false (is_before step) h)
+inside_is Acknowledgement (Within Acknowledgement step) h = (step, refl, not_false (is_before step) h)
+inside_is ty to h = absurd (true≢false (sym h))
+
+-- before a header the transaction is whole, if there is one
+pub whole_before : (ty : TransactionType) (step : TransactionStep) (s : Symbol) (to : Stage) → next_stage (Within ty step) s ≡ Some to → is_header_of ty s ≡ true → (is_before step || is_some (next_stage (Within ty step) (Plain kinds.Grt))) ≡ true
+whole_before ty step s to e h = or_left (not (is_some (next_stage (Within ty step) s))) _ (or_left (not (is_header_of ty s)) _ (header_passes ty step s) (not_true _ h)) (not_true _ (some_there (Within ty step) to s e))
+
+begun_is : (ty : TransactionType) (to : Stage) → is_begun ty (Some to) ≡ true → to ≡ Within ty (first_step ty)
+begun_is Agreement (Within Agreement steps.Agreed) h = refl
+begun_is NewWork (Within NewWork steps.Work) h = refl
+begun_is RevisedWork (Within RevisedWork steps.Work) h = refl
+begun_is Acknowledgement (Within Acknowledgement steps.Acked) h = refl
+begun_is ty to h = absurd (true≢false (sym h))
+
+pub header_goes : (ty : TransactionType) (step : TransactionStep) (s : Symbol) (to : Stage) → next_stage (Within ty step) s ≡ Some to → is_header_of ty s ≡ true → to ≡ Within ty (first_step ty)
+header_goes ty step s to e h = begun_is ty to (sym (ap (is_begun ty) e) ∙ or_left (not (is_header_of ty s)) _ (begun_passes ty step s) (not_true _ h))
+
+-- the header's kind
+pub header_is : (ty : TransactionType) (s : Symbol) → is_header_of ty s ≡ true → (within ty (header_step ty s) ≡ Some (Within ty (first_step ty)))
+header_is Agreement (Plain kinds.Agr) h = refl
+header_is NewWork (Plain kinds.Nwr) h = refl
+header_is RevisedWork (Plain kinds.Rev) h = refl
+header_is Acknowledgement (Plain kinds.Ack) h = refl
+header_is ty s h = absurd (true≢false (sym h))
+
+-- a foot closes the group
+abbrev pub is_closed : Option Stage → Bool
+is_closed None = true
+is_closed (Some Closed) = true
+is_closed (Some stage) = false
+
+foot_passes : (ty : TransactionType) (step : TransactionStep) → (is_closed (next_stage (Within ty step) (Plain kinds.Grt)) && (not (is_before step) || not (is_some (next_stage (Within ty step) (Plain kinds.Grt))))) ≡ true
+foot_passes Agreement steps.InGroup = refl
+foot_passes Agreement steps.Acked = refl
+foot_passes Agreement steps.Agreed = refl
+foot_passes Agreement steps.Territories = refl
+foot_passes Agreement (steps.OneSide Assignor) = refl
+foot_passes Agreement (steps.OneSide Acquirer) = refl
+foot_passes Agreement steps.Both = refl
+foot_passes Agreement steps.Work = refl
+foot_passes Agreement steps.Controlled = refl
+foot_passes Agreement steps.Other = refl
+foot_passes Agreement steps.Writer = refl
+foot_passes Agreement steps.OtherWriter = refl
+foot_passes Agreement steps.Tail = refl
+foot_passes NewWork steps.InGroup = refl
+foot_passes NewWork steps.Acked = refl
+foot_passes NewWork steps.Agreed = refl
+foot_passes NewWork steps.Territories = refl
+foot_passes NewWork (steps.OneSide Assignor) = refl
+foot_passes NewWork (steps.OneSide Acquirer) = refl
+foot_passes NewWork steps.Both = refl
+foot_passes NewWork steps.Work = refl
+foot_passes NewWork steps.Controlled = refl
+foot_passes NewWork steps.Other = refl
+foot_passes NewWork steps.Writer = refl
+foot_passes NewWork steps.OtherWriter = refl
+foot_passes NewWork steps.Tail = refl
+foot_passes RevisedWork steps.InGroup = refl
+foot_passes RevisedWork steps.Acked = refl
+foot_passes RevisedWork steps.Agreed = refl
+foot_passes RevisedWork steps.Territories = refl
+foot_passes RevisedWork (steps.OneSide Assignor) = refl
+foot_passes RevisedWork (steps.OneSide Acquirer) = refl
+foot_passes RevisedWork steps.Both = refl
+foot_passes RevisedWork steps.Work = refl
+foot_passes RevisedWork steps.Controlled = refl
+foot_passes RevisedWork steps.Other = refl
+foot_passes RevisedWork steps.Writer = refl
+foot_passes RevisedWork steps.OtherWriter = refl
+foot_passes RevisedWork steps.Tail = refl
+foot_passes Acknowledgement steps.InGroup = refl
+foot_passes Acknowledgement steps.Acked = refl
+foot_passes Acknowledgement steps.Agreed = refl
+foot_passes Acknowledgement steps.Territories = refl
+foot_passes Acknowledgement (steps.OneSide Assignor) = refl
+foot_passes Acknowledgement (steps.OneSide Acquirer) = refl
+foot_passes Acknowledgement steps.Both = refl
+foot_passes Acknowledgement steps.Work = refl
+foot_passes Acknowledgement steps.Controlled = refl
+foot_passes Acknowledgement steps.Other = refl
+foot_passes Acknowledgement steps.Writer = refl
+foot_passes Acknowledgement steps.OtherWriter = refl
+foot_passes Acknowledgement steps.Tail = refl
+
+closed_is : (to : Stage) → is_closed (Some to) ≡ true → to ≡ Closed
+closed_is Closed h = refl
+closed_is to h = absurd (true≢false (sym h))
+
+pub foot_goes : (ty : TransactionType) (step : TransactionStep) (to : Stage) → next_stage (Within ty step) (Plain kinds.Grt) ≡ Some to → to ≡ Closed
+foot_goes ty step to e = closed_is to (sym (ap is_closed e) ∙ (and_both (is_closed (next_stage (Within ty step) (Plain kinds.Grt))) _ (foot_passes ty step)).0)
+
+pub foot_is : (s : Symbol) → is_foot s ≡ true → s ≡ Plain kinds.Grt
+foot_is (Plain kinds.Grt) h = refl
+foot_is s h = absurd (true≢false (sym h))

@@ -1,0 +1,38 @@
+-- What is written of a text whose numbers are put right.
+use Rattle.std.specs.Prelude.{◌≡◌, ℕ, List, Option, IfSome, Result, Ok, Err, MatchResult}
+use Rattle.std.specs.Io.KnownBytes.{Appends}
+use Rattle.cwr_shape.specs.declared.limits.Limits.{Limits}
+use Rattle.cwr_values.specs.Format.Values.{TransmissionValue}
+use Rattle.cwr_values.specs.Format.Rows.{canonical_text}
+use Rattle.cwr_judge.specs.Format.Ends.{IsAccepted, IsRefused, IsTruncated}
+use Rattle.cwr_tools.specs.declared.verdicts.JoinFault.{JoinFault}
+use Rattle.cwr_tools.specs.declared.verdicts.JoinReport.{JoinReport}
+use Rattle.cwr_tools.specs.declared.verdicts.ToolFault.{ToolFault}
+use Rattle.cwr_tools.specs.declared.verdicts.ToolFault.TheVariants.{Output, Refused, Truncated}
+use Rattle.cwr_tools.specs.Format.Joins.{CountsOutputFault, IsOfDevice, join_report}
+use Rattle.cwr_renumber.specs.Steps.Renumbered.{renumbered_text}
+
+-- Where the text with its numbers put right is accepted as a transmission, the canonical text of that one is written, and the report
+-- has its numbers. What is refused is that text, or it is truncated.
+abbrev pub Renumbers : {W : Type 0} → Limits → Option (List ℕ) → (W → Option (List ℕ)) → W → W → Result JoinReport ToolFault → Type 0
+Renumbers limits before contents old new (Ok report) = IfSome before (λ text. (v : TransmissionValue) × (n : ℕ) × IsAccepted limits (renumbered_text text) v n
+    × Appends (contents old) (contents new) (canonical_text v) × (report ≡ join_report 1 v))
+Renumbers limits before contents old new (Err (Refused refusal)) = IfSome before (λ text. IsRefused limits (renumbered_text text) refusal)
+Renumbers limits before contents old new (Err (Truncated records)) = IfSome before (λ text. IsTruncated limits (renumbered_text text) records)
+Renumbers limits before contents old new (Err Output) = ⊥
+Renumbers limits before contents old new (Err fault) = Unit {0}
+
+-- where it is accepted as one, that one is written, unless a device or memory failed
+abbrev pub RenumbersAccepted : {W : Type 0} → Limits → Option (List ℕ) → (W → Option (List ℕ)) → W → W → Result JoinReport ToolFault → Type 0
+RenumbersAccepted limits before contents old new result = IfSome before (λ text. (v : TransmissionValue) (n : ℕ) → IsAccepted limits (renumbered_text text) v n
+    → MatchResult result (λ report. (report ≡ join_report 1 v) × Appends (contents old) (contents new) (canonical_text v)) IsOfDevice)
+
+-- the writer's failures count one more where its fault is answered, and else they stay
+abbrev pub CountsWriter : Result JoinReport ToolFault → ℕ → ℕ → Type 0
+CountsWriter (Ok report) old new = new ≡ old
+CountsWriter (Err fault) old new = CountsOutputFault fault old new
+
+-- what a join of one input answered, without that one's number
+abbrev pub of_one : Result JoinReport JoinFault → Result JoinReport ToolFault
+of_one (Ok report) = Ok report
+of_one (Err stopped) = Err stopped.fault

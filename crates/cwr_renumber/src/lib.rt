@@ -1,0 +1,12 @@
+//! A transmission whose numbers are put right: transaction and record sequences, group IDs and counts.
+#![tactic(auto)]
+
+pub mod laws;
+mod lines;
+mod outcomes;
+mod renumbering;
+mod sources;
+mod takings;
+
+pub use outcomes::put_renumber_outcome;
+pub use renumbering::renumber;

@@ -1,0 +1,48 @@
+//! A transmission with its numbers put right.
+
+ghost use Rattle.std.specs.Prelude.{◌≡◌, true, OnOk};
+ghost use Rattle.cwr_renumber.specs.Steps.Renumberings.{CountsWriter, Renumbers, RenumbersAccepted, of_one};
+
+use crate::sources::Renumbered;
+use cwr_fields::{Source, Target};
+use cwr_shape::Limits;
+use cwr_tools::{JoinFault, JoinReport, ToolFault, join};
+use std::alloc::Global;
+use std::slice::from_mut;
+
+/// What a join of one input answered, without that one's number.
+fn of_one(joined: Result<JoinReport, JoinFault>) -> Result<JoinReport, ToolFault>
+    ensures { result ≡ of_one joined }
+{
+    match joined {
+        Ok(report) => Ok(report),
+        Err(stopped) => Err(stopped.fault),
+    }
+}
+
+/// Writes the transmission that a reader has, with each of its numbers put right: transaction and record sequences, group
+/// IDs and counts, whatever stands in their cells. The writer comes back.
+///
+/// It writes the canonical text of the transmission exactly where the text with these numbers is accepted within the limits; the
+/// report has its numbers. Else it answers `ToolFault::Refused` or `ToolFault::Truncated`, as that text is refused or
+/// truncated, and `ToolFault::Reader`, `ToolFault::Writer` and `ToolFault::Memory` where a device failed or memory for a
+/// transaction was refused.
+///
+/// It holds one transaction and two lines, whatever the input.
+pub fn renumber<R: Source, W: Target + Drop>(
+    alloc: Global,
+    limits: Limits,
+    reader: &mut R,
+    writer: W,
+) -> (W, Result<JoinReport, ToolFault>)
+    ensures renumbers { Renumbers limits (R.remaining reader.old) W.contents writer result.0 result.1 }
+    ensures accepted { RenumbersAccepted limits (R.remaining reader.old) W.contents writer result.0 result.1 }
+    // No failure is passed over: the writer failed only where that is the answer.
+    ensures writer_failures { CountsWriter result.1 (W.failures writer) (W.failures result.0) }
+    // All that was written was handed on.
+    ensures handed_on { OnOk result.1 (W.handed_on result.0 ≡ true) }
+{
+    let mut source = Renumbered::new(reader);
+    let (writer, joined) = join(alloc, limits, from_mut(&mut source), writer);
+    (writer, of_one(joined))
+}

@@ -1,0 +1,5 @@
+use Rattle.cwr_write.proofs.OwnLines.{own_lines}
+use Rattle.cwr_write.proofs.laws.own_lines_are_data.Goals as goal
+
+pub returns : goal.returns
+returns c = own_lines
