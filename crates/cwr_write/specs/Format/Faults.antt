@@ -124,10 +124,10 @@ IsValueReason f value why = ⊥
 
 -- why members are data of no record of the kind: a key that no field has, or one that comes twice, or the value of a field
 abbrev pub IsMemberReason : Kind → Members → Key → Why → Type 0
-IsMemberReason kind ms key UnknownKey = (k : List ℕ) × (list_any (bytes_eq k) (keys ms) ≡ true) × (list_any (λ f. bytes_eq k (key_of f.name)) (layout kind) ≡ false)
-IsMemberReason kind ms (said_of.Field j) Repeated = IsSomeAnd (field_at kind j) (λ f. 1 < count_by (bytes_eq (key_of f.name)) (keys ms))
-IsMemberReason kind ms (said_of.Field j) why = IsSomeAnd (field_at kind j) (λ f. IsValueReason f (first_of (key_of f.name) ms) why)
-IsMemberReason kind ms key why = ⊥
+IsMemberReason this_kind ms key UnknownKey = (k : List ℕ) × (list_any (bytes_eq k) (keys ms) ≡ true) × (list_any (λ f. bytes_eq k (key_of f.name)) (layout this_kind) ≡ false)
+IsMemberReason this_kind ms (said_of.Field j) Repeated = IsSomeAnd (field_at this_kind j) (λ f. 1 < count_by (bytes_eq (key_of f.name)) (keys ms))
+IsMemberReason this_kind ms (said_of.Field j) why = IsSomeAnd (field_at this_kind j) (λ f. IsValueReason f (first_of (key_of f.name) ms) why)
+IsMemberReason this_kind ms key why = ⊥
 
 -- the members of a value that is an object; of none where it isn't
 abbrev pub members_in : Json → Option Members
