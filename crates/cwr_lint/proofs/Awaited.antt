@@ -2,10 +2,10 @@
 use Rattle.std.proofs.Common.{◌≡◌, ℕ, ◌+◌, ◌<◌, ◌≤◌, Bool, true, false, cond, true≢false, Option, Some, None, refl, sym, ap, ◌∙◌, arith, inl, inr}
 use Rattle.std.specs.Prelude.{◌⊎◌, ◌==◌, ◌||◌, nat_lt}
 use Rattle.std.proofs.lemmas.Bool.{eqb-true, ltb-true}
-use Rattle.cwr_lint.specs.declared.following.Awaiting.{Awaiting}
-use Rattle.cwr_lint.specs.declared.numbers.Count.{Count}
-use Rattle.cwr_lint.specs.Steps.Following.{after, after_taken, after_wrong, is_number, just, one_more, passing, settled, takes, wanted}
-use Rattle.cwr_lint.specs.Steps.Numbers.{wanted_count}
+use Rattle.cwr_lint_lines.specs.declared.following.Awaiting.{Awaiting}
+use Rattle.cwr_lint_lines.specs.declared.numbers.Count.{Count}
+use Rattle.cwr_lint_lines.specs.Steps.Following.{after, after_taken, after_wrong, is_number, just, one_more, passing, settled, takes, wanted}
+use Rattle.cwr_lint_lines.specs.Steps.Numbers.{wanted_count}
 
 pub same_eqb : (n m : ℕ) → n ≡ m → (n == m) ≡ true
 same_eqb n m e = grind (arith, e)

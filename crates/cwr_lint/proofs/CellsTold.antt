@@ -11,9 +11,10 @@ use Rattle.cwr_layouts.specs.Format.Layouts.{FieldLayout, field_at, layout}
 use Rattle.cwr_shape.specs.declared.reasons.Reason.{Reason}
 use Rattle.cwr_shape.specs.declared.reasons.Reason.TheVariants.{Misplaced, Cell, Excess}
 use Rattle.cwr_judge.specs.declared.refusals.Refusal.{Refusal}
-use Rattle.cwr_lint.specs.Format.FaultsOfLines.{IsToldAt, IsToldOfCell, IsToldOfField, JudgedLine, Tells, TellsMore, fault_in, fields_end, number_in, number_reason, reason_if, tells_cells}
+use Rattle.cwr_lint_lines.specs.Format.FaultsAtFields.{IsToldAt, IsToldOfCell, IsToldOfField, JudgedLine, fault_in, fields_end, number_in, number_reason, reason_if, tells_cells}
+use Rattle.cwr_lint.specs.Format.FaultsOfLines.{Tells, TellsMore}
 use Rattle.cwr_lint.specs.Format.Laws.{CellsAreTold, IsToldWith}
-use Rattle.cwr_lint.proofs.JudgedLines.{no_field_past}
+use Rattle.cwr_lint_lines.proofs.JudgedLines.{no_field_past}
 
 -- the only element
 one_only : (x y : Refusal) → Contains (x ∷ []) y → y ≡ x

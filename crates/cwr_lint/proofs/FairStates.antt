@@ -18,23 +18,23 @@ use Rattle.cwr_shape.specs.Format.Numbers.{symbol_kind}
 use Rattle.cwr_shape.specs.Format.NextSymbols.{is_header_of}
 use Rattle.cwr_shape.specs.Steps.Counting.{HaveRoom, counts_with, counts_with_group, counts_with_header, counts_with_other}
 use Rattle.cwr_shape.specs.Steps.NextStages.{header_step, next_stage, within}
-use Rattle.cwr_lint.specs.declared.following.Awaiting.{Awaiting}
-use Rattle.cwr_lint.specs.declared.numbers.Belonging.{Belonging}
-use Rattle.cwr_lint.specs.declared.numbers.Belonging.TheVariants.{Unsaid, Same, Moved, Strange}
-use Rattle.cwr_lint.specs.declared.numbers.WrongNumbers.{WrongNumbers}
-use Rattle.cwr_lint.specs.declared.states.OpenTransaction.{OpenTransaction}
-use Rattle.cwr_lint.specs.declared.states.OpenGroup.{OpenGroup}
-use Rattle.cwr_lint.specs.declared.states.LintState.{LintState}
-use Rattle.cwr_lint.specs.declared.takings.Taking.{Taking}
-use Rattle.cwr_lint.specs.declared.takings.Taking.TheVariants as takings
-use Rattle.cwr_lint.specs.Format.FaultsOfLines.{LineCut}
-use Rattle.cwr_lint.specs.Steps.Following.{after, is_number, just, one_more, passing, takes, wanted}
-use Rattle.cwr_lint.specs.Steps.Cells.{number_at, role_in, role_or_assignor, type_in, type_of_header}
-use Rattle.cwr_lint.specs.Steps.States.{bars, is_id, is_type, is_whole, may_have, next_in, next_of, open_transaction, transaction_or, unheaded}
-use Rattle.cwr_lint.specs.Steps.Numbers.{belonging, count_of_all_records, count_of_all_transactions, count_of_group_records, count_of_group_transactions, count_of_groups, is_borne_by, third_wrong, wanted_count, awaited_of, wrong_by, wrong_in_foot, wrong_in_header, wrong_in_trailer, wrong_numbers, wrong_of_current, wrong_of_foot, wrong_of_further}
-use Rattle.cwr_lint.specs.Steps.Takings.{begins_in, goes_on_by, goes_on_in, heads_copy, is_first, is_misplaced, is_misplaced_header_in, taking, taking_inside, taking_of_foot_in, taking_of_further_in, taking_of_header, taking_of_header_in}
-use Rattle.cwr_lint.specs.Steps.NextStates.{after_line, counted_line, group_further, ids_after_foot, is_end, moved_to, next_beside, next_by, run_with, stage_in, stage_of_party, stage_with, state_with, with_belonging, with_foot_in, with_further, with_header, with_line, with_line_of, with_numbers_of, with_transaction_in}
-use Rattle.cwr_lint.specs.Steps.JudgedLines.{known_as, number_of}
+use Rattle.cwr_lint_lines.specs.declared.following.Awaiting.{Awaiting}
+use Rattle.cwr_lint_lines.specs.declared.numbers.Belonging.{Belonging}
+use Rattle.cwr_lint_lines.specs.declared.numbers.Belonging.TheVariants.{Unsaid, Same, Moved, Strange}
+use Rattle.cwr_lint_lines.specs.declared.numbers.WrongNumbers.{WrongNumbers}
+use Rattle.cwr_lint_lines.specs.declared.states.OpenTransaction.{OpenTransaction}
+use Rattle.cwr_lint_lines.specs.declared.states.OpenGroup.{OpenGroup}
+use Rattle.cwr_lint_lines.specs.declared.states.LintState.{LintState}
+use Rattle.cwr_lint_lines.specs.declared.takings.Taking.{Taking}
+use Rattle.cwr_lint_lines.specs.declared.takings.Taking.TheVariants as takings
+use Rattle.cwr_lint_lines.specs.Format.FaultsAtFields.{LineCut}
+use Rattle.cwr_lint_lines.specs.Steps.Following.{after, is_number, just, one_more, passing, takes, wanted}
+use Rattle.cwr_lint_lines.specs.Steps.Cells.{number_at, role_in, role_or_assignor, type_in, type_of_header}
+use Rattle.cwr_lint_lines.specs.Steps.States.{bars, is_id, is_type, is_whole, may_have, next_in, next_of, open_transaction, transaction_or, unheaded}
+use Rattle.cwr_lint_lines.specs.Steps.Numbers.{belonging, count_of_all_records, count_of_all_transactions, count_of_group_records, count_of_group_transactions, count_of_groups, is_borne_by, third_wrong, wanted_count, awaited_of, wrong_by, wrong_in_foot, wrong_in_header, wrong_in_trailer, wrong_numbers, wrong_of_current, wrong_of_foot, wrong_of_further}
+use Rattle.cwr_lint_lines.specs.Steps.Takings.{begins_in, goes_on_by, goes_on_in, heads_copy, is_first, is_misplaced, is_misplaced_header_in, taking, taking_inside, taking_of_foot_in, taking_of_further_in, taking_of_header, taking_of_header_in}
+use Rattle.cwr_lint_lines.specs.Steps.NextStates.{after_line, counted_line, group_further, ids_after_foot, is_end, moved_to, next_beside, next_by, run_with, stage_in, stage_of_party, stage_with, state_with, with_belonging, with_foot_in, with_further, with_header, with_line, with_line_of, with_numbers_of, with_transaction_in}
+use Rattle.cwr_lint_lines.specs.Steps.JudgedLines.{known_as, number_of}
 use Rattle.cwr_lint.proofs.Awaited.{Stands, after_is, counted_none, same_eqb, settled_is, wanted_none}
 use Rattle.cwr_lint.proofs.StagesWithin.{IsFurther, first_step, foot_goes, further_goes, header_goes, inside_is, is_before, is_foot, is_further, whole_before}
 

@@ -26,7 +26,7 @@ use Rattle.cwr_shape.proofs.OneMore.{count_by-snoc, counts-snoc}
 use Rattle.cwr_shape.proofs.StageStands.{next_exact, next_stands, stands_run, stands_start}
 use Rattle.cwr_shape.proofs.TallySteps.{counted_next}
 use Rattle.cwr_shape.proofs.WhatMayCome.{comes_any}
-use Rattle.cwr_lint.specs.Steps.Fronts.{state_at}
+use Rattle.cwr_lint_lines.specs.Steps.Fronts.{state_at}
 use Rattle.cwr_lint.proofs.FairStates.{Fair, Fresh}
 use Rattle.cwr_lint.proofs.RowsGoOn.{AreSmall}
 use Rattle.cwr_lint.proofs.StagesWithin.{first_step, foot_goes, further_goes, header_goes, foot_is, inside_is, is_before, is_foot, is_further}

@@ -39,9 +39,9 @@ use Rattle.cwr_judge.proofs.GoodFrontsContinue.{only_among, role_held, type_held
 use Rattle.cwr_judge.proofs.LineRecords.{line_names_it}
 use Rattle.cwr_judge.proofs.NextLines.{line_is_next}
 use Rattle.cwr_judge.proofs.NumberCells.{one_number}
-use Rattle.cwr_lint.specs.declared.states.LintState.{LintState}
-use Rattle.cwr_lint.specs.Format.FaultsOfLines.{LineCut, cut_of}
-use Rattle.cwr_lint.specs.Steps.Cells.{cell_in, number_in_cell, role_in, type_in}
+use Rattle.cwr_lint_lines.specs.declared.states.LintState.{LintState}
+use Rattle.cwr_lint_lines.specs.Format.FaultsAtFields.{LineCut, cut_of}
+use Rattle.cwr_lint_lines.specs.Steps.Cells.{cell_in, number_in_cell, role_in, type_in}
 use Rattle.cwr_lint.proofs.FairStates.{Fair, Fresh, GoesOn, Named}
 use Rattle.cwr_lint.proofs.QuietLines.{AllowsFrom, row_allows}
 use Rattle.cwr_lint.proofs.RowsGoOn.{AreSmall, HasNumbers, is_ended, row_goes_on}

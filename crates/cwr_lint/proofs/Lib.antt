@@ -1,10 +1,8 @@
 mod Awaited
 mod CellsTold
 mod FairStates
-mod FaultsOfCells
 mod GoodFronts
 mod GoodLines
-mod JudgedLines
 mod LastRead
 mod TextsPut
 mod RawLines

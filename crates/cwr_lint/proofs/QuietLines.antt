@@ -18,7 +18,8 @@ use Rattle.cwr_layouts.specs.Format.Records.{IsGoodCell, rest_if}
 use Rattle.cwr_shape.specs.declared.reasons.Reason.{Reason}
 use Rattle.cwr_shape.specs.declared.reasons.Reason.TheVariants.{Misplaced, Excess}
 use Rattle.cwr_judge.specs.declared.refusals.Refusal.{Refusal}
-use Rattle.cwr_lint.specs.Format.FaultsOfLines.{IsToldAt, IsToldOfCell, IsToldOfField, JudgedLine, LineCut, Tells, TellsMore, fault_in, number_in, number_reason, reason_if}
+use Rattle.cwr_lint_lines.specs.Format.FaultsAtFields.{IsToldAt, IsToldOfCell, IsToldOfField, JudgedLine, LineCut, fault_in, number_in, number_reason, reason_if}
+use Rattle.cwr_lint.specs.Format.FaultsOfLines.{Tells, TellsMore}
 
 -- ---- nothing is told
 

@@ -16,8 +16,8 @@ use Rattle.cwr_layouts.proofs.HeldLaws.{held_line_is_cut}
 use Rattle.cwr_decode.proofs.ClosedTexts.{text_of-push}
 use Rattle.cwr_decode.proofs.FromReader.{consumes_taken}
 use Rattle.cwr_lint.specs.declared.raw_lines.RawLine.{RawLine}
-use Rattle.cwr_lint.specs.Format.FaultsOfLines.{LineCut, cut_of}
-use Rattle.cwr_lint.specs.Steps.JudgedLines.{held_cut}
+use Rattle.cwr_lint_lines.specs.Format.FaultsAtFields.{LineCut, cut_of}
+use Rattle.cwr_lint_lines.specs.Steps.Cells.{held_cut}
 use Rattle.cwr_lint.specs.Steps.LinesRead.{AddsPiece, GoesOn, HoldsRaw, IsAllRead, IsTextOf, ReadsLineIf, ReadsMore, ReadsPiece, ReadsRest, end_by, held_raw, spelled}
 
 -- ---- the bytes that are held

@@ -21,9 +21,9 @@ use Rattle.cwr_shape.specs.Format.NextSymbols.{is_header_of}
 use Rattle.cwr_shape.specs.Steps.Counting.{HaveRoom, counts_with, number_inside, stage_type}
 use Rattle.cwr_shape.specs.Steps.NextStages.{next_stage}
 use Rattle.cwr_shape.proofs.InnerNumbers.{IsInside, inside_number}
-use Rattle.cwr_lint.specs.declared.states.LintState.{LintState}
-use Rattle.cwr_lint.specs.Format.FaultsOfLines.{LineCut}
-use Rattle.cwr_lint.specs.Steps.Cells.{number_at}
+use Rattle.cwr_lint_lines.specs.declared.states.LintState.{LintState}
+use Rattle.cwr_lint_lines.specs.Format.FaultsAtFields.{LineCut}
+use Rattle.cwr_lint_lines.specs.Steps.Cells.{number_at}
 use Rattle.cwr_lint.proofs.FairStates.{Fair, Fresh, GoesOn, IsRowLine, foot_goes_on, further_goes_on, head_goes, header_goes_on, trailer_goes_on}
 use Rattle.cwr_lint.proofs.StagesWithin.{foot_goes, foot_is, further_goes, header_goes, inside_is, is_foot, is_further}
 

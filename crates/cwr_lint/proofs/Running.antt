@@ -11,10 +11,11 @@ use Rattle.cwr_levels.specs.Format.ReportLines.{faults_line}
 use Rattle.cwr_lint.specs.declared.linting.LintRun.{LintRun}
 use Rattle.cwr_lint.specs.declared.raw_lines.RawLine.{RawLine}
 use Rattle.cwr_layouts.specs.Format.Records.{RecordValue}
-use Rattle.cwr_lint.specs.Format.FaultsOfLines.{LineCut, count_after, cut_of, one_more_line}
+use Rattle.cwr_lint_lines.specs.Format.FaultsAtFields.{LineCut, cut_of, one_more_line}
+use Rattle.cwr_lint.specs.Format.FaultsOfLines.{count_after}
 use Rattle.cwr_lint.specs.Steps.Walks.{Walk, WalksLine, WalksLines}
 use Rattle.cwr_lint.specs.Format.Told.{truncated_unless}
-use Rattle.cwr_lint.specs.Steps.JudgedLines.{held_cut}
+use Rattle.cwr_lint_lines.specs.Steps.Cells.{held_cut}
 use Rattle.cwr_lint.specs.Steps.LinesRead.{GoesOn, HoldsRaw, IsAllRead, ReadsLine, held_raw, spelled}
 use Rattle.cwr_lint.specs.Steps.Runs.{BeginsAt, EndsAtTrl, IsEndText, TakesAll, TakesFirst, TakesFrom, TakesLine, TakesLines, TakesNext, TakesNextIf, TakesNone, TakesRead, TellsToEnd, walk_of}
 use Rattle.cwr_lint.proofs.RawLines.{ends_with, goes_both, goes_line, goes_none, raw_cut}

@@ -15,8 +15,8 @@ use Rattle.cwr_shape.specs.declared.stages.TransactionStep.TheVariants as steps
 use Rattle.cwr_shape.specs.Format.NextSymbols.{is_header_of}
 use Rattle.cwr_shape.specs.Steps.NextStages.{header_step, next_stage, within}
 use Rattle.cwr_shape.proofs.AllSymbols.{of_each}
-use Rattle.cwr_lint.specs.Steps.Cells.{type_of_header}
-use Rattle.cwr_lint.specs.Steps.States.{is_type}
+use Rattle.cwr_lint_lines.specs.Steps.Cells.{type_of_header}
+use Rattle.cwr_lint_lines.specs.Steps.States.{is_type}
 
 -- ---- words
 

@@ -12,13 +12,15 @@ use Rattle.cwr_encode.specs.declared.sinks.Sink.{Sink}
 use Rattle.cwr_encode.specs.Steps.Sinks.{has_failed}
 use Rattle.cwr_tools.specs.declared.verdicts.ToolFault.{ToolFault}
 use Rattle.cwr_tools.specs.declared.verdicts.ToolFault.TheVariants as faults
-use Rattle.cwr_lint.specs.declared.judging.Judged.{Judged}
-use Rattle.cwr_lint.specs.declared.judging.Judged.TheVariants.{Unknown, Known as Of}
+use Rattle.cwr_lint_lines.specs.declared.judging.Judged.{Judged}
+use Rattle.cwr_lint_lines.specs.declared.judging.Judged.TheVariants.{Unknown, Known as Of}
 use Rattle.cwr_lint.specs.declared.linting.LintRun.{LintRun}
 use Rattle.cwr_layouts.specs.Format.Records.{RecordValue}
-use Rattle.cwr_lint.specs.declared.states.LintState.{LintState}
-use Rattle.cwr_lint.specs.Format.FaultsOfLines.{EndedTransaction, IsFaultText, JudgedLine, LineCut, Tells, TellsLine, TellsMore, ended_lines, fields_end, one_more_line}
-use Rattle.cwr_lint.specs.Steps.JudgedLines.{IsFaultFrom, IsJudged, ends_by, held_cut, judged_as, judged_at, scope_by}
+use Rattle.cwr_lint_lines.specs.declared.states.LintState.{LintState}
+use Rattle.cwr_lint_lines.specs.Format.FaultsAtFields.{JudgedLine, LineCut, fields_end, one_more_line}
+use Rattle.cwr_lint.specs.Format.FaultsOfLines.{EndedTransaction, IsFaultText, Tells, TellsLine, TellsMore, ended_lines}
+use Rattle.cwr_lint_lines.specs.Steps.JudgedLines.{IsFaultFrom, IsJudged, ends_by, judged_as, judged_at, scope_by}
+use Rattle.cwr_lint_lines.specs.Steps.Cells.{held_cut}
 use Rattle.cwr_lint.specs.Steps.Walks.{AfterJudged, ended_at, ended_by, is_quiet, judged_line, state_by}
 use Rattle.cwr_lint.specs.Steps.Puts.{PutsAfter, PutsWith}
 use Rattle.cwr_lint.specs.Steps.Runs.{TakesFirst, TakesLine, TellsOfLine, TellsSoMany, more_faults}

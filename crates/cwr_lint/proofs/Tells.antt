@@ -16,7 +16,7 @@ use Rattle.cwr_explain.proofs.RefusedLines.{refused_last}
 use Rattle.cwr_tools.specs.Steps.Verdicts.{IsReadLast, StopsAt}
 use Rattle.cwr_lint.specs.Steps.LinesRead.{HoldsRaw, IsAllRead, IsTextOf, spelled}
 use Rattle.cwr_lint.specs.Steps.Runs.{TellsRun}
-use Rattle.cwr_lint.specs.Steps.Fronts.{state_at}
+use Rattle.cwr_lint_lines.specs.Steps.Fronts.{state_at}
 use Rattle.cwr_lint.specs.Steps.Walks.{IsTold}
 use Rattle.cwr_shape.specs.declared.stages.Stage.{Stage}
 use Rattle.cwr_shape.specs.declared.tallies.Counts.{Counts}

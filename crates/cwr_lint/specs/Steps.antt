@@ -1,16 +1,7 @@
 -- What the code keeps, and what its calls do to that.
-pub mod CellFaults
-pub mod Cells
-pub mod Following
-pub mod Fronts
-pub mod JudgedLines
 pub mod LinesRead
 pub mod Lints
-pub mod NextStates
-pub mod Numbers
 pub mod OneCells
 pub mod Puts
 pub mod Runs
-pub mod States
-pub mod Takings
 pub mod Walks

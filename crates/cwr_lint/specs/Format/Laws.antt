@@ -8,7 +8,8 @@ use Rattle.cwr_layouts.specs.Format.Layouts.{FieldLayout, field_at, layout}
 use Rattle.cwr_shape.specs.declared.reasons.Reason.{Reason}
 use Rattle.cwr_shape.specs.declared.reasons.Reason.TheVariants.{Misplaced, Cell, Excess}
 use Rattle.cwr_judge.specs.declared.refusals.Refusal.{Refusal}
-use Rattle.cwr_lint.specs.Format.FaultsOfLines.{JudgedLine, Tells, fields_end, tells_cells}
+use Rattle.cwr_lint_lines.specs.Format.FaultsAtFields.{JudgedLine, fields_end, tells_cells}
+use Rattle.cwr_lint.specs.Format.FaultsOfLines.{Tells}
 
 -- a fault with that reason is told at field k
 abbrev pub IsToldWith : List Refusal → ℕ → Reason → Type 0

@@ -1,7 +1,7 @@
 -- What a lint writes at the end of a text.
 use Rattle.std.specs.Prelude.{ℕ, Bool, true, false, List, []}
 use Rattle.cwr_levels.specs.Format.ReportLines.{truncated_line}
-use Rattle.cwr_lint.specs.Format.FaultsOfLines.{report_number}
+use Rattle.cwr_lint_lines.specs.Format.FaultsAtFields.{report_number}
 
 -- the line on a text that ends too early, unless its last line was that of its end
 abbrev pub truncated_unless : Bool → ℕ → List ℕ

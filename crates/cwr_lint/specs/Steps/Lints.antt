@@ -20,7 +20,7 @@ use Rattle.cwr_tools.specs.declared.verdicts.ToolFault.TheVariants.{Writer}
 use Rattle.cwr_tools.specs.Format.Reports.{lines_checked, lines_up_to_fault}
 use Rattle.cwr_tools.specs.Steps.Reports.{Reports}
 use Rattle.cwr_tools.specs.Steps.Verdicts.{StopsAfter}
-use Rattle.cwr_lint.specs.Steps.Fronts.{state_at}
+use Rattle.cwr_lint_lines.specs.Steps.Fronts.{state_at}
 use Rattle.cwr_lint.specs.Steps.LinesRead.{IsTextOf}
 use Rattle.cwr_lint.specs.Steps.Runs.{EndsAtTrl}
 use Rattle.cwr_lint.specs.Steps.Walks.{IsTold}

@@ -7,7 +7,7 @@ use Rattle.cwr_shape.specs.Steps.Tallies.{TallyValue}
 use Rattle.cwr_judge.specs.declared.refusals.Refusal.{Refusal}
 use Rattle.cwr_judge.specs.Format.Ends.{IsRefused}
 use Rattle.cwr_lint.specs.Format.OneCells.{DiffersInOneCell}
-use Rattle.cwr_lint.specs.Steps.Fronts.{state_at}
+use Rattle.cwr_lint_lines.specs.Steps.Fronts.{state_at}
 use Rattle.cwr_lint.specs.Steps.Lints.{AreLinesRead}
 use Rattle.cwr_lint.specs.Steps.Walks.{IsTold}
 

@@ -9,11 +9,12 @@ use Rattle.cwr_judge.specs.declared.refusals.Refusal.{Refusal}
 use Rattle.cwr_levels.specs.Format.ReportLines.{faults_line}
 use Rattle.cwr_lint.specs.declared.linting.LintRun.{LintRun}
 use Rattle.cwr_lint.specs.declared.raw_lines.RawLine.{RawLine}
-use Rattle.cwr_lint.specs.declared.states.LintState.{LintState}
-use Rattle.cwr_lint.specs.Format.FaultsOfLines.{EndedTransaction, IsFaultText, JudgedLine, LineCut, Tells, TellsLine, count_after, cut_of, one_more_line}
+use Rattle.cwr_lint_lines.specs.declared.states.LintState.{LintState}
+use Rattle.cwr_lint_lines.specs.Format.FaultsAtFields.{JudgedLine, LineCut, cut_of, one_more_line}
+use Rattle.cwr_lint.specs.Format.FaultsOfLines.{EndedTransaction, IsFaultText, Tells, TellsLine, count_after}
 use Rattle.cwr_lint.specs.Format.Told.{truncated_unless}
 use Rattle.cwr_lint.specs.Steps.Walks.{IsTold, Walk, WalksLine, WalksLines}
-use Rattle.cwr_lint.specs.Steps.JudgedLines.{held_cut}
+use Rattle.cwr_lint_lines.specs.Steps.Cells.{held_cut}
 use Rattle.cwr_lint.specs.Steps.LinesRead.{GoesOn, HoldsRaw, IsAllRead, IsOfLine, ReadsLast, ReadsLine, held_raw}
 use Rattle.cwr_decode.specs.declared.last_bytes.LastBytes.{LastBytes}
 

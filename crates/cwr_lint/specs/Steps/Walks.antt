@@ -6,16 +6,17 @@ use Rattle.cwr_values.specs.Format.Begun.{BeginsWithOneMore}
 use Rattle.cwr_judge.specs.declared.refusals.Refusal.{Refusal}
 use Rattle.cwr_levels.specs.Format.ReportLines.{faults_line}
 use Rattle.cwr_lint.specs.Format.Told.{truncated_unless}
-use Rattle.cwr_lint.specs.declared.judging.Judged.{Judged}
-use Rattle.cwr_lint.specs.declared.judging.Judged.TheVariants.{Unknown, Known as Of}
-use Rattle.cwr_lint.specs.declared.states.OpenGroup.{OpenGroup}
-use Rattle.cwr_lint.specs.declared.states.LintState.{LintState}
-use Rattle.cwr_lint.specs.declared.takings.Taking.{Taking}
-use Rattle.cwr_lint.specs.declared.takings.Taking.TheVariants as takings
-use Rattle.cwr_lint.specs.Format.FaultsOfLines.{EndedTransaction, IsFaultText, JudgedLine, LineCut, TellsLine, count_after, cut_of, one_more_line, report_number}
-use Rattle.cwr_lint.specs.Steps.JudgedLines.{judged_as, judged_cut, scope_by}
-use Rattle.cwr_lint.specs.Steps.NextStates.{state_with, state_with_unknown}
-use Rattle.cwr_lint.specs.Steps.States.{is_whole, open_transaction}
+use Rattle.cwr_lint_lines.specs.declared.judging.Judged.{Judged}
+use Rattle.cwr_lint_lines.specs.declared.judging.Judged.TheVariants.{Unknown, Known as Of}
+use Rattle.cwr_lint_lines.specs.declared.states.OpenGroup.{OpenGroup}
+use Rattle.cwr_lint_lines.specs.declared.states.LintState.{LintState}
+use Rattle.cwr_lint_lines.specs.declared.takings.Taking.{Taking}
+use Rattle.cwr_lint_lines.specs.declared.takings.Taking.TheVariants as takings
+use Rattle.cwr_lint_lines.specs.Format.FaultsAtFields.{JudgedLine, LineCut, cut_of, one_more_line, report_number}
+use Rattle.cwr_lint.specs.Format.FaultsOfLines.{EndedTransaction, IsFaultText, TellsLine, count_after}
+use Rattle.cwr_lint_lines.specs.Steps.JudgedLines.{judged_as, judged_cut, scope_by}
+use Rattle.cwr_lint_lines.specs.Steps.NextStates.{state_with, state_with_unknown}
+use Rattle.cwr_lint_lines.specs.Steps.States.{is_whole, open_transaction}
 
 -- ---- one line
 

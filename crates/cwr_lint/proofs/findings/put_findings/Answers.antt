@@ -1,8 +1,8 @@
 use Rattle.std.proofs.Common.{◌≡◌, ℕ, ◌+◌, ◌-◌, min, ap, ap₂, ◌∙◌}
 use Rattle.std.specs.Prelude.{◌&&◌, ◌^◌, nat_le, length}
 use Rattle.cwr_tools.specs.Format.Reports.{transaction_lines}
-use Rattle.cwr_lint.specs.Format.FaultsOfLines.{report_number}
-use Rattle.cwr_lint.specs.declared.states.OpenTransaction.{OpenTransaction}
+use Rattle.cwr_lint_lines.specs.Format.FaultsAtFields.{report_number}
+use Rattle.cwr_lint_lines.specs.declared.states.OpenTransaction.{OpenTransaction}
 use Rattle.cwr_lint.proofs.TextsPut.{findings_put}
 use Rattle.cwr_lint.proofs.findings.put_findings.Goals as goal
 

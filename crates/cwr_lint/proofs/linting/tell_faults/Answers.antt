@@ -1,9 +1,9 @@
 use Rattle.std.proofs.Common.{[], ◌-◌, subst}
 use Rattle.std.specs.Prelude.{IfOk}
-use Rattle.cwr_lint.specs.declared.states.LintState.{LintState}
+use Rattle.cwr_lint_lines.specs.declared.states.LintState.{LintState}
 use Rattle.std.specs.Option.{is_some}
 use Rattle.cwr_tools.specs.Format.Reports.{CountsWriterFault}
-use Rattle.cwr_lint.specs.Steps.Fronts.{state_at}
+use Rattle.cwr_lint_lines.specs.Steps.Fronts.{state_at}
 use Rattle.cwr_lint.specs.Steps.Runs.{TellsRun}
 use Rattle.cwr_lint.proofs.TextsTold.{ends_answer, ends_reader, ends_told, ends_words, ends_writer}
 use Rattle.cwr_lint.proofs.linting.tell_faults.Goals as goal

@@ -1,11 +1,12 @@
 use Rattle.std.proofs.Common.{Option, List, ap, subst, ◌∙◌}
 use Rattle.cwr_layouts.specs.Format.Records.{RecordValue}
 use Rattle.std.specs.Option.{is_some}
-use Rattle.cwr_lint.specs.Format.FaultsOfLines.{one_more_line}
-use Rattle.cwr_lint.specs.Steps.JudgedLines.{held_cut, judged_at, scope_by}
+use Rattle.cwr_lint_lines.specs.Format.FaultsAtFields.{one_more_line}
+use Rattle.cwr_lint_lines.specs.Steps.JudgedLines.{judged_at, scope_by}
+use Rattle.cwr_lint_lines.specs.Steps.Cells.{held_cut}
 use Rattle.cwr_lint.specs.Steps.Runs.{TakesLine, TellsOfLine, more_faults}
 use Rattle.cwr_lint.specs.Steps.Walks.{AfterJudged, ended_by, state_by}
-use Rattle.cwr_lint.specs.declared.states.LintState.{LintState}
+use Rattle.cwr_lint_lines.specs.declared.states.LintState.{LintState}
 use Rattle.cwr_lint.proofs.Telling.{line_taken, with_err, with_none, with_other}
 use Rattle.cwr_lint.proofs.linting.LintRun.take.Goals as goal
 

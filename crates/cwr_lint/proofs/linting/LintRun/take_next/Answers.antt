@@ -1,6 +1,6 @@
 use Rattle.std.proofs.Common.{[], sym, subst, ◌∙◌}
 use Rattle.std.specs.Option.{is_some}
-use Rattle.cwr_lint.specs.Steps.JudgedLines.{held_cut}
+use Rattle.cwr_lint_lines.specs.Steps.Cells.{held_cut}
 use Rattle.cwr_lint.specs.Steps.LinesRead.{ReadsLineIf, held_raw}
 use Rattle.cwr_lint.specs.Steps.Runs.{TakesNextIf, TakesRead}
 use Rattle.cwr_lint.proofs.Running.{next_taken}

@@ -3,8 +3,8 @@ use Rattle.std.specs.Prelude.{ℕ, Option}
 use Rattle.std.specs.Option.{is_some}
 use Rattle.cwr_judge.specs.declared.refusals.Refusal.{Refusal}
 use Rattle.cwr_layouts.specs.Steps.Held.{held_kind}
-use Rattle.cwr_lint.specs.Format.FaultsOfLines.{fields_end}
-use Rattle.cwr_lint.specs.Steps.JudgedLines.{IsFaultFrom, judged_at, scope_by}
+use Rattle.cwr_lint_lines.specs.Format.FaultsAtFields.{fields_end}
+use Rattle.cwr_lint_lines.specs.Steps.JudgedLines.{IsFaultFrom, judged_at, scope_by}
 use Rattle.cwr_lint.specs.Steps.Runs.{TellsSoMany}
 use Rattle.cwr_lint.proofs.Telling.{ToldSoFar, at_end, told_all, told_cut, told_more, told_none, told_same}
 use Rattle.cwr_lint.proofs.linting.LintRun.tell.Goals as goal

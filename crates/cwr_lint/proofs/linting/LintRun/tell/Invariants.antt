@@ -1,5 +1,5 @@
 use Rattle.std.specs.Option.{is_some}
-use Rattle.cwr_lint.specs.Steps.JudgedLines.{judged_at, scope_by}
+use Rattle.cwr_lint_lines.specs.Steps.JudgedLines.{judged_at, scope_by}
 use Rattle.cwr_lint.proofs.Telling.{ToldSoFar}
 use Rattle.cwr_lint.proofs.linting.LintRun.tell.Given as goal
 

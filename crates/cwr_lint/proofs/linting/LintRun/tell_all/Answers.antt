@@ -2,9 +2,10 @@ use Rattle.std.proofs.Common.{◌≡◌, ℕ, List, Bool, subst}
 use Rattle.std.specs.Prelude.{Ok}
 use Rattle.std.specs.Option.{is_some}
 use Rattle.cwr_layouts.specs.Steps.Held.{held_kind}
-use Rattle.cwr_lint.specs.Format.FaultsOfLines.{ended_lines, fields_end}
+use Rattle.cwr_lint_lines.specs.Format.FaultsAtFields.{fields_end}
+use Rattle.cwr_lint.specs.Format.FaultsOfLines.{ended_lines}
 use Rattle.cwr_lint.specs.Steps.Walks.{ended_by}
-use Rattle.cwr_lint.specs.Steps.JudgedLines.{judged_at, scope_by}
+use Rattle.cwr_lint_lines.specs.Steps.JudgedLines.{judged_at, scope_by}
 use Rattle.cwr_lint.specs.Steps.Puts.{PutsWith}
 use Rattle.cwr_lint.specs.Steps.Runs.{TellsOfLine, TellsSoMany}
 use Rattle.cwr_lint.proofs.Telling.{findings_then, with_after, with_err}

@@ -1,6 +1,6 @@
 use Rattle.std.specs.Prelude.{Err, Ok}
 use Rattle.std.specs.Option.{is_some}
-use Rattle.cwr_lint.specs.Steps.JudgedLines.{held_cut}
+use Rattle.cwr_lint_lines.specs.Steps.Cells.{held_cut}
 use Rattle.cwr_lint.specs.Steps.LinesRead.{held_raw}
 use Rattle.cwr_lint.specs.Steps.Runs.{TakesAll, TakesFirst, TakesFrom}
 use Rattle.cwr_lint.proofs.Running.{from_taken}

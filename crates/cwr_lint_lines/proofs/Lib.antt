@@ -1,0 +1,2 @@
+pub mod FaultsOfCells
+pub mod JudgedLines
