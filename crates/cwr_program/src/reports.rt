@@ -16,6 +16,7 @@ use crate::progress::Pace;
 use cwr_encode::{Sink, SinkFault};
 use cwr_explain::{Trailing, explain, read_trailing};
 use cwr_fields::{Counted, Source, Target};
+use cwr_json::Encoding;
 use cwr_lint::lint;
 use cwr_shape::Limits;
 use cwr_tools::{ToolFault, Verdict, Watch, check_watched, json, put_verdict_line, show};
@@ -36,6 +37,8 @@ pub(crate) enum Telling<'a> {
     Records,
     /// The data as lines of JSON, and the verdict to standard error.
     Data {
+        /// How cells are shown.
+        encoding: Encoding,
         /// With the numbers of groups, transactions and lines.
         numbers: bool,
     },
@@ -137,8 +140,8 @@ fn tell<R: Source, W: Target + Drop>(
             let look = look_after(reader, &outcome);
             (writer, outcome, look)
         }
-        Telling::Data { numbers } => {
-            let (writer, outcome) = json(alloc, limits, numbers, reader, writer);
+        Telling::Data { encoding, numbers } => {
+            let (writer, outcome) = json(alloc, limits, encoding, numbers, reader, writer);
             let look = look_after(reader, &outcome);
             (writer, outcome, look)
         }

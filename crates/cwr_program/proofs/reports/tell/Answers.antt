@@ -30,7 +30,7 @@ returns-in-Data-clause-seen g c = sees_nothing c.args.limits (g.R.Source.remaini
 
 pub returns-in-Data-clause-looks : goal.returns-in-Data-clause-looks
 returns-in-Data-clause-looks g c =
-    looks_after (lines_of_data c.in-Data.numbers) c.args.limits (g.R.Source.remaining c.args.reader.now) (g.R.Source.remaining c.json-writer.new.reader) (g.R.Source.remaining c.look_after-look-in-Data.new.reader) g.W.Target.contents
+    looks_after (lines_of_data c.in-Data.encoding c.in-Data.numbers) c.args.limits (g.R.Source.remaining c.args.reader.now) (g.R.Source.remaining c.json-writer.new.reader) (g.R.Source.remaining c.look_after-look-in-Data.new.reader) g.W.Target.contents
     c.args.writer c.json-writer.result.0 c.json-writer.result.1 c.look_after-look-in-Data.result c.json-writer.ensures.accepted c.look_after-look-in-Data.ensures
 
 pub returns-in-Faults-clause-seen : goal.returns-in-Faults-clause-seen
