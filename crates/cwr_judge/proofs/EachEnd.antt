@@ -260,7 +260,7 @@ front_read : (limits : Limits) (text : List ℕ) (i k : ℕ) (before : List (Lis
 front_read limits text i k [] line after range first lines at read = read (none_read limits range)
 front_read limits text i k (other ∷ more) line after range first lines at read =
     either (λ (v : Viable limits s.init s.last (last_place (line_kind s.last))). read (subst (Reads limits) (sym s.is) (whole_read limits s.init s.last (line_free (closed text) s.init s.last (line ∷ after) all) v))) (λ never. earlier (first.1 (length s.init + 1) (last_place (line_kind s.last))
-        (record { before = s.init; line = s.last; after = line ∷ after; lines = all; at = refl; from = some_place (line_kind s.last); to = omega arith; bad = never })))
+    (record { before = s.init; line = s.last; after = line ∷ after; lines = all; at = refl; from = some_place (line_kind s.last); to = omega arith; bad = never })))
   where
     s : Snoc (other ∷ more)
     s = snoc other more
