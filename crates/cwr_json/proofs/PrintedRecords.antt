@@ -10,7 +10,7 @@ use Rattle.json.specs.Print.{escape, escape_byte, print_from}
 use Rattle.json.proofs.Printed.Strings.{escape_byte_plain}
 use Rattle.cwr_fields.specs.Format.Bytes.{is_spaces, trimmed}
 use Rattle.cwr_layouts.specs.declared.kinds.Kind.{Kind}
-use Rattle.cwr_layouts.specs.declared.kinds.Kind.TheVariants.{Hdr, Grh, Grt, Trl, Agr, Ter, Ipa, Nwr, Rev, Spu, Opu, Spt, Swr, Owr, Swt, Pwr, Alt, Ewt, Ver, Per, Rec, Orn, Com, Ack, Msg, Opt, Owt, Npn, Npr, Nwn, Npa, Net, Now, Nct, Nvt, Nat, Ins, Ind, Ari, Xrf}
+use Rattle.cwr_layouts.specs.declared.kinds.Kind.TheVariants.{Hdr}
 use Rattle.cwr_layouts.specs.Format.Kinds.{letters}
 use Rattle.cwr_layouts.specs.Format.Layouts.{FieldLayout, layout}
 use Rattle.cwr_layouts.specs.Format.Records.{RecordValue, carried_fields}
@@ -41,45 +41,7 @@ is_simple_kind kind = list_all is_simple (letters kind) && list_all has_simple_k
 
 simple_kind : (kind : Kind) → is_simple_kind kind ≡ true
 simple_kind Hdr = refl
-simple_kind Grh = refl
-simple_kind Grt = refl
-simple_kind Trl = refl
-simple_kind Agr = refl
-simple_kind Ter = refl
-simple_kind Ipa = refl
-simple_kind Nwr = refl
-simple_kind Rev = refl
-simple_kind Spu = refl
-simple_kind Opu = refl
-simple_kind Spt = refl
-simple_kind Swr = refl
-simple_kind Owr = refl
-simple_kind Swt = refl
-simple_kind Pwr = refl
-simple_kind Alt = refl
-simple_kind Ewt = refl
-simple_kind Ver = refl
-simple_kind Per = refl
-simple_kind Rec = refl
-simple_kind Orn = refl
-simple_kind Com = refl
-simple_kind Ack = refl
-simple_kind Msg = refl
-simple_kind Opt = refl
-simple_kind Owt = refl
-simple_kind Npn = refl
-simple_kind Npr = refl
-simple_kind Nwn = refl
-simple_kind Npa = refl
-simple_kind Net = refl
-simple_kind Now = refl
-simple_kind Nct = refl
-simple_kind Nvt = refl
-simple_kind Nat = refl
-simple_kind Ins = refl
-simple_kind Ind = refl
-simple_kind Ari = refl
-simple_kind Xrf = refl
+simple_kind this_kind = refl
 
 carried_pass : (p : FieldLayout → Bool) (fields : List FieldLayout) → list_all p fields ≡ true → list_all p (filter (λ f. not f.derived) fields) ≡ true
 carried_pass p [] h = refl

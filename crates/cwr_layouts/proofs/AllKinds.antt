@@ -9,7 +9,7 @@ use Rattle.cwr_fields.proofs.LineFeeds.{NoLf}
 use Rattle.cwr_layouts.specs.declared.kinds.Kind.{Kind}
 use Rattle.cwr_layouts.specs.declared.kinds.Kind.TheVariants.{Hdr}
 use Rattle.cwr_layouts.specs.Format.Kinds.{all_kinds, letters, kind_of}
-use Rattle.cwr_layouts.specs.Format.Layouts.{line_width}
+use Rattle.cwr_layouts.specs.Format.Layouts.{layout, line_width}
 use Rattle.cwr_layouts.proofs.TrimmedTexts.{trimmed_three}
 
 -- three letters name one kind
@@ -35,6 +35,11 @@ line_width_widest this_kind = lit≤ tt
 -- with CR and without LF a full line fits
 pub line_width_most : (kind : Kind) → line_width kind ≤ 1023
 line_width_most kind = omega (arith, line_width_widest kind)
+
+-- how many fields a kind has at most
+pub few_fields : (kind : Kind) → length (layout kind) ≤ 28
+few_fields Hdr = lit≤ tt
+few_fields this_kind = lit≤ tt
 
 -- letters aren't trimmed
 pub trimmed-letters : (kind : Kind) (rest : List ℕ) → (ys : List ℕ) × (trimmed (letters kind ++ rest) ≡ letters kind ++ ys)

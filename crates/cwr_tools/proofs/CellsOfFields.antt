@@ -31,11 +31,6 @@ all_short : (kind : Kind) → list_all is_short (layout kind) ≡ true
 all_short Hdr = refl
 all_short this_kind = refl
 
--- no kind has more than 28 fields
-pub few_fields : (kind : Kind) → length (layout kind) ≤ 28
-few_fields Hdr = lit≤ tt
-few_fields this_kind = lit≤ tt
-
 found_passes : (p : FieldLayout → Bool) (fields : List FieldLayout) (i : ℕ) (f : FieldLayout) → list_all p fields ≡ true → slice_get fields i ≡ Some f → p f ≡ true
 found_passes p [] i f h e = absurd (cc e)
 found_passes p (g ∷ fields) zero f h e = let same : g ≡ f = cc e in ap p (sym same) ∙ (and_parts (p g) (list_all p fields) h).0

@@ -16,7 +16,7 @@ use Rattle.json.proofs.Printed.Strings.{escape_byte_plain}
 use Rattle.json.proofs.Printed.Utf8.{IsUtf8-are_ascii, IsUtf8-quoted, IsUtf8-separator, are_ascii}
 use Rattle.cwr_fields.specs.Format.Bytes.{is_spaces, trimmed}
 use Rattle.cwr_layouts.specs.declared.kinds.Kind.{Kind}
-use Rattle.cwr_layouts.specs.declared.kinds.Kind.TheVariants.{Hdr, Grh, Grt, Trl, Agr, Ter, Ipa, Nwr, Rev, Spu, Opu, Spt, Swr, Owr, Swt, Pwr, Alt, Ewt, Ver, Per, Rec, Orn, Com, Ack, Msg, Opt, Owt, Npn, Npr, Nwn, Npa, Net, Now, Nct, Nvt, Nat, Ins, Ind, Ari, Xrf}
+use Rattle.cwr_layouts.specs.declared.kinds.Kind.TheVariants.{Hdr}
 use Rattle.cwr_layouts.specs.Format.Kinds.{letters}
 use Rattle.cwr_layouts.specs.Format.Layouts.{FieldLayout}
 use Rattle.cwr_layouts.specs.Format.Lines.{is_lf}
@@ -153,45 +153,7 @@ is_ascii_kind kind = are_ascii (letters kind) && list_all is_ascii_key (carried_
 
 ascii_kind : (kind : Kind) → is_ascii_kind kind ≡ true
 ascii_kind Hdr = refl
-ascii_kind Grh = refl
-ascii_kind Grt = refl
-ascii_kind Trl = refl
-ascii_kind Agr = refl
-ascii_kind Ter = refl
-ascii_kind Ipa = refl
-ascii_kind Nwr = refl
-ascii_kind Rev = refl
-ascii_kind Spu = refl
-ascii_kind Opu = refl
-ascii_kind Spt = refl
-ascii_kind Swr = refl
-ascii_kind Owr = refl
-ascii_kind Swt = refl
-ascii_kind Pwr = refl
-ascii_kind Alt = refl
-ascii_kind Ewt = refl
-ascii_kind Ver = refl
-ascii_kind Per = refl
-ascii_kind Rec = refl
-ascii_kind Orn = refl
-ascii_kind Com = refl
-ascii_kind Ack = refl
-ascii_kind Msg = refl
-ascii_kind Opt = refl
-ascii_kind Owt = refl
-ascii_kind Npn = refl
-ascii_kind Npr = refl
-ascii_kind Nwn = refl
-ascii_kind Npa = refl
-ascii_kind Net = refl
-ascii_kind Now = refl
-ascii_kind Nct = refl
-ascii_kind Nvt = refl
-ascii_kind Nat = refl
-ascii_kind Ins = refl
-ascii_kind Ind = refl
-ascii_kind Ari = refl
-ascii_kind Xrf = refl
+ascii_kind this_kind = refl
 
 trimmed_bytes : (f : FieldLayout) (cell : List ℕ) → IsCellOf f cell → AreBytes (trimmed cell)
 trimmed_bytes f cell h =
