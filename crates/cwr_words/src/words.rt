@@ -152,8 +152,7 @@ const NUMBERS: &str = "numbers";
 const UTF8: &str = "utf8";
 
 /// How cells are shown with it.
-const SHOWN: &str =
-    "Cells in UTF-8 are their texts, and of any other each byte from 128 on is U+F780 to U+F7FF";
+const SHOWN: &str = "A cell stands as the Unicode text that it is, or else by escapes";
 
 /// The id of the flag that asks for explanations.
 const EXPLAINED: &str = "explain";

@@ -5,7 +5,7 @@ use Rattle.std.specs.List.{list_any}
 use Rattle.std.specs.Borrow.{Bor}
 use Rattle.std.specs.Str.{bytes_eq}
 use Rattle.std.proofs.Math.Seq.{drop-cons}
-use Rattle.std.proofs.lemmas.Bool.{or_left, or_right}
+use Rattle.std.proofs.lemmas.Bool.{not-true, or_left, or_right}
 use Rattle.std.proofs.lemmas.List.{drop_all, get_or_default, length-map, length-take, map-append, take-append-drop}
 use Rattle.json.specs.Json.{Json, null, boolean, number, string, array, object, Items, Members, no_members, member}
 use Rattle.json.specs.declared.value.Value.{Value}
@@ -24,7 +24,7 @@ use Rattle.cwr_write.specs.declared.refusals.Key.TheVariants as said_of
 use Rattle.cwr_write.specs.declared.refusals.LineFault.{LineFault}
 use Rattle.cwr_write.specs.declared.refusals.Why.{Why}
 use Rattle.cwr_write.specs.declared.refusals.Why.TheVariants as whys
-use Rattle.cwr_write.specs.Format.Faults.{IsAmong, IsItemReason, IsKindReason, IsListReason, IsMemberReason, IsNextReason, IsRecordReason, IsValueReason, MayGoOn, members_in}
+use Rattle.cwr_write.specs.Format.Faults.{IsAmong, IsItemReason, IsKindReason, IsListReason, IsRecordsReason, TellsKey, IsMemberReason, IsNextReason, IsRecordReason, IsValueReason, MayGoOn, members_in}
 use Rattle.cwr_write.specs.declared.items.ItemFault.{ItemFault}
 use Rattle.cwr_write.specs.declared.items.ItemFault.TheVariants as item_faults
 use Rattle.cwr_write.specs.Steps.Members.{IsOnlyAt, SaysAt}
@@ -35,32 +35,51 @@ use Rattle.cwr_write.proofs.ToldMembers.{told_none}
 
 -- ---- the members of a line
 
-list_reason : (ms ns : Members) (why : Why) → ms ≡ ns → IsListReason ns why → IsListReason ms why
-list_reason ms ns why e h = subst (λ (l : Members). IsListReason l why) (sym e) h
+list_reason : (ms ns : Members) (why : Why) → ms ≡ ns → IsRecordsReason ns why → IsRecordsReason ms why
+list_reason ms ns why e h = subst (λ (l : Members). IsRecordsReason l why) (sym e) h
 
-pub missing_reason : {A : Type 0} (items : List (Bor (List ℕ) × Value A)) (at : ℕ) → told (members_view (drop 0 items)) ≡ told (members_view (drop at items)) → length items ≤ at → IsListReason (told (members_view items)) whys.Missing
+-- of the key of the records, and another reason than that it is unknown
+abbrev IsKnown : Why → Type 0
+IsKnown whys.UnknownKey = ⊥
+IsKnown why = Unit {0}
+
+pub of_records : (ms : Members) (key : Key) (why told_why : Why) → told_why ≡ why → IsKnown why → TellsKey key records_key → IsRecordsReason ms why → IsListReason ms key told_why
+of_records ms key why told_why e known tells h = subst (IsListReason ms key) (sym e) (by why known h)
+  where
+    by : (w : Why) → IsKnown w → IsRecordsReason ms w → IsListReason ms key w
+    by whys.UnknownKey k r = absurd k
+    by w k r = (tells, r)
+
+pub missing_reason : {A : Type 0} (items : List (Bor (List ℕ) × Value A)) (at : ℕ) → told (members_view (drop 0 items)) ≡ told (members_view (drop at items)) → length items ≤ at → IsRecordsReason (told (members_view items)) whys.Missing
 missing_reason {A = A} items at before all = before ∙ ap (λ (l : List (Bor (List ℕ) × Value A)). told (members_view l)) (drop_all at items all) ∙ told_none
 
-pub unknown_first : {A : Type 0} (items : List (Bor (List ℕ) × Value A)) (at : ℕ) (m : Bor (List ℕ) × Value A) → at < length items → m ≡ get_or items at m → SaysAt items at → told (members_view (drop 0 items)) ≡ told (members_view (drop at items))
-    → not (bytes_eq m.0.now records_key) ≡ true → IsListReason (told (members_view items)) whys.UnknownKey
-unknown_first items at m h e s before other =
-    list_reason (told (members_view items)) (member m.0.now (value_view m.1) (told (members_view (drop (at + 1) items)))) whys.UnknownKey (before ∙ said_here items at m h e s)
-    (or_left (not (bytes_eq m.0.now records_key)) (list_any (λ k. not (bytes_eq k records_key)) (keys (told (members_view (drop (at + 1) items))))) other)
+pub unknown_first : {A : Type 0} (items : List (Bor (List ℕ) × Value A)) (at : ℕ) (m : Bor (List ℕ) × Value A) (key : Key) → TellsKey key m.0.now → at < length items → m ≡ get_or items at m → SaysAt items at → told (members_view (drop 0 items)) ≡ told (members_view (drop at items))
+    → not (bytes_eq m.0.now records_key) ≡ true → IsListReason (told (members_view items)) key whys.UnknownKey
+unknown_first items at m key tells h e s before other = (
+  m.0.now,
+  tells,
+  ap (λ (ms : Members). list_any (bytes_eq m.0.now) (keys ms)) (before ∙ said_here items at m h e s) ∙ or_left (bytes_eq m.0.now m.0.now) (list_any (bytes_eq m.0.now) (keys (told (members_view (drop (at + 1) items))))) (same_bytes m.0.now),
+  not-true (bytes_eq m.0.now records_key) other,
+)
 
 two_said : {A : Type 0} (items : List (Bor (List ℕ) × Value A)) (at more : ℕ) (m n : Bor (List ℕ) × Value A) → at < length items → m ≡ get_or items at m → SaysAt items at → told (members_view (drop 0 items)) ≡ told (members_view (drop at items))
     → more < length items → n ≡ get_or items more n → SaysAt items more → told (members_view (drop (at + 1) items)) ≡ told (members_view (drop more items))
     → told (members_view items) ≡ member m.0.now (value_view m.1) (member n.0.now (value_view n.1) (told (members_view (drop (more + 1) items))))
 two_said items at more m n h e s before lt f t between = before ∙ said_here items at m h e s ∙ ap (λ (ms : Members). member m.0.now (value_view m.1) ms) (between ∙ said_here items more n lt f t)
 
-pub unknown_second : {A : Type 0} (items : List (Bor (List ℕ) × Value A)) (at more : ℕ) (m n : Bor (List ℕ) × Value A) → at < length items → m ≡ get_or items at m → SaysAt items at → told (members_view (drop 0 items)) ≡ told (members_view (drop at items))
-    → more < length items → n ≡ get_or items more n → SaysAt items more → told (members_view (drop (at + 1) items)) ≡ told (members_view (drop more items)) → not (bytes_eq n.0.now records_key) ≡ true → IsListReason (told (members_view items)) whys.UnknownKey
-unknown_second items at more m n h e s before lt f t between other =
-    let rest : List (List ℕ) = keys (told (members_view (drop (more + 1) items))) in
-    list_reason (told (members_view items)) (member m.0.now (value_view m.1) (member n.0.now (value_view n.1) (told (members_view (drop (more + 1) items))))) whys.UnknownKey (two_said items at more m n h e s before lt f t between)
-    (or_right (not (bytes_eq m.0.now records_key)) (list_any (λ k. not (bytes_eq k records_key)) (n.0.now ∷ rest)) (or_left (not (bytes_eq n.0.now records_key)) (list_any (λ k. not (bytes_eq k records_key)) rest) other))
+pub unknown_second : {A : Type 0} (items : List (Bor (List ℕ) × Value A)) (at more : ℕ) (m n : Bor (List ℕ) × Value A) (key : Key) → TellsKey key n.0.now → at < length items → m ≡ get_or items at m → SaysAt items at → told (members_view (drop 0 items)) ≡ told (members_view (drop at items))
+    → more < length items → n ≡ get_or items more n → SaysAt items more → told (members_view (drop (at + 1) items)) ≡ told (members_view (drop more items)) → not (bytes_eq n.0.now records_key) ≡ true → IsListReason (told (members_view items)) key whys.UnknownKey
+unknown_second items at more m n key tells h e s before lt f t between other =
+    let rest : List (List ℕ) = keys (told (members_view (drop (more + 1) items))) in (
+      n.0.now,
+      tells,
+      ap (λ (ms : Members). list_any (bytes_eq n.0.now) (keys ms)) (two_said items at more m n h e s before lt f t between)
+          ∙ or_right (bytes_eq n.0.now m.0.now) (list_any (bytes_eq n.0.now) (n.0.now ∷ rest)) (or_left (bytes_eq n.0.now n.0.now) (list_any (bytes_eq n.0.now) rest) (same_bytes n.0.now)),
+      not-true (bytes_eq n.0.now records_key) other,
+    )
 
 pub repeated_list : {A : Type 0} (items : List (Bor (List ℕ) × Value A)) (at more : ℕ) (m n : Bor (List ℕ) × Value A) → at < length items → m ≡ get_or items at m → SaysAt items at → told (members_view (drop 0 items)) ≡ told (members_view (drop at items))
-    → more < length items → n ≡ get_or items more n → SaysAt items more → told (members_view (drop (at + 1) items)) ≡ told (members_view (drop more items)) → m.0.now ≡ records_key → n.0.now ≡ records_key → IsListReason (told (members_view items)) whys.Repeated
+    → more < length items → n ≡ get_or items more n → SaysAt items more → told (members_view (drop (at + 1) items)) ≡ told (members_view (drop more items)) → m.0.now ≡ records_key → n.0.now ≡ records_key → IsRecordsReason (told (members_view items)) whys.Repeated
 repeated_list items at more m n h e s before lt f t between first second =
     let rest : List (List ℕ) = keys (told (members_view (drop (more + 1) items))) in
     list_reason (told (members_view items)) (member m.0.now (value_view m.1) (member n.0.now (value_view n.1) (told (members_view (drop (more + 1) items))))) whys.Repeated (two_said items at more m n h e s before lt f t between)
@@ -88,11 +107,11 @@ member_alone enc kind ms (said_of.Field j) h = never_member enc whys.Alone (λ f
 member_alone enc kind ms key h = h
 
 own_misplaced : (enc : Encoding) (j : Json) (kind : Option Kind) (key : Key) → ¬ IsRecordReason enc j kind key whys.Misplaced
-own_misplaced enc j None key h = never_some (members_in j) (λ ms. IsKindReason (first_of kind_key (told ms)) whys.Misplaced) (λ ms k. k) h
+own_misplaced enc j None key h = never_some (members_in j) (λ ms. IsKindReason (first_of kind_key (told ms)) whys.Misplaced) (λ ms k. k) h.1
 own_misplaced enc j (Some kind) key h = never_some (members_in j) _ (λ ms k. member_misplaced enc kind (told ms) key k.1) h
 
 own_alone : (enc : Encoding) (j : Json) (kind : Option Kind) (key : Key) → ¬ IsRecordReason enc j kind key whys.Alone
-own_alone enc j None key h = never_some (members_in j) (λ ms. IsKindReason (first_of kind_key (told ms)) whys.Alone) (λ ms k. k) h
+own_alone enc j None key h = never_some (members_in j) (λ ms. IsKindReason (first_of kind_key (told ms)) whys.Alone) (λ ms k. k) h.1
 own_alone enc j (Some kind) key h = never_some (members_in j) _ (λ ms k. member_alone enc kind (told ms) key k.1) h
 
 next_reason : (enc : Encoding) (rs : List RecordValue) (j : Json) (f : LineFault) (why : Why) → IsRecordReason enc j f.kind f.key why → IsNextReason enc rs j f why
@@ -182,16 +201,16 @@ first_list {A = A} items at m only e =
 pub unlisted_data : {A : Type 0} (enc : Encoding) (items : List (Bor (List ℕ) × Value A)) (at : ℕ) (m : Bor (List ℕ) × Value A) (rs : List RecordValue) → IsOnlyAt items records_key at → m ≡ get_or items at m → None ≡ as_array (value_view m.1) → ¬ IsItemData enc (object (members_view items)) rs
 unlisted_data enc items at m rs only e none h = no_list enc (value_view m.1) rs (sym none) (list_data enc items at m rs only e h)
 
-pub unlisted_reason : {A : Type 0} (enc : Encoding) (items : List (Bor (List ℕ) × Value A)) (at : ℕ) (m : Bor (List ℕ) × Value A) (f : LineFault) → IsOnlyAt items records_key at → m ≡ get_or items at m → None ≡ as_array (value_view m.1) → f.record ≡ 0 → f.why ≡ whys.NotAList
+pub unlisted_reason : {A : Type 0} (enc : Encoding) (items : List (Bor (List ℕ) × Value A)) (at : ℕ) (m : Bor (List ℕ) × Value A) (f : LineFault) → IsOnlyAt items records_key at → m ≡ get_or items at m → None ≡ as_array (value_view m.1) → f.record ≡ 0 → f.kind ≡ None → TellsKey f.key records_key → f.why ≡ whys.NotAList
     → IsItemReason enc (object (members_view items)) f
-unlisted_reason enc items at m f only e none first why =
-    inr (inl (first, subst (IsListReason (told (members_view items))) (sym why) (subst (λ (o : Option Json). IsSomeAnd o (λ j. as_array j ≡ None)) (sym (first_list items at m only e)) (sym none))))
+unlisted_reason enc items at m f only e none first no_kind tells why =
+    inr (inl (first, no_kind, of_records (told (members_view items)) f.key whys.NotAList f.why why tt tells (subst (λ (o : Option Json). IsSomeAnd o (λ j. as_array j ≡ None)) (sym (first_list items at m only e)) (sym none))))
 
 pub listed_reason : {A : Type 0} (enc : Encoding) (items : List (Bor (List ℕ) × Value A)) (at : ℕ) (m : Bor (List ℕ) × Value A) (js : List Json) (f : LineFault) → IsOnlyAt items records_key at → m ≡ get_or items at m → Some (items_of js) ≡ as_array (value_view m.1) → IsOfList enc js f
     → IsItemReason enc (object (members_view items)) f
 listed_reason enc items at m js f only e list h =
     let there : first_of records_key (told (members_view items)) ≡ Some (array (items_of js)) = first_list items at m only e ∙ ap (λ (j : Json). Some j) (array_of (value_view m.1) (items_of js) list) in
     elim h [
-      | inl none ↦ inr (inl (none.0, subst (IsListReason (told (members_view items))) (sym none.1) (there ∙ ap (λ (l : List Json). Some (array (items_of l))) none.2)))
+      | inl none ↦ inr (inl (none.0, none.1, of_records (told (members_view items)) f.key whys.Empty f.why none.3 tt none.2 (there ∙ ap (λ (l : List Json). Some (array (items_of l))) none.4)))
       | inr among ↦ inr (inr (js, there, among))
     ]

@@ -21,7 +21,7 @@ use Rattle.cwr_write.specs.declared.writing.Reached.TheVariants as reached_to
 use Rattle.cwr_write.specs.declared.refusals.LineFault.{LineFault}
 use Rattle.cwr_write.specs.declared.refusals.Why.{Why}
 use Rattle.cwr_write.specs.declared.refusals.Why.TheVariants.{TooLong}
-use Rattle.cwr_write.specs.Format.Faults.{IsReason, IsReasonOf, reached_after}
+use Rattle.cwr_write.specs.Format.Faults.{IsOfLine, IsReason, IsReasonOf, reached_after}
 use Rattle.cwr_write.specs.Format.Endings.{AreShort, AreTaken, EndsEarly, EndsWell, SaysTransmission, StopsAtLine, said_lines}
 use Rattle.cwr_write.specs.Steps.Taking.{SaidSoFar}
 use Rattle.cwr_write.proofs.ItemsInOrder.{AreOwn, next_type, own_first, own_heads, own_value, same_item}
@@ -247,7 +247,7 @@ last_short : (most : ℕ) (lines : List (List ℕ)) (line : List ℕ) → AreSho
 last_short most [] line h = h.0
 last_short most (l ∷ lines) line h = last_short most lines line h.1
 
-pub stops_long : (enc : Encoding) (limits : LimitValues) (most n : ℕ) (f : LineFault) (left mid : Option (List ℕ)) (items : List Item) → f.why ≡ TooLong → f.record ≡ 0 → IfSome left (λ text. SaidSoFar enc most n text mid items) → ExceedsWith most mid [] → AreFirstItems limits items → IfSome left (λ text. StopsAtLine enc limits most text (n + 1) f)
+pub stops_long : (enc : Encoding) (limits : LimitValues) (most n : ℕ) (f : LineFault) (left mid : Option (List ℕ)) (items : List Item) → f.why ≡ TooLong → IsOfLine f → IfSome left (λ text. SaidSoFar enc most n text mid items) → ExceedsWith most mid [] → AreFirstItems limits items → IfSome left (λ text. StopsAtLine enc limits most text (n + 1) f)
 stops_long enc limits most n fault None mid items why first h x f = tt
 stops_long enc limits most n fault (Some text) mid items why first h x f =
     let there = long_line most h.rest (subst (λ (o : Option (List ℕ)). ExceedsWith most o []) h.after_is x) in

@@ -25,7 +25,7 @@ use Rattle.cwr_write.specs.declared.refusals.Key.{Key}
 use Rattle.cwr_write.specs.declared.refusals.Key.TheVariants as said_of
 use Rattle.cwr_write.specs.declared.refusals.Why.{Why}
 use Rattle.cwr_write.specs.declared.refusals.Why.TheVariants as whys
-use Rattle.cwr_write.specs.Format.Faults.{AreBytes, IsMemberReason, IsValueReason}
+use Rattle.cwr_write.specs.Format.Faults.{AreBytes, IsMemberReason, IsValueReason, TellsKey}
 use Rattle.cwr_write.specs.Steps.Filling.{FitsField, IsBytesReason, IsDraftReason, IsFilled, joined, names_field, with_last}
 use Rattle.cwr_write.proofs.FilledDrafts.{carried_place, first-last, named}
 use Rattle.cwr_write.proofs.NoRecordData.{first-joined, keys-between}
@@ -39,9 +39,10 @@ no_layout : (k : List ℕ) (fields : List FieldLayout) → ((i : ℕ) → unwrap
 no_layout k [] h = refl
 no_layout k (f ∷ fields) h = or_from (bytes_eq k (key_of f.name)) (list_any (λ g. bytes_eq k (key_of g.name)) fields) (h 0) (no_layout k fields (λ i. h (suc i)))
 
-pub unknown_reason : (enc : Encoding) (kind : Kind) (ms rest : Members) (key : Key) (k : List ℕ) (v : Json) → ((j : ℕ) → names_field kind j k ≡ false) → IsMemberReason enc kind (joined (with_last ms k v) rest) key whys.UnknownKey
-unknown_reason enc kind ms rest key k v none = (
+pub unknown_reason : (enc : Encoding) (kind : Kind) (ms rest : Members) (key : Key) (k : List ℕ) (v : Json) → TellsKey key k → ((j : ℕ) → names_field kind j k ≡ false) → IsMemberReason enc kind (joined (with_last ms k v) rest) key whys.UnknownKey
+unknown_reason enc kind ms rest key k v tells none = (
   k,
+  tells,
   ap (list_any (bytes_eq k)) (keys-between ms rest k v) ∙ among_between (bytes_eq k) (keys ms) (keys rest) k (same_bytes k),
   no_layout k (layout kind) (λ i. none (suc i)),
 )

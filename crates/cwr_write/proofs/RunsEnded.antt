@@ -12,6 +12,7 @@ use Rattle.cwr_encode.specs.declared.encoders.Encoder.{Encoder}
 use Rattle.cwr_encode.specs.Format.Finishing.{HasAll}
 use Rattle.cwr_encode.specs.Steps.Encoders.{encoder_limits}
 use Rattle.cwr_json.specs.declared.encodings.Encoding.{Encoding}
+use Rattle.cwr_write.specs.Format.Faults.{IsOfLine}
 use Rattle.cwr_write.specs.declared.items.ItemFault.{ItemFault}
 use Rattle.cwr_write.specs.declared.items.ItemFault.TheVariants as item_faults
 use Rattle.cwr_write.specs.declared.refusals.LineFault.{LineFault}
@@ -50,7 +51,7 @@ anyhow : (enc : Encoding) (limits : LimitValues) (most : ℕ) (left : Option (Li
 anyhow enc limits most None told h = tt
 anyhow enc limits most (Some text) told h = λ _. h text
 
-pub run_unread : (enc : Encoding) (limits : LimitValues) (most n : ℕ) (left : Option (List ℕ)) (fault : ReadFault) (told : WriteFault) → IsUnreadFault n fault told → ((f : LineFault) → f.why ≡ whys.TooLong → f.record ≡ 0 → fault ≡ read_faults.TooLong → IfSome left (λ text. StopsAtLine enc limits most text n f)) → RunEnds enc limits most left (Err told)
+pub run_unread : (enc : Encoding) (limits : LimitValues) (most n : ℕ) (left : Option (List ℕ)) (fault : ReadFault) (told : WriteFault) → IsUnreadFault n fault told → ((f : LineFault) → f.why ≡ whys.TooLong → IsOfLine f → fault ≡ read_faults.TooLong → IfSome left (λ text. StopsAtLine enc limits most text n f)) → RunEnds enc limits most left (Err told)
 run_unread enc limits most n left read_faults.Reader told t h = subst (λ (f : WriteFault). RunEnds enc limits most left (Err f)) (sym t) (anyhow enc limits most left write_faults.Reader (λ text. tt))
 run_unread enc limits most n left read_faults.Memory told t h = subst (λ (f : WriteFault). RunEnds enc limits most left (Err f)) (sym t) (anyhow enc limits most left write_faults.Memory (λ text. tt))
 run_unread enc limits most n left read_faults.TooLong told t h = at_refused enc limits most n t.0 left told t.3 (h t.0 t.1 t.2 refl)

@@ -47,7 +47,7 @@ use Rattle.cwr_write.specs.declared.refusals.Why.TheVariants as whys
 use Rattle.cwr_write.specs.declared.items.ItemFault.{ItemFault}
 use Rattle.cwr_write.specs.declared.items.ItemFault.TheVariants as item_faults
 use Rattle.cwr_write.specs.Steps.Members.{IsKinded}
-use Rattle.cwr_write.specs.Format.Faults.{IsItem, IsItemReason, IsOfData, IsPlaceReason, IsReason, IsReasonOf, NoItem, SaysNone, reached_with}
+use Rattle.cwr_write.specs.Format.Faults.{IsOfLine, IsItem, IsItemReason, IsOfData, IsPlaceReason, IsReason, IsReasonOf, NoItem, SaysNone, reached_with}
 use Rattle.cwr_write.specs.Steps.Taking.{CountsReading, EndsWith, FinishesLines, Goes, HaveGiven, IsFaultOf, IsFinishFault, IsLine, IsNoWriter, IsOther, IsOwn, IsOwnRun, OnLine, IsRefusedAt, IsRunFaultOf, IsUnreadFault, JudgesNext, NoReader, Stands, StandsWith, TakesLine, TakesLines, given_in, given_records}
 use Rattle.cwr_write.proofs.ItemsInOrder.{IsOwnItem, begins_none, kinded_heads, last_type, own_heads, own_next, same_item}
 use Rattle.cwr_write.proofs.LinesTaken.{says_once, value_once}
@@ -125,13 +125,13 @@ Judged contents item before e answer = (start : Option (List ℕ)) (items : List
 
 -- the place of the item is the reason
 abbrev pub PlaceOf : Item → LimitValues → List Item → LineFault → Type 0
-PlaceOf item limits items f = (f.record ≡ 0) × IsPlaceReason limits items item f.why
+PlaceOf item limits items f = IsOfLine f × IsPlaceReason limits items item f.why
 
 abbrev Refuses : {W : Type 0} → (W → Option (List ℕ)) → Item → Reached → Encoder W → Why → Type 0
 Refuses contents item before e why = (start : Option (List ℕ)) (items : List Item) → Stands contents start items before e → (¬ AreFirstItems (encoder_limits e) (items ++ item ∷ [])) × IsPlaceReason (encoder_limits e) items item why
 
 -- a fault of an item's place changes nothing
-place_fault : {W : Type 0} (item : Item) (before : Reached) (contents : W → Option (List ℕ)) (failures : W → ℕ) (fault : LineFault) (old new : Encoder W) → new ≡ old → fault.record ≡ 0 → Refuses contents item before old fault.why → TakesLine (λ i. i ≡ item) (PlaceOf item) before contents failures (Err (item_faults.Line fault)) old new
+place_fault : {W : Type 0} (item : Item) (before : Reached) (contents : W → Option (List ℕ)) (failures : W → ℕ) (fault : LineFault) (old new : Encoder W) → new ≡ old → IsOfLine fault → Refuses contents item before old fault.why → TakesLine (λ i. i ≡ item) (PlaceOf item) before contents failures (Err (item_faults.Line fault)) old new
 place_fault {W = W} item before contents failures fault old new same first refuses = (
   same,
   (λ start items s i is. subst (λ (x : Item). ¬ AreFirstItems (encoder_limits old) (items ++ x ∷ [])) (sym is) (refuses start items s).0),
@@ -288,7 +288,7 @@ said_same enc limits line items i item kinded own says f = same_item i item (own
 abbrev pub ReasonOf : Encoding → List ℕ → LimitValues → List Item → LineFault → Type 0
 ReasonOf enc line limits items f = (most : ℕ) → IsReason enc limits most items line f
 
-order_reason : (enc : Encoding) (limits : LimitValues) (most : ℕ) (items : List Item) (line : List ℕ) (i : Item) (f : LineFault) (why : Why) → SaysItem enc line i → f.record ≡ 0 → IsPlaceReason limits items i why → IsReasonOf enc limits most items line f why
+order_reason : (enc : Encoding) (limits : LimitValues) (most : ℕ) (items : List Item) (line : List ℕ) (i : Item) (f : LineFault) (why : Why) → SaysItem enc line i → IsOfLine f → IsPlaceReason limits items i why → IsReasonOf enc limits most items line f why
 order_reason enc limits most items line i f whys.OutOfOrder says first h = (first, (i, says, h))
 order_reason enc limits most items line i f whys.WrongKind says first h = (first, (i, says, h))
 order_reason enc limits most items line i f (whys.Incomplete lack) says first h = (first, (i, says, h))

@@ -1,6 +1,6 @@
 //! From the value of a line to an item, and to an encoder.
 
-ghost use Rattle.std.specs.Prelude.{◌≡◌, ◌+◌, ◌≤◌, ◌<◌, ℕ, List, Option, length, drop, map, min, IfOk, IfErr, OnErr, false};
+ghost use Rattle.std.specs.Prelude.{◌≡◌, ◌+◌, ◌≤◌, ◌<◌, ℕ, List, Option, length, drop, map, min, IfOk, IfErr, OnErr, None, Some, false};
 ghost use Rattle.std.specs.Prelude.{option_map};
 ghost use Rattle.json.specs.Find.{as_array};
 ghost use Rattle.json.specs.Value.{items_view, members_view, value_view};
@@ -63,7 +63,7 @@ fn list_in(members: &MemberList<'_>) -> Result<usize, LineFault>
     ensures ok { IfOk result (IsOnlyAt members.now.items records_key) }
     ensures err { OnErr result ((encoding : Encoding) (rs : List RecordValue) → ¬ AreOnlyRecords encoding (told (members_view members.now.items)) rs) }
     ensures why { IfErr result (λ f. IsOfData f.why) }
-    ensures reason { IfErr result (λ f. (f.record ≡ 0) × IsListReason (told (members_view members.now.items)) f.why) }
+    ensures reason { IfErr result (λ f. (f.record ≡ 0) × (f.kind ≡ None) × IsListReason (told (members_view members.now.items)) f.key f.why) }
 {
     let at = first_said(members, 0);
     let Some(member) = members.get(at) else {
@@ -84,7 +84,7 @@ fn list_in(members: &MemberList<'_>) -> Result<usize, LineFault>
 fn push_fault(number: u32, kind: Kind, fault: PushFault) -> ItemFault
     ensures own { IsOwn result }
     ensures misplaced { IsLine result → fault ≡ PushFault.Misplaced }
-    ensures told { OnLine result (λ f. (f.record ≡ number) × (f.why ≡ Why.Misplaced)) }
+    ensures told { OnLine result (λ f. (f.record ≡ number) × (f.why ≡ Why.Misplaced) × (f.kind ≡ Some kind) × (f.key ≡ Key.None)) }
 {
     match fault {
         PushFault::Memory => ItemFault::Memory,

@@ -1,6 +1,7 @@
 //! Why lines of JSON aren't written as a transmission.
 
-ghost use Rattle.std.specs.Prelude.{◌≡◌};
+ghost use Rattle.std.specs.Prelude.{◌≡◌, None};
+ghost use Rattle.cwr_write.specs.Format.Faults.{IsOfLine, TellsKey};
 
 use crate::hints::Lack;
 use arrayvec::ArrayVec;
@@ -94,7 +95,7 @@ pub struct Refusal {
 /// A fault of the whole line.
 pub(crate) fn of_line(why: Why) -> LineFault
     ensures why { result.why ≡ why }
-    ensures record { result.record ≡ 0 }
+    ensures line { IsOfLine result }
 {
     LineFault {
         record: 0,
@@ -108,6 +109,8 @@ pub(crate) fn of_line(why: Why) -> LineFault
 pub(crate) fn of_key(key: &str, why: Why) -> LineFault
     ensures why { result.why ≡ why }
     ensures record { result.record ≡ 0 }
+    ensures kind { result.kind ≡ None }
+    ensures key { TellsKey result.key key.now }
 {
     LineFault {
         record: 0,
@@ -118,7 +121,9 @@ pub(crate) fn of_key(key: &str, why: Why) -> LineFault
 }
 
 /// The first bytes of a key.
-pub(crate) fn text_key(key: &str) -> Key {
+pub(crate) fn text_key(key: &str) -> Key
+    ensures { TellsKey result key.now }
+{
     let bytes = key.as_bytes();
     let mut text = ArrayVec::new();
     let count = bytes.len().min(LONGEST_KEY);

@@ -9,7 +9,7 @@ ghost use Rattle.cwr_values.specs.Format.Values.{FitsIn, IsTransmission, Transmi
 ghost use Rattle.cwr_encode.specs.Steps.Encoders.{AddsRecords, Encodes, encoder_limits, is_stopped, target_of};
 ghost use Rattle.cwr_encode.specs.Steps.Finishing.{FinishesWriting};
 ghost use Rattle.cwr_write.specs.Format.Imports.{CountsReaderFault, CountsWriterFault, SaysItem, WritesWhole};
-ghost use Rattle.cwr_write.specs.Format.Faults.{IsPlaceReason, IsReason, JudgesTrailer, reached_with};
+ghost use Rattle.cwr_write.specs.Format.Faults.{IsOfLine, IsPlaceReason, IsReason, JudgesTrailer, reached_with};
 ghost use Rattle.cwr_write.specs.Format.Endings.{EndsAtLine, SaysTransmission, WritesTransmission};
 ghost use Rattle.cwr_write.specs.Steps.Taking.{EndsLines, EndsWith, FinishesLines, IsFinishFault, IsNoWriter, IsRunFaultOf, IsUnreadFault, JudgesNext, NoReader, Stands, TakesLine, TakesLines, given_records};
 
@@ -141,7 +141,7 @@ fn taken<W: Target>(
     encoder: &mut Encoder<W>,
 ) -> Result<Reached, ItemFault>
     requires { is_stopped encoder.old ≡ false }
-    ensures takes { TakesLine (λ i. i ≡ item.now) (λ limits items f. (f.record ≡ 0) × IsPlaceReason limits items item.now f.why) reached W.contents W.failures result encoder.old encoder.new }
+    ensures takes { TakesLine (λ i. i ≡ item.now) (λ limits items f. IsOfLine f × IsPlaceReason limits items item.now f.why) reached W.contents W.failures result encoder.old encoder.new }
     ensures limits { encoder_limits encoder.new ≡ encoder_limits encoder.old }
 {
     match take_item(item, reached, encoder) {

@@ -1,5 +1,5 @@
 -- What the reason of a refusal says of its line.
-use Rattle.std.specs.Prelude.{◌≡◌, ◌≢◌, ◌⊎◌, ℕ, ◌+◌, ◌<◌, min, not, true, false, nat_lt, List, [], ◌∷◌, ◌++◌, length, map, count_by, Option, Some, None, IsSome, IsSomeAnd, Result, Err}
+use Rattle.std.specs.Prelude.{◌≡◌, ◌≢◌, ◌⊎◌, ℕ, ◌+◌, ◌<◌, min, not, true, false, nat_lt, List, [], ◌∷◌, ◌++◌, length, map, take, count_by, Option, Some, None, IsSome, IsSomeAnd, Result, Err}
 use Rattle.std.specs.List.{list_all, list_any}
 use Rattle.std.specs.Str.{IsUtf8, bytes_eq}
 use Rattle.json.specs.Find.{as_array, as_str}
@@ -124,9 +124,14 @@ IsValueReason enc f value TooWide = (f.derived ≡ false) × OfText value (λ s.
 IsValueReason enc f value (Cell fault) = (f.derived ≡ false) × ((cell : List ℕ) × IsCellFrom enc f value cell × HasFault f.ty cell fault)
 IsValueReason enc f value why = ⊥
 
+-- the key is told by its first bytes
+abbrev pub TellsKey : Key → List ℕ → Type 0
+TellsKey (said_of.Text front) k = front.items ≡ take 40 k
+TellsKey key k = ⊥
+
 -- why members are data of no record of the kind: a key that no field has, or one that comes twice, or the value of a field
 abbrev pub IsMemberReason : Encoding → Kind → Members → Key → Why → Type 0
-IsMemberReason enc this_kind ms key UnknownKey = (k : List ℕ) × (list_any (bytes_eq k) (keys ms) ≡ true) × (list_any (λ f. bytes_eq k (key_of f.name)) (layout this_kind) ≡ false)
+IsMemberReason enc this_kind ms key UnknownKey = (k : List ℕ) × TellsKey key k × (list_any (bytes_eq k) (keys ms) ≡ true) × (list_any (λ f. bytes_eq k (key_of f.name)) (layout this_kind) ≡ false)
 IsMemberReason enc this_kind ms (said_of.Field j) Repeated = IsSomeAnd (field_at this_kind j) (λ f. 1 < count_by (bytes_eq (key_of f.name)) (keys ms))
 IsMemberReason enc this_kind ms (said_of.Field j) why = IsSomeAnd (field_at this_kind j) (λ f. IsValueReason enc f (first_of (key_of f.name) ms) why)
 IsMemberReason enc this_kind ms key why = ⊥
@@ -138,28 +143,36 @@ members_in j = None
 
 -- why a value is data of no record, once its kind is known or before
 abbrev pub IsRecordReason : Encoding → Json → Option Kind → Key → Why → Type 0
-IsRecordReason enc j kind key NotAnObject = members_in j ≡ None
-IsRecordReason enc j None key why = IsSomeAnd (members_in j) (λ ms. IsKindReason (first_of kind_key (told ms)) why)
+IsRecordReason enc j kind key NotAnObject = (kind ≡ None) × (key ≡ said_of.None) × (members_in j ≡ None)
+IsRecordReason enc j None key why = (key ≡ said_of.Field 1) × IsSomeAnd (members_in j) (λ ms. IsKindReason (first_of kind_key (told ms)) why)
 IsRecordReason enc j (Some kind) key why = IsSomeAnd (members_in j) (λ ms. (first_of kind_key (told ms) ≡ Some (string (letters kind))) × IsMemberReason enc kind (told ms) key why)
 
 -- why the told members of a line are no list of records
-abbrev pub IsListReason : Members → Why → Type 0
-IsListReason ms Missing = ms ≡ no_members
-IsListReason ms UnknownKey = list_any (λ k. not (bytes_eq k records_key)) (keys ms) ≡ true
-IsListReason ms Repeated = 1 < count_by (bytes_eq records_key) (keys ms)
-IsListReason ms NotAList = IsSomeAnd (first_of records_key ms) (λ j. as_array j ≡ None)
-IsListReason ms Empty = first_of records_key ms ≡ Some (array no_items)
-IsListReason ms why = ⊥
+abbrev pub IsRecordsReason : Members → Why → Type 0
+IsRecordsReason ms Missing = ms ≡ no_members
+IsRecordsReason ms Repeated = 1 < count_by (bytes_eq records_key) (keys ms)
+IsRecordsReason ms NotAList = IsSomeAnd (first_of records_key ms) (λ j. as_array j ≡ None)
+IsRecordsReason ms Empty = first_of records_key ms ≡ Some (array no_items)
+IsRecordsReason ms why = ⊥
 
--- the first record is an item alone
-abbrev pub BeginsAlone : List RecordValue → Type 0
-BeginsAlone [] = ⊥
-BeginsAlone (r ∷ rs) = IsAlone r.kind
+-- the key is told too: another than that of the records, or that
+abbrev pub IsListReason : Members → Key → Why → Type 0
+IsListReason ms key UnknownKey = (k : List ℕ) × TellsKey key k × (list_any (bytes_eq k) (keys ms) ≡ true) × (bytes_eq k records_key ≡ false)
+IsListReason ms key why = TellsKey key records_key × IsRecordsReason ms why
+
+-- the fault is that of the whole line
+abbrev pub IsOfLine : LineFault → Type 0
+IsOfLine f = (f.record ≡ 0) × (f.kind ≡ None) × (f.key ≡ said_of.None)
+
+-- the first record is an item alone, of that kind
+abbrev pub BeginsAlone : List RecordValue → Option Kind → Type 0
+BeginsAlone [] told_kind = ⊥
+BeginsAlone (r ∷ rs) told_kind = IsAlone r.kind × (told_kind ≡ Some r.kind)
 
 -- why a value after those of the records isn't one of their item's: it is a record that can't come after them, or data of none
 abbrev pub IsNextReason : Encoding → List RecordValue → Json → LineFault → Why → Type 0
-IsNextReason enc records j f Misplaced = (r : RecordValue) × IsRecordData enc j r × ¬ BeginsWithOneMore records r
-IsNextReason enc records j f Alone = (r : RecordValue) × IsRecordData enc j r × BeginsAlone records
+IsNextReason enc records j f Misplaced = (r : RecordValue) × IsRecordData enc j r × (f.kind ≡ Some r.kind) × (f.key ≡ said_of.None) × ¬ BeginsWithOneMore records r
+IsNextReason enc records j f Alone = (r : RecordValue) × IsRecordData enc j r × BeginsAlone records f.kind × (f.key ≡ said_of.None)
 IsNextReason enc records j f why = IsRecordReason enc j f.kind f.key why
 
 -- none of the records is at fault: there are none, or some transaction begins with them, or the one is an item alone
@@ -181,8 +194,8 @@ pub record IsAmong (enc : Encoding) (js : List Json) (f : LineFault) : Type 0 wh
 
 -- why a line's value is data of no item: it is no object, it has no list of records, or one of those is wrong
 abbrev pub IsItemReason : Encoding → Json → LineFault → Type 0
-IsItemReason enc j f = ((f.record ≡ 0) × (f.why ≡ NotAnObject) × (members_in j ≡ None))
-    ⊎ (((f.record ≡ 0) × IsSomeAnd (members_in j) (λ ms. IsListReason (told ms) f.why))
+IsItemReason enc j f = (IsOfLine f × (f.why ≡ NotAnObject) × (members_in j ≡ None))
+    ⊎ (((f.record ≡ 0) × (f.kind ≡ None) × IsSomeAnd (members_in j) (λ ms. IsListReason (told ms) f.key f.why))
     ⊎ IsSomeAnd (members_in j) (λ ms. (js : List Json) × (first_of records_key (told ms) ≡ Some (array (items_of js))) × IsAmong enc js f))
 
 -- the line is JSON in UTF-8, and no data of an item of a transmission, for that reason
@@ -196,12 +209,12 @@ pub record SaysNone (enc : Encoding) (line : List ℕ) (f : LineFault) : Type 0 
 -- What the reason says of a line after items: it has more than so many bytes; it isn't JSON in UTF-8; it is data of an item, which
 -- can't come there; or else it is JSON, but data of no item of a transmission, and what is told of it is so.
 abbrev pub IsReasonOf : Encoding → LimitValues → ℕ → List Item → List ℕ → LineFault → Why → Type 0
-IsReasonOf enc limits most items line f TooLong = (f.record ≡ 0) × (most < length line)
-IsReasonOf enc limits most items line f NotJson = (f.record ≡ 0) × (IsUtf8 line → document line ≡ None)
-IsReasonOf enc limits most items line f OutOfOrder = (f.record ≡ 0) × SaysMisplaced enc limits items line OutOfOrder
-IsReasonOf enc limits most items line f WrongKind = (f.record ≡ 0) × SaysMisplaced enc limits items line WrongKind
-IsReasonOf enc limits most items line f (Incomplete lack) = (f.record ≡ 0) × SaysMisplaced enc limits items line (Incomplete lack)
-IsReasonOf enc limits most items line f (Limit limit) = (f.record ≡ 0) × SaysMisplaced enc limits items line (Limit limit)
+IsReasonOf enc limits most items line f TooLong = IsOfLine f × (most < length line)
+IsReasonOf enc limits most items line f NotJson = IsOfLine f × (IsUtf8 line → document line ≡ None)
+IsReasonOf enc limits most items line f OutOfOrder = IsOfLine f × SaysMisplaced enc limits items line OutOfOrder
+IsReasonOf enc limits most items line f WrongKind = IsOfLine f × SaysMisplaced enc limits items line WrongKind
+IsReasonOf enc limits most items line f (Incomplete lack) = IsOfLine f × SaysMisplaced enc limits items line (Incomplete lack)
+IsReasonOf enc limits most items line f (Limit limit) = IsOfLine f × SaysMisplaced enc limits items line (Limit limit)
 IsReasonOf enc limits most items line f why = SaysNone enc line f
 
 abbrev pub IsReason : Encoding → LimitValues → ℕ → List Item → List ℕ → LineFault → Type 0

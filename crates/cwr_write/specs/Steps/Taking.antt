@@ -1,5 +1,5 @@
 -- What taking a line does to an encoder.
-use Rattle.std.specs.Prelude.{◌≡◌, ◌≢◌, ◌⊎◌, ℕ, false, not, List, [], ◌∷◌, ◌++◌, length, Option, Some, IfSome, Result, Ok, Err}
+use Rattle.std.specs.Prelude.{◌≡◌, ◌≢◌, ◌⊎◌, ℕ, false, not, List, [], ◌∷◌, ◌++◌, length, Option, None, Some, IfSome, Result, Ok, Err}
 use Rattle.std.specs.List.{AllZip, filter, flat_map}
 use Rattle.json.specs.Json.{Json}
 use Rattle.cwr_fields.specs.Format.Failures.{one_more_failure}
@@ -15,7 +15,8 @@ use Rattle.cwr_shape.specs.declared.symbols.Symbol.{Symbol}
 use Rattle.cwr_shape.specs.Format.Ranges.{LimitValues}
 use Rattle.cwr_values.specs.Format.Values.{TransmissionValue, IsTransmission, FitsIn}
 use Rattle.cwr_json.specs.declared.encodings.Encoding.{Encoding}
-use Rattle.cwr_write.specs.Format.Faults.{IsAmong, IsOfData, JudgesItem, reached_after}
+use Rattle.cwr_write.specs.Format.Faults.{IsAmong, IsOfData, IsOfLine, TellsKey, JudgesItem, reached_after}
+use Rattle.cwr_json.specs.Format.Forms.{records_key}
 use Rattle.cwr_write.specs.declared.hints.Lack.{Lack}
 use Rattle.cwr_write.specs.declared.refusals.LineFault.{LineFault}
 use Rattle.cwr_write.specs.declared.refusals.Why.{Why}
@@ -60,7 +61,7 @@ OnLine fault is = Unit {0}
 
 -- a list has no values, or the fault is of one of them
 abbrev pub IsOfList : Encoding → List Json → LineFault → Type 0
-IsOfList enc js f = ((f.record ≡ 0) × (f.why ≡ whys.Empty) × (js ≡ [])) ⊎ IsAmong enc js f
+IsOfList enc js f = ((f.record ≡ 0) × (f.kind ≡ None) × TellsKey f.key records_key × (f.why ≡ whys.Empty) × (js ≡ [])) ⊎ IsAmong enc js f
 
 -- the fault is one of the line
 abbrev pub IsLine : ItemFault → Type 0
@@ -78,7 +79,7 @@ IsWhyOf (encode_faults.Writer written) why = ⊥
 -- what is told of an encoder's fault
 abbrev pub IsFaultOf : EncodeFault → ItemFault → Type 0
 IsFaultOf (encode_faults.Writer written) told = told ≡ item_faults.Writer written
-IsFaultOf fault (item_faults.Line f) = (f.record ≡ 0) × IsWhyOf fault f.why
+IsFaultOf fault (item_faults.Line f) = IsOfLine f × IsWhyOf fault f.why
 IsFaultOf fault told = ⊥
 
 -- how far the lines have come with the item: none comes after TRL's
@@ -221,7 +222,7 @@ IsUnfailed result = Unit {0}
 abbrev pub IsUnreadFault : ℕ → ReadFault → WriteFault → Type 0
 IsUnreadFault n read_faults.Reader told = told ≡ write_faults.Reader
 IsUnreadFault n read_faults.Memory told = told ≡ write_faults.Memory
-IsUnreadFault n read_faults.TooLong told = (f : LineFault) × (f.why ≡ whys.TooLong) × (f.record ≡ 0) × IsRefusedAt n f told
+IsUnreadFault n read_faults.TooLong told = (f : LineFault) × (f.why ≡ whys.TooLong) × IsOfLine f × IsRefusedAt n f told
 
 -- the answer isn't that the reader failed
 abbrev pub NoReader : {A : Type 0} → Result A WriteFault → Type 0

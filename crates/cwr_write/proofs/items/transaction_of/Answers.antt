@@ -1,8 +1,9 @@
 use Rattle.std.proofs.Common.{◌+◌, List, [], ◌∷◌, sym, subst, ap, take, ◌∙◌}
 use Rattle.json.specs.Value.{items_view, value_view}
+use Rattle.cwr_layouts.specs.declared.kinds.Kind.{Kind}
 use Rattle.cwr_layouts.specs.Format.Records.{RecordValue}
 use Rattle.cwr_json.specs.Format.Forms.{AreRecordsData, IsRecordData}
-use Rattle.std.specs.Prelude.{Err}
+use Rattle.std.specs.Prelude.{Err, Some}
 use Rattle.std.proofs.Common.{arith, length}
 use Rattle.std.proofs.lemmas.List.{length-append}
 use Rattle.cwr_shape.specs.Format.Shapes.{BeginsShape}
@@ -52,7 +53,7 @@ returns-clause-kinded c =
 pub returns-in-Err-clause-reason : goal.returns-in-Err-clause-reason
 returns-in-Err-clause-reason c = on_line c.push_fault.result _ _
     (λ line f p. placed_among c.args.encoding c.args.values.now 0 c.requires.first.found f [] whys.Misplaced c.requires.first.within c.requires.first.is p.0 (none_data c.args.encoding c.args.values.now) tt p.1
-    (c.args.first.now, c.requires.first.is_data, subst (λ (r : RecordValue). ¬ BeginsShape (symbol_of r ∷ [])) c.view.ensures.value (c.in-Err.ensures.misplaced.0 (ap (λ (f : PushFault). Err f) (c.push_fault.ensures.misplaced line)))))
+    (c.args.first.now, c.requires.first.is_data, p.2 ∙ ap (λ (k : Kind). Some k) (c.kind.ensures.value ∙ ap (λ (r : RecordValue). r.kind) c.view-in-Err.ensures.value), p.3, subst (λ (r : RecordValue). ¬ BeginsShape (symbol_of r ∷ [])) c.view.ensures.value (c.in-Err.ensures.misplaced.0 (ap (λ (f : PushFault). Err f) (c.push_fault.ensures.misplaced line)))))
     c.push_fault.ensures.told
 
 pub returns-in-Err-record_of-clause-reason : goal.returns-in-Err-record_of-clause-reason
@@ -65,6 +66,8 @@ returns-in-Err-push-clause-reason c = on_line c.push_fault-in-Err-push.result _ 
     (p.0 ∙ omega (arith, c.number_after-number.ensures, c.len.ensures.len, c.loop-i.invariant.1)) c.loop-i.invariant.0 (begun_goes_on c.loop-i.transaction c.len.ensures.begun) p.1 (
       c.view-in-loop-i.result,
       subst (IsRecordData c.args.encoding (value_view c.index-values-i.result)) (sym c.view-in-loop-i.ensures.value) c.in-Ok-record_of.ensures.ok,
+      p.2 ∙ ap (λ (k : Kind). Some k) (c.kind-in-Err-push.ensures.value ∙ ap (λ (r : RecordValue). r.kind) (c.view-in-Err-push.ensures.value ∙ sym c.view-in-loop-i.ensures.value)),
+      p.3,
       c.in-Err-push.ensures.misplaced.0 (ap (λ (f : PushFault). Err f) (c.push_fault-in-Err-push.ensures.misplaced line)),
     ))
     c.push_fault-in-Err-push.ensures.told

@@ -41,7 +41,7 @@ returns-in-Err-clause-err c = λ ms h.
     unfit_value c.args.encoding c.args.self.now.kind ms c.args.key.now (value_view c.args.value.now) c.in-Some.j c.in-Some.ensures c.if-j-eq1.false (h.marks c.in-Some.j c.args.key.now c.in-Some.ensures unmarked) (c.in-Err.ensures.err h.kind_is)
 
 pub returns-in_default-clause-reason : goal.returns-in_default-clause-reason
-returns-in_default-clause-reason c = λ ms rest h. unknown_reason c.args.encoding c.args.self.now.kind ms rest c.text_key.result c.args.key.now (value_view c.args.value.now) c.in_default.ensures
+returns-in_default-clause-reason c = λ ms rest h. unknown_reason c.args.encoding c.args.self.now.kind ms rest c.text_key.result c.args.key.now (value_view c.args.value.now) c.text_key.ensures c.in_default.ensures
 
 pub returns-then-self-from-clause-reason : goal.returns-then-self-from-clause-reason
 returns-then-self-from-clause-reason c = λ ms rest h.
