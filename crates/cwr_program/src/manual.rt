@@ -79,6 +79,17 @@ COMMANDS
               Adds the notes `_group`, `_transaction` and `_line` to each
               line.
 
+   cwr csv [OPTIONS] KIND [FILE]
+       Writes the records of one type as a table to standard output (RFC 4180,
+       UTF-8): a heading, and a row for each record. KIND is the type as the
+       file spells it, as `SWR`. The verdict goes to standard error.
+
+       The first columns are the numbers that `cwr check` names: `group`, from
+       1, and `transaction` and `record`, from 0. The others are the keys of
+       `cwr json`. Cells are as they stand, without trailing spaces. So a
+       spreadsheet should import them as text: else it may take `=1+1` for a
+       formula, and `007` for a number.
+
    cwr write [OPTIONS] [FILE]
        Writes the transmission that lines of JSON are, with all its numbers.
        FILE has lines as `cwr json` writes them. How it ended goes to standard
@@ -332,6 +343,16 @@ EXAMPLES
            GOOD groups 2 transactions 3 records 12
            $ cwr write works.jsonl -o again.cwr
            WRITTEN lines 9 bytes 1599
+
+       The writers of each work, for a spreadsheet:
+
+           $ cwr csv SWR works.cwr > writers.csv
+           GOOD groups 2 transactions 3 records 12
+           $ cut -d, -f1-5 writers.csv
+           group,transaction,record,interested_party_number,last_name
+           1,0,1,W1,SMITH
+           2,0,1,W1,SMITH
+           2,1,1,W1,SMITH
 
        A file that isn't there:
 

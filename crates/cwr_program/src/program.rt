@@ -4,6 +4,7 @@ ghost use Rattle.std.specs.Prelude.{◌≡◌, ◌≢◌, ◌≤◌, map, true, 
 ghost use Rattle.clap.specs.Values.{kind_of};
 ghost use Rattle.cwr_program.specs.Format.Endings.{EndsOnInput, IsOfInput, fault_status, wanted_in};
 ghost use Rattle.cwr_program.specs.Format.Inputs.{are_standard};
+ghost use Rattle.cwr_program.specs.Format.Tables.{table_of};
 
 use crate::endings::{Status, Wanted};
 use crate::faults::{Fault, tell_fault};
@@ -17,8 +18,9 @@ use crate::reports::{Asked, Telling, report_input, telling_of};
 use crate::several::report_several;
 use crate::splits::{Cut, split_file};
 use clap::error::ErrorKind;
+use cwr_csv::Table;
 use cwr_shape::Limits;
-use cwr_words::{Task, Work, task_of};
+use cwr_words::{Rows, Task, Work, task_of};
 use std::convert::AsStr;
 use std::io;
 use std::io::{Read, Write};
@@ -150,6 +152,15 @@ fn judge<'a, R: Files + AllocGlobal, I: Read + Drop, P: Pace, O: Write + Drop, E
     report_input(asked, telling, input, output, error)
 }
 
+/// The table that has rows of these.
+fn table_of(rows: Rows) -> Table
+    ensures { result ≡ table_of rows }
+{
+    match rows {
+        Rows::Records(kind) => Table::Records(kind),
+    }
+}
+
 /// Does what is asked for.
 fn perform<'a, R: Files + AllocGlobal, I: Read + Drop, P: Pace, O: Write + Drop, E: Write>(
     rt: &R,
@@ -190,6 +201,11 @@ fn perform<'a, R: Files + AllocGlobal, I: Read + Drop, P: Pace, O: Write + Drop,
         }
         Work::Json { file, numbers } => {
             let telling = Telling::Data { numbers: *numbers };
+            let input = open_input(rt, *file, &mut Some(standard), &mut *pace)?;
+            return report_input(&asked, telling, input, output, error);
+        }
+        Work::Csv { rows, file } => {
+            let telling = Telling::Rows(table_of(*rows));
             let input = open_input(rt, *file, &mut Some(standard), &mut *pace)?;
             return report_input(&asked, telling, input, output, error);
         }

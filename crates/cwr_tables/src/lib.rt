@@ -1,0 +1,11 @@
+//! Tables of CWR 2.1 transmissions, as RFC 4180 has them.
+#![tactic(auto)]
+
+mod cells;
+mod places;
+mod record_tables;
+mod rows;
+
+pub use places::Place;
+pub use record_tables::{put_heading, put_rows};
+pub use rows::RowText;
