@@ -6,6 +6,7 @@ ghost use Rattle.cwr_c.specs.Format.WrittenTexts.{IsCanonical};
 use crate::writing::{CwrWritten, written};
 use cwr_encode::Sink;
 use cwr_fields::Counted;
+use cwr_json::Encoding;
 use cwr_shape::Limits;
 use cwr_write::{WriteFault, put_write_outcome, write};
 use std::alloc::Global;
@@ -38,7 +39,14 @@ pub(crate) fn import_text(alloc: Global, limits: Limits, text: &[u8]) -> (Vec<u8
 {
     let mut reader = Counted::new(text);
     let writer = Counted::new(Vec::new(alloc));
-    let (writer, outcome) = write(alloc, limits, LONGEST_JSON_LINE, &mut reader, writer);
+    let (writer, outcome) = write(
+        alloc,
+        limits,
+        Encoding::Latin1,
+        LONGEST_JSON_LINE,
+        &mut reader,
+        writer,
+    );
     match outcome {
         Ok(_) => (writer.into_inner(), written(0, 0, 0)),
         Err(fault) => {

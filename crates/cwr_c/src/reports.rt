@@ -7,6 +7,7 @@ ghost use Rattle.cwr_c.specs.Steps.Reported.{IsExplainedOn, IsJudged, IsLintOn, 
 
 use cwr_explain::explain;
 use cwr_fields::Counted;
+use cwr_json::Encoding;
 use cwr_lint::lint;
 use cwr_shape::Limits;
 use cwr_tools::{ToolFault, Verdict, Watch, check, json, show};
@@ -94,11 +95,11 @@ fn data_report(
     text: &[u8],
 ) -> (Vec<u8>, Result<Verdict, ToolFault>)
     ensures judged { IsJudged limits text.now result.1 }
-    ensures written { IsWritten (IsTextOn (lines_of_data noted) limits text.now result.0.items) result.1 }
+    ensures written { IsWritten (IsTextOn (lines_of_data Encoding.Latin1 noted) limits text.now result.0.items) result.1 }
 {
     let mut reader = Counted::new(text);
     let writer = Counted::new(Vec::new(alloc));
-    let (writer, verdict) = json(alloc, limits, noted, &mut reader, writer);
+    let (writer, verdict) = json(alloc, limits, Encoding::Latin1, noted, &mut reader, writer);
     (writer.into_inner(), verdict)
 }
 

@@ -2,13 +2,12 @@
 
 ghost use Rattle.std.specs.Prelude.{List, [], length, true, ℕ, ◌++◌, ◌*◌, ◌≡◌, ◌≤◌};
 ghost use Rattle.std.specs.Prelude.{suc, ◌↔◌};
-ghost use Rattle.cwr_shape.specs.Format.Ranges.{LimitValues};
+ghost use Rattle.cwr_shape.specs.Format.Ranges.{AreInRange, LimitValues};
 ghost use Rattle.cwr_judge.specs.Format.GoodFronts.{ContinuesFrom};
 ghost use Rattle.cwr_judge.specs.Format.Places.{Viable};
 ghost use Rattle.cwr_judge.specs.Format.Ends.{IsAccepted, IsNotAccepted, IsRefused, IsTruncated};
 ghost use Rattle.cwr_judge.specs.Format.FormerEnds.{IsAcceptedIn};
 ghost use Rattle.cwr_judge.specs.Format.Items.{AreFirstItems, items, value_items};
-ghost use Rattle.cwr_judge.specs.Format.Places.{IsFirstBad};
 ghost use Rattle.cwr_judge.specs.declared.refusals.Refusal.{Refusal};
 ghost use Rattle.cwr_values.specs.declared.items.Item.{Item};
 ghost use Rattle.cwr_decode.specs.Steps.Machines.{Standing, held_list};
@@ -75,10 +74,10 @@ pub fn one_end_at_most()
         → IsTruncated limits text records → IsTruncated limits text others → records ≡ others }
 {}
 
-/// A text has some end: one that isn't accepted, and in which no place is the first at which nothing continues, is
-/// truncated, with as many lines as it has.
-pub fn some_end()
-    ensures { (limits : Limits) (text : List ℕ) → IsNotAccepted limits text → ((i k : ℕ) → ¬ IsFirstBad limits text i k)
+/// Each text has one of the three ends: one that is neither accepted nor refused is truncated, with as many lines as it has. The
+/// limits are in the ranges that `Limits::new` takes.
+pub fn each_text_has_an_end()
+    ensures { (limits : Limits) (text : List ℕ) → AreInRange limits → IsNotAccepted limits text → ((refusal : Refusal) → ¬ IsRefused limits text refusal)
         → IsTruncated limits text (length (raw_lines (closed text))) }
 {}
 

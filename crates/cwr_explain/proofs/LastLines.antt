@@ -1,6 +1,6 @@
 -- A text ends with one line at most, and the last bytes of a text show it.
 use Rattle.std.proofs.Common.{◌≡◌, ◌≢◌, ℕ, ◌+◌, ◌-◌, ◌<◌, ◌≤◌, Bool, true, false, List, [], ◌∷◌, ◌++◌, length, take, drop, refl, sym, ap, subst, ◌∙◌, arith, inl, inr, append_assoc, append-nil}
-use Rattle.std.specs.Prelude.{◌⊎◌, ◌||◌, ◌==◌, IsFalse, Option, None, Some, IfSome}
+use Rattle.std.specs.Prelude.{◌⊎◌, ◌↔◌, ◌||◌, ◌==◌, IsFalse, Option, None, Some, IfSome}
 use Rattle.std.specs.List.{list_any}
 use Rattle.std.proofs.lemmas.Bool.{false≢true, true≢false}
 use Rattle.std.proofs.lemmas.List.{append_cancel_right, drop-append-le, length-append, length-take-le, nil_from_length, take_all, take-append-drop}
@@ -98,9 +98,10 @@ taken_whole bytes used line t held short none = by line.ended refl t.text t.stop
 
 -- what was found is it
 found_is : (read front line before text : List ℕ) (feed : ℕ) (last : LastBytes) (found : LineAtEnd) → HoldsLast read last → (h : IsAfterFeed text found.bytes.now) → (before ++ h.front ≡ front) × (found.bytes.now ≡ line)
-    → length read ≡ length (before ++ text) + feed → found.offset ≡ bytes_read last - length found.bytes.now - feed → IsFound read front line found
-found_is read front line before text feed last found held h is size offset = record {
+    → length read ≡ length (before ++ text) + feed → (found.ended ≡ true) ↔ EndsInLf read → found.offset ≡ bytes_read last - length found.bytes.now - feed → IsFound read front line found
+found_is read front line before text feed last found held h is size ended offset = record {
   bytes = is.1;
+  ended = ended;
   offset = λ few. omega (arith, few, offset, held.counted, size, length-append before text, ap length h.split, length-append h.front found.bytes.now, ap length is.0, length-append before h.front);
 }
 
@@ -126,11 +127,12 @@ held_ended read front line text found last held ends whole h = by ends.split
         let none = starts_later front line ((held.before ++ text) ++ 10 ∷ []) [] (sym e ∙ read_is ∙ sym (append-nil ((held.before ++ text) ++ 10 ∷ []))) ends.no_lf (held.before ++ text, refl) in
         absurd (omega (arith, none, some))
 
-pub found_ended : (read front line text : List ℕ) (last : LastBytes) (found : LineAtEnd) → HoldsLast read last → EndsWithLine read front line → last_held last ≡ text ++ 10 ∷ [] → IsAfterFeed text found.bytes.now
+pub found_ended : (read front line text : List ℕ) (last : LastBytes) (found : LineAtEnd) → HoldsLast read last → EndsWithLine read front line → last_held last ≡ text ++ 10 ∷ [] → found.ended ≡ true → IsAfterFeed text found.bytes.now
     → found.offset ≡ bytes_read last - length found.bytes.now - 1 → IsFound read front line found
-found_ended read front line text last found held ends whole h offset =
+found_ended read front line text last found held ends whole fed h offset =
     found_is read front line held.before text 1 last found held h (held_ended read front line text found.bytes.now last held ends whole h)
-    (omega (arith, ap length (read_with_feed read text last held whole), length-append (held.before ++ text) (10 ∷ []))) offset
+    (omega (arith, ap length (read_with_feed read text last held whole), length-append (held.before ++ text) (10 ∷ [])))
+    (λ _. (held.before ++ text, read_with_feed read text last held whole), λ _. fed) offset
 
 -- without one, too
 pub held_open : (read front line found : List ℕ) (last : LastBytes) → (held : HoldsLast read last) → EndsWithLine read front line → ((xs : List ℕ) → last_held last ≢ xs ++ 10 ∷ []) → (h : IsAfterFeed (last_held last) found)
@@ -150,10 +152,20 @@ held_open read front line found last held ends other h = by ends.split
         (sym (drop-append_seam held.before (last_held last)) ∙ ap (drop (length held.before)) (sym held.split ∙ e) ∙ drop-append-le (length held.before) (front ++ line) (10 ∷ []) (room held.enough e)))
     by (inr (e, some)) = line_in held.before (last_held last) found front line (enough held.enough) h (sym held.split ∙ e) ends.no_lf ends.begins ends.short
 
-pub found_open : (read front line : List ℕ) (last : LastBytes) (found : LineAtEnd) → HoldsLast read last → EndsWithLine read front line → ((xs : List ℕ) → last_held last ≢ xs ++ 10 ∷ []) → IsAfterFeed (last_held last) found.bytes.now
-    → found.offset ≡ bytes_read last - length found.bytes.now - 0 → IsFound read front line found
-found_open read front line last found held ends other h offset =
-    found_is read front line held.before (last_held last) 0 last found held h (held_open read front line found.bytes.now last held ends other h) (omega (arith, ap length held.split)) offset
+pub found_open : (read front line : List ℕ) (last : LastBytes) (found : LineAtEnd) → HoldsLast read last → EndsWithLine read front line → ((xs : List ℕ) → last_held last ≢ xs ++ 10 ∷ []) → found.ended ≡ false
+    → IsAfterFeed (last_held last) found.bytes.now → found.offset ≡ bytes_read last - length found.bytes.now - 0 → IsFound read front line found
+found_open read front line last found held ends other unfed h offset =
+    found_is read front line held.before (last_held last) 0 last found held h (held_open read front line found.bytes.now last held ends other h) (omega (arith, ap length held.split))
+    (λ fed. absurd (false≢true (sym unfed ∙ fed)), λ e. absurd (no_feed e.0 e.1 held.enough)) offset
+  where
+    -- what is held has a byte, and so its last one is that of all that was read
+    no_feed : (xs : List ℕ) → read ≡ xs ++ 10 ∷ [] → (held.before ≡ []) ⊎ (1025 ≤ length (last_held last)) → ⊥
+    no_feed xs e enough = other (drop (length held.before) xs)
+        (sym (drop-append_seam held.before (last_held last)) ∙ ap (drop (length held.before)) (sym held.split ∙ e) ∙ drop-append-le (length held.before) xs (10 ∷ []) (room enough))
+      where
+        room : (held.before ≡ []) ⊎ (1025 ≤ length (last_held last)) → length held.before ≤ length xs
+        room (inl x) = omega (arith, ap length x)
+        room (inr x) = omega (arith, x, ap length held.split, length-append held.before (last_held last), ap length e, length-append xs (10 ∷ []))
 
 -- ---- the line before
 

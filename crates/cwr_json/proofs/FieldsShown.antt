@@ -1,5 +1,5 @@
 -- What is known of the field that a cell is shown under: it is carried, and its name and its cell are short.
-use Rattle.std.proofs.Common.{◌≡◌, ℕ, zero, suc, ◌+◌, ◌≤◌, Bool, true, List, [], ◌∷◌, length, Option, Some, None, refl, sym, ap, ◌∙◌, arith, lit≤}
+use Rattle.std.proofs.Common.{◌≡◌, ℕ, zero, suc, ◌+◌, ◌≤◌, Bool, true, List, [], ◌∷◌, length, Option, Some, None, refl, sym, ap, ◌∙◌, arith}
 use Rattle.std.specs.Prelude.{nat_le, option_map, slice_get}
 use Rattle.std.specs.List.{list_all}
 use Rattle.std.specs.Option.{option_and_then}
@@ -7,7 +7,7 @@ use Rattle.std.proofs.lemmas.Bool.{and_parts}
 use Rattle.std.proofs.lemmas.List.{length-append}
 use Rattle.cwr_fields.specs.Format.Bytes.{trimmed}
 use Rattle.cwr_layouts.specs.declared.kinds.Kind.{Kind}
-use Rattle.cwr_layouts.specs.declared.kinds.Kind.TheVariants.{Hdr, Grh, Grt, Trl, Agr, Ter, Ipa, Nwr, Rev, Spu, Opu, Spt, Swr, Owr, Swt, Pwr, Alt, Ewt, Ver, Per, Rec, Orn, Com, Ack, Msg, Opt, Owt, Npn, Npr, Nwn, Npa, Net, Now, Nct, Nvt, Nat, Ins, Ind, Ari, Xrf}
+use Rattle.cwr_layouts.specs.declared.kinds.Kind.TheVariants.{Hdr}
 use Rattle.cwr_layouts.specs.Format.Layouts.{FieldLayout, layout, field_at, field_with_start}
 use Rattle.cwr_layouts.specs.Format.Records.{RecordValue, IsRecord}
 use Rattle.cwr_layouts.specs.Format.Carried.{carried_at, record_cell}
@@ -26,88 +26,7 @@ is_short f = nat_le (length f.name + f.width) 720
 
 all_short : (kind : Kind) → list_all is_short (layout kind) ≡ true
 all_short Hdr = refl
-all_short Grh = refl
-all_short Grt = refl
-all_short Trl = refl
-all_short Agr = refl
-all_short Ter = refl
-all_short Ipa = refl
-all_short Nwr = refl
-all_short Rev = refl
-all_short Spu = refl
-all_short Opu = refl
-all_short Spt = refl
-all_short Swr = refl
-all_short Owr = refl
-all_short Swt = refl
-all_short Pwr = refl
-all_short Alt = refl
-all_short Ewt = refl
-all_short Ver = refl
-all_short Per = refl
-all_short Rec = refl
-all_short Orn = refl
-all_short Com = refl
-all_short Ack = refl
-all_short Msg = refl
-all_short Opt = refl
-all_short Owt = refl
-all_short Npn = refl
-all_short Npr = refl
-all_short Nwn = refl
-all_short Npa = refl
-all_short Net = refl
-all_short Now = refl
-all_short Nct = refl
-all_short Nvt = refl
-all_short Nat = refl
-all_short Ins = refl
-all_short Ind = refl
-all_short Ari = refl
-all_short Xrf = refl
-
--- no kind has more than 28 fields
-pub few_fields : (kind : Kind) → length (layout kind) ≤ 28
-few_fields Hdr = lit≤ tt
-few_fields Grh = lit≤ tt
-few_fields Grt = lit≤ tt
-few_fields Trl = lit≤ tt
-few_fields Agr = lit≤ tt
-few_fields Ter = lit≤ tt
-few_fields Ipa = lit≤ tt
-few_fields Nwr = lit≤ tt
-few_fields Rev = lit≤ tt
-few_fields Spu = lit≤ tt
-few_fields Opu = lit≤ tt
-few_fields Spt = lit≤ tt
-few_fields Swr = lit≤ tt
-few_fields Owr = lit≤ tt
-few_fields Swt = lit≤ tt
-few_fields Pwr = lit≤ tt
-few_fields Alt = lit≤ tt
-few_fields Ewt = lit≤ tt
-few_fields Ver = lit≤ tt
-few_fields Per = lit≤ tt
-few_fields Rec = lit≤ tt
-few_fields Orn = lit≤ tt
-few_fields Com = lit≤ tt
-few_fields Ack = lit≤ tt
-few_fields Msg = lit≤ tt
-few_fields Opt = lit≤ tt
-few_fields Owt = lit≤ tt
-few_fields Npn = lit≤ tt
-few_fields Npr = lit≤ tt
-few_fields Nwn = lit≤ tt
-few_fields Npa = lit≤ tt
-few_fields Net = lit≤ tt
-few_fields Now = lit≤ tt
-few_fields Nct = lit≤ tt
-few_fields Nvt = lit≤ tt
-few_fields Nat = lit≤ tt
-few_fields Ins = lit≤ tt
-few_fields Ind = lit≤ tt
-few_fields Ari = lit≤ tt
-few_fields Xrf = lit≤ tt
+all_short this_kind = refl
 
 found_passes : (p : FieldLayout → Bool) (fields : List FieldLayout) (i : ℕ) (f : FieldLayout) → list_all p fields ≡ true → slice_get fields i ≡ Some f → p f ≡ true
 found_passes p [] i f h e = absurd (cc e)

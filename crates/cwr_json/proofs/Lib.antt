@@ -1,3 +1,4 @@
+pub mod Encoded
 pub mod FieldsShown
 pub mod GoodKeys
 pub mod LowBytes

@@ -1,9 +1,6 @@
 -- Data is that of one record, and of one item, at most; and what is shown of an item is data of it.
-use Rattle.std.proofs.Common.{◌≡◌, ℕ, ◌+◌, ◌*◌, ◌/◌, ◌%◌, ◌<◌, ◌≤◌, Bool, true, false, cond, List, [], ◌∷◌, ◌++◌, Option, Some, None, refl, sym, ap, ap₂, subst, ◌∙◌, arith}
-use Rattle.std.specs.Prelude.{nat_lt}
+use Rattle.std.proofs.Common.{◌≡◌, ℕ, List, [], ◌∷◌, Option, Some, None, refl, sym, ap, ap₂, subst, ◌∙◌}
 use Rattle.std.specs.List.{AllZip, AllByRecursion}
-use Rattle.std.proofs.Common.{ltb-true}
-use Rattle.std.proofs.lemmas.Bool.{ltb-false}
 use Rattle.json.specs.Json.{Json, null, boolean, number, string, array, object, Items, no_items, item, Members, no_members, member}
 use Rattle.cwr_fields.specs.Format.Bytes.{filled}
 use Rattle.cwr_layouts.specs.declared.kinds.Kind.{Kind}
@@ -15,115 +12,90 @@ use Rattle.cwr_values.specs.declared.items.Item.{Item}
 use Rattle.cwr_values.specs.declared.items.Item.TheVariants.{Opened, GroupOpened, Transaction, GroupClosed, Ended}
 use Rattle.cwr_judge.specs.Format.Items.{item_records}
 use Rattle.cwr_json.specs.declared.notes.Notes.{Notes}
-use Rattle.cwr_json.specs.Format.Forms.{key_of, character, characters, kind_key, records_key, record_members, records_items, with_notes, item_data, told, first_of, IsCellFrom, IsDataOf, IsRecordData, AreRecordsData, AreListData, AreOnlyRecords, IsItemData}
+use Rattle.cwr_json.specs.declared.encodings.Encoding.{Encoding}
+use Rattle.cwr_json.specs.Format.Forms.{key_of, records_key, records_items, with_notes, told, first_of, IsCellFrom, IsDataOf, IsRecordData, AreRecordsData, AreListData, AreOnlyRecords}
 use Rattle.cwr_json.specs.Format.Laws.{OwnData, OneData}
+use Rattle.cwr_json.proofs.Encoded.{one_text}
 use Rattle.cwr_json.proofs.OwnData.{own_data}
-
--- ---- characters
-
-abbrev character_if : Bool → ℕ → List ℕ
-character_if b c = cond b (c ∷ []) ((192 + c / 64) ∷ (128 + c % 64) ∷ [])
-
-one_if : (x y : Bool) (b c : ℕ) (xs ys : List ℕ) → nat_lt b 128 ≡ x → nat_lt c 128 ≡ y → character_if x b ++ xs ≡ character_if y c ++ ys → (b ≡ c) × (xs ≡ ys)
-one_if true true b c xs ys l m e = (cc e, cc e)
-one_if true false b c xs ys l m e = let first : b ≡ 192 + c / 64 = cc e in absurd (omega (arith, ltb-true b 128 l, first))
-one_if false true b c xs ys l m e = let first : 192 + b / 64 ≡ c = cc e in absurd (omega (arith, ltb-true c 128 m, first))
-one_if false false b c xs ys l m e =
-    let first : 192 + b / 64 ≡ 192 + c / 64 = cc e in
-    let second : 128 + b % 64 ≡ 128 + c % 64 = cc e in
-    (omega (arith, first, second), cc e)
-
-none_if : (x : Bool) (c : ℕ) (xs : List ℕ) → [] ≡ character_if x c ++ xs → ⊥
-none_if true c xs e = absurd (cc e)
-none_if false c xs e = absurd (cc e)
-
-one_text : (text other : List ℕ) → characters text ≡ characters other → text ≡ other
-unfolding characters
-one_text [] [] e = refl
-one_text [] (c ∷ other) e = absurd (none_if (nat_lt c 128) c (characters other) e)
-one_text (b ∷ text) [] e = absurd (none_if (nat_lt b 128) b (characters text) (sym e))
-one_text (b ∷ text) (c ∷ other) e =
-    let p = one_if (nat_lt b 128) (nat_lt c 128) b c (characters text) (characters other) refl refl e in
-    ap₂ (λ (x : ℕ) (l : List ℕ). x ∷ l) p.0 (one_text text other p.1)
 
 -- ---- cells
 
-one_cell : (f : FieldLayout) (o : Option Json) (c d : List ℕ) → IsCellFrom f o c → IsCellFrom f o d → c ≡ d
-one_cell f None c d p q = p ∙ sym q
-one_cell f (Some null) c d p q = absurd p
-one_cell f (Some (boolean b)) c d p q = absurd p
-one_cell f (Some (number s)) c d p q = absurd p
-one_cell f (Some (string s)) c d p q = p.3 ∙ ap (filled f.width) (one_text p.0 q.0 (p.1 ∙ sym q.1)) ∙ sym q.3
-one_cell f (Some (array js)) c d p q = absurd p
-one_cell f (Some (object ms)) c d p q = absurd p
+one_cell : (enc : Encoding) (f : FieldLayout) (o : Option Json) (c d : List ℕ) → IsCellFrom enc f o c → IsCellFrom enc f o d → c ≡ d
+one_cell enc f None c d p q = p ∙ sym q
+one_cell enc f (Some null) c d p q = absurd p
+one_cell enc f (Some (boolean b)) c d p q = absurd p
+one_cell enc f (Some (number s)) c d p q = absurd p
+one_cell enc f (Some (string s)) c d p q = p.3 ∙ ap (filled f.width) (one_text enc s p.0 q.0 p.1 q.1) ∙ sym q.3
+one_cell enc f (Some (array js)) c d p q = absurd p
+one_cell enc f (Some (object ms)) c d p q = absurd p
 
-abbrev AreFrom : Members → List FieldLayout → List (List ℕ) → Type 0
-AreFrom ms fields cells = AllZip (λ f cell. IsCellFrom f (first_of (key_of f.name) ms) cell) fields cells
+abbrev AreFrom : Encoding → Members → List FieldLayout → List (List ℕ) → Type 0
+AreFrom enc ms fields cells = AllZip (λ f cell. IsCellFrom enc f (first_of (key_of f.name) ms) cell) fields cells
 
-pub one_cells : (ms : Members) (fields : List FieldLayout) (cs ds : List (List ℕ)) → AreFrom ms fields cs → AreFrom ms fields ds → cs ≡ ds
-one_cells ms [] [] [] p q = refl
-one_cells ms [] [] (d ∷ ds) p q = absurd q
-one_cells ms [] (c ∷ cs) ds p q = absurd p
-one_cells ms (f ∷ fields) [] ds p q = absurd p
-one_cells ms (f ∷ fields) (c ∷ cs) [] p q = absurd q
-one_cells ms (f ∷ fields) (c ∷ cs) (d ∷ ds) p q =
-    ap₂ (λ (x : List ℕ) (l : List (List ℕ)). x ∷ l) (one_cell f (first_of (key_of f.name) ms) c d p.0 q.0) (one_cells ms fields cs ds p.1 q.1)
+pub one_cells : (enc : Encoding) (ms : Members) (fields : List FieldLayout) (cs ds : List (List ℕ)) → AreFrom enc ms fields cs → AreFrom enc ms fields ds → cs ≡ ds
+one_cells enc ms [] [] [] p q = refl
+one_cells enc ms [] [] (d ∷ ds) p q = absurd q
+one_cells enc ms [] (c ∷ cs) ds p q = absurd p
+one_cells enc ms (f ∷ fields) [] ds p q = absurd p
+one_cells enc ms (f ∷ fields) (c ∷ cs) [] p q = absurd q
+one_cells enc ms (f ∷ fields) (c ∷ cs) (d ∷ ds) p q =
+    ap₂ (λ (x : List ℕ) (l : List (List ℕ)). x ∷ l) (one_cell enc f (first_of (key_of f.name) ms) c d p.0 q.0) (one_cells enc ms fields cs ds p.1 q.1)
 
 -- ---- records
 
-pub one_record : (ms : Members) (r s : RecordValue) → IsDataOf ms r → IsDataOf ms s → r ≡ s
-one_record ms r s p q =
+pub one_record : (enc : Encoding) (ms : Members) (r s : RecordValue) → IsDataOf enc ms r → IsDataOf enc ms s → r ≡ s
+one_record enc ms r s p q =
     let named : Some (string (letters r.kind)) ≡ Some (string (letters s.kind)) = sym p.kind ∙ q.kind in
     let same : letters r.kind ≡ letters s.kind = cc named in
     let kinds : r.kind ≡ s.kind = letters-injective r.kind s.kind same in
-    let theirs : AreFrom ms (carried_fields r.kind) s.cells = subst (λ (kind : Kind). AreFrom ms (carried_fields kind) s.cells) (sym kinds) q.cells in
+    let theirs : AreFrom enc ms (carried_fields r.kind) s.cells = subst (λ (kind : Kind). AreFrom enc ms (carried_fields kind) s.cells) (sym kinds) q.cells in
     let whole : Kind → List (List ℕ) → RecordValue = λ kind cells. record { kind = kind; cells = cells } in
-    ap₂ whole kinds (one_cells ms (carried_fields r.kind) r.cells s.cells p.cells theirs)
+    ap₂ whole kinds (one_cells enc ms (carried_fields r.kind) r.cells s.cells p.cells theirs)
 
-one_of : (j : Json) (r s : RecordValue) → IsRecordData j r → IsRecordData j s → r ≡ s
-one_of null r s p q = absurd p
-one_of (boolean b) r s p q = absurd p
-one_of (number n) r s p q = absurd p
-one_of (string t) r s p q = absurd p
-one_of (array js) r s p q = absurd p
-one_of (object ms) r s p q = one_record (told ms) r s p q
+one_of : (enc : Encoding) (j : Json) (r s : RecordValue) → IsRecordData enc j r → IsRecordData enc j s → r ≡ s
+one_of enc null r s p q = absurd p
+one_of enc (boolean b) r s p q = absurd p
+one_of enc (number n) r s p q = absurd p
+one_of enc (string t) r s p q = absurd p
+one_of enc (array js) r s p q = absurd p
+one_of enc (object ms) r s p q = one_record enc (told ms) r s p q
 
-one_list : (js : Items) (rs others : List RecordValue) → AreRecordsData js rs → AreRecordsData js others → rs ≡ others
+one_list : (enc : Encoding) (js : Items) (rs others : List RecordValue) → AreRecordsData enc js rs → AreRecordsData enc js others → rs ≡ others
 unfolding AreRecordsData
-one_list no_items [] [] p q = refl
-one_list no_items [] (s ∷ others) p q = absurd q
-one_list no_items (r ∷ rs) others p q = absurd p
-one_list (item j js) [] others p q = absurd p
-one_list (item j js) (r ∷ rs) [] p q = absurd q
-one_list (item j js) (r ∷ rs) (s ∷ others) p q = ap₂ (λ (x : RecordValue) (l : List RecordValue). x ∷ l) (one_of j r s p.0 q.0) (one_list js rs others p.1 q.1)
+one_list enc no_items [] [] p q = refl
+one_list enc no_items [] (s ∷ others) p q = absurd q
+one_list enc no_items (r ∷ rs) others p q = absurd p
+one_list enc (item j js) [] others p q = absurd p
+one_list enc (item j js) (r ∷ rs) [] p q = absurd q
+one_list enc (item j js) (r ∷ rs) (s ∷ others) p q = ap₂ (λ (x : RecordValue) (l : List RecordValue). x ∷ l) (one_of enc j r s p.0 q.0) (one_list enc js rs others p.1 q.1)
 
-one_in : (j : Json) (rs others : List RecordValue) → AreListData j rs → AreListData j others → rs ≡ others
-one_in null rs others p q = absurd p
-one_in (boolean b) rs others p q = absurd p
-one_in (number n) rs others p q = absurd p
-one_in (string t) rs others p q = absurd p
-one_in (array js) rs others p q = one_list js rs others p q
-one_in (object ms) rs others p q = absurd p
+one_in : (enc : Encoding) (j : Json) (rs others : List RecordValue) → AreListData enc j rs → AreListData enc j others → rs ≡ others
+one_in enc null rs others p q = absurd p
+one_in enc (boolean b) rs others p q = absurd p
+one_in enc (number n) rs others p q = absurd p
+one_in enc (string t) rs others p q = absurd p
+one_in enc (array js) rs others p q = one_list enc js rs others p q
+one_in enc (object ms) rs others p q = absurd p
 
-one_only : (ms : Members) (rs others : List RecordValue) → AreOnlyRecords ms rs → AreOnlyRecords ms others → rs ≡ others
-one_only no_members rs others p q = absurd p
-one_only (member k j no_members) rs others p q = one_in j rs others p.1 q.1
-one_only (member k j (member l i ms)) rs others p q = absurd p
+one_only : (enc : Encoding) (ms : Members) (rs others : List RecordValue) → AreOnlyRecords enc ms rs → AreOnlyRecords enc ms others → rs ≡ others
+one_only enc no_members rs others p q = absurd p
+one_only enc (member k j no_members) rs others p q = one_in enc j rs others p.1 q.1
+one_only enc (member k j (member l i ms)) rs others p q = absurd p
 
 pub one_data : OneData
-one_data null rs others p q = absurd p
-one_data (boolean b) rs others p q = absurd p
-one_data (number n) rs others p q = absurd p
-one_data (string t) rs others p q = absurd p
-one_data (array js) rs others p q = absurd p
-one_data (object ms) rs others p q = one_only (told ms) rs others p q
+one_data enc null rs others p q = absurd p
+one_data enc (boolean b) rs others p q = absurd p
+one_data enc (number n) rs others p q = absurd p
+one_data enc (string t) rs others p q = absurd p
+one_data enc (array js) rs others p q = absurd p
+one_data enc (object ms) rs others p q = one_only enc (told ms) rs others p q
 
 -- ---- what is shown of an item
 
-own_records : (rs : List RecordValue) → AllByRecursion IsRecord rs → AreRecordsData (records_items rs) rs
+own_records : (enc : Encoding) (rs : List RecordValue) → AllByRecursion IsRecord rs → AreRecordsData enc (records_items enc rs) rs
 unfolding AreRecordsData records_items
-own_records [] h = tt
-own_records (r ∷ rs) h = (own_data r h.0, own_records rs h.1)
+own_records enc [] h = tt
+own_records enc (r ∷ rs) h = (own_data enc r h.0, own_records enc rs h.1)
 
 told_notes : (notes : Option Notes) (i : Item) (more : Members) → told (with_notes notes i more) ≡ told more
 unfolding told
@@ -139,6 +111,6 @@ unfolding told
 told_records j = refl
 
 pub own_item : OwnData
-own_item notes i h =
-    let js : Items = records_items (item_records i) in
-    subst (λ (ms : Members). AreOnlyRecords ms (item_records i)) (sym (told_notes notes i (member records_key (array js) no_members) ∙ told_records js)) (refl, own_records (item_records i) h)
+own_item enc notes i h =
+    let js : Items = records_items enc (item_records i) in
+    subst (λ (ms : Members). AreOnlyRecords enc ms (item_records i)) (sym (told_notes notes i (member records_key (array js) no_members) ∙ told_records js)) (refl, own_records enc (item_records i) h)

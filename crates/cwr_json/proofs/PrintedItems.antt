@@ -1,20 +1,21 @@
 -- The text of an item is its data, printed, and reads back as that.
-use Rattle.std.proofs.Common.{◌≡◌, ℕ, suc, ◌+◌, ◌<◌, ◌≤◌, ◌^◌, true, false, List, [], ◌∷◌, ◌++◌, Option, Some, None, refl, sym, ap, ◌∙◌, arith, append_assoc, append-nil}
+use Rattle.std.proofs.Common.{◌≡◌, ℕ, suc, ◌≤◌, true, false, List, [], ◌∷◌, ◌++◌, Option, Some, None, refl, sym, ap, ◌∙◌, arith, append_assoc}
 use Rattle.std.specs.Prelude.{codes, decimal, max, IfSome}
-use Rattle.json.specs.Json.{Json, number, array, object, Members, no_members, member, document}
-use Rattle.json.specs.Tree.{json_tokens, members_tokens, items_tokens, members_depth, items_depth, MembersHaveNumbers}
+use Rattle.json.specs.Json.{number, array, Members, no_members, member}
+use Rattle.json.specs.Tree.{members_tokens, items_tokens, members_depth, items_depth, MembersHaveNumbers}
 use Rattle.json.specs.Token.{Token}
-use Rattle.json.specs.Print.{quoted, escape_byte, print, print_from}
+use Rattle.json.specs.Print.{quoted, escape_byte, print_from}
 use Rattle.json.proofs.Printed.Decimals.{IsNumber-decimal}
 use Rattle.json.proofs.Printed.Trees.{document-print}
 use Rattle.cwr_layouts.specs.Format.Records.{RecordValue}
 use Rattle.cwr_values.specs.declared.items.Item.{Item}
 use Rattle.cwr_values.specs.declared.items.Item.TheVariants.{Opened, GroupOpened, Transaction, GroupClosed, Ended}
 use Rattle.cwr_judge.specs.Format.Items.{item_records}
+use Rattle.cwr_json.specs.declared.encodings.Encoding.{Encoding}
 use Rattle.cwr_json.specs.declared.notes.Notes.{Notes}
 use Rattle.cwr_json.specs.Format.Forms.{records_key, records_items, with_notes, with_group_notes, item_data, item_line}
 use Rattle.cwr_json.specs.Format.Laws.{AreBelow, LinesReadBack}
-use Rattle.cwr_json.specs.Steps.FormTexts.{note_text, group_notes_text, notes_text, opening_text, listed_texts, item_text}
+use Rattle.cwr_json.specs.Steps.FormTexts.{note_text, group_notes_text, notes_text, listed_texts, item_text}
 use Rattle.cwr_json.proofs.PrintedRecords.{items_numbers, items_printed, items_shallow}
 
 -- members have this text, and a comma before it where they come after others
@@ -68,27 +69,27 @@ notes_print (Some n) item more text p =
 
 -- ---- the records, and the whole
 
-abbrev only_records : List RecordValue → Members
-only_records rs = member records_key (array (records_items rs)) no_members
+abbrev only_records : Encoding → List RecordValue → Members
+only_records enc rs = member records_key (array (records_items enc rs)) no_members
 
-records_print : (rs : List RecordValue) → Prints (only_records rs) (codes "\"records\":[" ++ (listed_texts 0 rs ++ codes "]}"))
+records_print : (enc : Encoding) (rs : List RecordValue) → Prints (only_records enc rs) (codes "\"records\":[" ++ (listed_texts enc 0 rs ++ codes "]}"))
 unfolding print_from escape_byte
-records_print rs =
-    let inside : print_from false (items_tokens (records_items rs) ++ Token.end_object ∷ []) ≡ listed_texts 0 rs ++ codes "]}" = items_printed rs (Token.end_object ∷ []) in
+records_print enc rs =
+    let inside : print_from false (items_tokens (records_items enc rs) ++ Token.end_object ∷ []) ≡ listed_texts enc 0 rs ++ codes "]}" = items_printed enc rs (Token.end_object ∷ []) in
     record {
       first = ap (λ (l : List ℕ). codes "\"records\":[" ++ l) inside;
       later = ap (λ (l : List ℕ). codes ",\"records\":[" ++ l) inside;
     }
 
-pub item_printed : (notes : Option Notes) (item : Item) → item_text notes item ≡ item_line notes item
+pub item_printed : (enc : Encoding) (notes : Option Notes) (item : Item) → item_text enc notes item ≡ item_line enc notes item
 unfolding print_from
-item_printed notes item =
+item_printed enc notes item =
     let rs : List RecordValue = item_records item in
     let named : List ℕ = notes_text notes item in
     let key : List ℕ = codes "\"records\":[" in
-    let placed : List ℕ = listed_texts 0 rs in
+    let placed : List ℕ = listed_texts enc 0 rs in
     let ends : List ℕ = codes "]}" in
-    let p = notes_print notes item (only_records rs) (key ++ (placed ++ ends)) (records_print rs) in
+    let p = notes_print notes item (only_records enc rs) (key ++ (placed ++ ends)) (records_print enc rs) in
     let inside : named ++ (key ++ (placed ++ ends)) ≡ ((named ++ key) ++ placed) ++ ends =
     sym (append_assoc named key (placed ++ ends)) ∙ sym (append_assoc (named ++ key) placed ends) in
     sym (ap (λ (l : List ℕ). 123 ∷ (l ++ 10 ∷ [])) (p.first ∙ inside)
@@ -131,9 +132,9 @@ notes_depth (Some n) item more = group_depth n item (member (codes "_line") (num
     below a = omega arith
 
 pub item_reads : LinesReadBack
-item_reads notes item b =
-    document-print (item_data notes item) (notes_numbers notes item (only_records (item_records item)) b (items_numbers (item_records item), tt))
-    (shallow (members_depth (with_notes notes item (only_records (item_records item)))) (items_depth (records_items (item_records item))) (notes_depth notes item (only_records (item_records item))) (items_shallow (item_records item)))
+item_reads enc notes item b =
+    document-print (item_data enc notes item) (notes_numbers notes item (only_records enc (item_records item)) b (items_numbers enc (item_records item), tt))
+    (shallow (members_depth (with_notes notes item (only_records enc (item_records item)))) (items_depth (records_items enc (item_records item))) (notes_depth notes item (only_records enc (item_records item))) (items_shallow enc (item_records item)))
   where
     shallow : (d a : ℕ) → d ≡ max (suc a) 0 → a ≤ 1 → suc d ≤ 128
     shallow d a e h = grind (arith, e, h)

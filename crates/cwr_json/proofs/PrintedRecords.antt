@@ -1,23 +1,23 @@
 -- The text of records is their data, printed.
-use Rattle.std.proofs.Common.{◌≡◌, ℕ, zero, suc, ◌+◌, ◌<◌, ◌≤◌, Bool, true, false, not, cond, List, [], ◌∷◌, ◌++◌, length, map, filter, Some, refl, sym, ap, ap₂, ◌∙◌, arith, lit≤, append_assoc, append-nil}
-use Rattle.std.specs.Prelude.{◌&&◌, ◌==◌, nat_le, nat_eq, codes, flat_map, max, zip, ⊤}
+use Rattle.std.proofs.Common.{◌≡◌, ℕ, zero, suc, ◌+◌, ◌<◌, ◌≤◌, Bool, true, false, not, cond, List, [], ◌∷◌, ◌++◌, filter, refl, sym, ap, ap₂, ◌∙◌, arith, lit≤, append_assoc}
+use Rattle.std.specs.Prelude.{◌&&◌, nat_le, nat_eq, codes, max}
 use Rattle.std.specs.List.{list_all}
 use Rattle.std.proofs.lemmas.Bool.{and_parts, not-true, eqb-false, leb-true}
-use Rattle.std.proofs.lemmas.Grind.{flat_map-append}
 use Rattle.json.specs.Token.{Token}
-use Rattle.json.specs.Json.{Json, string, object, Members, no_members, member, document, max_depth}
+use Rattle.json.specs.Json.{string, object, Members, member}
 use Rattle.json.specs.Tree.{json_tokens, members_tokens, items_tokens, depth, members_depth, items_depth, HasNumbers, MembersHaveNumbers, ItemsHaveNumbers}
-use Rattle.json.specs.Print.{escape, escape_byte, print, print_from}
+use Rattle.json.specs.Print.{escape, escape_byte, print_from}
 use Rattle.json.proofs.Printed.Strings.{escape_byte_plain}
-use Rattle.json.proofs.Printed.Trees.{document-print}
 use Rattle.cwr_fields.specs.Format.Bytes.{is_spaces, trimmed}
 use Rattle.cwr_layouts.specs.declared.kinds.Kind.{Kind}
-use Rattle.cwr_layouts.specs.declared.kinds.Kind.TheVariants.{Hdr, Grh, Grt, Trl, Agr, Ter, Ipa, Nwr, Rev, Spu, Opu, Spt, Swr, Owr, Swt, Pwr, Alt, Ewt, Ver, Per, Rec, Orn, Com, Ack, Msg, Opt, Owt, Npn, Npr, Nwn, Npa, Net, Now, Nct, Nvt, Nat, Ins, Ind, Ari, Xrf}
+use Rattle.cwr_layouts.specs.declared.kinds.Kind.TheVariants.{Hdr}
 use Rattle.cwr_layouts.specs.Format.Kinds.{letters}
 use Rattle.cwr_layouts.specs.Format.Layouts.{FieldLayout, layout}
 use Rattle.cwr_layouts.specs.Format.Records.{RecordValue, carried_fields}
-use Rattle.cwr_json.specs.Format.Forms.{key_of, character, characters, kind_key, with_cell, cell_members, record_members, records_items, item_data, item_line}
-use Rattle.cwr_json.specs.Steps.FormTexts.{spelled, spelled_byte, member_text, members_beside, member_texts, head_text, record_text, listed_text, listed_texts, item_text}
+use Rattle.cwr_json.specs.declared.encodings.Encoding.{Encoding}
+use Rattle.cwr_json.specs.Format.Encodings.{characters}
+use Rattle.cwr_json.specs.Format.Forms.{key_of, cell_members, record_members, records_items}
+use Rattle.cwr_json.specs.Steps.FormTexts.{spelled, members_beside, member_texts, record_text, listed_text, listed_texts}
 
 -- ---- what stands for itself
 
@@ -41,45 +41,7 @@ is_simple_kind kind = list_all is_simple (letters kind) && list_all has_simple_k
 
 simple_kind : (kind : Kind) → is_simple_kind kind ≡ true
 simple_kind Hdr = refl
-simple_kind Grh = refl
-simple_kind Grt = refl
-simple_kind Trl = refl
-simple_kind Agr = refl
-simple_kind Ter = refl
-simple_kind Ipa = refl
-simple_kind Nwr = refl
-simple_kind Rev = refl
-simple_kind Spu = refl
-simple_kind Opu = refl
-simple_kind Spt = refl
-simple_kind Swr = refl
-simple_kind Owr = refl
-simple_kind Swt = refl
-simple_kind Pwr = refl
-simple_kind Alt = refl
-simple_kind Ewt = refl
-simple_kind Ver = refl
-simple_kind Per = refl
-simple_kind Rec = refl
-simple_kind Orn = refl
-simple_kind Com = refl
-simple_kind Ack = refl
-simple_kind Msg = refl
-simple_kind Opt = refl
-simple_kind Owt = refl
-simple_kind Npn = refl
-simple_kind Npr = refl
-simple_kind Nwn = refl
-simple_kind Npa = refl
-simple_kind Net = refl
-simple_kind Now = refl
-simple_kind Nct = refl
-simple_kind Nvt = refl
-simple_kind Nat = refl
-simple_kind Ins = refl
-simple_kind Ind = refl
-simple_kind Ari = refl
-simple_kind Xrf = refl
+simple_kind this_kind = refl
 
 carried_pass : (p : FieldLayout → Bool) (fields : List FieldLayout) → list_all p fields ≡ true → list_all p (filter (λ f. not f.derived) fields) ≡ true
 carried_pass p [] h = refl
@@ -88,13 +50,6 @@ carried_pass p (f ∷ fields) h = let parts = and_parts (p f) (list_all p fields
     kept : (b : Bool) → list_all p (filter (λ g. not g.derived) fields) ≡ true → p f ≡ true → list_all p (cond (not b) (f ∷ filter (λ g. not g.derived) fields) (filter (λ g. not g.derived) fields)) ≡ true
     kept true rest here = rest
     kept false rest here = ap₂ (λ (x y : Bool). x && y) here rest
-
--- ---- the characters of bytes, escaped byte by byte
-
-escape-characters : (text : List ℕ) → escape (characters text) ≡ spelled text
-unfolding characters
-escape-characters [] = refl
-escape-characters (b ∷ text) = flat_map-append escape_byte (character b) (flat_map character text) ∙ ap (λ (l : List ℕ). spelled_byte b ++ l) (escape-characters text)
 
 -- ---- members
 
@@ -116,94 +71,94 @@ member_case false k s key value more rest others after ek es ih =
     ∙ sym (append_assoc ((key ++ marks) ++ value) (34 ∷ []) more_text ∙ append_assoc (key ++ marks) value (34 ∷ more_text) ∙ append_assoc key marks (value ++ 34 ∷ more_text)))
     ∙ sym (append_assoc (44 ∷ 34 ∷ (((key ++ marks) ++ value) ++ 34 ∷ [])) others after)
 
-members_printed : (fields : List FieldLayout) (cells : List (List ℕ)) (rest : List Token) → list_all has_simple_key fields ≡ true
-    → print_from true (members_tokens (cell_members fields cells) ++ rest) ≡ members_beside fields cells ++ (125 ∷ print_from true rest)
+members_printed : (enc : Encoding) (fields : List FieldLayout) (cells : List (List ℕ)) (rest : List Token) → list_all has_simple_key fields ≡ true
+    → print_from true (members_tokens (cell_members enc fields cells) ++ rest) ≡ members_beside enc fields cells ++ (125 ∷ print_from true rest)
 unfolding cell_members print_from
-members_printed [] cells rest h = refl
-members_printed (f ∷ fields) [] rest h = refl
-members_printed (f ∷ fields) (cell ∷ cells) rest h =
+members_printed enc [] cells rest h = refl
+members_printed enc (f ∷ fields) [] rest h = refl
+members_printed enc (f ∷ fields) (cell ∷ cells) rest h =
     let parts = and_parts (has_simple_key f) (list_all has_simple_key fields) h in
-    member_case (is_spaces cell) (key_of f.name) (characters (trimmed cell)) (key_of f.name) (spelled (trimmed cell)) (cell_members fields cells) rest (members_beside fields cells) (125 ∷ print_from true rest)
-    (escape_simple (key_of f.name) parts.0) (escape-characters (trimmed cell)) (members_printed fields cells rest parts.1)
+    member_case (is_spaces cell) (key_of f.name) (characters enc (trimmed cell)) (key_of f.name) (spelled enc (trimmed cell)) (cell_members enc fields cells) rest (members_beside enc fields cells) (125 ∷ print_from true rest)
+    (escape_simple (key_of f.name) parts.0) refl (members_printed enc fields cells rest parts.1)
 
 -- ---- a record, wherever a value may stand
 
-pub record_printed : (r : RecordValue) (rest : List Token) → print_from false (json_tokens (object (record_members r)) ++ rest) ≡ record_text r ++ print_from true rest
+pub record_printed : (enc : Encoding) (r : RecordValue) (rest : List Token) → print_from false (json_tokens (object (record_members enc r)) ++ rest) ≡ record_text enc r ++ print_from true rest
 unfolding member_texts print_from escape_byte
-record_printed r rest =
+record_printed enc r rest =
     let simple = and_parts (list_all is_simple (letters r.kind)) (list_all has_simple_key (layout r.kind)) (simple_kind r.kind) in
     let name : escape (letters r.kind) ≡ letters r.kind = escape_simple (letters r.kind) simple.0 in
-    let others : List ℕ = members_beside (carried_fields r.kind) r.cells in
+    let others : List ℕ = members_beside enc (carried_fields r.kind) r.cells in
     let after : List ℕ = 125 ∷ print_from true rest in
-    let ih = members_printed (carried_fields r.kind) r.cells rest (carried_pass has_simple_key (layout r.kind) simple.1) in
+    let ih = members_printed enc (carried_fields r.kind) r.cells rest (carried_pass has_simple_key (layout r.kind) simple.1) in
     ap₂ (λ (x l : List ℕ). codes "{\"record_type\":\"" ++ ((x ++ 34 ∷ []) ++ l)) name ih
     ∙ sym (append_assoc (codes "{\"record_type\":\"" ++ (letters r.kind ++ 34 ∷ [])) others after)
     ∙ sym (append_assoc ((codes "{\"record_type\":\"" ++ (letters r.kind ++ 34 ∷ [])) ++ others) (125 ∷ []) (print_from true rest))
 
 -- ---- it reads back
 
-cells_numbers : (fields : List FieldLayout) (cells : List (List ℕ)) → MembersHaveNumbers (cell_members fields cells)
+cells_numbers : (enc : Encoding) (fields : List FieldLayout) (cells : List (List ℕ)) → MembersHaveNumbers (cell_members enc fields cells)
 unfolding cell_members
-cells_numbers [] cells = tt
-cells_numbers (f ∷ fields) [] = tt
-cells_numbers (f ∷ fields) (cell ∷ cells) = either (is_spaces cell) (cell_members fields cells) (cells_numbers fields cells)
+cells_numbers enc [] cells = tt
+cells_numbers enc (f ∷ fields) [] = tt
+cells_numbers enc (f ∷ fields) (cell ∷ cells) = either (is_spaces cell) (cell_members enc fields cells) (cells_numbers enc fields cells)
   where
-    either : (b : Bool) (more : Members) → MembersHaveNumbers more → MembersHaveNumbers (cond b more (member (key_of f.name) (string (characters (trimmed cell))) more))
+    either : (b : Bool) (more : Members) → MembersHaveNumbers more → MembersHaveNumbers (cond b more (member (key_of f.name) (string (characters enc (trimmed cell))) more))
     either true more h = h
     either false more h = (tt, h)
 
-cells_flat : (fields : List FieldLayout) (cells : List (List ℕ)) → members_depth (cell_members fields cells) ≡ 0
+cells_flat : (enc : Encoding) (fields : List FieldLayout) (cells : List (List ℕ)) → members_depth (cell_members enc fields cells) ≡ 0
 unfolding cell_members
-cells_flat [] cells = refl
-cells_flat (f ∷ fields) [] = refl
-cells_flat (f ∷ fields) (cell ∷ cells) = either (is_spaces cell) (cell_members fields cells) (cells_flat fields cells)
+cells_flat enc [] cells = refl
+cells_flat enc (f ∷ fields) [] = refl
+cells_flat enc (f ∷ fields) (cell ∷ cells) = either (is_spaces cell) (cell_members enc fields cells) (cells_flat enc fields cells)
   where
-    either : (b : Bool) (more : Members) → members_depth more ≡ 0 → members_depth (cond b more (member (key_of f.name) (string (characters (trimmed cell))) more)) ≡ 0
+    either : (b : Bool) (more : Members) → members_depth more ≡ 0 → members_depth (cond b more (member (key_of f.name) (string (characters enc (trimmed cell))) more)) ≡ 0
     either true more h = h
     either false more h = ap (λ (n : ℕ). max 0 n) h
 
-pub record_flat : (r : RecordValue) → depth (object (record_members r)) ≡ 1
-record_flat r = ap (λ (n : ℕ). suc (max 0 n)) (cells_flat (carried_fields r.kind) r.cells)
+pub record_flat : (enc : Encoding) (r : RecordValue) → depth (object (record_members enc r)) ≡ 1
+record_flat enc r = ap (λ (n : ℕ). suc (max 0 n)) (cells_flat enc (carried_fields r.kind) r.cells)
 
-pub record_numbers : (r : RecordValue) → HasNumbers (object (record_members r))
-record_numbers r = (tt, cells_numbers (carried_fields r.kind) r.cells)
+pub record_numbers : (enc : Encoding) (r : RecordValue) → HasNumbers (object (record_members enc r))
+record_numbers enc r = (tt, cells_numbers enc (carried_fields r.kind) r.cells)
 
 -- ---- an item
 
-pub listed_later : (n : ℕ) (r : RecordValue) → 0 < n → listed_text n r ≡ 44 ∷ record_text r
-listed_later zero r h = absurd (omega arith)
-listed_later (suc n) r h = refl
+pub listed_later : (enc : Encoding) (n : ℕ) (r : RecordValue) → 0 < n → listed_text enc n r ≡ 44 ∷ record_text enc r
+listed_later enc zero r h = absurd (omega arith)
+listed_later enc (suc n) r h = refl
 
-later_printed : (n : ℕ) (rs : List RecordValue) (rest : List Token) → 0 < n → print_from true (items_tokens (records_items rs) ++ rest) ≡ listed_texts n rs ++ (93 ∷ print_from true rest)
+later_printed : (enc : Encoding) (n : ℕ) (rs : List RecordValue) (rest : List Token) → 0 < n → print_from true (items_tokens (records_items enc rs) ++ rest) ≡ listed_texts enc n rs ++ (93 ∷ print_from true rest)
 unfolding records_items print_from
-later_printed n [] rest h = refl
-later_printed n (r ∷ rs) rest h =
-    let later : List Token = items_tokens (records_items rs) ++ rest in
+later_printed enc n [] rest h = refl
+later_printed enc n (r ∷ rs) rest h =
+    let later : List Token = items_tokens (records_items enc rs) ++ rest in
     let after : List ℕ = 93 ∷ print_from true rest in
-    ap (print_from true) (append_assoc (json_tokens (object (record_members r))) (items_tokens (records_items rs)) rest)
-    ∙ ap (λ (l : List ℕ). 44 ∷ l) (record_printed r later ∙ ap (λ (l : List ℕ). record_text r ++ l) (later_printed (n + 1) rs rest (omega arith)))
-    ∙ sym (append_assoc (44 ∷ record_text r) (listed_texts (n + 1) rs) after)
-    ∙ ap (λ (l : List ℕ). (l ++ listed_texts (n + 1) rs) ++ after) (sym (listed_later n r h))
+    ap (print_from true) (append_assoc (json_tokens (object (record_members enc r))) (items_tokens (records_items enc rs)) rest)
+    ∙ ap (λ (l : List ℕ). 44 ∷ l) (record_printed enc r later ∙ ap (λ (l : List ℕ). record_text enc r ++ l) (later_printed enc (n + 1) rs rest (omega arith)))
+    ∙ sym (append_assoc (44 ∷ record_text enc r) (listed_texts enc (n + 1) rs) after)
+    ∙ ap (λ (l : List ℕ). (l ++ listed_texts enc (n + 1) rs) ++ after) (sym (listed_later enc n r h))
 
 -- the records of an item
-pub items_printed : (rs : List RecordValue) (rest : List Token) → print_from false (items_tokens (records_items rs) ++ rest) ≡ listed_texts 0 rs ++ (93 ∷ print_from true rest)
+pub items_printed : (enc : Encoding) (rs : List RecordValue) (rest : List Token) → print_from false (items_tokens (records_items enc rs) ++ rest) ≡ listed_texts enc 0 rs ++ (93 ∷ print_from true rest)
 unfolding records_items print_from
-items_printed [] rest = refl
-items_printed (r ∷ rs) rest =
-    let later : List Token = items_tokens (records_items rs) ++ rest in
-    ap (print_from false) (append_assoc (json_tokens (object (record_members r))) (items_tokens (records_items rs)) rest)
-    ∙ record_printed r later ∙ ap (λ (l : List ℕ). record_text r ++ l) (later_printed 1 rs rest (lit≤ tt))
-    ∙ sym (append_assoc (record_text r) (listed_texts 1 rs) (93 ∷ print_from true rest))
+items_printed enc [] rest = refl
+items_printed enc (r ∷ rs) rest =
+    let later : List Token = items_tokens (records_items enc rs) ++ rest in
+    ap (print_from false) (append_assoc (json_tokens (object (record_members enc r))) (items_tokens (records_items enc rs)) rest)
+    ∙ record_printed enc r later ∙ ap (λ (l : List ℕ). record_text enc r ++ l) (later_printed enc 1 rs rest (lit≤ tt))
+    ∙ sym (append_assoc (record_text enc r) (listed_texts enc 1 rs) (93 ∷ print_from true rest))
 
-pub items_numbers : (rs : List RecordValue) → ItemsHaveNumbers (records_items rs)
+pub items_numbers : (enc : Encoding) (rs : List RecordValue) → ItemsHaveNumbers (records_items enc rs)
 unfolding records_items
-items_numbers [] = tt
-items_numbers (r ∷ rs) = (record_numbers r, items_numbers rs)
+items_numbers enc [] = tt
+items_numbers enc (r ∷ rs) = (record_numbers enc r, items_numbers enc rs)
 
-pub items_shallow : (rs : List RecordValue) → items_depth (records_items rs) ≤ 1
+pub items_shallow : (enc : Encoding) (rs : List RecordValue) → items_depth (records_items enc rs) ≤ 1
 unfolding records_items
-items_shallow [] = lit≤ tt
-items_shallow (r ∷ rs) = most (depth (object (record_members r))) (items_depth (records_items rs)) (record_flat r) (items_shallow rs)
+items_shallow enc [] = lit≤ tt
+items_shallow enc (r ∷ rs) = most (depth (object (record_members enc r))) (items_depth (records_items enc rs)) (record_flat enc r) (items_shallow enc rs)
   where
     most : (a b : ℕ) → a ≡ 1 → b ≤ 1 → max a b ≤ 1
     most a b e h = grind (arith, e, h)

@@ -7,6 +7,7 @@ ghost use Rattle.cwr_values.specs.Format.Rows.{trailer};
 ghost use Rattle.cwr_json.specs.Format.Forms.{item_line};
 ghost use Rattle.cwr_json.specs.Steps.FormTexts.{opening_text, listed_text, listed_texts};
 
+use crate::encodings::Encoding;
 use crate::notes::Notes;
 use crate::records::RecordText;
 use cwr_encode::{Sink, SinkFault};
@@ -24,9 +25,13 @@ fn put_text<W: Target>(text: &RecordText, sink: &mut Sink<W>) -> Result<(), Sink
 }
 
 /// Puts TRL, which carries nothing.
-fn put_trailer<W: Target>(text: &mut RecordText, sink: &mut Sink<W>) -> Result<(), SinkFault>
+fn put_trailer<W: Target>(
+    encoding: Encoding,
+    text: &mut RecordText,
+    sink: &mut Sink<W>,
+) -> Result<(), SinkFault>
     requires { has_failed sink.old ≡ false }
-    ensures puts { Puts W.contents W.failures (listed_texts 0 (trailer ∷ [])) result sink.old sink.new }
+    ensures puts { Puts W.contents W.failures (listed_texts encoding 0 (trailer ∷ [])) result sink.old sink.new }
     ensures fault { IfErr result (λ f. f.written ≡ written_of sink.new) }
 {
     text.set_trailer();
@@ -35,33 +40,35 @@ fn put_trailer<W: Target>(text: &mut RecordText, sink: &mut Sink<W>) -> Result<(
 
 /// Puts a record that has so many before it in its item.
 fn put_listed<W: Target>(
+    encoding: Encoding,
     before: u64,
     shown: &RecordRef<'_>,
     text: &mut RecordText,
     sink: &mut Sink<W>,
 ) -> Result<(), SinkFault>
     requires { has_failed sink.old ≡ false }
-    ensures puts { Puts W.contents W.failures (listed_text before shown.now) result sink.old sink.new }
+    ensures puts { Puts W.contents W.failures (listed_text encoding before shown.now) result sink.old sink.new }
     ensures fault { IfErr result (λ f. f.written ≡ written_of sink.new) }
 {
-    text.set_listed(before, shown);
+    text.set_listed(encoding, before, shown);
     put_text(text, sink)
 }
 
 /// Puts the records of a transaction.
 fn put_records<W: Target>(
+    encoding: Encoding,
     transaction: &Transaction,
     text: &mut RecordText,
     sink: &mut Sink<W>,
 ) -> Result<(), SinkFault>
     requires unfailed { has_failed sink.old ≡ false }
-    ensures puts { Puts W.contents W.failures (listed_texts 0 transaction.now) result sink.old sink.new }
+    ensures puts { Puts W.contents W.failures (listed_texts encoding 0 transaction.now) result sink.old sink.new }
     ensures fault { IfErr result (λ f. f.written ≡ written_of sink.new) }
 {
     let count = transaction.len();
     let mut i: usize = 0;
     while let Some(shown) = transaction.record(i) {
-        put_listed(i as u64, &shown, text, sink)?;
+        put_listed(encoding, i as u64, &shown, text, sink)?;
         prove!(i < count);
         i += 1;
     }
@@ -70,34 +77,36 @@ fn put_records<W: Target>(
 
 /// Puts the record of an item that is one record.
 fn put_alone<W: Target>(
+    encoding: Encoding,
     shown: &RecordRef<'_>,
     text: &mut RecordText,
     sink: &mut Sink<W>,
 ) -> Result<(), SinkFault>
     requires { has_failed sink.old ≡ false }
-    ensures puts { Puts W.contents W.failures (listed_texts 0 (shown.now ∷ [])) result sink.old sink.new }
+    ensures puts { Puts W.contents W.failures (listed_texts encoding 0 (shown.now ∷ [])) result sink.old sink.new }
     ensures fault { IfErr result (λ f. f.written ≡ written_of sink.new) }
 {
-    text.set_listed(0, shown);
+    text.set_listed(encoding, 0, shown);
     put_text(text, sink)
 }
 
 /// Puts the records of an item.
 fn put_all<W: Target>(
+    encoding: Encoding,
     item: &Item,
     text: &mut RecordText,
     sink: &mut Sink<W>,
 ) -> Result<(), SinkFault>
     requires unfailed { has_failed sink.old ≡ false }
-    ensures puts { Puts W.contents W.failures (listed_texts 0 (item_records item.now)) result sink.old sink.new }
+    ensures puts { Puts W.contents W.failures (listed_texts encoding 0 (item_records item.now)) result sink.old sink.new }
     ensures fault { IfErr result (λ f. f.written ≡ written_of sink.new) }
 {
     match item {
-        Item::Opened(record) => put_alone(&record.view(), text, sink),
-        Item::GroupOpened(record) => put_alone(&record.view(), text, sink),
-        Item::GroupClosed(record) => put_alone(&record.view(), text, sink),
-        Item::Transaction(transaction) => put_records(transaction, text, sink),
-        Item::Ended => put_trailer(text, sink),
+        Item::Opened(record) => put_alone(encoding, &record.view(), text, sink),
+        Item::GroupOpened(record) => put_alone(encoding, &record.view(), text, sink),
+        Item::GroupClosed(record) => put_alone(encoding, &record.view(), text, sink),
+        Item::Transaction(transaction) => put_records(encoding, transaction, text, sink),
+        Item::Ended => put_trailer(encoding, text, sink),
     }
 }
 
@@ -118,17 +127,18 @@ fn put_opening<W: Target>(
 
 /// Puts what stands before the end of an item's line.
 fn put_begun<W: Target>(
+    encoding: Encoding,
     notes: Option<Notes>,
     item: &Item,
     text: &mut RecordText,
     sink: &mut Sink<W>,
 ) -> Result<(), SinkFault>
     requires unfailed { has_failed sink.old ≡ false }
-    ensures puts { Puts W.contents W.failures (opening_text notes item.now ++ listed_texts 0 (item_records item.now)) result sink.old sink.new }
+    ensures puts { Puts W.contents W.failures (opening_text notes item.now ++ listed_texts encoding 0 (item_records item.now)) result sink.old sink.new }
     ensures fault { IfErr result (λ f. f.written ≡ written_of sink.new) }
 {
     put_opening(notes, item, text, sink)?;
-    put_all(item, text, sink)
+    put_all(encoding, item, text, sink)
 }
 
 /// Puts the end of an item's line.
@@ -140,17 +150,19 @@ fn put_end<W: Target>(sink: &mut Sink<W>) -> Result<(), SinkFault>
     sink.put(b"]}\n")
 }
 
-/// Puts the data of an item as one line, with its notes if there are any. Texts are made in the buffer.
+/// Puts the data of an item as one line, with its notes if there are any, its cells shown by the encoding. Texts are made in the
+/// buffer.
 pub fn put_data<W: Target>(
+    encoding: Encoding,
     notes: Option<Notes>,
     item: &Item,
     text: &mut RecordText,
     sink: &mut Sink<W>,
 ) -> Result<(), SinkFault>
     requires unfailed { has_failed sink.old ≡ false }
-    ensures puts { Puts W.contents W.failures (item_line notes item.now) result sink.old sink.new }
+    ensures puts { Puts W.contents W.failures (item_line encoding notes item.now) result sink.old sink.new }
     ensures fault { IfErr result (λ f. f.written ≡ written_of sink.new) }
 {
-    put_begun(notes, item, text, sink)?;
+    put_begun(encoding, notes, item, text, sink)?;
     put_end(sink)
 }

@@ -1,12 +1,15 @@
 //! The JSON form of CWR 2.1 transmissions: a line for each item.
 #![tactic(auto)]
 
+mod encodings;
 mod items;
 pub mod laws;
 mod notes;
 mod records;
 mod spelling;
 
+pub use encodings::Encoding;
 pub use items::put_data;
 pub use notes::Notes;
 pub use records::RecordText;
+pub use spelling::has_escape;

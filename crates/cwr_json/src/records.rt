@@ -4,7 +4,9 @@ ghost use Rattle.std.specs.Prelude.{◌≡◌, ◌+◌, ◌*◌, ◌≤◌, [], 
 ghost use Rattle.cwr_layouts.specs.Steps.Views.{field_view};
 ghost use Rattle.cwr_json.specs.Steps.FormTexts.{NoLow, field_member, head_text, member_text, member_texts, group_notes_text, note_text, notes_text, opening_text, listed_text, listed_texts};
 ghost use Rattle.cwr_values.specs.Format.Rows.{trailer};
+ghost use Rattle.cwr_json.specs.declared.encodings.Encoding.{Encoding};
 
+use crate::encodings::Encoding;
 use crate::notes::Notes;
 use crate::spelling::{LONGEST, LONGEST_HEAD, LONGEST_MEMBER, Text, push, push_key, push_spelled};
 use arrayvec::ArrayVec;
@@ -16,11 +18,11 @@ use std::marker::Model;
 
 /// Appends a cell as a member after others, unless it is blank.
 #[inline(always)]
-fn push_member(text: &mut Text, place: &Field, cell: &[u8])
-    requires room { length text.old.items + 2 * (length place.now.name.now + length cell.now) + 6 ≤ LONGEST }
+fn push_member(text: &mut Text, encoding: Encoding, place: &Field, cell: &[u8])
+    requires room { length text.old.items + 3 * (length place.now.name.now + length cell.now) + 6 ≤ LONGEST }
     requires high { NoLow cell.now }
-    ensures value { text.new.items ≡ text.old.items ++ member_text (field_view place.now).1 cell.now }
-    ensures len { length text.new.items ≤ length text.old.items + 2 * (length place.now.name.now + length cell.now) + 6 }
+    ensures value { text.new.items ≡ text.old.items ++ member_text encoding (field_view place.now).1 cell.now }
+    ensures len { length text.new.items ≤ length text.old.items + 3 * (length place.now.name.now + length cell.now) + 6 }
 {
     if is_spaces(cell) {
         return;
@@ -28,15 +30,15 @@ fn push_member(text: &mut Text, place: &Field, cell: &[u8])
     push(text, b",\"");
     push_key(text, place.name.as_bytes());
     push(text, b"\":\"");
-    push_spelled(text, trimmed(cell));
+    push_spelled(text, encoding, trimmed(cell));
     push(text, b"\"");
 }
 
 /// Appends the member of field `j`, if the record carries that.
 #[inline(always)]
-fn push_field(text: &mut Text, shown: &RecordRef<'_>, j: u8)
+fn push_field(text: &mut Text, encoding: Encoding, shown: &RecordRef<'_>, j: u8)
     requires { length text.old.items + LONGEST_MEMBER ≤ LONGEST }
-    ensures value { text.new.items ≡ text.old.items ++ field_member shown.now j }
+    ensures value { text.new.items ≡ text.old.items ++ field_member encoding shown.now j }
     ensures len { length text.new.items ≤ length text.old.items + LONGEST_MEMBER }
 {
     let Some(cell) = shown.cell(j) else {
@@ -45,18 +47,18 @@ fn push_field(text: &mut Text, shown: &RecordRef<'_>, j: u8)
     let Some(place) = field(shown.kind(), j) else {
         return;
     };
-    push_member(text, &place, cell);
+    push_member(text, encoding, &place, cell);
 }
 
 /// Appends the members of the cells that the record carries.
 #[inline(always)]
-fn push_cells(text: &mut Text, shown: &RecordRef<'_>)
+fn push_cells(text: &mut Text, encoding: Encoding, shown: &RecordRef<'_>)
     requires { length text.old.items ≤ LONGEST_HEAD }
-    ensures value { text.new.items ≡ text.old.items ++ member_texts shown.now }
+    ensures value { text.new.items ≡ text.old.items ++ member_texts encoding shown.now }
     ensures len { length text.new.items + 5 ≤ LONGEST }
 {
     for before in 0..fields(shown.kind()) {
-        push_field(text, shown, before + 1);
+        push_field(text, encoding, shown, before + 1);
     }
 }
 
@@ -166,22 +168,22 @@ impl RecordText {
 
     /// Sets the text of TRL, which carries nothing.
     pub(crate) fn set_trailer(&mut self)
-        ensures { self.new ≡ listed_texts 0 (trailer ∷ []) }
+        ensures { (encoding : Encoding) → self.new ≡ listed_texts encoding 0 (trailer ∷ []) }
     {
         self.text.clear();
         push(&mut self.text, b"{\"record_type\":\"TRL\"}");
     }
 
     /// Sets the text of a record that has so many before it in its item.
-    pub(crate) fn set_listed(&mut self, before: u64, shown: &RecordRef<'_>)
-        ensures { self.new ≡ listed_text before shown.now }
+    pub(crate) fn set_listed(&mut self, encoding: Encoding, before: u64, shown: &RecordRef<'_>)
+        ensures { self.new ≡ listed_text encoding before shown.now }
     {
         self.text.clear();
         if before > 0 {
             push(&mut self.text, b",");
         }
         push_head(&mut self.text, shown.kind());
-        push_cells(&mut self.text, shown);
+        push_cells(&mut self.text, encoding, shown);
         push(&mut self.text, b"}");
     }
 }

@@ -29,3 +29,4 @@ pub mod NamelessCells
 pub mod FirstReasonOfKind
 pub mod FirstReasonOfCell
 pub mod FirstReasons
+pub mod EachEnd

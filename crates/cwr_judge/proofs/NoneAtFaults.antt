@@ -53,45 +53,7 @@ number_field f = not f.derived || (is_number f.ty && ltb 0 f.width)
 
 each_number : (kind : Kind) → list_all number_field (fields_after_type kind) ≡ true
 each_number kinds.Hdr = refl
-each_number kinds.Grh = refl
-each_number kinds.Grt = refl
-each_number kinds.Trl = refl
-each_number kinds.Agr = refl
-each_number kinds.Ter = refl
-each_number kinds.Ipa = refl
-each_number kinds.Nwr = refl
-each_number kinds.Rev = refl
-each_number kinds.Spu = refl
-each_number kinds.Opu = refl
-each_number kinds.Spt = refl
-each_number kinds.Swr = refl
-each_number kinds.Owr = refl
-each_number kinds.Swt = refl
-each_number kinds.Pwr = refl
-each_number kinds.Alt = refl
-each_number kinds.Ewt = refl
-each_number kinds.Ver = refl
-each_number kinds.Per = refl
-each_number kinds.Rec = refl
-each_number kinds.Orn = refl
-each_number kinds.Com = refl
-each_number kinds.Ack = refl
-each_number kinds.Msg = refl
-each_number kinds.Opt = refl
-each_number kinds.Owt = refl
-each_number kinds.Npn = refl
-each_number kinds.Npr = refl
-each_number kinds.Nwn = refl
-each_number kinds.Npa = refl
-each_number kinds.Net = refl
-each_number kinds.Now = refl
-each_number kinds.Nct = refl
-each_number kinds.Nvt = refl
-each_number kinds.Nat = refl
-each_number kinds.Ins = refl
-each_number kinds.Ind = refl
-each_number kinds.Ari = refl
-each_number kinds.Xrf = refl
+each_number this_kind = refl
 
 passes_at : (p : FieldLayout → Bool) (fields : List FieldLayout) (k : ℕ) (f : FieldLayout) → list_all p fields ≡ true → slice_get fields k ≡ Some f → p f ≡ true
 passes_at p [] k f h e = absurd (cc e)

@@ -9,7 +9,7 @@ use Rattle.std.proofs.lemmas.List.Sums.{sum_by-cons}
 use Rattle.cwr_fields.specs.Format.Bytes.{digits}
 use Rattle.cwr_fields.proofs.Digits.{length-digits}
 use Rattle.cwr_layouts.specs.declared.kinds.Kind.{Kind}
-use Rattle.cwr_layouts.specs.declared.kinds.Kind.TheVariants.{Hdr, Grh, Grt, Trl, Agr, Ter, Ipa, Nwr, Rev, Spu, Opu, Spt, Swr, Owr, Swt, Pwr, Alt, Ewt, Ver, Per, Rec, Orn, Com, Ack, Msg, Opt, Owt, Npn, Npr, Nwn, Npa, Net, Now, Nct, Nvt, Nat, Ins, Ind, Ari, Xrf}
+use Rattle.cwr_layouts.specs.declared.kinds.Kind.TheVariants.{Hdr, Grh, Grt, Trl}
 use Rattle.cwr_layouts.specs.Format.Kinds.{letters}
 use Rattle.cwr_layouts.specs.Format.Layouts.{FieldLayout, fields_after_type, in_transaction, number, total_width, line_width}
 use Rattle.cwr_layouts.specs.Format.Lines.{pieces}
@@ -103,42 +103,7 @@ numbered_filled Hdr ns line h = sym (plain_filled (fields_after_type Hdr) ns (dr
 numbered_filled Grh ns line h = sym (group_filled ns line h)
 numbered_filled Grt ns line h = sym (ends_filled (drop 3 (fields_after_type Grt)) ns line refl h)
 numbered_filled Trl ns line h = sym (ends_filled [] ns line refl h)
-numbered_filled Agr ns line h = sym (inside_filled (drop 2 (fields_after_type Agr)) ns line refl h)
-numbered_filled Ter ns line h = sym (inside_filled (drop 2 (fields_after_type Ter)) ns line refl h)
-numbered_filled Ipa ns line h = sym (inside_filled (drop 2 (fields_after_type Ipa)) ns line refl h)
-numbered_filled Nwr ns line h = sym (inside_filled (drop 2 (fields_after_type Nwr)) ns line refl h)
-numbered_filled Rev ns line h = sym (inside_filled (drop 2 (fields_after_type Rev)) ns line refl h)
-numbered_filled Spu ns line h = sym (inside_filled (drop 2 (fields_after_type Spu)) ns line refl h)
-numbered_filled Opu ns line h = sym (inside_filled (drop 2 (fields_after_type Opu)) ns line refl h)
-numbered_filled Spt ns line h = sym (inside_filled (drop 2 (fields_after_type Spt)) ns line refl h)
-numbered_filled Swr ns line h = sym (inside_filled (drop 2 (fields_after_type Swr)) ns line refl h)
-numbered_filled Owr ns line h = sym (inside_filled (drop 2 (fields_after_type Owr)) ns line refl h)
-numbered_filled Swt ns line h = sym (inside_filled (drop 2 (fields_after_type Swt)) ns line refl h)
-numbered_filled Pwr ns line h = sym (inside_filled (drop 2 (fields_after_type Pwr)) ns line refl h)
-numbered_filled Alt ns line h = sym (inside_filled (drop 2 (fields_after_type Alt)) ns line refl h)
-numbered_filled Ewt ns line h = sym (inside_filled (drop 2 (fields_after_type Ewt)) ns line refl h)
-numbered_filled Ver ns line h = sym (inside_filled (drop 2 (fields_after_type Ver)) ns line refl h)
-numbered_filled Per ns line h = sym (inside_filled (drop 2 (fields_after_type Per)) ns line refl h)
-numbered_filled Rec ns line h = sym (inside_filled (drop 2 (fields_after_type Rec)) ns line refl h)
-numbered_filled Orn ns line h = sym (inside_filled (drop 2 (fields_after_type Orn)) ns line refl h)
-numbered_filled Com ns line h = sym (inside_filled (drop 2 (fields_after_type Com)) ns line refl h)
-numbered_filled Ack ns line h = sym (inside_filled (drop 2 (fields_after_type Ack)) ns line refl h)
-numbered_filled Msg ns line h = sym (inside_filled (drop 2 (fields_after_type Msg)) ns line refl h)
-numbered_filled Opt ns line h = sym (inside_filled (drop 2 (fields_after_type Opt)) ns line refl h)
-numbered_filled Owt ns line h = sym (inside_filled (drop 2 (fields_after_type Owt)) ns line refl h)
-numbered_filled Npn ns line h = sym (inside_filled (drop 2 (fields_after_type Npn)) ns line refl h)
-numbered_filled Npr ns line h = sym (inside_filled (drop 2 (fields_after_type Npr)) ns line refl h)
-numbered_filled Nwn ns line h = sym (inside_filled (drop 2 (fields_after_type Nwn)) ns line refl h)
-numbered_filled Npa ns line h = sym (inside_filled (drop 2 (fields_after_type Npa)) ns line refl h)
-numbered_filled Net ns line h = sym (inside_filled (drop 2 (fields_after_type Net)) ns line refl h)
-numbered_filled Now ns line h = sym (inside_filled (drop 2 (fields_after_type Now)) ns line refl h)
-numbered_filled Nct ns line h = sym (inside_filled (drop 2 (fields_after_type Nct)) ns line refl h)
-numbered_filled Nvt ns line h = sym (inside_filled (drop 2 (fields_after_type Nvt)) ns line refl h)
-numbered_filled Nat ns line h = sym (inside_filled (drop 2 (fields_after_type Nat)) ns line refl h)
-numbered_filled Ins ns line h = sym (inside_filled (drop 2 (fields_after_type Ins)) ns line refl h)
-numbered_filled Ind ns line h = sym (inside_filled (drop 2 (fields_after_type Ind)) ns line refl h)
-numbered_filled Ari ns line h = sym (inside_filled (drop 2 (fields_after_type Ari)) ns line refl h)
-numbered_filled Xrf ns line h = sym (inside_filled (drop 2 (fields_after_type Xrf)) ns line refl h)
+numbered_filled this_kind ns line h = sym (inside_filled (drop 2 (fields_after_type this_kind)) ns line refl h)
 
 -- the line that a record is kept in, with numbers put in, is the full line of its row
 pub full_line-numbered : (kind : Kind) (ns line : List ℕ) → length line ≡ line_width kind → full_line (row_of ns (record_in kind line)) ≡ letters kind ++ numbered_part kind ns line

@@ -5,7 +5,7 @@ use Rattle.std.specs.List.{list_all}
 use Rattle.std.proofs.lemmas.Bool.{and_parts, eqb-true}
 use Rattle.cwr_fields.specs.Format.Cells.{type_width}
 use Rattle.cwr_layouts.specs.declared.kinds.Kind.{Kind}
-use Rattle.cwr_layouts.specs.declared.kinds.Kind.TheVariants.{Hdr, Grh, Grt, Trl, Agr, Ter, Ipa, Nwr, Rev, Spu, Opu, Spt, Swr, Owr, Swt, Pwr, Alt, Ewt, Ver, Per, Rec, Orn, Com, Ack, Msg, Opt, Owt, Npn, Npr, Nwn, Npa, Net, Now, Nct, Nvt, Nat, Ins, Ind, Ari, Xrf}
+use Rattle.cwr_layouts.specs.declared.kinds.Kind.TheVariants.{Hdr}
 use Rattle.cwr_layouts.specs.Format.Layouts.{FieldLayout, layout, field_at}
 
 -- the field has the width of its type
@@ -14,45 +14,7 @@ is_wide f = unwrap_or (option_map (λ w. w == f.width) (type_width f.ty)) true
 
 pub all_wide : (kind : Kind) → list_all is_wide (layout kind) ≡ true
 all_wide Hdr = refl
-all_wide Grh = refl
-all_wide Grt = refl
-all_wide Trl = refl
-all_wide Agr = refl
-all_wide Ter = refl
-all_wide Ipa = refl
-all_wide Nwr = refl
-all_wide Rev = refl
-all_wide Spu = refl
-all_wide Opu = refl
-all_wide Spt = refl
-all_wide Swr = refl
-all_wide Owr = refl
-all_wide Swt = refl
-all_wide Pwr = refl
-all_wide Alt = refl
-all_wide Ewt = refl
-all_wide Ver = refl
-all_wide Per = refl
-all_wide Rec = refl
-all_wide Orn = refl
-all_wide Com = refl
-all_wide Ack = refl
-all_wide Msg = refl
-all_wide Opt = refl
-all_wide Owt = refl
-all_wide Npn = refl
-all_wide Npr = refl
-all_wide Nwn = refl
-all_wide Npa = refl
-all_wide Net = refl
-all_wide Now = refl
-all_wide Nct = refl
-all_wide Nvt = refl
-all_wide Nat = refl
-all_wide Ins = refl
-all_wide Ind = refl
-all_wide Ari = refl
-all_wide Xrf = refl
+all_wide this_kind = refl
 
 pub wide_one : (fields : List FieldLayout) (i : ℕ) (f : FieldLayout) → list_all is_wide fields ≡ true → slice_get fields i ≡ Some f → is_wide f ≡ true
 wide_one [] i f h e = absurd (cc e)

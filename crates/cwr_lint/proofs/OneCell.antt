@@ -37,7 +37,7 @@ use Rattle.cwr_values.proofs.OneSpelling.{outline_whole, symbols-outline}
 use Rattle.cwr_judge.proofs.Accepted.{one_place}
 use Rattle.cwr_judge.proofs.LineRecords.{as_many}
 use Rattle.cwr_judge.proofs.RecordsBefore.{one_list}
-use Rattle.cwr_lint_lines.proofs.JudgedLines.{few_fields}
+use Rattle.cwr_layouts.proofs.AllKinds.{few_fields}
 use Rattle.cwr_decode.proofs.ClosedTexts.{closed_more}
 use Rattle.cwr_decode.proofs.RawLines.{raw_begins}
 use Rattle.cwr_decode.specs.Steps.Represents.{text_of}

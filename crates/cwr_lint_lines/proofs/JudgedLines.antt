@@ -1,11 +1,11 @@
 -- What is told of a line that was judged.
-use Rattle.std.proofs.Common.{◌≡◌, ◌≢◌, ℕ, zero, suc, ◌+◌, ◌-◌, ◌<◌, ◌≤◌, min, Bool, true, false, List, length, Option, Some, None, refl, sym, ap, subst, ◌∙◌, arith, inl, inr, slice_get, lit≤}
+use Rattle.std.proofs.Common.{◌≡◌, ◌≢◌, ℕ, zero, suc, ◌+◌, ◌-◌, ◌<◌, ◌≤◌, min, Bool, true, false, List, length, Option, Some, None, refl, sym, ap, subst, ◌∙◌, arith, inl, inr, slice_get}
 use Rattle.std.specs.Prelude.{◌^◌, not, ◌||◌}
 use Rattle.std.proofs.lemmas.Option.{slice_get_past}
 use Rattle.cwr_layouts.specs.declared.kinds.Kind.{Kind}
-use Rattle.cwr_layouts.specs.declared.kinds.Kind.TheVariants as kinds
 use Rattle.cwr_layouts.specs.Format.Layouts.{FieldLayout, field_at, layout}
 use Rattle.cwr_layouts.specs.Steps.Held.{HeldLine, held_cell, held_cells, held_excess, held_kind}
+use Rattle.cwr_layouts.proofs.AllKinds.{few_fields}
 use Rattle.cwr_layouts.proofs.HeldLaws.{held_cell-at}
 use Rattle.cwr_shape.specs.declared.tallies.Scope.{Scope}
 use Rattle.cwr_shape.specs.declared.reasons.Reason.{Reason}
@@ -76,9 +76,5 @@ told_cell n scope h known j found is other within reason = record {
       held_cell-at h kind i k ∙ ap (slice_get (held_cells h)) before ∙ there
 
 -- how many fields there are
-pub few_fields : (kind : Kind) → length (layout kind) ≤ 28
-few_fields kinds.Hdr = lit≤ tt
-few_fields kind = lit≤ tt
-
 pub end_known : (h : HeldLine) (known : Known) (count end : ℕ) → IsKnown h known → count ≡ length (layout known.kind) → end ≡ min (count + 2) (2 ^ 8 - 1) → end ≡ fields_end (held_kind h)
 end_known h known count end is e f = omega (arith, e, f, few_fields known.kind) ∙ ap fields_end (sym is.kind)

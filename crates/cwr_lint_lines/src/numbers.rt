@@ -322,7 +322,12 @@ impl WrongNumbers {
     }
 
     /// Of a line of the kind, taken so, that isn't misplaced.
-    pub(crate) fn of(state: &LintState, taken: Taking, kind: Kind, line: &CutLine<'_>) -> WrongNumbers
+    pub(crate) fn of(
+        state: &LintState,
+        taken: Taking,
+        kind: Kind,
+        line: &CutLine<'_>,
+    ) -> WrongNumbers
         ensures { result ≡ wrong_numbers state.now taken kind (held_cut line.now) }
     {
         match taken {

@@ -17,7 +17,7 @@ use Rattle.cwr_tools.specs.declared.verdicts.Verdict.TheVariants as verdicts
 use Rattle.cwr_tools.specs.declared.verdicts.ToolFault.{ToolFault}
 use Rattle.cwr_tools.specs.declared.verdicts.ToolFault.TheVariants as tool_faults
 use Rattle.cwr_tools.specs.declared.watch.Watch.{Watch}
-use Rattle.cwr_tools.specs.Format.Reports.{ItemLines, JudgesAccepted}
+use Rattle.cwr_tools.specs.Format.Reports.{CountsWriterFault, ItemLines, JudgesAccepted}
 use Rattle.cwr_tools.specs.Format.Verdicts.{IsVerdictOn, JudgesText}
 use Rattle.cwr_tools.specs.Format.Watching.{SeesAccepted, any_from, item_has_from, watched}
 use Rattle.cwr_explain.specs.declared.trailing.Trailing.{Trailing}
@@ -32,6 +32,7 @@ use Rattle.cwr_program.specs.declared.faults.Fault.TheVariants as faults
 use Rattle.cwr_program.specs.declared.reports.Judgement.{Judgement}
 use Rattle.cwr_program.specs.Format.Endings.{EndsOnInput, FallsShort, IsStatusOn, Meets}
 use Rattle.cwr_program.specs.Format.Inputs.{are_standard, is_standard}
+use Rattle.cwr_program.specs.Steps.Tellings.{CountsLook, CountsWriting}
 use Rattle.cwr_program.specs.Steps.Looks.{IsLook, JudgesOn, LooksAfter, LooksOnce, follows, good_status, judged_with, judgement_in, look_of, status_after, status_in}
 
 -- ---- what stands after a transmission
@@ -172,6 +173,45 @@ judges_on limits wanted before (Err (tool_faults.Refused refusal)) look old new 
 judges_on limits wanted before (Err (tool_faults.Truncated records)) look old new fresh judged seen looked = absurd judged
 judges_on limits wanted before (Err (tool_faults.Limit limit)) look old new fresh judged seen looked = absurd judged
 judges_on limits wanted before (Err tool_faults.Output) look old new fresh judged seen looked = absurd judged
+
+-- ---- what is told, and counted
+
+-- a look that found something, or that wasn't asked for, counts no failure
+pub found_counts_none : (found : Option Trailing) (n : ℕ) → CountsLook (look_of found) n n
+found_counts_none None n = refl
+found_counts_none (Some trailing) n = refl
+
+-- what holds of the outcome holds of the verdict that was judged
+pub judged_told : (P : Result Verdict ToolFault → Type 0) (wanted : Wanted) (outcome : Result Verdict ToolFault) (look : Look) (found : Bool) → P outcome → IfOk (judgement_in wanted outcome look found) (λ judgement. P (Ok judgement.verdict))
+judged_told P wanted (Err fault) look found p = tt
+judged_told P wanted (Ok verdict) look found p = by (status_in wanted verdict look found)
+  where
+    by : (o : Option Status) → IfOk (judged_with verdict look o) (λ judgement. P (Ok judgement.verdict))
+    by None = tt
+    by (Some status) = p
+
+pub judged_on : (P : Type 0) (wanted : Wanted) (outcome : Result Verdict ToolFault) (look : Look) (found : Bool) → OnOk outcome P → OnOk (judgement_in wanted outcome look found) P
+judged_on P wanted (Err fault) look found p = tt
+judged_on P wanted (Ok verdict) look found p = by (status_in wanted verdict look found)
+  where
+    by : (o : Option Status) → OnOk (judged_with verdict look o) P
+    by None = tt
+    by (Some status) = p
+
+-- the writer's failures are those of the outcome
+pub judged_counts : (wanted : Wanted) (outcome : Result Verdict ToolFault) (look : Look) (found : Bool) (old new : ℕ) → CountsWriterFault outcome old new → CountsWriting (judgement_in wanted outcome look found) old new
+judged_counts wanted (Ok verdict) look found old new e = by (status_in wanted verdict look found)
+  where
+    by : (o : Option Status) → CountsWriting (judged_with verdict look o) old new
+    by None = e
+    by (Some status) = e
+judged_counts wanted (Err (tool_faults.Writer written)) look found old new e = e
+judged_counts wanted (Err tool_faults.Reader) look found old new e = e
+judged_counts wanted (Err tool_faults.Memory) look found old new e = e
+judged_counts wanted (Err (tool_faults.Refused refusal)) look found old new e = e
+judged_counts wanted (Err (tool_faults.Truncated records)) look found old new e = e
+judged_counts wanted (Err (tool_faults.Limit limit)) look found old new e = e
+judged_counts wanted (Err tool_faults.Output) look found old new e = e
 
 -- ---- how a run ends
 

@@ -1,4 +1,5 @@
 -- What the code keeps, and what its calls do to that.
 pub mod Inputs
 pub mod Looks
+pub mod Tellings
 pub mod NumberedFiles

@@ -10,6 +10,7 @@ use crate::outputs::{Gathered, gathered, told_of};
 use crate::progress::Pace;
 use cwr_encode::Sink;
 use cwr_fields::Counted;
+use cwr_json::Encoding;
 use cwr_shape::Limits;
 use cwr_write::{WriteFault, Written, put_hint, put_write_outcome, write};
 use std::alloc::Global;
@@ -34,26 +35,42 @@ fn import_ending<'a>(
 }
 
 /// Writes to standard error how an import ended, and below a refusal what helps.
-fn tell_import<E: Write>(outcome: &Result<Written, WriteFault>, error: &mut E) {
+fn tell_import<E: Write>(import: &Import, outcome: &Result<Written, WriteFault>, error: &mut E) {
     let mut sink = Sink::new(Counted::new(error));
     // What standard error doesn't take is lost.
     let _ = put_write_outcome(outcome, &mut sink);
     if let Err(WriteFault::Refused(refusal)) = outcome {
-        let _ = put_hint(refusal, &mut sink);
+        let _ = put_hint(refusal, import.encoding, &mut sink);
     }
 }
 
-/// Writes the transmission that the input's lines are, each of at most so many bytes, to the writer. Beside how that ended comes what
-/// is known of both.
-fn import<'a, F: Read + Drop, I: Read + Drop, P: Pace + Drop, O: Write + Drop>(
+/// How lines are written as a transmission.
+#[derive(Clone, Copy, Debug)]
+pub(crate) struct Import {
+    /// Its limits.
+    pub(crate) limits: Limits,
+    /// How cells are shown in them.
+    pub(crate) encoding: Encoding,
+    /// The most bytes of a line.
+    pub(crate) most: usize,
+}
+
+/// Writes the transmission that the input's lines are to the writer. Beside how that ended comes what is known of both.
+fn import_from<'a, F: Read + Drop, I: Read + Drop, P: Pace + Drop, O: Write + Drop>(
     alloc: Global,
-    limits: Limits,
-    most: usize,
+    import: &Import,
     input: Input<'a, F, I, P>,
     writer: Gathered<'a, O>,
 ) -> (Result<Written, WriteFault>, Told<'a>, Told<'a>) {
     let mut reader = Counted::new(input);
-    let (writer, outcome) = write(alloc, limits, most, &mut reader, writer);
+    let (writer, outcome) = write(
+        alloc,
+        import.limits,
+        import.encoding,
+        import.most,
+        &mut reader,
+        writer,
+    );
     (outcome, reader.into_inner().told(), told_of(writer))
 }
 
@@ -67,15 +84,14 @@ pub(crate) fn import_input<
     E: Write,
 >(
     alloc: Global,
-    limits: Limits,
-    most: usize,
+    import: &Import,
     input: Input<'a, F, I, P>,
     output: O,
     error: &mut E,
 ) -> Result<Status, Fault<'a>> {
     let writer = gathered(alloc, output, Name::StandardOutput).map_err(|_| Fault::Memory)?;
-    let (outcome, read, written) = import(alloc, limits, most, input, writer);
-    tell_import(&outcome, error);
+    let (outcome, read, written) = import_from(alloc, import, input, writer);
+    tell_import(import, &outcome, error);
     import_ending(outcome, read, written)
 }
 
@@ -89,8 +105,7 @@ pub(crate) fn import_file<
     E: Write,
 >(
     rt: &R,
-    limits: Limits,
-    most: usize,
+    import: &Import,
     input: Input<'a, F, I, P>,
     out: &'a str,
     error: &mut E,
@@ -101,12 +116,12 @@ pub(crate) fn import_file<
         made.discard(rt);
         return Err(Fault::Memory);
     };
-    let (outcome, read, written) = import(alloc, limits, most, input, writer);
+    let (outcome, read, written) = import_from(alloc, import, input, writer);
     if outcome.is_ok() {
         made.keep_as(rt, Name::File(out))?;
     } else {
         made.discard(rt);
     }
-    tell_import(&outcome, error);
+    tell_import(import, &outcome, error);
     import_ending(outcome, read, written)
 }

@@ -79,6 +79,11 @@ COMMANDS
               Adds the notes `_group`, `_transaction` and `_line` to each
               line.
 
+       --utf8
+              Cells in UTF-8 are their texts, and of any other cell each byte
+              from 128 on is the character U+F780 to U+F7FF. Without it each
+              such byte is the character U+0080 to U+00FF.
+
    cwr csv [OPTIONS] KIND [FILE]
        Writes the records of one type as a table to standard output (RFC 4180,
        UTF-8): a heading, and a row for each record. KIND is the type as the
@@ -102,6 +107,9 @@ COMMANDS
 
        --line NUMBER
               The most bytes of a line, 1 to 1000000000. Without it 64000000.
+
+       --utf8
+              Cells are shown as by `cwr json --utf8`.
 
    cwr split [OPTIONS] -n N FILE PREFIX
        Cuts a transmission into parts, each a whole transmission with N

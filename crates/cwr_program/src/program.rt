@@ -1,6 +1,6 @@
 //! The program between its words and its devices.
 
-ghost use Rattle.std.specs.Prelude.{◌≡◌, ◌≢◌, ◌≤◌, map, true, None};
+ghost use Rattle.std.specs.Prelude.{◌≡◌, ◌≢◌, ◌≤◌, map, true, None, if◌then◌else◌};
 ghost use Rattle.clap.specs.Values.{kind_of};
 ghost use Rattle.cwr_program.specs.Format.Endings.{EndsOnInput, IsOfInput, fault_status, wanted_in};
 ghost use Rattle.cwr_program.specs.Format.Inputs.{are_standard};
@@ -8,7 +8,7 @@ ghost use Rattle.cwr_program.specs.Format.Tables.{table_of};
 
 use crate::endings::{Status, Wanted};
 use crate::faults::{Fault, tell_fault};
-use crate::imports::{import_file, import_input};
+use crate::imports::{Import, import_file, import_input};
 use crate::inputs::{DASH, Input, open_input};
 use crate::joins::{Union, join_files};
 use crate::outputs::print_manual;
@@ -19,6 +19,7 @@ use crate::several::report_several;
 use crate::splits::{Cut, split_file};
 use clap::error::ErrorKind;
 use cwr_csv::Table;
+use cwr_json::Encoding;
 use cwr_shape::Limits;
 use cwr_words::{Rows, Task, Work, task_of};
 use std::convert::AsStr;
@@ -113,19 +114,35 @@ fn report<E: Write>(error: &mut E, fault: &Fault<'_>) -> Status
 }
 
 /// Writes the transmission that the input's lines are, to the file of that name or to the output.
-fn import<'a, R: Files + AllocGlobal, I: Read + Drop, P: Pace + Drop, O: Write + Drop, E: Write>(
+fn import_lines<
+    'a,
+    R: Files + AllocGlobal,
+    I: Read + Drop,
+    P: Pace + Drop,
+    O: Write + Drop,
+    E: Write,
+>(
     rt: &R,
-    limits: Limits,
-    line: u32,
+    import: &Import,
     input: Input<'a, R::File, I, P>,
     out: Option<&'a str>,
     output: O,
     error: &mut E,
 ) -> Result<Status, Fault<'a>> {
-    let most = line as usize;
     match out {
-        Some(name) => import_file(rt, limits, most, input, name, error),
-        None => import_input(rt.alloc(), limits, most, input, output, error),
+        Some(name) => import_file(rt, import, input, name, error),
+        None => import_input(rt.alloc(), import, input, output, error),
+    }
+}
+
+/// How cells are shown in data.
+fn encoding_of(utf8: bool) -> Encoding
+    ensures { result ≡ (if utf8 then Encoding.Utf8 else Encoding.Latin1) }
+{
+    if utf8 {
+        Encoding::Utf8
+    } else {
+        Encoding::Latin1
     }
 }
 
@@ -199,8 +216,15 @@ fn perform<'a, R: Files + AllocGlobal, I: Read + Drop, P: Pace, O: Write + Drop,
             let names = files.as_slice();
             return judge(rt, &asked, *explained, names, standard, pace, output, error);
         }
-        Work::Json { file, numbers } => {
-            let telling = Telling::Data { numbers: *numbers };
+        Work::Json {
+            file,
+            numbers,
+            utf8,
+        } => {
+            let telling = Telling::Data {
+                encoding: encoding_of(*utf8),
+                numbers: *numbers,
+            };
             let input = open_input(rt, *file, &mut Some(standard), &mut *pace)?;
             return report_input(&asked, telling, input, output, error);
         }
@@ -209,9 +233,19 @@ fn perform<'a, R: Files + AllocGlobal, I: Read + Drop, P: Pace, O: Write + Drop,
             let input = open_input(rt, *file, &mut Some(standard), &mut *pace)?;
             return report_input(&asked, telling, input, output, error);
         }
-        Work::Write { file, out, line } => {
+        Work::Write {
+            file,
+            out,
+            line,
+            utf8,
+        } => {
+            let import = Import {
+                limits: task.limits,
+                encoding: encoding_of(*utf8),
+                most: *line as usize,
+            };
             let input = open_input(rt, *file, &mut Some(standard), &mut *pace)?;
-            return import(rt, task.limits, *line, input, *out, output, error);
+            return import_lines(rt, &import, input, *out, output, error);
         }
         Work::Split {
             transactions,

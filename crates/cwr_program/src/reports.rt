@@ -1,10 +1,12 @@
 //! Transmissions that are judged, shown, or written as data.
 
-ghost use Rattle.std.specs.Prelude.{◌≡◌, true, false, not, OnOk, None};
+ghost use Rattle.std.specs.Prelude.{◌≡◌, true, false, not, IfOk, Ok, OnOk, None};
+ghost use Rattle.cwr_tools.specs.Format.Reports.{CountsWriterFault};
 ghost use Rattle.cwr_tools.specs.Format.Verdicts.{JudgesText};
 ghost use Rattle.cwr_tools.specs.Format.Watching.{SeesAccepted};
 ghost use Rattle.cwr_program.specs.Format.Endings.{EndsOnInput};
 ghost use Rattle.cwr_program.specs.Steps.Inputs.{remaining_of};
+ghost use Rattle.cwr_program.specs.Steps.Tellings.{CountsLook, CountsReading, CountsWriting, TellsText};
 ghost use Rattle.cwr_program.specs.Steps.Looks.{IsLook, JudgesOn, LooksAfter, LooksOnce, judgement_in, look_of, tells_findings};
 
 use crate::endings::{Look, Status, Wanted, follows, status_of};
@@ -17,6 +19,7 @@ use cwr_csv::{Table, csv};
 use cwr_encode::{Sink, SinkFault};
 use cwr_explain::{Trailing, explain, read_trailing};
 use cwr_fields::{Counted, Source, Target};
+use cwr_json::Encoding;
 use cwr_lint::lint;
 use cwr_shape::Limits;
 use cwr_tools::{ToolFault, Verdict, Watch, check_watched, json, put_verdict_line, show};
@@ -37,6 +40,8 @@ pub(crate) enum Telling<'a> {
     Records,
     /// The data as lines of JSON, and the verdict to standard error.
     Data {
+        /// How cells are shown.
+        encoding: Encoding,
         /// With the numbers of groups, transactions and lines.
         numbers: bool,
     },
@@ -78,7 +83,8 @@ pub(crate) struct Judgement {
 
 /// Looks what an input has left after its transmission.
 pub(crate) fn look_beyond<R: Source>(reader: &mut R) -> Look
-    ensures { IsLook (R.remaining reader.old) (R.remaining reader.new) result }
+    ensures look { IsLook (R.remaining reader.old) (R.remaining reader.new) result }
+    ensures failures { CountsLook result (R.failures reader.old) (R.failures reader.new) }
 {
     match read_trailing(reader) {
         Ok(found) => Look::Found(found),
@@ -88,7 +94,8 @@ pub(crate) fn look_beyond<R: Source>(reader: &mut R) -> Look
 
 /// Looks so where the verdict is good.
 fn look_after<R: Source>(reader: &mut R, outcome: &Result<Verdict, ToolFault>) -> Look
-    ensures { LooksOnce (R.remaining reader.old) (R.remaining reader.new) outcome.now result }
+    ensures looks { LooksOnce (R.remaining reader.old) (R.remaining reader.new) outcome.now result }
+    ensures failures { CountsLook result (R.failures reader.old) (R.failures reader.new) }
 {
     match outcome {
         Ok(Verdict::Good { .. }) => look_beyond(reader),
@@ -119,6 +126,12 @@ fn tell<R: Source, W: Target + Drop>(
     ensures judged { JudgesText limits (R.remaining reader.old) result.1 }
     ensures seen { OnOk result.1 (SeesAccepted limits (R.remaining reader.old) watch.old watch.new) }
     ensures looks { OnOk result.1 (LooksAfter limits (R.remaining reader.old) result.2) }
+    // What is asked for was written, and handed on.
+    ensures told { TellsText telling limits (R.remaining reader.old) W.contents writer result.0 result.1 }
+    ensures handed_on { OnOk result.1 (W.handed_on result.0 ≡ true) }
+    // No failure is passed over, and none is answered that didn't come.
+    ensures reader_failures { CountsReading result.1 result.2 (R.failures reader.old) (R.failures reader.new) }
+    ensures writer_failures { CountsWriterFault result.1 (W.failures writer) (W.failures result.0) }
 {
     match telling {
         Telling::Findings => {
@@ -140,8 +153,8 @@ fn tell<R: Source, W: Target + Drop>(
             let look = look_after(reader, &outcome);
             (writer, outcome, look)
         }
-        Telling::Data { numbers } => {
-            let (writer, outcome) = json(alloc, limits, numbers, reader, writer);
+        Telling::Data { encoding, numbers } => {
+            let (writer, outcome) = json(alloc, limits, encoding, numbers, reader, writer);
             let look = look_after(reader, &outcome);
             (writer, outcome, look)
         }
@@ -184,7 +197,10 @@ pub(crate) fn judge_input<'a, F: Read + Drop, I: Read + Drop, P: Pace + Drop, W:
     writer: W,
 ) -> (W, Result<Judgement, ToolFault>, Told<'a>)
     requires { tells_findings telling ≡ false → asked.now.wanted.fail_on ≡ None }
-    ensures { JudgesOn asked.now.limits asked.now.wanted (remaining_of F.remaining I.remaining input.entry) result.1 }
+    ensures judges { JudgesOn asked.now.limits asked.now.wanted (remaining_of F.remaining I.remaining input.entry) result.1 }
+    ensures told { IfOk result.1 (λ judgement. TellsText telling asked.now.limits (remaining_of F.remaining I.remaining input.entry) W.contents writer result.0 (Ok judgement.verdict)) }
+    ensures handed_on { OnOk result.1 (W.handed_on result.0 ≡ true) }
+    ensures writer_failures { CountsWriting result.1 (W.failures writer) (W.failures result.0) }
 {
     let mut reader = Counted::new(input);
     let mut watch = Watch::new(asked.wanted.fail_on);

@@ -3,23 +3,24 @@ use Rattle.std.proofs.Common.{◌≡◌, ℕ, ◌+◌, ◌<◌, ◌≤◌, Bool,
 use Rattle.std.specs.Prelude.{cond, ◌/◌, ◌%◌}
 use Rattle.std.proofs.lemmas.List.{take_more}
 use Rattle.std.proofs.lemmas.Grind.{flat_map-append}
-use Rattle.cwr_json.specs.Format.Forms.{character, characters}
+use Rattle.cwr_json.specs.declared.encodings.Encoding.TheVariants.{Latin1}
+use Rattle.cwr_json.specs.Format.Encodings.{byte_by_byte, character}
 
 abbrev character_if : ℕ → Bool → List ℕ
 character_if b t = cond t (b ∷ []) ((192 + b / 64) ∷ (128 + b % 64) ∷ [])
 
-pub character_low : (b : ℕ) → b < 128 → character b ≡ b ∷ []
+pub character_low : (b : ℕ) → b < 128 → character Latin1 b ≡ b ∷ []
 character_low b h = ap (character_if b) (lt-ltb b 128 h)
 
-pub character_high : (b : ℕ) → 128 ≤ b → character b ≡ (192 + b / 64) ∷ (128 + b % 64) ∷ []
+pub character_high : (b : ℕ) → 128 ≤ b → character Latin1 b ≡ (192 + b / 64) ∷ (128 + b % 64) ∷ []
 character_high b h = ap (character_if b) (le-ltb b 128 h)
 
-pub characters_more : (text : List ℕ) (i : ℕ) → i < length text → characters (take (i + 1) text) ≡ characters (take i text) ++ character (get_or text i 0)
-unfolding characters
+pub characters_more : (text : List ℕ) (i : ℕ) → i < length text → byte_by_byte Latin1 (take (i + 1) text) ≡ byte_by_byte Latin1 (take i text) ++ character Latin1 (get_or text i 0)
+unfolding byte_by_byte
 characters_more text i h =
-    ap characters (take_more text i 0 h) ∙ flat_map-append character (take i text) (get_or text i 0 ∷ [])
-    ∙ ap (λ (l : List ℕ). characters (take i text) ++ l) (append-nil (character (get_or text i 0)))
+    ap (byte_by_byte Latin1) (take_more text i 0 h) ∙ flat_map-append (character Latin1) (take i text) (get_or text i 0 ∷ [])
+    ∙ ap (λ (l : List ℕ). byte_by_byte Latin1 (take i text) ++ l) (append-nil (character Latin1 (get_or text i 0)))
 
-pub characters_none : characters [] ≡ []
-unfolding characters
+pub characters_none : byte_by_byte Latin1 [] ≡ []
+unfolding byte_by_byte
 characters_none = refl

@@ -5,7 +5,7 @@ use Rattle.std.specs.List.{list_all}
 use Rattle.std.specs.Option.{option_and_then}
 use Rattle.std.proofs.lemmas.Bool.{and_parts}
 use Rattle.cwr_layouts.specs.declared.kinds.Kind.{Kind}
-use Rattle.cwr_layouts.specs.declared.kinds.Kind.TheVariants.{Hdr, Grh, Grt, Trl, Agr, Ter, Ipa, Nwr, Rev, Spu, Opu, Spt, Swr, Owr, Swt, Pwr, Alt, Ewt, Ver, Per, Rec, Orn, Com, Ack, Msg, Opt, Owt, Npn, Npr, Nwn, Npa, Net, Now, Nct, Nvt, Nat, Ins, Ind, Ari, Xrf}
+use Rattle.cwr_layouts.specs.declared.kinds.Kind.TheVariants.{Hdr}
 use Rattle.cwr_layouts.specs.Format.Layouts.{FieldLayout, layout, field_at, field_with_start}
 use Rattle.cwr_layouts.specs.Format.Records.{RecordValue, IsRecord}
 use Rattle.cwr_layouts.specs.Format.Carried.{carried_before, record_cell}
@@ -17,45 +17,7 @@ has_short_name f = nat_le (length f.name) 720
 
 all_short : (kind : Kind) → list_all has_short_name (layout kind) ≡ true
 all_short Hdr = refl
-all_short Grh = refl
-all_short Grt = refl
-all_short Trl = refl
-all_short Agr = refl
-all_short Ter = refl
-all_short Ipa = refl
-all_short Nwr = refl
-all_short Rev = refl
-all_short Spu = refl
-all_short Opu = refl
-all_short Spt = refl
-all_short Swr = refl
-all_short Owr = refl
-all_short Swt = refl
-all_short Pwr = refl
-all_short Alt = refl
-all_short Ewt = refl
-all_short Ver = refl
-all_short Per = refl
-all_short Rec = refl
-all_short Orn = refl
-all_short Com = refl
-all_short Ack = refl
-all_short Msg = refl
-all_short Opt = refl
-all_short Owt = refl
-all_short Npn = refl
-all_short Npr = refl
-all_short Nwn = refl
-all_short Npa = refl
-all_short Net = refl
-all_short Now = refl
-all_short Nct = refl
-all_short Nvt = refl
-all_short Nat = refl
-all_short Ins = refl
-all_short Ind = refl
-all_short Ari = refl
-all_short Xrf = refl
+all_short this_kind = refl
 
 found_passes : (p : FieldLayout → Bool) (fields : List FieldLayout) (i : ℕ) (f : FieldLayout) → list_all p fields ≡ true → slice_get fields i ≡ Some f → p f ≡ true
 found_passes p [] i f h e = absurd (cc e)

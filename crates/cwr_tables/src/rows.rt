@@ -1,7 +1,9 @@
 //! The text of a row.
 
 ghost use Rattle.std.specs.Prelude.{◌≡◌, ◌+◌, ◌*◌, ◌≤◌, [], ◌++◌, decimal, length, IsTrue};
-ghost use Rattle.cwr_json.specs.Format.Forms.{character, characters, key_byte, key_of};
+ghost use Rattle.cwr_json.specs.declared.encodings.Encoding.TheVariants.{Latin1};
+ghost use Rattle.cwr_json.specs.Format.Encodings.{byte_by_byte, character};
+ghost use Rattle.cwr_json.specs.Format.Forms.{key_byte, key_of};
 ghost use Rattle.cwr_values.specs.Format.Rows.{trailer};
 ghost use Rattle.cwr_tables.specs.declared.places.RowNumbers.TheVariants.{Outside};
 ghost use Rattle.cwr_tables.specs.Format.Tables.{cell_text};
@@ -29,7 +31,7 @@ type Characters = ArrayVec<u8, LONGEST_CELL>;
 #[inline(always)]
 fn push_character(text: &mut Characters, b: u8)
     requires { length text.old.items + 2 ≤ LONGEST_CELL }
-    ensures value { text.new.items ≡ text.old.items ++ character b }
+    ensures value { text.new.items ≡ text.old.items ++ character Latin1 b }
     ensures len { length text.new.items ≤ length text.old.items + 2 }
 {
     if b < 128 {
@@ -42,7 +44,7 @@ fn push_character(text: &mut Characters, b: u8)
 /// Each byte as the character of its number, in UTF-8.
 fn characters(cell: &[u8]) -> Characters
     requires { length cell.now ≤ 720 }
-    ensures value { result.items ≡ characters cell.now }
+    ensures value { result.items ≡ byte_by_byte Latin1 cell.now }
     ensures len { length result.items ≤ 2 * length cell.now }
 {
     let mut text = ArrayVec::new();
@@ -55,7 +57,7 @@ fn characters(cell: &[u8]) -> Characters
 /// Whether each byte is the character of its number in UTF-8.
 #[inline(always)]
 fn is_ascii(cell: &[u8]) -> bool
-    ensures { IsTrue result → characters cell.now ≡ cell.now }
+    ensures { IsTrue result → byte_by_byte Latin1 cell.now ≡ cell.now }
 {
     let mut ascii = true;
     for b in cell {

@@ -61,11 +61,11 @@ by_none reports.Findings watch = watched_none watch
 by_none reports.Explained watch = watched_none watch
 by_none (reports.UpToFault explained) watch = watched_none watch
 by_none reports.Records watch = refl
-by_none (reports.Data noted) watch = refl
+by_none (reports.Data enc noted) watch = refl
 
 pub by_more : (report : Report) (watch : Watch) (items : List Item) (item : Item) → watched_by report (watched_by report watch items) (item ∷ []) ≡ watched_by report watch (items ++ item ∷ [])
 by_more reports.Findings watch items item = watched_more watch items item
 by_more reports.Explained watch items item = watched_more watch items item
 by_more (reports.UpToFault explained) watch items item = watched_more watch items item
 by_more reports.Records watch items item = refl
-by_more (reports.Data noted) watch items item = refl
+by_more (reports.Data enc noted) watch items item = refl

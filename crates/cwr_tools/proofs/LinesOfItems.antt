@@ -9,6 +9,7 @@ use Rattle.cwr_layouts.specs.Format.Records.{RecordValue}
 use Rattle.cwr_values.specs.declared.items.Item.{Item}
 use Rattle.cwr_judge.specs.Format.Items.{is_transaction, item_records, opens_group, records_in}
 use Rattle.cwr_json.specs.declared.notes.Notes.{Notes}
+use Rattle.cwr_json.specs.declared.encodings.Encoding.{Encoding}
 use Rattle.cwr_json.specs.Format.Forms.{data_lines, item_line, notes_if}
 use Rattle.cwr_tools.specs.declared.item_lines.Report.{Report}
 use Rattle.cwr_tools.specs.declared.item_lines.Report.TheVariants as reports
@@ -65,12 +66,12 @@ explained_lines-snoc given item = lines_from-snoc explained_findings given item
 
 -- ---- data
 
-abbrev data_line : Bool → List Item → Item → List ℕ
-data_line noted before item = item_line (notes_if noted before item) item
+abbrev data_line : Encoding → Bool → List Item → Item → List ℕ
+data_line enc noted before item = item_line enc (notes_if noted before item) item
 
-data_lines-snoc : (noted : Bool) (given : List Item) (item : Item) → data_lines noted (given ++ item ∷ []) ≡ data_lines noted given ++ data_line noted given item
+data_lines-snoc : (enc : Encoding) (noted : Bool) (given : List Item) (item : Item) → data_lines enc noted (given ++ item ∷ []) ≡ data_lines enc noted given ++ data_line enc noted given item
 unfolding data_lines
-data_lines-snoc noted given item = lines_from-snoc (data_line noted) given item
+data_lines-snoc enc noted given item = lines_from-snoc (data_line enc noted) given item
 
 -- the notes are those that are counted
 counted_notes : (noted : Bool) (c : Totals) (given : List Item) (item : Item) → IsCount c given → notes_if noted given item ≡ notes_at noted c item
@@ -91,7 +92,7 @@ lines_none reports.Explained = refl
 lines_none (reports.UpToFault false) = refl
 lines_none (reports.UpToFault true) = refl
 lines_none reports.Records = refl
-lines_none (reports.Data noted) = refl
+lines_none (reports.Data enc noted) = refl
 
 pub lines_more : (report : Report) (c : Totals) (given : List Item) (item : Item) → IsCount c given
     → (lines_in report).lines (given ++ item ∷ []) ≡ (lines_in report).lines given ++ lines_at report c item
@@ -110,7 +111,7 @@ lines_more (reports.UpToFault true) c given item k =
     explained_lines-snoc given item
     ∙ ap₂ (λ (group sequence : ℕ). explained_lines given ++ explained_in group sequence (length (records_in given) + 1) item) (sym k.groups) (sym k.in_group)
     ∙ ap (λ (n : ℕ). explained_lines given ++ explained_in c.groups c.in_group (n + 1) item) (sym k.records)
-lines_more (reports.Data noted) c given item k = data_lines-snoc noted given item ∙ ap (λ (n : Option Notes). data_lines noted given ++ item_line n item) (counted_notes noted c given item k)
+lines_more (reports.Data enc noted) c given item k = data_lines-snoc enc noted given item ∙ ap (λ (n : Option Notes). data_lines enc noted given ++ item_line enc n item) (counted_notes noted c given item k)
 lines_more reports.Records c given item k =
     ap (numbered_records 1) (flat_map-append item_records given (item ∷ []) ∙ ap (λ (l : List RecordValue). records_in given ++ l) (append-nil (item_records item)))
     ∙ numbered_records-append 1 (records_in given) (item_records item)

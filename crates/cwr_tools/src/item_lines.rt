@@ -20,7 +20,7 @@ use crate::verdicts::ToolFault;
 use crate::watch::Watch;
 use cwr_encode::{Sink, SinkFault};
 use cwr_fields::Target;
-use cwr_json::{Notes, RecordText, put_data};
+use cwr_json::{Encoding, Notes, RecordText, put_data};
 use cwr_layouts::{Kind, RecordRef};
 use cwr_levels::{Finding, finding_line, findings};
 use cwr_values::{Item, Transaction};
@@ -42,6 +42,8 @@ pub(crate) enum Report {
     Records,
     /// The data of each item.
     Data {
+        /// How its cells are shown.
+        encoding: Encoding,
         /// With its notes.
         noted: bool,
     },
@@ -375,8 +377,8 @@ pub(crate) fn put_item<W: Target>(
                 Err(fault) => Err(writer_fault(fault)),
             }
         }
-        Report::Data { noted } => {
-            match put_data(notes_at(noted, counts, item), item, text, sink) {
+        Report::Data { encoding, noted } => {
+            match put_data(encoding, notes_at(noted, counts, item), item, text, sink) {
                 Ok(()) => Ok(()),
                 Err(fault) => Err(writer_fault(fault)),
             }

@@ -57,6 +57,8 @@ pub enum Work<'a> {
         file: Option<&'a str>,
         /// With the numbers of groups, transactions and lines.
         numbers: bool,
+        /// Cells in UTF-8 are shown as their texts.
+        utf8: bool,
     },
     /// A table of one is written.
     Csv {
@@ -73,6 +75,8 @@ pub enum Work<'a> {
         out: Option<&'a str>,
         /// The most bytes of a line.
         line: u32,
+        /// Cells are in UTF-8.
+        utf8: bool,
     },
     /// A transmission is cut into parts.
     Split {
@@ -161,6 +165,13 @@ const NUMBER: &str = "N";
 
 /// The id of the flag that adds numbers.
 const NUMBERS: &str = "numbers";
+
+/// The id of the flag that shows cells in UTF-8 as their texts.
+const UTF8: &str = "utf8";
+
+/// How cells are shown with it.
+const SHOWN: &str =
+    "Cells in UTF-8 are their texts, and of any other each byte from 128 on is U+F780 to U+F7FF";
 
 /// The id of the flag that asks for explanations.
 const EXPLAINED: &str = "explain";
@@ -315,12 +326,14 @@ fn exporting<'a>(alloc: Global) -> Result<Command<'a>, AllocError> {
         NUMBERS,
         "Adds the notes _group, _transaction and _line to each line",
     );
+    let utf8 = flag(alloc, UTF8, SHOWN);
     over_one(
         alloc,
         JSON,
         "Writes the data of a transmission as lines of JSON, and its verdict to standard error",
     )?
-    .arg(numbers)
+    .arg(numbers)?
+    .arg(utf8)
 }
 
 /// The subcommand that writes tables.
@@ -348,11 +361,13 @@ fn importing<'a>(alloc: Global) -> Result<Command<'a>, AllocError> {
         .value_name(OUT)
         .help("The file that is written; without it standard output is");
     let line = limit(alloc, LINE, 1, 1_000_000_000, "64000000");
+    let utf8 = flag(alloc, UTF8, SHOWN);
     let command = Command::new(alloc, WRITE).about(
         "Writes the transmission that lines of JSON are, and to standard error how that ended",
     );
     with_progress(alloc, with_limits(alloc, command)?)?
         .arg(line.help("The most bytes of a line, 1 to 1000000000"))?
+        .arg(utf8)?
         .arg(out)?
         .arg(file)
 }
@@ -557,6 +572,7 @@ fn export_in<'a>(given: &ArgMatches<'a>) -> Work<'a>
     Work::Json {
         file: given.get_str(FILE),
         numbers: given.get_flag(NUMBERS),
+        utf8: given.get_flag(UTF8),
     }
 }
 
@@ -585,6 +601,7 @@ fn import_in<'a>(given: &ArgMatches<'a>) -> Option<Work<'a>>
         file: given.get_str(FILE),
         out: given.get_str(OUT),
         line: given.get_one::<u32>(LINE)?,
+        utf8: given.get_flag(UTF8),
     })
 }
 

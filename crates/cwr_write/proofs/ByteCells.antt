@@ -14,7 +14,7 @@ use Rattle.cwr_fields.specs.Format.Bytes.{digits, filled, is_plain, is_spaces}
 use Rattle.cwr_fields.specs.Format.Codes.{codes_of, code_width, word_text}
 use Rattle.cwr_fields.specs.Format.Cells.{Allows, SpellsDay, SpellsTime, SpellsCode, IsCodeOf, flag_texts}
 use Rattle.cwr_layouts.specs.declared.kinds.Kind.{Kind}
-use Rattle.cwr_layouts.specs.declared.kinds.Kind.TheVariants.{Hdr, Grh, Grt, Trl, Agr, Ter, Ipa, Nwr, Rev, Spu, Opu, Spt, Swr, Owr, Swt, Pwr, Alt, Ewt, Ver, Per, Rec, Orn, Com, Ack, Msg, Opt, Owt, Npn, Npr, Nwn, Npa, Net, Now, Nct, Nvt, Nat, Ins, Ind, Ari, Xrf}
+use Rattle.cwr_layouts.specs.declared.kinds.Kind.TheVariants.{Hdr}
 use Rattle.cwr_layouts.specs.Format.Layouts.{FieldLayout, layout, field_at}
 use Rattle.cwr_layouts.specs.Format.Carried.{carried_at}
 use Rattle.cwr_layouts.proofs.CarriedCells.{open_some}
@@ -132,45 +132,7 @@ is_narrow f = nat_le f.width 700
 
 all_narrow : (kind : Kind) → list_all is_narrow (layout kind) ≡ true
 all_narrow Hdr = refl
-all_narrow Grh = refl
-all_narrow Grt = refl
-all_narrow Trl = refl
-all_narrow Agr = refl
-all_narrow Ter = refl
-all_narrow Ipa = refl
-all_narrow Nwr = refl
-all_narrow Rev = refl
-all_narrow Spu = refl
-all_narrow Opu = refl
-all_narrow Spt = refl
-all_narrow Swr = refl
-all_narrow Owr = refl
-all_narrow Swt = refl
-all_narrow Pwr = refl
-all_narrow Alt = refl
-all_narrow Ewt = refl
-all_narrow Ver = refl
-all_narrow Per = refl
-all_narrow Rec = refl
-all_narrow Orn = refl
-all_narrow Com = refl
-all_narrow Ack = refl
-all_narrow Msg = refl
-all_narrow Opt = refl
-all_narrow Owt = refl
-all_narrow Npn = refl
-all_narrow Npr = refl
-all_narrow Nwn = refl
-all_narrow Npa = refl
-all_narrow Net = refl
-all_narrow Now = refl
-all_narrow Nct = refl
-all_narrow Nvt = refl
-all_narrow Nat = refl
-all_narrow Ins = refl
-all_narrow Ind = refl
-all_narrow Ari = refl
-all_narrow Xrf = refl
+all_narrow this_kind = refl
 
 passes : (p : FieldLayout → Bool) (fields : List FieldLayout) (i : ℕ) (f : FieldLayout) → list_all p fields ≡ true → slice_get fields i ≡ Some f → p f ≡ true
 passes p [] i f h e = absurd (cc e)

@@ -17,11 +17,12 @@ use Rattle.cwr_layouts.specs.Format.Records.{RecordValue, IsRecord, blank_cell, 
 use Rattle.cwr_layouts.specs.Format.Carried.{Sets, carried_at, carried_before, set_cell}
 use Rattle.cwr_layouts.proofs.CarriedCells.{carried_count, carried_field-at, open_some}
 use Rattle.cwr_layouts.proofs.RowLaws.{letters-injective}
-use Rattle.cwr_json.specs.Format.Forms.{IsCellFrom, IsDataOf, are_distinct, characters, first_of, is_known, key_of, kind_key}
+use Rattle.cwr_json.specs.declared.encodings.Encoding.{Encoding}
+use Rattle.cwr_json.specs.Format.Forms.{IsCellFrom, IsDataOf, are_distinct, first_of, is_known, key_of, kind_key}
 use Rattle.cwr_json.proofs.GoodKeys.{keys_of, is_known_of, good_keys}
 use Rattle.cwr_json.proofs.OneItem.{one_cells}
 use Rattle.cwr_json.proofs.OwnData.{apart, bytes_same, same_bytes}
-use Rattle.cwr_write.specs.Steps.Filling.{IsFilled, names_field, with_last}
+use Rattle.cwr_write.specs.Steps.Filling.{IsFilled, IsTextOf, names_field, with_last}
 
 -- ---- one member more
 
@@ -112,39 +113,39 @@ carried_place kind (suc i) f e d =
 
 -- ---- cells
 
-abbrev AreFrom : Members → List FieldLayout → List (List ℕ) → Type 0
-AreFrom ms fields cells = AllZip (λ f cell. IsCellFrom f (first_of (key_of f.name) ms) cell) fields cells
+abbrev AreFrom : Encoding → Members → List FieldLayout → List (List ℕ) → Type 0
+AreFrom enc ms fields cells = AllZip (λ f cell. IsCellFrom enc f (first_of (key_of f.name) ms) cell) fields cells
 
-blank_cells : (fields : List FieldLayout) → AreFrom no_members fields (map (λ f. blank_cell f.ty f.width) fields)
+blank_cells : (enc : Encoding) (fields : List FieldLayout) → AreFrom enc no_members fields (map (λ f. blank_cell f.ty f.width) fields)
 unfolding first_of
-blank_cells [] = tt
-blank_cells (f ∷ fields) = (refl, blank_cells fields)
+blank_cells enc [] = tt
+blank_cells enc (f ∷ fields) = (refl, blank_cells enc fields)
 
 -- a member that none of the fields has changes nothing
-same_cells : (fields : List FieldLayout) (cells : List (List ℕ)) (ms : Members) (k : List ℕ) (j : Json) → list_any (bytes_eq k) (keys_of fields) ≡ false → AreFrom ms fields cells → AreFrom (with_last ms k j) fields cells
-same_cells [] [] ms k j away h = tt
-same_cells [] (c ∷ cells) ms k j away h = absurd h
-same_cells (f ∷ fields) [] ms k j away h = absurd h
-same_cells (f ∷ fields) (c ∷ cells) ms k j away h =
+same_cells : (enc : Encoding) (fields : List FieldLayout) (cells : List (List ℕ)) (ms : Members) (k : List ℕ) (j : Json) → list_any (bytes_eq k) (keys_of fields) ≡ false → AreFrom enc ms fields cells → AreFrom enc (with_last ms k j) fields cells
+same_cells enc [] [] ms k j away h = tt
+same_cells enc [] (c ∷ cells) ms k j away h = absurd h
+same_cells enc (f ∷ fields) [] ms k j away h = absurd h
+same_cells enc (f ∷ fields) (c ∷ cells) ms k j away h =
     let parts = or_parts (bytes_eq k (key_of f.name)) (list_any (bytes_eq k) (keys_of fields)) away in
-    (subst (λ (o : Option Json). IsCellFrom f o c) (sym (first-other (key_of f.name) ms k j (flipped k (key_of f.name) parts.0))) h.0, same_cells fields cells ms k j parts.1 h.1)
+    (subst (λ (o : Option Json). IsCellFrom enc f o c) (sym (first-other (key_of f.name) ms k j (flipped k (key_of f.name) parts.0))) h.0, same_cells enc fields cells ms k j parts.1 h.1)
 
 -- the member of field f sets its cell
-set_cells : (fields : List FieldLayout) (cells : List (List ℕ)) (i : ℕ) (f : FieldLayout) (ms : Members) (j : Json) (cell : List ℕ) → are_distinct (keys_of fields) ≡ true → slice_get fields i ≡ Some f
-    → list_any (bytes_eq (key_of f.name)) (keys ms) ≡ false → IsCellFrom f (Some j) cell → AreFrom ms fields cells → AreFrom (with_last ms (key_of f.name) j) fields (slice_set cells i cell)
-set_cells [] cells i f ms j cell d e none from h = absurd (cc e)
-set_cells (g ∷ fields) [] i f ms j cell d e none from h = absurd h
-set_cells (g ∷ fields) (c ∷ cells) zero f ms j cell d e none from h =
+set_cells : (enc : Encoding) (fields : List FieldLayout) (cells : List (List ℕ)) (i : ℕ) (f : FieldLayout) (ms : Members) (j : Json) (cell : List ℕ) → are_distinct (keys_of fields) ≡ true → slice_get fields i ≡ Some f
+    → list_any (bytes_eq (key_of f.name)) (keys ms) ≡ false → IsCellFrom enc f (Some j) cell → AreFrom enc ms fields cells → AreFrom enc (with_last ms (key_of f.name) j) fields (slice_set cells i cell)
+set_cells enc [] cells i f ms j cell d e none from h = absurd (cc e)
+set_cells enc (g ∷ fields) [] i f ms j cell d e none from h = absurd h
+set_cells enc (g ∷ fields) (c ∷ cells) zero f ms j cell d e none from h =
     let same : g ≡ f = cc e in
     let parts = and_parts (not (list_any (bytes_eq (key_of g.name)) (keys_of fields))) (are_distinct (keys_of fields)) d in
     let away : list_any (bytes_eq (key_of f.name)) (keys_of fields) ≡ false = ap (λ (x : FieldLayout). list_any (bytes_eq (key_of x.name)) (keys_of fields)) (sym same) ∙ not-true _ parts.0 in
-    let here : IsCellFrom f (first_of (key_of f.name) (with_last ms (key_of f.name) j)) cell = subst (λ (o : Option Json). IsCellFrom f o cell) (sym (first-last (key_of f.name) ms j none)) from in
-    (subst (λ (x : FieldLayout). IsCellFrom x (first_of (key_of x.name) (with_last ms (key_of f.name) j)) cell) (sym same) here, same_cells fields cells ms (key_of f.name) j away h.1)
-set_cells (g ∷ fields) (c ∷ cells) (suc i) f ms j cell d e none from h =
+    let here : IsCellFrom enc f (first_of (key_of f.name) (with_last ms (key_of f.name) j)) cell = subst (λ (o : Option Json). IsCellFrom enc f o cell) (sym (first-last (key_of f.name) ms j none)) from in
+    (subst (λ (x : FieldLayout). IsCellFrom enc x (first_of (key_of x.name) (with_last ms (key_of f.name) j)) cell) (sym same) here, same_cells enc fields cells ms (key_of f.name) j away h.1)
+set_cells enc (g ∷ fields) (c ∷ cells) (suc i) f ms j cell d e none from h =
     let parts = and_parts (not (list_any (bytes_eq (key_of g.name)) (keys_of fields))) (are_distinct (keys_of fields)) d in
     let other : bytes_eq (key_of f.name) (key_of g.name) ≡ false = apart (key_of f.name) (key_of g.name) (keys_of fields) (among fields i f e) (not-true _ parts.0) in (
-      subst (λ (o : Option Json). IsCellFrom g o c) (sym (first-other (key_of g.name) ms (key_of f.name) j (flipped (key_of f.name) (key_of g.name) other))) h.0,
-      set_cells fields cells i f ms j cell parts.1 e none from h.1,
+      subst (λ (o : Option Json). IsCellFrom enc g o c) (sym (first-other (key_of g.name) ms (key_of f.name) j (flipped (key_of f.name) (key_of g.name) other))) h.0,
+      set_cells enc fields cells i f ms j cell parts.1 e none from h.1,
     )
 
 -- ---- drafts
@@ -155,13 +156,13 @@ unmarked_in zero j = refl
 unmarked_in (suc n) zero = refl
 unmarked_in (suc n) (suc j) = unmarked_in n j
 
-pub filled_none : (kind : Kind) (draft : RecordValue) (seen : List Bool) (n : ℕ) → draft ≡ blank_record kind → seen ≡ replicate n false → IsFilled kind no_members draft seen
-filled_none kind draft seen n e empty =
-    subst (λ (d : RecordValue). IsFilled kind no_members d seen) (sym e) (record {
+pub filled_none : (enc : Encoding) (kind : Kind) (draft : RecordValue) (seen : List Bool) (n : ℕ) → draft ≡ blank_record kind → seen ≡ replicate n false → IsFilled enc kind no_members draft seen
+filled_none enc kind draft seen n e empty =
+    subst (λ (d : RecordValue). IsFilled enc kind no_members d seen) (sym e) (record {
       kind_is = refl;
       known = refl;
       once = refl;
-      cells = blank_cells (carried_fields kind);
+      cells = blank_cells enc (carried_fields kind);
       marks = λ j k h unmarked. refl;
       marked = λ j k h mark. absurd (true≢false (sym mark ∙ ap (λ (l : List Bool). get_or l j false) empty ∙ unmarked_in n j));
     })
@@ -218,9 +219,9 @@ marked_more kind ms seen j f v at lt marked i l m mark = ap (list_any (bytes_eq 
     by false e = either_way (bytes_eq l) (keys ms) (key_of f.name) (marked i l m (sym (get_or-set_other seen j i true false (eqb-false i j e)) ∙ mark))
 
 -- the key of the record type changes no cell
-pub filled_type : (kind : Kind) (ms : Members) (draft : RecordValue) (seen : List Bool) (k : List ℕ) (v : Json) → 1 < length seen → names_field kind 1 k ≡ true → get_or seen 1 false ≡ false → IsFilled kind ms draft seen
-    → IsFilled kind (with_last ms k v) draft (set seen 1 true)
-filled_type kind ms draft seen k v lt names unmarked h =
+pub filled_type : (enc : Encoding) (kind : Kind) (ms : Members) (draft : RecordValue) (seen : List Bool) (k : List ℕ) (v : Json) → 1 < length seen → names_field kind 1 k ≡ true → get_or seen 1 false ≡ false → IsFilled enc kind ms draft seen
+    → IsFilled enc kind (with_last ms k v) draft (set seen 1 true)
+filled_type enc kind ms draft seen k v lt names unmarked h =
     let there = named kind 1 k names in
     let type_is : record_type ≡ there.0 = cc there.1 in
     let key_is : k ≡ kind_key = there.2 ∙ ap (λ (f : FieldLayout). key_of f.name) (sym type_is) in
@@ -232,26 +233,23 @@ filled_type kind ms draft seen k v lt names unmarked h =
       kind_is = h.kind_is;
       known = ap (list_all (is_known kind)) (keys-last ms k v) ∙ all-last (is_known kind) (keys ms) k h.known known;
       once = ap are_distinct (keys-last ms k v) ∙ distinct-last (keys ms) k h.once none;
-      cells = same_cells (carried_fields kind) draft.cells ms k v away h.cells;
+      cells = same_cells enc (carried_fields kind) draft.cells ms k v away h.cells;
       marks = subst (λ (x : List ℕ). Marks kind (with_last ms x v) (set seen 1 true)) (sym there.2) (marks_more kind ms seen 1 there.0 v there.1 lt h.marks);
       marked = subst (λ (x : List ℕ). Marked kind (with_last ms x v) (set seen 1 true)) (sym there.2) (marked_more kind ms seen 1 there.0 v there.1 lt h.marked);
     }
 
 -- a cell that is set is that of its member
-pub filled_set : (kind : Kind) (ms : Members) (draft new : RecordValue) (seen : List Bool) (j : ℕ) (k text : List ℕ) → j < length seen → names_field kind j k ≡ true → get_or seen j false ≡ false → IsFilled kind ms draft seen
-    → Sets j text draft new → IsFilled kind (with_last ms k (string (characters text))) new (set seen j true)
-filled_set kind ms draft new seen j k text lt names unmarked h sets = by (carried_at draft.kind j) refl sets
+pub filled_set : (enc : Encoding) (kind : Kind) (ms : Members) (draft new : RecordValue) (seen : List Bool) (j : ℕ) (k text : List ℕ) → j < length seen → names_field kind j k ≡ true → get_or seen j false ≡ false → IsFilled enc kind ms draft seen
+    → (v : Json) → IsTextOf enc v text → Sets j text draft new → IsFilled enc kind (with_last ms k v) new (set seen j true)
+filled_set enc kind ms draft new seen j k text lt names unmarked h v is sets = by (carried_at draft.kind j) refl sets
   where
-    v : Json
-    v = string (characters text)
-
     there : (f : FieldLayout) × (field_at kind j ≡ Some f) × (k ≡ key_of f.name)
     there = named kind j k names
 
     none : list_any (bytes_eq k) (keys ms) ≡ false
     none = h.marks j k names unmarked
 
-    set_at : (f : FieldLayout) → carried_at kind j ≡ Some f → (length text ≤ f.width) × Allows f.ty (filled f.width text) × (new ≡ set_cell j (filled f.width text) draft) → IsFilled kind (with_last ms k v) new (set seen j true)
+    set_at : (f : FieldLayout) → carried_at kind j ≡ Some f → (length text ≤ f.width) × Allows f.ty (filled f.width text) × (new ≡ set_cell j (filled f.width text) draft) → IsFilled enc kind (with_last ms k v) new (set seen j true)
     set_at f at s =
         let opened = open_some (field_at kind j) f at in
         let same : f ≡ there.0 = cc (opened.0, there.1) in
@@ -260,63 +258,63 @@ filled_set kind ms draft new seen j k text lt names unmarked h sets = by (carrie
         let none_of : list_any (bytes_eq (key_of f.name)) (keys ms) ≡ false = ap (λ (x : List ℕ). list_any (bytes_eq x) (keys ms)) (sym key_is) ∙ none in
         let parts = and_parts (not (list_any (bytes_eq kind_key) (keys_of (carried_fields kind)))) (are_distinct (keys_of (carried_fields kind))) (good_keys kind).distinct in
         let known : is_known kind (key_of f.name) ≡ true = passes (is_known_of kind) (carried_fields kind) (carried_before kind j) f (good_keys kind).known place in
-        let from : IsCellFrom f (Some v) (filled f.width text) = (text, refl, s.0, refl) in
+        let from : IsCellFrom enc f (Some v) (filled f.width text) = subst (λ (j : Json). IsCellFrom enc f (Some j) (filled f.width text)) (sym is.1) (text, is.2, s.0, refl) in
         let cells_are : new.cells ≡ slice_set draft.cells (carried_before kind j) (filled f.width text) =
         ap (λ (r : RecordValue). r.cells) s.2 ∙ ap (λ (x : Kind). slice_set draft.cells (carried_before x j) (filled f.width text)) h.kind_is in
         let ms_f : Members = with_last ms (key_of f.name) v in
-        let filled_f : IsFilled kind ms_f new (set seen j true) = record {
+        let filled_f : IsFilled enc kind ms_f new (set seen j true) = record {
           kind_is = ap (λ (r : RecordValue). r.kind) s.2 ∙ h.kind_is;
           known = ap (list_all (is_known kind)) (keys-last ms (key_of f.name) v) ∙ all-last (is_known kind) (keys ms) (key_of f.name) h.known known;
           once = ap are_distinct (keys-last ms (key_of f.name) v) ∙ distinct-last (keys ms) (key_of f.name) h.once none_of;
-          cells = subst (AreFrom ms_f (carried_fields kind)) (sym cells_are) (set_cells (carried_fields kind) draft.cells (carried_before kind j) f ms v (filled f.width text) parts.1 place none_of from h.cells);
+          cells = subst (AreFrom enc ms_f (carried_fields kind)) (sym cells_are) (set_cells enc (carried_fields kind) draft.cells (carried_before kind j) f ms v (filled f.width text) parts.1 place none_of from h.cells);
           marks = marks_more kind ms seen j f v opened.0 lt h.marks;
           marked = marked_more kind ms seen j f v opened.0 lt h.marked;
         } in
-        subst (λ (x : List ℕ). IsFilled kind (with_last ms x v) new (set seen j true)) (sym key_is) filled_f
+        subst (λ (x : List ℕ). IsFilled enc kind (with_last ms x v) new (set seen j true)) (sym key_is) filled_f
 
-    by : (o : Option FieldLayout) → carried_at draft.kind j ≡ o → IsSomeAnd o (λ f. (length text ≤ f.width) × Allows f.ty (filled f.width text) × (new ≡ set_cell j (filled f.width text) draft)) → IsFilled kind (with_last ms k v) new (set seen j true)
+    by : (o : Option FieldLayout) → carried_at draft.kind j ≡ o → IsSomeAnd o (λ f. (length text ≤ f.width) × Allows f.ty (filled f.width text) × (new ≡ set_cell j (filled f.width text) draft)) → IsFilled enc kind (with_last ms k v) new (set seen j true)
     by None e s = absurd s
     by (Some f) e s = set_at f (ap (λ (x : Kind). carried_at x j) (sym h.kind_is) ∙ e) s
 
 -- ---- the whole
 
-pub filled_data : (kind : Kind) (ms : Members) (draft : RecordValue) (seen : List Bool) → first_of kind_key ms ≡ Some (string (letters kind)) → IsFilled kind ms draft seen → IsRecord draft → IsDataOf ms draft
-filled_data kind ms draft seen first h fits = record {
+pub filled_data : (enc : Encoding) (kind : Kind) (ms : Members) (draft : RecordValue) (seen : List Bool) → first_of kind_key ms ≡ Some (string (letters kind)) → IsFilled enc kind ms draft seen → IsRecord draft → IsDataOf enc ms draft
+filled_data enc kind ms draft seen first h fits = record {
   kind = first ∙ ap (λ (x : Kind). Some (string (letters x))) (sym h.kind_is);
   known = ap (λ (x : Kind). list_all (is_known x) (keys ms)) h.kind_is ∙ h.known;
   once = h.once;
-  cells = subst (λ (x : Kind). AreFrom ms (carried_fields x) draft.cells) (sym h.kind_is) h.cells;
+  cells = subst (λ (x : Kind). AreFrom enc ms (carried_fields x) draft.cells) (sym h.kind_is) h.cells;
   fits = fits;
 }
 
-pub data_done : {E : Type 0} (kind : Kind) (ms : Members) (draft : RecordValue) (seen : List Bool) (answer : Result RecordValue E) → first_of kind_key ms ≡ Some (string (letters kind)) → IsFilled kind ms draft seen
-    → IfOk answer (λ r. (r ≡ draft) × IsRecord draft) → IfOk answer (λ r. IsDataOf ms r)
-data_done {E = E} kind ms draft seen (Ok r) first h p = subst (λ (x : RecordValue). IsDataOf ms x) (sym p.0) (filled_data kind ms draft seen first h p.1)
-data_done {E = E} kind ms draft seen (Err e) first h p = tt
+pub data_done : {E : Type 0} (enc : Encoding) (kind : Kind) (ms : Members) (draft : RecordValue) (seen : List Bool) (answer : Result RecordValue E) → first_of kind_key ms ≡ Some (string (letters kind)) → IsFilled enc kind ms draft seen
+    → IfOk answer (λ r. (r ≡ draft) × IsRecord draft) → IfOk answer (λ r. IsDataOf enc ms r)
+data_done {E = E} enc kind ms draft seen (Ok r) first h p = subst (λ (x : RecordValue). IsDataOf enc ms x) (sym p.0) (filled_data enc kind ms draft seen first h p.1)
+data_done {E = E} enc kind ms draft seen (Err e) first h p = tt
 
 -- ---- where no record has the data
 
-letters_are : (ms : Members) (kind : Kind) (r : RecordValue) → first_of kind_key ms ≡ Some (string (letters kind)) → IsDataOf ms r → r.kind ≡ kind
-letters_are ms kind r first h =
+letters_are : (enc : Encoding) (ms : Members) (kind : Kind) (r : RecordValue) → first_of kind_key ms ≡ Some (string (letters kind)) → IsDataOf enc ms r → r.kind ≡ kind
+letters_are enc ms kind r first h =
     let named : Some (string (letters r.kind)) ≡ Some (string (letters kind)) = sym h.kind ∙ first in
     let same : letters r.kind ≡ letters kind = cc named in
     letters-injective r.kind kind same
 
 -- the kind that is named is the record's
-pub kind_named : (ms : Members) (kind : Kind) → first_of kind_key ms ≡ Some (string (letters kind)) → ((r : RecordValue) → r.kind ≡ kind → ¬ IsDataOf ms r) → (r : RecordValue) → ¬ IsDataOf ms r
-kind_named ms kind first none r h = none r (letters_are ms kind r first h) h
+pub kind_named : (enc : Encoding) (ms : Members) (kind : Kind) → first_of kind_key ms ≡ Some (string (letters kind)) → ((r : RecordValue) → r.kind ≡ kind → ¬ IsDataOf enc ms r) → (r : RecordValue) → ¬ IsDataOf enc ms r
+kind_named enc ms kind first none r h = none r (letters_are enc ms kind r first h) h
 
 -- a draft whose cells don't fit is that of no record
-pub draft_unfit : (kind : Kind) (ms : Members) (draft : RecordValue) (seen : List Bool) → first_of kind_key ms ≡ Some (string (letters kind)) → IsFilled kind ms draft seen → ¬ IsRecord draft → (r : RecordValue) → ¬ IsDataOf ms r
-draft_unfit kind ms draft seen first h unfit r d =
-    let kinds : r.kind ≡ kind = letters_are ms kind r first d in
-    let theirs : AreFrom ms (carried_fields kind) r.cells = subst (λ (k : Kind). AreFrom ms (carried_fields k) r.cells) kinds d.cells in
-    let cells : r.cells ≡ draft.cells = one_cells ms (carried_fields kind) r.cells draft.cells theirs h.cells in
+pub draft_unfit : (enc : Encoding) (kind : Kind) (ms : Members) (draft : RecordValue) (seen : List Bool) → first_of kind_key ms ≡ Some (string (letters kind)) → IsFilled enc kind ms draft seen → ¬ IsRecord draft → (r : RecordValue) → ¬ IsDataOf enc ms r
+draft_unfit enc kind ms draft seen first h unfit r d =
+    let kinds : r.kind ≡ kind = letters_are enc ms kind r first d in
+    let theirs : AreFrom enc ms (carried_fields kind) r.cells = subst (λ (k : Kind). AreFrom enc ms (carried_fields k) r.cells) kinds d.cells in
+    let cells : r.cells ≡ draft.cells = one_cells enc ms (carried_fields kind) r.cells draft.cells theirs h.cells in
     let whole : Kind → List (List ℕ) → RecordValue = λ k cs. record { kind = k; cells = cs } in
     let same : r ≡ draft = ap₂ whole (kinds ∙ sym h.kind_is) cells in
     unfit (subst IsRecord same d.fits)
 
-pub data_undone : {E : Type 0} (kind : Kind) (ms : Members) (draft : RecordValue) (seen : List Bool) (answer : Result RecordValue E) → first_of kind_key ms ≡ Some (string (letters kind)) → IsFilled kind ms draft seen
-    → OnErr answer (¬ IsRecord draft) → OnErr answer ((r : RecordValue) → ¬ IsDataOf ms r)
-data_undone kind ms draft seen (Ok r) first h p = tt
-data_undone kind ms draft seen (Err e) first h p = draft_unfit kind ms draft seen first h p
+pub data_undone : {E : Type 0} (enc : Encoding) (kind : Kind) (ms : Members) (draft : RecordValue) (seen : List Bool) (answer : Result RecordValue E) → first_of kind_key ms ≡ Some (string (letters kind)) → IsFilled enc kind ms draft seen
+    → OnErr answer (¬ IsRecord draft) → OnErr answer ((r : RecordValue) → ¬ IsDataOf enc ms r)
+data_undone enc kind ms draft seen (Ok r) first h p = tt
+data_undone enc kind ms draft seen (Err e) first h p = draft_unfit enc kind ms draft seen first h p

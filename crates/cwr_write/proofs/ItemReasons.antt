@@ -15,6 +15,8 @@ use Rattle.json.specs.Strict.{keys}
 use Rattle.cwr_layouts.specs.declared.kinds.Kind.{Kind}
 use Rattle.cwr_layouts.specs.Format.Layouts.{FieldLayout, field_at}
 use Rattle.cwr_layouts.specs.Format.Records.{RecordValue}
+use Rattle.cwr_values.specs.Format.Begun.{IsBegun}
+use Rattle.cwr_json.specs.declared.encodings.Encoding.{Encoding}
 use Rattle.cwr_json.specs.Format.Forms.{AreListData, AreRecordsData, IsItemData, first_of, key_of, kind_key, records_key, told}
 use Rattle.cwr_json.proofs.OwnData.{same_bytes}
 use Rattle.cwr_write.specs.declared.refusals.Key.{Key}
@@ -22,7 +24,7 @@ use Rattle.cwr_write.specs.declared.refusals.Key.TheVariants as said_of
 use Rattle.cwr_write.specs.declared.refusals.LineFault.{LineFault}
 use Rattle.cwr_write.specs.declared.refusals.Why.{Why}
 use Rattle.cwr_write.specs.declared.refusals.Why.TheVariants as whys
-use Rattle.cwr_write.specs.Format.Faults.{IsAmong, IsItemReason, IsKindReason, IsListReason, IsMemberReason, IsNextReason, IsRecordReason, IsValueReason, members_in}
+use Rattle.cwr_write.specs.Format.Faults.{IsAmong, IsItemReason, IsKindReason, IsListReason, IsMemberReason, IsNextReason, IsRecordReason, IsValueReason, MayGoOn, members_in}
 use Rattle.cwr_write.specs.declared.items.ItemFault.{ItemFault}
 use Rattle.cwr_write.specs.declared.items.ItemFault.TheVariants as item_faults
 use Rattle.cwr_write.specs.Steps.Members.{IsOnlyAt, SaysAt}
@@ -74,33 +76,33 @@ never_some None P none h = h
 never_some (Some x) P none h = none x h
 
 -- a record's own fault isn't its place
-never_member : (why : Why) → ((f : FieldLayout) (value : Option Json) → ¬ IsValueReason f value why) → (kind : Kind) (ms : Members) (j : ℕ) → ¬ IsSomeAnd (field_at kind j) (λ f. IsValueReason f (first_of (key_of f.name) ms) why)
-never_member why none kind ms j h = never_some (field_at kind j) (λ f. IsValueReason f (first_of (key_of f.name) ms) why) (λ f. none f (first_of (key_of f.name) ms)) h
+never_member : (enc : Encoding) (why : Why) → ((f : FieldLayout) (value : Option Json) → ¬ IsValueReason enc f value why) → (kind : Kind) (ms : Members) (j : ℕ) → ¬ IsSomeAnd (field_at kind j) (λ f. IsValueReason enc f (first_of (key_of f.name) ms) why)
+never_member enc why none kind ms j h = never_some (field_at kind j) (λ f. IsValueReason enc f (first_of (key_of f.name) ms) why) (λ f. none f (first_of (key_of f.name) ms)) h
 
-member_misplaced : (kind : Kind) (ms : Members) (key : Key) → ¬ IsMemberReason kind ms key whys.Misplaced
-member_misplaced kind ms (said_of.Field j) h = never_member whys.Misplaced (λ f value k. k) kind ms j h
-member_misplaced kind ms key h = h
+member_misplaced : (enc : Encoding) (kind : Kind) (ms : Members) (key : Key) → ¬ IsMemberReason enc kind ms key whys.Misplaced
+member_misplaced enc kind ms (said_of.Field j) h = never_member enc whys.Misplaced (λ f value k. k) kind ms j h
+member_misplaced enc kind ms key h = h
 
-member_alone : (kind : Kind) (ms : Members) (key : Key) → ¬ IsMemberReason kind ms key whys.Alone
-member_alone kind ms (said_of.Field j) h = never_member whys.Alone (λ f value k. k) kind ms j h
-member_alone kind ms key h = h
+member_alone : (enc : Encoding) (kind : Kind) (ms : Members) (key : Key) → ¬ IsMemberReason enc kind ms key whys.Alone
+member_alone enc kind ms (said_of.Field j) h = never_member enc whys.Alone (λ f value k. k) kind ms j h
+member_alone enc kind ms key h = h
 
-own_misplaced : (j : Json) (kind : Option Kind) (key : Key) → ¬ IsRecordReason j kind key whys.Misplaced
-own_misplaced j None key h = never_some (members_in j) (λ ms. IsKindReason (first_of kind_key (told ms)) whys.Misplaced) (λ ms k. k) h
-own_misplaced j (Some kind) key h = never_some (members_in j) _ (λ ms k. member_misplaced kind (told ms) key k.1) h
+own_misplaced : (enc : Encoding) (j : Json) (kind : Option Kind) (key : Key) → ¬ IsRecordReason enc j kind key whys.Misplaced
+own_misplaced enc j None key h = never_some (members_in j) (λ ms. IsKindReason (first_of kind_key (told ms)) whys.Misplaced) (λ ms k. k) h
+own_misplaced enc j (Some kind) key h = never_some (members_in j) _ (λ ms k. member_misplaced enc kind (told ms) key k.1) h
 
-own_alone : (j : Json) (kind : Option Kind) (key : Key) → ¬ IsRecordReason j kind key whys.Alone
-own_alone j None key h = never_some (members_in j) (λ ms. IsKindReason (first_of kind_key (told ms)) whys.Alone) (λ ms k. k) h
-own_alone j (Some kind) key h = never_some (members_in j) _ (λ ms k. member_alone kind (told ms) key k.1) h
+own_alone : (enc : Encoding) (j : Json) (kind : Option Kind) (key : Key) → ¬ IsRecordReason enc j kind key whys.Alone
+own_alone enc j None key h = never_some (members_in j) (λ ms. IsKindReason (first_of kind_key (told ms)) whys.Alone) (λ ms k. k) h
+own_alone enc j (Some kind) key h = never_some (members_in j) _ (λ ms k. member_alone enc kind (told ms) key k.1) h
 
-next_reason : (rs : List RecordValue) (j : Json) (f : LineFault) (why : Why) → IsRecordReason j f.kind f.key why → IsNextReason rs j f why
-next_reason rs j f whys.Misplaced h = absurd (own_misplaced j f.kind f.key h)
-next_reason rs j f whys.Alone h = absurd (own_alone j f.kind f.key h)
-next_reason rs j f why h = h
+next_reason : (enc : Encoding) (rs : List RecordValue) (j : Json) (f : LineFault) (why : Why) → IsRecordReason enc j f.kind f.key why → IsNextReason enc rs j f why
+next_reason enc rs j f whys.Misplaced h = absurd (own_misplaced enc j f.kind f.key h)
+next_reason enc rs j f whys.Alone h = absurd (own_alone enc j f.kind f.key h)
+next_reason enc rs j f why h = h
 
-among_at : {A : Type 0} (values : List (Value A)) (i : ℕ) (m : Value A) (f : LineFault) (rs : List RecordValue) → i < length values → m ≡ get_or values i m → f.record ≡ min (i + 1) 4294967295 → AreRecordsData (items_view (take i values)) rs → IsNextReason rs (value_view m) f f.why
-    → IsAmong (map value_view values) f
-among_at {A = A} values i m f rs h e count said reason =
+among_at : {A : Type 0} (enc : Encoding) (values : List (Value A)) (i : ℕ) (m : Value A) (f : LineFault) (rs : List RecordValue) → i < length values → m ≡ get_or values i m → f.record ≡ min (i + 1) 4294967295 → AreRecordsData enc (items_view (take i values)) rs → MayGoOn rs → IsNextReason enc rs (value_view m) f f.why
+    → IsAmong enc (map value_view values) f
+among_at {A = A} enc values i m f rs h e count said goes_on reason =
     let tail : drop i values ≡ m ∷ drop (i + 1) values = drop-cons values i m h ∙ ap (λ (x : Value A). x ∷ drop (suc i) values) (sym e) ∙ ap (λ (n : ℕ). m ∷ drop n values) (suc_is i) in
     record {
       before = map value_view (take i values);
@@ -110,6 +112,7 @@ among_at {A = A} values i m f rs h e count said reason =
       number = count ∙ ap (λ (n : ℕ). min (n + 1) 4294967295) (sym (counted i));
       records = rs;
       said = said;
+      goes_on = goes_on;
       reason = reason;
     }
   where
@@ -120,18 +123,23 @@ among_at {A = A} values i m f rs h e count said reason =
     counted n = omega (arith, h, length-map (take i values) value_view, length-take i values)
 
 -- a value that is data of no record
-pub own_among : {A : Type 0} (values : List (Value A)) (i : ℕ) (m : Value A) (f : LineFault) (rs : List RecordValue) → i < length values → m ≡ get_or values i m → f.record ≡ min (i + 1) 4294967295 → AreRecordsData (items_view (take i values)) rs
-    → IsRecordReason (value_view m) f.kind f.key f.why → IsAmong (map value_view values) f
-own_among values i m f rs h e count said reason = among_at values i m f rs h e count said (next_reason rs (value_view m) f f.why reason)
+pub own_among : {A : Type 0} (enc : Encoding) (values : List (Value A)) (i : ℕ) (m : Value A) (f : LineFault) (rs : List RecordValue) → i < length values → m ≡ get_or values i m → f.record ≡ min (i + 1) 4294967295 → AreRecordsData enc (items_view (take i values)) rs → MayGoOn rs
+    → IsRecordReason enc (value_view m) f.kind f.key f.why → IsAmong enc (map value_view values) f
+own_among enc values i m f rs h e count said goes_on reason = among_at enc values i m f rs h e count said goes_on (next_reason enc rs (value_view m) f f.why reason)
 
 -- or of one for its place
-pub placed_among : {A : Type 0} (values : List (Value A)) (i : ℕ) (m : Value A) (f : LineFault) (rs : List RecordValue) (why : Why) → i < length values → m ≡ get_or values i m → f.record ≡ min (i + 1) 4294967295 → AreRecordsData (items_view (take i values)) rs
-    → f.why ≡ why → IsNextReason rs (value_view m) f why → IsAmong (map value_view values) f
-placed_among values i m f rs why h e count said is reason = among_at values i m f rs h e count said (subst (IsNextReason rs (value_view m) f) (sym is) reason)
+pub placed_among : {A : Type 0} (enc : Encoding) (values : List (Value A)) (i : ℕ) (m : Value A) (f : LineFault) (rs : List RecordValue) (why : Why) → i < length values → m ≡ get_or values i m → f.record ≡ min (i + 1) 4294967295 → AreRecordsData enc (items_view (take i values)) rs → MayGoOn rs
+    → f.why ≡ why → IsNextReason enc rs (value_view m) f why → IsAmong enc (map value_view values) f
+placed_among enc values i m f rs why h e count said goes_on is reason = among_at enc values i m f rs h e count said goes_on (subst (IsNextReason enc rs (value_view m) f) (sym is) reason)
 
-pub none_data : {A : Type 0} (values : List (Value A)) → AreRecordsData (items_view (take 0 values)) []
+-- those of a transaction
+pub begun_goes_on : (rs : List RecordValue) → IsBegun rs → MayGoOn rs
+begun_goes_on [] h = tt
+begun_goes_on (r ∷ rs) h = inl h
+
+pub none_data : {A : Type 0} (enc : Encoding) (values : List (Value A)) → AreRecordsData enc (items_view (take 0 values)) []
 unfolding AreRecordsData
-none_data values = tt
+none_data enc values = tt
 
 -- ---- faults
 
@@ -146,13 +154,13 @@ line_err {X = X} (Err e) P Q h p = on_line e P Q (λ _. h) p
 
 -- ---- the one list of a line
 
-no_list : (j : Json) (rs : List RecordValue) → as_array j ≡ None → ¬ AreListData j rs
-no_list null rs e h = h
-no_list (boolean b) rs e h = h
-no_list (number n) rs e h = h
-no_list (string s) rs e h = h
-no_list (array js) rs e h = cc e
-no_list (object ms) rs e h = h
+no_list : (enc : Encoding) (j : Json) (rs : List RecordValue) → as_array j ≡ None → ¬ AreListData enc j rs
+no_list enc null rs e h = h
+no_list enc (boolean b) rs e h = h
+no_list enc (number n) rs e h = h
+no_list enc (string s) rs e h = h
+no_list enc (array js) rs e h = cc e
+no_list enc (object ms) rs e h = h
 
 array_of : (j : Json) (js : Items) → Some js ≡ as_array j → j ≡ array js
 array_of null js e = cc e
@@ -171,17 +179,17 @@ first_list {A = A} items at m only e =
     let same : only.found ≡ m = only.is ∙ get_or_default items at only.found m only.within ∙ sym e in
     ap (first_of records_key) only.only ∙ first_only (value_view only.found.1) ∙ ap (λ (x : Bor (List ℕ) × Value A). Some (value_view x.1)) same
 
-pub unlisted_data : {A : Type 0} (items : List (Bor (List ℕ) × Value A)) (at : ℕ) (m : Bor (List ℕ) × Value A) (rs : List RecordValue) → IsOnlyAt items records_key at → m ≡ get_or items at m → None ≡ as_array (value_view m.1) → ¬ IsItemData (object (members_view items)) rs
-unlisted_data items at m rs only e none h = no_list (value_view m.1) rs (sym none) (list_data items at m rs only e h)
+pub unlisted_data : {A : Type 0} (enc : Encoding) (items : List (Bor (List ℕ) × Value A)) (at : ℕ) (m : Bor (List ℕ) × Value A) (rs : List RecordValue) → IsOnlyAt items records_key at → m ≡ get_or items at m → None ≡ as_array (value_view m.1) → ¬ IsItemData enc (object (members_view items)) rs
+unlisted_data enc items at m rs only e none h = no_list enc (value_view m.1) rs (sym none) (list_data enc items at m rs only e h)
 
-pub unlisted_reason : {A : Type 0} (items : List (Bor (List ℕ) × Value A)) (at : ℕ) (m : Bor (List ℕ) × Value A) (f : LineFault) → IsOnlyAt items records_key at → m ≡ get_or items at m → None ≡ as_array (value_view m.1) → f.record ≡ 0 → f.why ≡ whys.NotAList
-    → IsItemReason (object (members_view items)) f
-unlisted_reason items at m f only e none first why =
+pub unlisted_reason : {A : Type 0} (enc : Encoding) (items : List (Bor (List ℕ) × Value A)) (at : ℕ) (m : Bor (List ℕ) × Value A) (f : LineFault) → IsOnlyAt items records_key at → m ≡ get_or items at m → None ≡ as_array (value_view m.1) → f.record ≡ 0 → f.why ≡ whys.NotAList
+    → IsItemReason enc (object (members_view items)) f
+unlisted_reason enc items at m f only e none first why =
     inr (inl (first, subst (IsListReason (told (members_view items))) (sym why) (subst (λ (o : Option Json). IsSomeAnd o (λ j. as_array j ≡ None)) (sym (first_list items at m only e)) (sym none))))
 
-pub listed_reason : {A : Type 0} (items : List (Bor (List ℕ) × Value A)) (at : ℕ) (m : Bor (List ℕ) × Value A) (js : List Json) (f : LineFault) → IsOnlyAt items records_key at → m ≡ get_or items at m → Some (items_of js) ≡ as_array (value_view m.1) → IsOfList js f
-    → IsItemReason (object (members_view items)) f
-listed_reason items at m js f only e list h =
+pub listed_reason : {A : Type 0} (enc : Encoding) (items : List (Bor (List ℕ) × Value A)) (at : ℕ) (m : Bor (List ℕ) × Value A) (js : List Json) (f : LineFault) → IsOnlyAt items records_key at → m ≡ get_or items at m → Some (items_of js) ≡ as_array (value_view m.1) → IsOfList enc js f
+    → IsItemReason enc (object (members_view items)) f
+listed_reason enc items at m js f only e list h =
     let there : first_of records_key (told (members_view items)) ≡ Some (array (items_of js)) = first_list items at m only e ∙ ap (λ (j : Json). Some j) (array_of (value_view m.1) (items_of js) list) in
     elim h [
       | inl none ↦ inr (inl (none.0, subst (IsListReason (told (members_view items))) (sym none.1) (there ∙ ap (λ (l : List Json). Some (array (items_of l))) none.2)))

@@ -12,6 +12,7 @@ use Rattle.cwr_layouts.specs.declared.kinds.Kind.TheVariants.{Hdr, Grh, Grt, Trl
 use Rattle.cwr_layouts.specs.Format.Records.{RecordValue, IsRecord}
 use Rattle.cwr_values.specs.Format.Rows.{trailer}
 use Rattle.cwr_values.proofs.OneTransmissionOfRecords.{is_trailer}
+use Rattle.cwr_json.specs.declared.encodings.Encoding.{Encoding}
 use Rattle.cwr_json.specs.Format.Forms.{AreRecordsData, IsRecordData, says, told}
 use Rattle.cwr_json.proofs.OwnData.{bytes_same, same_bytes}
 use Rattle.cwr_write.specs.Format.AloneKinds.{IsAlone}
@@ -45,30 +46,30 @@ only_is {A = A} items key at more m h e key_is s before after all = record {
 
 -- ---- values
 
-data_last : (js : List Json) (rs : List RecordValue) (j : Json) (r : RecordValue) → AreRecordsData (items_of js) rs → IsRecordData j r → AreRecordsData (items_of (js ++ j ∷ [])) (rs ++ r ∷ [])
+data_last : (enc : Encoding) (js : List Json) (rs : List RecordValue) (j : Json) (r : RecordValue) → AreRecordsData enc (items_of js) rs → IsRecordData enc j r → AreRecordsData enc (items_of (js ++ j ∷ [])) (rs ++ r ∷ [])
 unfolding AreRecordsData
-data_last [] [] j r h d = (d, tt)
-data_last [] (x ∷ rs) j r h d = absurd h
-data_last (i ∷ js) [] j r h d = absurd h
-data_last (i ∷ js) (x ∷ rs) j r h d = (h.0, data_last js rs j r h.1 d)
+data_last enc [] [] j r h d = (d, tt)
+data_last enc [] (x ∷ rs) j r h d = absurd h
+data_last enc (i ∷ js) [] j r h d = absurd h
+data_last enc (i ∷ js) (x ∷ rs) j r h d = (h.0, data_last enc js rs j r h.1 d)
 
 -- with one more value the records are one more
-pub data_more : {A : Type 0} (values : List (Value A)) (i : ℕ) (m : Value A) (rs : List RecordValue) (r : RecordValue) → i < length values → m ≡ get_or values i m → AreRecordsData (items_view (take i values)) rs
-    → IsRecordData (value_view m) r → AreRecordsData (items_view (take (i + 1) values)) (rs ++ r ∷ [])
-data_more {A = A} values i m rs r h e so_far d =
+pub data_more : {A : Type 0} (enc : Encoding) (values : List (Value A)) (i : ℕ) (m : Value A) (rs : List RecordValue) (r : RecordValue) → i < length values → m ≡ get_or values i m → AreRecordsData enc (items_view (take i values)) rs
+    → IsRecordData enc (value_view m) r → AreRecordsData enc (items_view (take (i + 1) values)) (rs ++ r ∷ [])
+data_more {A = A} enc values i m rs r h e so_far d =
     let one : map value_view (take (i + 1) values) ≡ map value_view (take i values) ++ value_view m ∷ []
     = ap (λ (l : List (Value A)). map value_view l) (take_more values i m h ∙ ap (λ (x : Value A). take i values ++ x ∷ []) (sym e)) ∙ map-append value_view (take i values) (m ∷ []) in
-    subst (λ (l : List Json). AreRecordsData (items_of l) (rs ++ r ∷ [])) (sym one) (data_last (map value_view (take i values)) rs (value_view m) r so_far d)
+    subst (λ (l : List Json). AreRecordsData enc (items_of l) (rs ++ r ∷ [])) (sym one) (data_last enc (map value_view (take i values)) rs (value_view m) r so_far d)
 
-no_data : AreRecordsData (items_of []) []
+no_data : (enc : Encoding) → AreRecordsData enc (items_of []) []
 unfolding AreRecordsData
-no_data = tt
+no_data enc = tt
 
-pub data_first : {A : Type 0} (values : List (Value A)) (r : RecordValue) → IsDataAt values 0 r → AreRecordsData (items_view (take 1 values)) (r ∷ [])
-data_first values r h = data_more values 0 h.found [] r h.within h.is no_data h.is_data
+pub data_first : {A : Type 0} (enc : Encoding) (values : List (Value A)) (r : RecordValue) → IsDataAt enc values 0 r → AreRecordsData enc (items_view (take 1 values)) (r ∷ [])
+data_first enc values r h = data_more enc values 0 h.found [] r h.within h.is (no_data enc) h.is_data
 
-pub data_all : {A : Type 0} (values : List (Value A)) (i : ℕ) (rs : List RecordValue) → length values ≤ i → AreRecordsData (items_view (take i values)) rs → AreRecordsData (items_view values) rs
-data_all {A = A} values i rs h d = subst (λ (l : List (Value A)). AreRecordsData (items_view l) rs) (take_all i values h) d
+pub data_all : {A : Type 0} (enc : Encoding) (values : List (Value A)) (i : ℕ) (rs : List RecordValue) → length values ≤ i → AreRecordsData enc (items_view (take i values)) rs → AreRecordsData enc (items_view values) rs
+data_all {A = A} enc values i rs h d = subst (λ (l : List (Value A)). AreRecordsData enc (items_view l) rs) (take_all i values h) d
 
 -- ---- items of one record
 
@@ -79,17 +80,17 @@ alone_trailer Grt alone h g f = absurd (f refl)
 alone_trailer Trl alone h g f = refl
 alone_trailer _ alone h g f = absurd alone
 
-pub data_fits : (j : Json) (r : RecordValue) → IsRecordData j r → IsRecord r
-data_fits null r h = absurd h
-data_fits (boolean b) r h = absurd h
-data_fits (number s) r h = absurd h
-data_fits (string s) r h = absurd h
-data_fits (array js) r h = absurd h
-data_fits (object ms) r h = h.fits
+pub data_fits : (enc : Encoding) (j : Json) (r : RecordValue) → IsRecordData enc j r → IsRecord r
+data_fits enc null r h = absurd h
+data_fits enc (boolean b) r h = absurd h
+data_fits enc (number s) r h = absurd h
+data_fits enc (string s) r h = absurd h
+data_fits enc (array js) r h = absurd h
+data_fits enc (object ms) r h = h.fits
 
 -- TRL's record is always the same
-pub data_of_trailer : {A : Type 0} (values : List (Value A)) (r : RecordValue) → IsDataAt values 0 r → r.kind ≡ Trl → AreRecordsData (items_view values) (r ∷ []) → AreRecordsData (items_view values) (trailer ∷ [])
-data_of_trailer values r h kind d = subst (λ (x : RecordValue). AreRecordsData (items_view values) (x ∷ [])) (is_trailer r kind (data_fits (value_view h.found) r h.is_data)) d
+pub data_of_trailer : {A : Type 0} (enc : Encoding) (values : List (Value A)) (r : RecordValue) → IsDataAt enc values 0 r → r.kind ≡ Trl → AreRecordsData enc (items_view values) (r ∷ []) → AreRecordsData enc (items_view values) (trailer ∷ [])
+data_of_trailer enc values r h kind d = subst (λ (x : RecordValue). AreRecordsData enc (items_view values) (x ∷ [])) (is_trailer r kind (data_fits enc (value_view h.found) r h.is_data)) d
 
 -- a key that isn't another one is it
 pub key_same : (k l : List ℕ) → not (bytes_eq k l) ≡ false → k ≡ l

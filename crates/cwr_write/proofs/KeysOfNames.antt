@@ -79,9 +79,15 @@ computed_none kind j place found h e d =
     sym (field_at-start kind j) ∙ ap (option_map (λ (p : ℕ × FieldLayout). p.1)) (sym h) ∙ ap (λ (o : Option Field). option_map (λ (p : ℕ × FieldLayout). p.1) (option_map field_view o)) e in
     ap (λ (o : Option FieldLayout). option_and_then (λ f. cond f.derived None (Some f)) o) there ∙ ap (λ (b : Bool). cond b None (Some (field_view place).1)) d
 
-pub computed_derived : (kind : Kind) (j : ℕ) (place : Field) (found : Option Field) (f : FieldLayout) → option_map field_view found ≡ field_with_start kind j → found ≡ Some place → place.derived ≡ true → field_at kind j ≡ Some f → f.derived ≡ true
-computed_derived kind j place found f h e d at =
+pub computed_derived : (kind : Kind) (j : ℕ) (place : Field) (found : Option Field) (f : FieldLayout) → option_map field_view found ≡ field_with_start kind j → found ≡ Some place → field_at kind j ≡ Some f → f.derived ≡ place.derived
+computed_derived kind j place found f h e at =
     let there : field_at kind j ≡ Some (field_view place).1 =
     sym (field_at-start kind j) ∙ ap (option_map (λ (p : ℕ × FieldLayout). p.1)) (sym h) ∙ ap (λ (o : Option Field). option_map (λ (p : ℕ × FieldLayout). p.1) (option_map field_view o)) e in
     let same : (field_view place).1 ≡ f = cc (there, at) in
-    ap (λ (x : FieldLayout). x.derived) (sym same) ∙ d
+    ap (λ (x : FieldLayout). x.derived) (sym same)
+
+-- none is there that isn't found
+pub never_there : (kind : Kind) (j : ℕ) (found : Option Field) (f : FieldLayout) → option_map field_view found ≡ field_with_start kind j → found ≡ None → field_at kind j ≡ Some f → ⊥
+never_there kind j found f h e at =
+    let none : None ≡ Some f = ap (λ (o : Option Field). option_map (λ (p : ℕ × FieldLayout). p.1) (option_map field_view o)) (sym e) ∙ ap (option_map (λ (p : ℕ × FieldLayout). p.1)) h ∙ field_at-start kind j ∙ at in
+    cc none

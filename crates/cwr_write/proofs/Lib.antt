@@ -12,6 +12,7 @@ mod ItemReasons
 mod NoItemData
 mod NoRecordData
 mod OwnLines
+mod ShownUtf8
 mod RecordReasons
 mod RunsEnded
 mod TakenItems

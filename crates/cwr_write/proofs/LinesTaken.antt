@@ -11,6 +11,7 @@ use Rattle.cwr_layouts.specs.Format.Records.{RecordValue}
 use Rattle.cwr_shape.specs.Format.Ranges.{LimitValues}
 use Rattle.std.proofs.lemmas.List.Elements.{filter-append}
 use Rattle.cwr_values.specs.declared.items.Item.{Item}
+use Rattle.cwr_json.specs.declared.encodings.Encoding.{Encoding}
 use Rattle.cwr_write.specs.Format.Imports.{AreLines, SaysItem, SaysItems, is_blank_line}
 use Rattle.cwr_values.specs.Format.Values.{TransmissionValue, IsTransmission, FitsIn}
 use Rattle.cwr_judge.specs.Format.Items.{AreFirstItems, item_records, records_in, value_items}
@@ -79,66 +80,66 @@ unfolding AreLines
 line_before text after line (none, inl (rest, e, a)) = (rest, a, λ tail h. (none, inl (rest, e, h)))
 line_before text after line (none, inr (e, some, a)) = ([], a, λ tail h. (none, inr (e, some, nothing_left tail h)))
 
-pub said_none : (most : ℕ) (left : Option (List ℕ)) → IfSome left (λ text. SaidSoFar most 0 text left [])
-said_none most None = tt
-said_none most (Some text) = record { lines = []; rest = text; after_is = refl; with_rest = λ tail h. h; each = tt; number = refl; short = tt }
+pub said_none : (enc : Encoding) (most : ℕ) (left : Option (List ℕ)) → IfSome left (λ text. SaidSoFar enc most 0 text left [])
+said_none enc most None = tt
+said_none enc most (Some text) = record { lines = []; rest = text; after_is = refl; with_rest = λ tail h. h; each = tt; number = refl; short = tt }
 
 kept_line : (line : List ℕ) (b : Bool) → not (is_blank_line line) ≡ b → filter (λ l. not (is_blank_line l)) (line ∷ []) ≡ cond b (line ∷ []) []
 kept_line line b e = ap (λ (x : Bool). cond x (line ∷ []) []) e
 
-all_with : (xs : List (List ℕ)) (ys : List Item) (x : List ℕ) (y : Item) → AllZip SaysItem xs ys → SaysItem x y → AllZip SaysItem (xs ++ x ∷ []) (ys ++ y ∷ [])
-all_with [] [] x y h s = (s, h)
-all_with [] (z ∷ ys) x y h s = absurd h
-all_with (w ∷ xs) [] x y h s = absurd h
-all_with (w ∷ xs) (z ∷ ys) x y h s = (h.0, all_with xs ys x y h.1 s)
+all_with : (enc : Encoding) (xs : List (List ℕ)) (ys : List Item) (x : List ℕ) (y : Item) → AllZip (SaysItem enc) xs ys → SaysItem enc x y → AllZip (SaysItem enc) (xs ++ x ∷ []) (ys ++ y ∷ [])
+all_with enc [] [] x y h s = (s, h)
+all_with enc [] (z ∷ ys) x y h s = absurd h
+all_with enc (w ∷ xs) [] x y h s = absurd h
+all_with enc (w ∷ xs) (z ∷ ys) x y h s = (h.0, all_with enc xs ys x y h.1 s)
 
 short_with : (most : ℕ) (lines : List (List ℕ)) (line : List ℕ) → AreShort most lines → length line ≤ most → AreShort most (lines ++ line ∷ [])
 short_with most [] line h k = (k, tt)
 short_with most (l ∷ lines) line h k = (h.0, short_with most lines line h.1 k)
 
 -- a line more, with the items that it gives
-with_line : (most n : ℕ) (text : List ℕ) (mid after : Option (List ℕ)) (line : List ℕ) (items more : List Item) → (h : SaidSoFar most n text mid items) → TakesLineOf mid after line true → length line ≤ most
-    → AllZip SaysItem (said_lines h.lines ++ said_lines (line ∷ [])) (items ++ more) → SaidSoFar most (n + 1) text after (items ++ more)
-with_line most n text mid after line items more h t k each =
+with_line : (enc : Encoding) (most n : ℕ) (text : List ℕ) (mid after : Option (List ℕ)) (line : List ℕ) (items more : List Item) → (h : SaidSoFar enc most n text mid items) → TakesLineOf mid after line true → length line ≤ most
+    → AllZip (SaysItem enc) (said_lines h.lines ++ said_lines (line ∷ [])) (items ++ more) → SaidSoFar enc most (n + 1) text after (items ++ more)
+with_line enc most n text mid after line items more h t k each =
     let one = line_before h.rest after line (subst (λ (o : Option (List ℕ)). TakesLineOf o after line true) h.after_is t) in
     record {
       lines = h.lines ++ line ∷ [];
       rest = one.0;
       after_is = one.1;
       with_rest = λ tail a. subst (λ (l : List (List ℕ)). AreLines l text) (sym (append_assoc h.lines (line ∷ []) tail)) (h.with_rest (line ∷ tail) (one.2 tail a));
-      each = subst (λ (l : List (List ℕ)). AllZip SaysItem l (items ++ more)) (sym (filter-append (λ l. not (is_blank_line l)) h.lines (line ∷ []))) each;
+      each = subst (λ (l : List (List ℕ)). AllZip (SaysItem enc) l (items ++ more)) (sym (filter-append (λ l. not (is_blank_line l)) h.lines (line ∷ []))) each;
       number = omega (arith, h.number, length-append h.lines (line ∷ []));
       short = short_with most h.lines line h.short k;
     }
 
 -- a blank line more
-pub said_blank : (most n : ℕ) (left mid after : Option (List ℕ)) (line : List ℕ) (items : List Item) → IfSome left (λ text. SaidSoFar most n text mid items) → TakesLineOf mid after line true → length line ≤ most → is_blank_line line ≡ true
-    → IfSome left (λ text. SaidSoFar most (n + 1) text after items)
-said_blank most n None mid after line items h t k b = tt
-said_blank most n (Some text) mid after line items h t k b =
-    subst (SaidSoFar most (n + 1) text after) (append-nil items)
-    (with_line most n text mid after line items [] h t k
-    (subst (λ (l : List (List ℕ)). AllZip SaysItem (said_lines h.lines ++ l) (items ++ [])) (sym (kept_line line false (ap not b)))
-    (subst (λ (l : List (List ℕ)). AllZip SaysItem l (items ++ [])) (sym (append-nil (said_lines h.lines))) (subst (AllZip SaysItem (said_lines h.lines)) (sym (append-nil items)) h.each))))
+pub said_blank : (enc : Encoding) (most n : ℕ) (left mid after : Option (List ℕ)) (line : List ℕ) (items : List Item) → IfSome left (λ text. SaidSoFar enc most n text mid items) → TakesLineOf mid after line true → length line ≤ most → is_blank_line line ≡ true
+    → IfSome left (λ text. SaidSoFar enc most (n + 1) text after items)
+said_blank enc most n None mid after line items h t k b = tt
+said_blank enc most n (Some text) mid after line items h t k b =
+    subst (SaidSoFar enc most (n + 1) text after) (append-nil items)
+    (with_line enc most n text mid after line items [] h t k
+    (subst (λ (l : List (List ℕ)). AllZip (SaysItem enc) (said_lines h.lines ++ l) (items ++ [])) (sym (kept_line line false (ap not b)))
+    (subst (λ (l : List (List ℕ)). AllZip (SaysItem enc) l (items ++ [])) (sym (append-nil (said_lines h.lines))) (subst (AllZip (SaysItem enc) (said_lines h.lines)) (sym (append-nil items)) h.each))))
 
 -- a line more that is data of an item
-pub said_item : (most n : ℕ) (left mid after : Option (List ℕ)) (line : List ℕ) (items : List Item) (item : Item) → IfSome left (λ text. SaidSoFar most n text mid items) → TakesLineOf mid after line true → length line ≤ most
-    → is_blank_line line ≡ false → SaysItem line item → IfSome left (λ text. SaidSoFar most (n + 1) text after (items ++ item ∷ []))
-said_item most n None mid after line items item h t k b s = tt
-said_item most n (Some text) mid after line items item h t k b s =
-    with_line most n text mid after line items (item ∷ []) h t k
-    (subst (λ (l : List (List ℕ)). AllZip SaysItem (said_lines h.lines ++ l) (items ++ item ∷ [])) (sym (kept_line line true (ap not b))) (all_with (said_lines h.lines) items line item h.each s))
+pub said_item : (enc : Encoding) (most n : ℕ) (left mid after : Option (List ℕ)) (line : List ℕ) (items : List Item) (item : Item) → IfSome left (λ text. SaidSoFar enc most n text mid items) → TakesLineOf mid after line true → length line ≤ most
+    → is_blank_line line ≡ false → SaysItem enc line item → IfSome left (λ text. SaidSoFar enc most (n + 1) text after (items ++ item ∷ []))
+said_item enc most n None mid after line items item h t k b s = tt
+said_item enc most n (Some text) mid after line items item h t k b s =
+    with_line enc most n text mid after line items (item ∷ []) h t k
+    (subst (λ (l : List (List ℕ)). AllZip (SaysItem enc) (said_lines h.lines ++ l) (items ++ item ∷ [])) (sym (kept_line line true (ap not b))) (all_with enc (said_lines h.lines) items line item h.each s))
 
 -- all lines
-lines_all : (most n : ℕ) (text : List ℕ) (mid after : Option (List ℕ)) (line : List ℕ) (items : List Item) (h : SaidSoFar most n text mid items) → TakesLineOf mid after line false → AreLines h.lines text
+lines_all : (enc : Encoding) (most n : ℕ) (text : List ℕ) (mid after : Option (List ℕ)) (line : List ℕ) (items : List Item) (h : SaidSoFar enc most n text mid items) → TakesLineOf mid after line false → AreLines h.lines text
 unfolding AreLines
-lines_all most n text mid after line items h t =
+lines_all enc most n text mid after line items h t =
     let none = subst (λ (o : Option (List ℕ)). TakesLineOf o after line false) h.after_is t in
     subst (λ (l : List (List ℕ)). AreLines l text) (append-nil h.lines) (h.with_rest [] none.0)
 
-pub said_all : (most n : ℕ) (left mid after : Option (List ℕ)) (line : List ℕ) (items : List Item) → IfSome left (λ text. SaidSoFar most n text mid items) → TakesLineOf mid after line false → IfSome left (λ text. SaysItems text items)
-said_all most n None mid after line items h t = tt
-said_all most n (Some text) mid after line items h t = record { lines = h.lines; are = lines_all most n text mid after line items h t; each = h.each }
+pub said_all : (enc : Encoding) (most n : ℕ) (left mid after : Option (List ℕ)) (line : List ℕ) (items : List Item) → IfSome left (λ text. SaidSoFar enc most n text mid items) → TakesLineOf mid after line false → IfSome left (λ text. SaysItems enc text items)
+said_all enc most n None mid after line items h t = tt
+said_all enc most n (Some text) mid after line items h t = record { lines = h.lines; are = lines_all enc most n text mid after line items h t; each = h.each }
 
 -- ---- the lines of a text
 
@@ -216,8 +217,8 @@ fewer [] text a = omega arith
 fewer (l ∷ ls) text (none, inl (rest, e, h)) = omega (arith, fewer ls rest h, ap length e, length-append l (10 ∷ rest))
 fewer (l ∷ ls) text (none, inr (e, some, last)) = omega (arith, ap length e, ap length last, some)
 
-pub few_lines : (most n : ℕ) (text : List ℕ) (mid : Option (List ℕ)) (items : List Item) → SaidSoFar most n text mid items → n ≤ length text
-few_lines most n text mid items h =
+pub few_lines : (enc : Encoding) (most n : ℕ) (text : List ℕ) (mid : Option (List ℕ)) (items : List Item) → SaidSoFar enc most n text mid items → n ≤ length text
+few_lines enc most n text mid items h =
     let c = lines_of h.rest in
     omega (arith, h.number, fewer (h.lines ++ c.lines) text (h.with_rest c.lines c.are), length-append h.lines c.lines)
 
@@ -246,9 +247,9 @@ last_short : (most : ℕ) (lines : List (List ℕ)) (line : List ℕ) → AreSho
 last_short most [] line h = h.0
 last_short most (l ∷ lines) line h = last_short most lines line h.1
 
-pub stops_long : (limits : LimitValues) (most n : ℕ) (f : LineFault) (left mid : Option (List ℕ)) (items : List Item) → f.why ≡ TooLong → IfSome left (λ text. SaidSoFar most n text mid items) → ExceedsWith most mid [] → AreFirstItems limits items → IfSome left (λ text. StopsAtLine limits most text (n + 1) f)
-stops_long limits most n fault None mid items why h x f = tt
-stops_long limits most n fault (Some text) mid items why h x f =
+pub stops_long : (enc : Encoding) (limits : LimitValues) (most n : ℕ) (f : LineFault) (left mid : Option (List ℕ)) (items : List Item) → f.why ≡ TooLong → f.record ≡ 0 → IfSome left (λ text. SaidSoFar enc most n text mid items) → ExceedsWith most mid [] → AreFirstItems limits items → IfSome left (λ text. StopsAtLine enc limits most text (n + 1) f)
+stops_long enc limits most n fault None mid items why first h x f = tt
+stops_long enc limits most n fault (Some text) mid items why first h x f =
     let there = long_line most h.rest (subst (λ (o : Option (List ℕ)). ExceedsWith most o []) h.after_is x) in
     record {
       before = h.lines;
@@ -258,7 +259,7 @@ stops_long limits most n fault (Some text) mid items why h x f =
       number = ap (λ (m : ℕ). m + 1) h.number;
       taken = record { items = items; short = h.short; each = h.each; first = f };
       stops = λ t. omega (arith, last_short most h.lines there.line t.short, there.long);
-      reason = subst (λ (w : Why). IsReasonOf limits most items there.line fault w) (sym why) there.long;
+      reason = subst (λ (w : Why). IsReasonOf enc limits most items there.line fault w) (sym why) (first, there.long);
     }
 
 -- ---- items that lines say
@@ -266,63 +267,63 @@ stops_long limits most n fault (Some text) mid items why h x f =
 pub value_once : (line : List ℕ) (j k : Json) → document line ≡ Some j → document line ≡ Some k → j ≡ k
 value_once line j k e f = let both : Some j ≡ Some k = sym e ∙ f in cc both
 
-pub says_once : (line : List ℕ) (i w : Item) → SaysItem line i → SaysItem line w → item_records i ≡ item_records w
-says_once line i w s t = one_data s.value (item_records i) (item_records w) s.says (subst (λ (j : Json). IsItemData j (item_records w)) (sym (value_once line s.value t.value s.text t.text)) t.says)
+pub says_once : (enc : Encoding) (line : List ℕ) (i w : Item) → SaysItem enc line i → SaysItem enc line w → item_records i ≡ item_records w
+says_once enc line i w s t = one_data enc s.value (item_records i) (item_records w) s.says (subst (λ (j : Json). IsItemData enc j (item_records w)) (sym (value_once line s.value t.value s.text t.text)) t.says)
 
-pub same_records : (lines : List (List ℕ)) (xs ys : List Item) → AllZip SaysItem lines xs → AllZip SaysItem lines ys → records_in xs ≡ records_in ys
-same_records [] [] [] h k = refl
-same_records [] [] (y ∷ ys) h k = absurd k
-same_records [] (x ∷ xs) ys h k = absurd h
-same_records (l ∷ lines) [] ys h k = absurd h
-same_records (l ∷ lines) (x ∷ xs) [] h k = absurd k
-same_records (l ∷ lines) (x ∷ xs) (y ∷ ys) h k = ap₂ (λ (a : List RecordValue) (b : List RecordValue). a ++ b) (says_once l x y h.0 k.0) (same_records lines xs ys h.1 k.1)
+pub same_records : (enc : Encoding) (lines : List (List ℕ)) (xs ys : List Item) → AllZip (SaysItem enc) lines xs → AllZip (SaysItem enc) lines ys → records_in xs ≡ records_in ys
+same_records enc [] [] [] h k = refl
+same_records enc [] [] (y ∷ ys) h k = absurd k
+same_records enc [] (x ∷ xs) ys h k = absurd h
+same_records enc (l ∷ lines) [] ys h k = absurd h
+same_records enc (l ∷ lines) (x ∷ xs) [] h k = absurd k
+same_records enc (l ∷ lines) (x ∷ xs) (y ∷ ys) h k = ap₂ (λ (a : List RecordValue) (b : List RecordValue). a ++ b) (says_once enc l x y h.0 k.0) (same_records enc lines xs ys h.1 k.1)
 
-same_items : (ty tz : TransactionType) (lines : List (List ℕ)) (xs ys : List Item) → AreOwn ty xs → AreOwn tz ys → AllZip SaysItem lines xs → AllZip SaysItem lines ys → xs ≡ ys
-same_items ty tz [] [] [] p q h k = refl
-same_items ty tz [] [] (y ∷ ys) p q h k = absurd k
-same_items ty tz [] (x ∷ xs) ys p q h k = absurd h
-same_items ty tz (l ∷ lines) [] ys p q h k = absurd h
-same_items ty tz (l ∷ lines) (x ∷ xs) [] p q h k = absurd k
-same_items ty tz (l ∷ lines) (x ∷ xs) (y ∷ ys) p q h k =
-    ap₂ (λ (a : Item) (b : List Item). a ∷ b) (same_item x y (own_heads ty x p.0) (own_heads tz y q.0) (says_once l x y h.0 k.0)) (same_items (next_type ty x) (next_type tz y) lines xs ys p.1 q.1 h.1 k.1)
+same_items : (enc : Encoding) (ty tz : TransactionType) (lines : List (List ℕ)) (xs ys : List Item) → AreOwn ty xs → AreOwn tz ys → AllZip (SaysItem enc) lines xs → AllZip (SaysItem enc) lines ys → xs ≡ ys
+same_items enc ty tz [] [] [] p q h k = refl
+same_items enc ty tz [] [] (y ∷ ys) p q h k = absurd k
+same_items enc ty tz [] (x ∷ xs) ys p q h k = absurd h
+same_items enc ty tz (l ∷ lines) [] ys p q h k = absurd h
+same_items enc ty tz (l ∷ lines) (x ∷ xs) [] p q h k = absurd k
+same_items enc ty tz (l ∷ lines) (x ∷ xs) (y ∷ ys) p q h k =
+    ap₂ (λ (a : Item) (b : List Item). a ∷ b) (same_item x y (own_heads ty x p.0) (own_heads tz y q.0) (says_once enc l x y h.0 k.0)) (same_items enc (next_type ty x) (next_type tz y) lines xs ys p.1 q.1 h.1 k.1)
 
 -- a list beside two, one after the other
-record BothBeside (xs ys : List (List ℕ)) (items : List Item) : Type 0 where
+record BothBeside (enc : Encoding) (xs ys : List (List ℕ)) (items : List Item) : Type 0 where
   front : List Item
   back : List Item
   whole : items ≡ front ++ back
-  before : AllZip SaysItem xs front
-  after : AllZip SaysItem ys back
+  before : AllZip (SaysItem enc) xs front
+  after : AllZip (SaysItem enc) ys back
 
-beside : (xs ys : List (List ℕ)) (items : List Item) → AllZip SaysItem (xs ++ ys) items → BothBeside xs ys items
-beside [] ys items h = record { front = []; back = items; whole = refl; before = tt; after = h }
-beside (x ∷ xs) ys [] h = absurd h
-beside (x ∷ xs) ys (i ∷ items) h =
-    let p = beside xs ys items h.1 in
+beside : (enc : Encoding) (xs ys : List (List ℕ)) (items : List Item) → AllZip (SaysItem enc) (xs ++ ys) items → BothBeside enc xs ys items
+beside enc [] ys items h = record { front = []; back = items; whole = refl; before = tt; after = h }
+beside enc (x ∷ xs) ys [] h = absurd h
+beside enc (x ∷ xs) ys (i ∷ items) h =
+    let p = beside enc xs ys items h.1 in
     record { front = i ∷ p.front; back = p.back; whole = ap (λ (l : List Item). i ∷ l) p.whole; before = (h.0, p.before); after = p.after }
 
 first_front : (limits : LimitValues) (xs ys : List Item) → AreFirstItems limits (xs ++ ys) → AreFirstItems limits xs
 first_front limits xs ys f = record { value = f.value; whole = f.whole; within = f.within; rest = ys ++ f.rest; split = f.split ∙ append_assoc xs ys f.rest }
 
 -- with a line that isn't blank, none is taken that says no item with which a transmission begins
-none_with : (limits : LimitValues) (most : ℕ) (lines : List (List ℕ)) (line : List ℕ) (items : List Item) → AllZip SaysItem (said_lines lines) items → AreFirstItems limits items → is_blank_line line ≡ false
-    → ((i : Item) → SaysItem line i → ¬ AreFirstItems limits (items ++ i ∷ [])) → ¬ AreTaken limits most (lines ++ line ∷ [])
-none_with limits most lines line items each f b none t =
+none_with : (enc : Encoding) (limits : LimitValues) (most : ℕ) (lines : List (List ℕ)) (line : List ℕ) (items : List Item) → AllZip (SaysItem enc) (said_lines lines) items → AreFirstItems limits items → is_blank_line line ≡ false
+    → ((i : Item) → SaysItem enc line i → ¬ AreFirstItems limits (items ++ i ∷ [])) → ¬ AreTaken enc limits most (lines ++ line ∷ [])
+none_with enc limits most lines line items each f b none t =
     let kept : said_lines (lines ++ line ∷ []) ≡ said_lines lines ++ line ∷ [] = filter-append (λ l. not (is_blank_line l)) lines (line ∷ []) ∙ ap (λ (l : List (List ℕ)). said_lines lines ++ l) (kept_line line true (ap not b)) in
-    let p = beside (said_lines lines) (line ∷ []) t.items (subst (λ (l : List (List ℕ)). AllZip SaysItem l t.items) kept t.each) in
+    let p = beside enc (said_lines lines) (line ∷ []) t.items (subst (λ (l : List (List ℕ)). AllZip (SaysItem enc) l t.items) kept t.each) in
     let first : AreFirstItems limits (p.front ++ p.back) = subst (AreFirstItems limits) p.whole t.first in
-    let same : p.front ≡ items = same_items Acknowledgement Acknowledgement (said_lines lines) p.front items (own_first limits p.front (first_front limits p.front p.back first)) (own_first limits items f) p.before each in
+    let same : p.front ≡ items = same_items enc Acknowledgement Acknowledgement (said_lines lines) p.front items (own_first limits p.front (first_front limits p.front p.back first)) (own_first limits items f) p.before each in
     by p.back p.after (subst (λ (l : List Item). AreFirstItems limits (l ++ p.back)) same first)
   where
-    by : (back : List Item) → AllZip SaysItem (line ∷ []) back → AreFirstItems limits (items ++ back) → ⊥
+    by : (back : List Item) → AllZip (SaysItem enc) (line ∷ []) back → AreFirstItems limits (items ++ back) → ⊥
     by [] h g = h
     by (i ∷ []) h g = none i h.0 g
     by (i ∷ j ∷ back) h g = h.1
 
-pub stops_line : (limits : LimitValues) (most n : ℕ) (why : LineFault) (left mid after : Option (List ℕ)) (line : List ℕ) (items : List Item) → IfSome left (λ text. SaidSoFar most n text mid items) → TakesLineOf mid after line true → is_blank_line line ≡ false
-    → AreFirstItems limits items → ((i : Item) → SaysItem line i → ¬ AreFirstItems limits (items ++ i ∷ [])) → IsReason limits most items line why → IfSome left (λ text. StopsAtLine limits most text (n + 1) why)
-stops_line limits most n why None mid after line items h t b f none reason = tt
-stops_line limits most n why (Some text) mid after line items h t b f none reason =
+pub stops_line : (enc : Encoding) (limits : LimitValues) (most n : ℕ) (why : LineFault) (left mid after : Option (List ℕ)) (line : List ℕ) (items : List Item) → IfSome left (λ text. SaidSoFar enc most n text mid items) → TakesLineOf mid after line true → is_blank_line line ≡ false
+    → AreFirstItems limits items → ((i : Item) → SaysItem enc line i → ¬ AreFirstItems limits (items ++ i ∷ [])) → IsReason enc limits most items line why → IfSome left (λ text. StopsAtLine enc limits most text (n + 1) why)
+stops_line enc limits most n why None mid after line items h t b f none reason = tt
+stops_line enc limits most n why (Some text) mid after line items h t b f none reason =
     let one = line_before h.rest after line (subst (λ (o : Option (List ℕ)). TakesLineOf o after line true) h.after_is t) in
     let others = lines_of one.0 in
     record {
@@ -332,35 +333,35 @@ stops_line limits most n why (Some text) mid after line items h t b f none reaso
       are = h.with_rest (line ∷ others.lines) (one.2 others.lines others.are);
       number = ap (λ (m : ℕ). m + 1) h.number;
       taken = record { items = items; short = h.short; each = h.each; first = f };
-      stops = none_with limits most h.lines line items h.each f b none;
+      stops = none_with enc limits most h.lines line items h.each f b none;
       reason = reason;
     }
 
 -- ---- the end of the input
 
-pub ends_early : (limits : LimitValues) (most n : ℕ) (left mid after : Option (List ℕ)) (line : List ℕ) (items : List Item) → IfSome left (λ text. SaidSoFar most n text mid items) → TakesLineOf mid after line false → AreFirstItems limits items
-    → reached_after reached_to.Begun items ≢ reached_to.End → IfSome left (λ text. EndsEarly limits most text n)
-ends_early limits most n None mid after line items h t f open_still = tt
-ends_early limits most n (Some text) mid after line items h t f open_still = record {
+pub ends_early : (enc : Encoding) (limits : LimitValues) (most n : ℕ) (left mid after : Option (List ℕ)) (line : List ℕ) (items : List Item) → IfSome left (λ text. SaidSoFar enc most n text mid items) → TakesLineOf mid after line false → AreFirstItems limits items
+    → reached_after reached_to.Begun items ≢ reached_to.End → IfSome left (λ text. EndsEarly enc limits most text n)
+ends_early enc limits most n None mid after line items h t f open_still = tt
+ends_early enc limits most n (Some text) mid after line items h t f open_still = record {
   lines = h.lines;
-  are = lines_all most n text mid after line items h t;
+  are = lines_all enc most n text mid after line items h t;
   number = h.number;
   taken = record { items = items; short = h.short; each = h.each; first = f };
-  unended = λ v whole each. open_still (ap (reached_after reached_to.Begun) (same_items Acknowledgement Acknowledgement (said_lines h.lines) items (value_items v) (own_first limits items f) (own_value v whole) h.each each) ∙ value_ends v);
+  unended = λ v whole each. open_still (ap (reached_after reached_to.Begun) (same_items enc Acknowledgement Acknowledgement (said_lines h.lines) items (value_items v) (own_first limits items f) (own_value v whole) h.each each) ∙ value_ends v);
 }
 
-pub ends_well : (limits : LimitValues) (most n : ℕ) (left mid after : Option (List ℕ)) (line : List ℕ) (items : List Item) (v : TransmissionValue) → IfSome left (λ text. SaidSoFar most n text mid items) → TakesLineOf mid after line false
-    → IsTransmission v → FitsIn limits v → value_items v ≡ items → IfSome left (λ text. EndsWell limits most text n)
-ends_well limits most n None mid after line items v h t whole within same = tt
-ends_well limits most n (Some text) mid after line items v h t whole within same = record {
+pub ends_well : (enc : Encoding) (limits : LimitValues) (most n : ℕ) (left mid after : Option (List ℕ)) (line : List ℕ) (items : List Item) (v : TransmissionValue) → IfSome left (λ text. SaidSoFar enc most n text mid items) → TakesLineOf mid after line false
+    → IsTransmission v → FitsIn limits v → value_items v ≡ items → IfSome left (λ text. EndsWell enc limits most text n)
+ends_well enc limits most n None mid after line items v h t whole within same = tt
+ends_well enc limits most n (Some text) mid after line items v h t whole within same = record {
   lines = h.lines;
-  are = lines_all most n text mid after line items h t;
+  are = lines_all enc most n text mid after line items h t;
   number = h.number;
   value = v;
   whole = whole;
   within = within;
   short = h.short;
-  each = subst (AllZip SaysItem (said_lines h.lines)) (sym same) h.each;
+  each = subst (AllZip (SaysItem enc) (said_lines h.lines)) (sym same) h.each;
 }
 
 -- ---- nothing else is refused
@@ -370,16 +371,16 @@ short_front most [] ys h = tt
 short_front most (x ∷ xs) ys h = (h.0, short_front most xs ys h.1)
 
 -- the lines of a transmission's items are taken, from the first on
-taken_front : (limits : LimitValues) (most : ℕ) (xs ys : List (List ℕ)) (v : TransmissionValue) → IsTransmission v → FitsIn limits v → AreShort most (xs ++ ys) → AllZip SaysItem (said_lines (xs ++ ys)) (value_items v) → AreTaken limits most xs
-taken_front limits most xs ys v whole within short each =
-    let p = beside (said_lines xs) (said_lines ys) (value_items v) (subst (λ (l : List (List ℕ)). AllZip SaysItem l (value_items v)) (filter-append (λ l. not (is_blank_line l)) xs ys) each) in
+taken_front : (enc : Encoding) (limits : LimitValues) (most : ℕ) (xs ys : List (List ℕ)) (v : TransmissionValue) → IsTransmission v → FitsIn limits v → AreShort most (xs ++ ys) → AllZip (SaysItem enc) (said_lines (xs ++ ys)) (value_items v) → AreTaken enc limits most xs
+taken_front enc limits most xs ys v whole within short each =
+    let p = beside enc (said_lines xs) (said_lines ys) (value_items v) (subst (λ (l : List (List ℕ)). AllZip (SaysItem enc) l (value_items v)) (filter-append (λ l. not (is_blank_line l)) xs ys) each) in
     record { items = p.front; short = short_front most xs ys short; each = p.before; first = record { value = v; whole = whole; within = within; rest = p.back; split = p.whole } }
 
-pub never_stops : (limits : LimitValues) (most n : ℕ) (text : List ℕ) (why : LineFault) (v : TransmissionValue) → IsTransmission v → FitsIn limits v → SaysTransmission most text v → StopsAtLine limits most text n why → ⊥
-never_stops limits most n text why v whole within s t =
+pub never_stops : (enc : Encoding) (limits : LimitValues) (most n : ℕ) (text : List ℕ) (why : LineFault) (v : TransmissionValue) → IsTransmission v → FitsIn limits v → SaysTransmission enc most text v → StopsAtLine enc limits most text n why → ⊥
+never_stops enc limits most n text why v whole within s t =
     let all : s.lines ≡ (t.before ++ t.line ∷ []) ++ t.after = lines_once s.lines (t.before ++ t.line ∷ t.after) text s.are t.are ∙ sym (append_assoc t.before (t.line ∷ []) t.after) in
-    t.stops (taken_front limits most (t.before ++ t.line ∷ []) t.after v whole within (subst (AreShort most) all s.short) (subst (λ (l : List (List ℕ)). AllZip SaysItem (said_lines l) (value_items v)) all s.each))
+    t.stops (taken_front enc limits most (t.before ++ t.line ∷ []) t.after v whole within (subst (AreShort most) all s.short) (subst (λ (l : List (List ℕ)). AllZip (SaysItem enc) (said_lines l) (value_items v)) all s.each))
 
-pub never_early : (limits : LimitValues) (most n : ℕ) (text : List ℕ) (v : TransmissionValue) → IsTransmission v → SaysTransmission most text v → EndsEarly limits most text n → ⊥
-never_early limits most n text v whole s t =
-    t.unended v whole (subst (λ (l : List (List ℕ)). AllZip SaysItem (said_lines l) (value_items v)) (lines_once s.lines t.lines text s.are t.are) s.each)
+pub never_early : (enc : Encoding) (limits : LimitValues) (most n : ℕ) (text : List ℕ) (v : TransmissionValue) → IsTransmission v → SaysTransmission enc most text v → EndsEarly enc limits most text n → ⊥
+never_early enc limits most n text v whole s t =
+    t.unended v whole (subst (λ (l : List (List ℕ)). AllZip (SaysItem enc) (said_lines l) (value_items v)) (lines_once s.lines t.lines text s.are t.are) s.each)

@@ -20,9 +20,10 @@ use Rattle.cwr_layouts.specs.Format.Layouts.{FieldLayout, field_at, layout, reco
 use Rattle.cwr_layouts.specs.Format.Records.{RecordValue, IsCellOf, carried_fields}
 use Rattle.cwr_layouts.specs.Format.Carried.{IsSetFault, carried_at, carried_before}
 use Rattle.cwr_layouts.proofs.CarriedCells.{open_some}
-use Rattle.cwr_json.specs.Format.Forms.{IsCellFrom, IsDataOf, are_distinct, characters, first_of, is_known, key_of, kind_key, says, told}
+use Rattle.cwr_json.specs.declared.encodings.Encoding.{Encoding}
+use Rattle.cwr_json.specs.Format.Forms.{IsCellFrom, IsDataOf, are_distinct, first_of, is_known, key_of, kind_key, says, told}
 use Rattle.cwr_json.proofs.OwnData.{bytes_same}
-use Rattle.cwr_write.specs.Steps.Filling.{FitsField, NoneFrom, joined, names_field, with_last}
+use Rattle.cwr_write.specs.Steps.Filling.{FitsField, IsTextOf, NoneFrom, joined, names_field, with_last}
 use Rattle.cwr_write.proofs.FilledDrafts.{carried_place, first-last, flipped, keys-last, named, one_number}
 
 -- ---- members, and others after them
@@ -63,8 +64,8 @@ told_parts {A = A} items i =
     ∙ told_both (map view (take i items)) (map view (drop i items))
 
 -- no record has members that begin with those of which none has
-pub none_whole : {A : Type 0} (items : List (Bor (List ℕ) × Value A)) (i : ℕ) (kind : Kind) → NoneFrom kind (told (members_view (take i items))) → (r : RecordValue) → r.kind ≡ kind → ¬ IsDataOf (told (members_view items)) r
-none_whole {A = A} items i kind none r k h = none (told (members_view (drop i items))) r k (subst (λ (ms : Members). IsDataOf ms r) (told_parts items i) h)
+pub none_whole : {A : Type 0} (enc : Encoding) (items : List (Bor (List ℕ) × Value A)) (i : ℕ) (kind : Kind) → NoneFrom enc kind (told (members_view (take i items))) → (r : RecordValue) → r.kind ≡ kind → ¬ IsDataOf enc (told (members_view items)) r
+none_whole {A = A} enc items i kind none r k h = none (told (members_view (drop i items))) r k (subst (λ (ms : Members). IsDataOf enc ms r) (told_parts items i) h)
 
 -- ---- a key that isn't known
 
@@ -75,8 +76,8 @@ amid : (p : List ℕ → Bool) (ks more : List (List ℕ)) (k : List ℕ) → li
 amid p [] more k h = (and_parts (p k) (list_all p more) h).0
 amid p (l ∷ ks) more k h = amid p ks more k (and_parts (p l) (list_all p (ks ++ k ∷ more)) h).1
 
-unknown : (kind : Kind) (ms : Members) (k : List ℕ) (v : Json) → is_known kind k ≡ false → NoneFrom kind (with_last ms k v)
-unknown kind ms k v e = λ rest r same h.
+unknown : (enc : Encoding) (kind : Kind) (ms : Members) (k : List ℕ) (v : Json) → is_known kind k ≡ false → NoneFrom enc kind (with_last ms k v)
+unknown enc kind ms k v e = λ rest r same h.
     let known : list_all (is_known kind) (keys ms ++ k ∷ keys rest) ≡ true
     = ap (list_all (is_known kind)) (sym (keys-between ms rest k v)) ∙ ap (λ (x : Kind). list_all (is_known x) (keys (joined (with_last ms k v) rest))) (sym same) ∙ h.known in
     true≢false (sym (amid (is_known kind) (keys ms) (keys rest) k known) ∙ e)
@@ -97,8 +98,8 @@ unknown_by kind k first others = or_from (bytes_eq k kind_key) (list_any (λ f. 
 no_key : (kind : Kind) (k : List ℕ) (j : ℕ) (f : FieldLayout) → names_field kind j k ≡ false → field_at kind j ≡ Some f → bytes_eq k (key_of f.name) ≡ false
 no_key kind k j f h e = sym (ap (λ (o : Option FieldLayout). unwrap_or (option_map (λ g. bytes_eq k (key_of g.name)) o) false) e) ∙ h
 
-pub unknown_key : (kind : Kind) (ms : Members) (k : List ℕ) (v : Json) → ((j : ℕ) → names_field kind j k ≡ false) → NoneFrom kind (with_last ms k v)
-unknown_key kind ms k v none = unknown kind ms k v (unknown_by kind k (no_key kind k 1 record_type (none 1) (type_first kind)) (λ j f e d. no_key kind k j f (none j) e))
+pub unknown_key : (enc : Encoding) (kind : Kind) (ms : Members) (k : List ℕ) (v : Json) → ((j : ℕ) → names_field kind j k ≡ false) → NoneFrom enc kind (with_last ms k v)
+unknown_key enc kind ms k v none = unknown enc kind ms k v (unknown_by kind k (no_key kind k 1 record_type (none 1) (type_first kind)) (λ j f e d. no_key kind k j f (none j) e))
 
 -- ---- a key that comes twice
 
@@ -112,8 +113,8 @@ once (l ∷ ks) more k h =
     apart [] e = (or_parts (bytes_eq l k) (list_any (bytes_eq l) more) e).0
     apart (j ∷ js) e = apart js (or_parts (bytes_eq l j) (list_any (bytes_eq l) (js ++ k ∷ more)) e).1
 
-pub repeated_key : (kind : Kind) (ms : Members) (k : List ℕ) (v : Json) → list_any (bytes_eq k) (keys ms) ≡ true → NoneFrom kind (with_last ms k v)
-repeated_key kind ms k v there = λ rest r same h.
+pub repeated_key : (enc : Encoding) (kind : Kind) (ms : Members) (k : List ℕ) (v : Json) → list_any (bytes_eq k) (keys ms) ≡ true → NoneFrom enc kind (with_last ms k v)
+repeated_key enc kind ms k v there = λ rest r same h.
     true≢false (sym there ∙ once (keys ms) (keys rest) k (ap are_distinct (sym (keys-between ms rest k v)) ∙ h.once))
 
 -- ---- a value that is no cell of its field
@@ -123,9 +124,9 @@ derived_if true f d e = d
 derived_if false f d e = absurd (cc e)
 
 -- a computed field's key is none of the data
-computed : (kind : Kind) (ms : Members) (k : List ℕ) (v : Json) (j : ℕ) (f : FieldLayout) → field_at kind j ≡ Some f → k ≡ key_of f.name → f.derived ≡ true → (j ≡ 1 → ⊥) → NoneFrom kind (with_last ms k v)
-computed kind ms k v j f at key d later =
-    unknown kind ms k v (unknown_by kind k (by (bytes_eq k kind_key) refl (λ e. later (one_number kind j 1 f record_type at (type_first kind) (sym key ∙ bytes_same k kind_key e)))) (λ i g there carried. by (bytes_eq k (key_of g.name)) refl (λ e. other i g there carried e)))
+computed : (enc : Encoding) (kind : Kind) (ms : Members) (k : List ℕ) (v : Json) (j : ℕ) (f : FieldLayout) → field_at kind j ≡ Some f → k ≡ key_of f.name → f.derived ≡ true → (j ≡ 1 → ⊥) → NoneFrom enc kind (with_last ms k v)
+computed enc kind ms k v j f at key d later =
+    unknown enc kind ms k v (unknown_by kind k (by (bytes_eq k kind_key) refl (λ e. later (one_number kind j 1 f record_type at (type_first kind) (sym key ∙ bytes_same k kind_key e)))) (λ i g there carried. by (bytes_eq k (key_of g.name)) refl (λ e. other i g there carried e)))
   where
     by : (b : Bool) → b ≡ b → (b ≡ true → ⊥) → b ≡ false
     by false e n = refl
@@ -144,39 +145,39 @@ place_both P Q (g ∷ fields) (c ∷ cells) zero f e p q = let same : g ≡ f = 
 place_both P Q (g ∷ fields) (c ∷ cells) (suc i) f e p q = place_both P Q fields cells i f e p.1 q.1
 
 -- the value of a carried field is one of its cells
-carried : (kind : Kind) (ms : Members) (k : List ℕ) (v : Json) (j : ℕ) (f : FieldLayout) → carried_at kind j ≡ Some f → k ≡ key_of f.name → list_any (bytes_eq k) (keys ms) ≡ false
-    → ((cell : List ℕ) → v ≡ string (characters cell) → ¬ FitsField kind j cell) → NoneFrom kind (with_last ms k v)
-carried kind ms k v j f at key none unfit = λ rest r same h.
+carried : (enc : Encoding) (kind : Kind) (ms : Members) (k : List ℕ) (v : Json) (j : ℕ) (f : FieldLayout) → carried_at kind j ≡ Some f → k ≡ key_of f.name → list_any (bytes_eq k) (keys ms) ≡ false
+    → ((cell : List ℕ) → IsTextOf enc v cell → ¬ FitsField kind j cell) → NoneFrom enc kind (with_last ms k v)
+carried enc kind ms k v j f at key none unfit = λ rest r same h.
     let opened = open_some (field_at kind j) f at in
     let whole : Members = joined (with_last ms k v) rest in
     let value : first_of (key_of f.name) whole ≡ Some v = ap (λ (l : List ℕ). first_of l whole) (sym key) ∙ first-joined k (with_last ms k v) rest v (first-last k ms v none) in
-    let cells : AllZip (λ g cell. IsCellFrom g (first_of (key_of g.name) whole) cell) (carried_fields kind) r.cells = subst (λ (x : Kind). AllZip (λ g cell. IsCellFrom g (first_of (key_of g.name) whole) cell) (carried_fields x) r.cells) same h.cells in
+    let cells : AllZip (λ g cell. IsCellFrom enc g (first_of (key_of g.name) whole) cell) (carried_fields kind) r.cells = subst (λ (x : Kind). AllZip (λ g cell. IsCellFrom enc g (first_of (key_of g.name) whole) cell) (carried_fields x) r.cells) same h.cells in
     let fits : AllZip IsCellOf (carried_fields kind) r.cells = subst (λ (x : Kind). AllZip IsCellOf (carried_fields x) r.cells) same h.fits in
-    let both = place_both (λ g cell. IsCellFrom g (first_of (key_of g.name) whole) cell) IsCellOf (carried_fields kind) r.cells (carried_before kind j) f (carried_place kind j f opened.0 opened.1) cells fits in
-    by v refl both.0 (subst (λ (o : Option Json). IsCellFrom f o both.0) value both.1) both.2
+    let both = place_both (λ g cell. IsCellFrom enc g (first_of (key_of g.name) whole) cell) IsCellOf (carried_fields kind) r.cells (carried_before kind j) f (carried_place kind j f opened.0 opened.1) cells fits in
+    by v refl both.0 (subst (λ (o : Option Json). IsCellFrom enc f o both.0) value both.1) both.2
   where
-    by : (w : Json) → v ≡ w → (cell : List ℕ) → IsCellFrom f (Some w) cell → IsCellOf f cell → ⊥
+    by : (w : Json) → v ≡ w → (cell : List ℕ) → IsCellFrom enc f (Some w) cell → IsCellOf f cell → ⊥
     by null e cell from is = from
     by (boolean b) e cell from is = from
     by (number n) e cell from is = from
     by (array js) e cell from is = from
     by (object os) e cell from is = from
     by (string s) e cell from is =
-        unfit from.0 (e ∙ ap string (sym from.1))
+        unfit from.0 (s, e, from.1)
         (subst (λ (o : Option FieldLayout). IsSomeAnd o (λ g. (length from.0 ≤ g.width) × Allows g.ty (filled g.width from.0))) (sym at) (from.2, subst (Allows f.ty) from.3 is.1))
 
-pub unfit_value : (kind : Kind) (ms : Members) (k : List ℕ) (v : Json) (j : ℕ) → names_field kind j k ≡ true → (j ≡ 1 → ⊥) → list_any (bytes_eq k) (keys ms) ≡ false → ((cell : List ℕ) → v ≡ string (characters cell) → ¬ FitsField kind j cell)
-    → NoneFrom kind (with_last ms k v)
-unfit_value kind ms k v j names later none unfit = by (carried_at kind j) refl
+pub unfit_value : (enc : Encoding) (kind : Kind) (ms : Members) (k : List ℕ) (v : Json) (j : ℕ) → names_field kind j k ≡ true → (j ≡ 1 → ⊥) → list_any (bytes_eq k) (keys ms) ≡ false → ((cell : List ℕ) → IsTextOf enc v cell → ¬ FitsField kind j cell)
+    → NoneFrom enc kind (with_last ms k v)
+unfit_value enc kind ms k v j names later none unfit = by (carried_at kind j) refl
   where
     there : (f : FieldLayout) × (field_at kind j ≡ Some f) × (k ≡ key_of f.name)
     there = named kind j k names
 
-    by : (o : Option FieldLayout) → carried_at kind j ≡ o → NoneFrom kind (with_last ms k v)
-    by None e = computed kind ms k v j there.0 there.1 there.2 (derived_if there.0.derived there.0 refl (sym (ap (λ (o : Option FieldLayout). option_and_then (λ g. cond g.derived None (Some g)) o) there.1) ∙ e)) later
+    by : (o : Option FieldLayout) → carried_at kind j ≡ o → NoneFrom enc kind (with_last ms k v)
+    by None e = computed enc kind ms k v j there.0 there.1 there.2 (derived_if there.0.derived there.0 refl (sym (ap (λ (o : Option FieldLayout). option_and_then (λ g. cond g.derived None (Some g)) o) there.1) ∙ e)) later
     by (Some f) e =
         let same : there.0 ≡ f = cc (there.1, (open_some (field_at kind j) f e).0) in
-        carried kind ms k v j f e (there.2 ∙ ap (λ (x : FieldLayout). key_of x.name) same) none unfit
+        carried enc kind ms k v j f e (there.2 ∙ ap (λ (x : FieldLayout). key_of x.name) same) none unfit
 
 -- ---- a text that isn't set
 

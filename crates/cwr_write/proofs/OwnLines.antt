@@ -1,5 +1,5 @@
 -- The lines of a transmission's data are data of its items, and of no other's.
-use Rattle.std.proofs.Common.{◌≡◌, ℕ, zero, suc, ◌+◌, ◌-◌, ◌%◌, ◌^◌, ◌<◌, ◌≤◌, Bool, true, false, not, cond, ◌&&◌, List, [], ◌∷◌, ◌++◌, length, map, take, replicate, Option, Some, None, IsUtf8, refl, sym, ap, ap₂, subst, ◌∙◌, arith, inl, inr, append_assoc, ltb, ltb-true}
+use Rattle.std.proofs.Common.{◌≡◌, ℕ, zero, suc, ◌+◌, ◌-◌, ◌%◌, ◌^◌, ◌<◌, ◌≤◌, Bool, true, false, not, cond, ◌&&◌, List, [], ◌∷◌, ◌++◌, length, map, take, replicate, Option, Some, None, IsUtf8, refl, sym, ap, ap₂, subst, ◌∙◌, arith, inl, inr, append_assoc}
 use Rattle.std.specs.Prelude.{◌==◌, codes, decimal, count_by, nat_lt, IfSome}
 use Rattle.std.specs.List.{AllZip, AllByRecursion, after_last, enumerate_from, flat_map, list_all, list_any, suffix_len}
 use Rattle.std.proofs.lemmas.Bool.{and_parts, cases_eq, cases_lt, eqb-true, lt-ltb, not-true, or_from}
@@ -7,8 +7,7 @@ use Rattle.std.proofs.lemmas.Fmt.{decimal_by_steps}
 use Rattle.std.proofs.lemmas.List.{length-append}
 use Rattle.std.proofs.lemmas.List.Folds.{list_all-append, list_any-append}
 use Rattle.std.proofs.lemmas.List.Sums.{sum_by-append, sum_by-take-drop}
-use Rattle.std.proofs.lemmas.Str.{IsUtf8-append, IsUtf8-encode, IsUtf8-nil}
-use lib.Utf8.{encode, low_scalar}
+use Rattle.std.proofs.lemmas.Str.{IsUtf8-append, IsUtf8-nil}
 use Rattle.json.specs.Json.{string, number, array, object, Members, no_members, member}
 use Rattle.json.specs.Print.{escape, escape_byte, print, print_from, quoted, separator, token_text}
 use Rattle.json.specs.Token.{Token}
@@ -17,7 +16,7 @@ use Rattle.json.proofs.Printed.Strings.{escape_byte_plain}
 use Rattle.json.proofs.Printed.Utf8.{IsUtf8-are_ascii, IsUtf8-quoted, IsUtf8-separator, are_ascii}
 use Rattle.cwr_fields.specs.Format.Bytes.{is_spaces, trimmed}
 use Rattle.cwr_layouts.specs.declared.kinds.Kind.{Kind}
-use Rattle.cwr_layouts.specs.declared.kinds.Kind.TheVariants.{Hdr, Grh, Grt, Trl, Agr, Ter, Ipa, Nwr, Rev, Spu, Opu, Spt, Swr, Owr, Swt, Pwr, Alt, Ewt, Ver, Per, Rec, Orn, Com, Ack, Msg, Opt, Owt, Npn, Npr, Nwn, Npa, Net, Now, Nct, Nvt, Nat, Ins, Ind, Ari, Xrf}
+use Rattle.cwr_layouts.specs.declared.kinds.Kind.TheVariants.{Hdr}
 use Rattle.cwr_layouts.specs.Format.Kinds.{letters}
 use Rattle.cwr_layouts.specs.Format.Layouts.{FieldLayout}
 use Rattle.cwr_layouts.specs.Format.Lines.{is_lf}
@@ -29,8 +28,10 @@ use Rattle.cwr_fields.specs.declared.codes.TransactionType.{TransactionType}
 use Rattle.cwr_values.specs.Format.Values.{GroupValue, TransmissionValue, IsGroup, IsTransaction, IsTransmission, type_of}
 use Rattle.cwr_values.proofs.OneSpelling.{one_value}
 use Rattle.cwr_judge.specs.Format.Items.{group_items, is_transaction, item_records, opens_group, records_in, value_items}
+use Rattle.cwr_json.specs.declared.encodings.Encoding.{Encoding}
 use Rattle.cwr_json.specs.declared.notes.Notes.{Notes}
-use Rattle.cwr_json.specs.Format.Forms.{cell_members, character, characters, data_lines, item_data, item_line, key_of, kind_key, notes_if, record_members, records_items, records_key, with_group_notes, with_notes}
+use Rattle.cwr_json.specs.Format.Encodings.{characters}
+use Rattle.cwr_json.specs.Format.Forms.{cell_members, data_lines, item_data, item_line, key_of, kind_key, notes_if, record_members, records_items, records_key, with_group_notes, with_notes}
 use Rattle.cwr_json.specs.Format.Laws.{AreBelow}
 use Rattle.cwr_json.proofs.OneItem.{own_item}
 use Rattle.cwr_json.proofs.PrintedItems.{item_reads}
@@ -39,6 +40,7 @@ use Rattle.cwr_write.specs.Format.Imports.{AreLines, SaysItem, is_blank_line}
 use Rattle.cwr_write.specs.Format.Laws.{OneTransmission, OwnLines}
 use Rattle.cwr_write.specs.Format.Faults.{AreBytes}
 use Rattle.cwr_write.specs.Steps.Lines.{NoFeed}
+use Rattle.cwr_write.proofs.ShownUtf8.{characters_utf8}
 use Rattle.cwr_write.proofs.ByteCells.{allowed_bytes}
 use Rattle.cwr_write.proofs.ItemsInOrder.{own_heads, records_in_value}
 use Rattle.cwr_write.proofs.LinesTaken.{lines_once, same_records}
@@ -143,21 +145,6 @@ tokens_both (x ∷ xs) ys h k = (h.0, tokens_both xs ys h.1 k)
 
 -- ---- records
 
-character_utf8 : (b : ℕ) → b < 256 → IsUtf8 (character b)
-unfolding encode
-character_utf8 b h = subst IsUtf8 (by (ltb b 128) refl) (IsUtf8-encode b (low_scalar b (omega arith)))
-  where
-    by : (x : Bool) → ltb b 128 ≡ x → encode b ≡ character b
-    by true e = rw e refl
-    by false e = rw (e, lt-ltb b 2048 (omega arith)) refl
-
-characters_utf8 : (text : List ℕ) → AreBytes text → IsUtf8 (characters text)
-unfolding characters
-characters_utf8 [] h = IsUtf8-nil
-characters_utf8 (b ∷ text) h =
-    let parts = and_parts (nat_lt b 256) (list_all (λ c. nat_lt c 256) text) h in
-    IsUtf8-append (character b) (characters text) (character_utf8 b (ltb-true b 256 parts.0)) (characters_utf8 text parts.1)
-
 abbrev is_ascii_key : FieldLayout → Bool
 is_ascii_key f = are_ascii (key_of f.name)
 
@@ -166,73 +153,35 @@ is_ascii_kind kind = are_ascii (letters kind) && list_all is_ascii_key (carried_
 
 ascii_kind : (kind : Kind) → is_ascii_kind kind ≡ true
 ascii_kind Hdr = refl
-ascii_kind Grh = refl
-ascii_kind Grt = refl
-ascii_kind Trl = refl
-ascii_kind Agr = refl
-ascii_kind Ter = refl
-ascii_kind Ipa = refl
-ascii_kind Nwr = refl
-ascii_kind Rev = refl
-ascii_kind Spu = refl
-ascii_kind Opu = refl
-ascii_kind Spt = refl
-ascii_kind Swr = refl
-ascii_kind Owr = refl
-ascii_kind Swt = refl
-ascii_kind Pwr = refl
-ascii_kind Alt = refl
-ascii_kind Ewt = refl
-ascii_kind Ver = refl
-ascii_kind Per = refl
-ascii_kind Rec = refl
-ascii_kind Orn = refl
-ascii_kind Com = refl
-ascii_kind Ack = refl
-ascii_kind Msg = refl
-ascii_kind Opt = refl
-ascii_kind Owt = refl
-ascii_kind Npn = refl
-ascii_kind Npr = refl
-ascii_kind Nwn = refl
-ascii_kind Npa = refl
-ascii_kind Net = refl
-ascii_kind Now = refl
-ascii_kind Nct = refl
-ascii_kind Nvt = refl
-ascii_kind Nat = refl
-ascii_kind Ins = refl
-ascii_kind Ind = refl
-ascii_kind Ari = refl
-ascii_kind Xrf = refl
+ascii_kind this_kind = refl
 
 trimmed_bytes : (f : FieldLayout) (cell : List ℕ) → IsCellOf f cell → AreBytes (trimmed cell)
 trimmed_bytes f cell h =
     let p = spaces_after cell in
     (and_parts (list_all (λ b. nat_lt b 256) (trimmed cell)) (list_all (λ b. nat_lt b 256) (replicate p.0 32)) (sym (list_all-append (λ b. nat_lt b 256) (trimmed cell) (replicate p.0 32)) ∙ ap (λ (l : List ℕ). list_all (λ b. nat_lt b 256) l) (sym p.1) ∙ allowed_bytes f.ty cell h.1)).0
 
-cells_fine : (fields : List FieldLayout) (cells : List (List ℕ)) → list_all is_ascii_key fields ≡ true → AllZip IsCellOf fields cells → AllByRecursion FineToken (members_tokens (cell_members fields cells))
+cells_fine : (enc : Encoding) (fields : List FieldLayout) (cells : List (List ℕ)) → list_all is_ascii_key fields ≡ true → AllZip IsCellOf fields cells → AllByRecursion FineToken (members_tokens (cell_members enc fields cells))
 unfolding cell_members
-cells_fine [] cells a h = (fine_plain (125 ∷ []) refl, tt)
-cells_fine (f ∷ fields) [] a h = absurd h
-cells_fine (f ∷ fields) (cell ∷ cells) a h = by (is_spaces cell) (cells_fine fields cells parts.1 h.1)
+cells_fine enc [] cells a h = (fine_plain (125 ∷ []) refl, tt)
+cells_fine enc (f ∷ fields) [] a h = absurd h
+cells_fine enc (f ∷ fields) (cell ∷ cells) a h = by (is_spaces cell) (cells_fine enc fields cells parts.1 h.1)
   where
     parts : (is_ascii_key f ≡ true) × (list_all is_ascii_key fields ≡ true)
     parts = and_parts (is_ascii_key f) (list_all is_ascii_key fields) a
 
-    by : (b : Bool) → AllByRecursion FineToken (members_tokens (cell_members fields cells)) → AllByRecursion FineToken (members_tokens (cond b (cell_members fields cells) (member (key_of f.name) (string (characters (trimmed cell))) (cell_members fields cells))))
+    by : (b : Bool) → AllByRecursion FineToken (members_tokens (cell_members enc fields cells)) → AllByRecursion FineToken (members_tokens (cond b (cell_members enc fields cells) (member (key_of f.name) (string (characters enc (trimmed cell))) (cell_members enc fields cells))))
     by true more = more
-    by false more = (fine_key (key_of f.name) (IsUtf8-are_ascii (key_of f.name) parts.0), (fine_string (characters (trimmed cell)) (characters_utf8 (trimmed cell) (trimmed_bytes f cell h.0)), more))
+    by false more = (fine_key (key_of f.name) (IsUtf8-are_ascii (key_of f.name) parts.0), (fine_string (characters enc (trimmed cell)) (characters_utf8 enc (trimmed cell) (trimmed_bytes f cell h.0)), more))
 
-record_fine : (r : RecordValue) → IsRecord r → AllByRecursion FineToken (json_tokens (object (record_members r)))
-record_fine r h =
+record_fine : (enc : Encoding) (r : RecordValue) → IsRecord r → AllByRecursion FineToken (json_tokens (object (record_members enc r)))
+record_fine enc r h =
     let ascii = and_parts (are_ascii (letters r.kind)) (list_all is_ascii_key (carried_fields r.kind)) (ascii_kind r.kind) in
-    (fine_plain (123 ∷ []) refl, (fine_key kind_key (IsUtf8-are_ascii kind_key refl), (fine_string (letters r.kind) (IsUtf8-are_ascii (letters r.kind) ascii.0), cells_fine (carried_fields r.kind) r.cells ascii.1 h)))
+    (fine_plain (123 ∷ []) refl, (fine_key kind_key (IsUtf8-are_ascii kind_key refl), (fine_string (letters r.kind) (IsUtf8-are_ascii (letters r.kind) ascii.0), cells_fine enc (carried_fields r.kind) r.cells ascii.1 h)))
 
-records_fine : (rs : List RecordValue) → AllByRecursion IsRecord rs → AllByRecursion FineToken (items_tokens (records_items rs))
+records_fine : (enc : Encoding) (rs : List RecordValue) → AllByRecursion IsRecord rs → AllByRecursion FineToken (items_tokens (records_items enc rs))
 unfolding records_items
-records_fine [] h = (fine_plain (93 ∷ []) refl, tt)
-records_fine (r ∷ rs) h = tokens_both (json_tokens (object (record_members r))) (items_tokens (records_items rs)) (record_fine r h.0) (records_fine rs h.1)
+records_fine enc [] h = (fine_plain (93 ∷ []) refl, tt)
+records_fine enc (r ∷ rs) h = tokens_both (json_tokens (object (record_members enc r))) (items_tokens (records_items enc rs)) (record_fine enc r h.0) (records_fine enc rs h.1)
 
 -- ---- notes
 
@@ -271,48 +220,48 @@ notes_fine (Some n) i more b h = group_notes_fine n i (member (codes "_line") (n
 
 -- ---- the line of an item
 
-line_fine : (notes : Option Notes) (i : Item) → IfSome notes AreBelow → AllByRecursion IsRecord (item_records i) → Fine (print (json_tokens (item_data notes i)))
-line_fine notes i b h =
-    let records : AllByRecursion FineToken (members_tokens (member records_key (array (records_items (item_records i))) no_members))
-    = (fine_key records_key (IsUtf8-are_ascii records_key refl), (fine_plain (91 ∷ []) refl, tokens_both (items_tokens (records_items (item_records i))) (members_tokens no_members) (records_fine (item_records i) h) (fine_plain (125 ∷ []) refl, tt))) in
-    fine_print false (json_tokens (item_data notes i)) (fine_plain (123 ∷ []) refl, notes_fine notes i (member records_key (array (records_items (item_records i))) no_members) b records)
+line_fine : (enc : Encoding) (notes : Option Notes) (i : Item) → IfSome notes AreBelow → AllByRecursion IsRecord (item_records i) → Fine (print (json_tokens (item_data enc notes i)))
+line_fine enc notes i b h =
+    let records : AllByRecursion FineToken (members_tokens (member records_key (array (records_items enc (item_records i))) no_members))
+    = (fine_key records_key (IsUtf8-are_ascii records_key refl), (fine_plain (91 ∷ []) refl, tokens_both (items_tokens (records_items enc (item_records i))) (members_tokens no_members) (records_fine enc (item_records i) h) (fine_plain (125 ∷ []) refl, tt))) in
+    fine_print false (json_tokens (item_data enc notes i)) (fine_plain (123 ∷ []) refl, notes_fine notes i (member records_key (array (records_items enc (item_records i))) no_members) b records)
 
-says_own : (notes : Option Notes) (i : Item) → IfSome notes AreBelow → AllByRecursion IsRecord (item_records i) → SaysItem (print (json_tokens (item_data notes i))) i
-says_own notes i b h = record { value = item_data notes i; utf8 = (line_fine notes i b h).utf8; text = item_reads notes i b; says = own_item notes i h }
+says_own : (enc : Encoding) (notes : Option Notes) (i : Item) → IfSome notes AreBelow → AllByRecursion IsRecord (item_records i) → SaysItem enc (print (json_tokens (item_data enc notes i))) i
+says_own enc notes i b h = record { value = item_data enc notes i; utf8 = (line_fine enc notes i b h).utf8; text = item_reads enc notes i b; says = own_item enc notes i h }
 
-not_blank : (notes : Option Notes) (i : Item) → is_blank_line (print (json_tokens (item_data notes i))) ≡ false
+not_blank : (enc : Encoding) (notes : Option Notes) (i : Item) → is_blank_line (print (json_tokens (item_data enc notes i))) ≡ false
 unfolding print_from
-not_blank notes i = refl
+not_blank enc notes i = refl
 
 -- ---- all lines
 
-line_of : Bool → List Item → ℕ × Item → List ℕ
-line_of noted items p = print (json_tokens (item_data (notes_if noted (take p.0 items) p.1) p.1))
+line_of : (enc : Encoding) → Bool → List Item → ℕ × Item → List ℕ
+line_of enc noted items p = print (json_tokens (item_data enc (notes_if noted (take p.0 items) p.1) p.1))
 
 -- each has its place below the limit of notes
 AreNoted : Bool → List Item → List (ℕ × Item) → Type 0
 AreNoted noted items ps = AllByRecursion (λ p. IfSome (notes_if noted (take p.0 items) p.1) AreBelow × AllByRecursion IsRecord (item_records p.1)) ps
 
-lines_are : (noted : Bool) (items : List Item) (ps : List (ℕ × Item)) → AreNoted noted items ps → AreLines (map (line_of noted items) ps) (flat_map (λ p. item_line (notes_if noted (take p.0 items) p.1) p.1) ps)
+lines_are : (enc : Encoding) (noted : Bool) (items : List Item) (ps : List (ℕ × Item)) → AreNoted noted items ps → AreLines (map (line_of enc noted items) ps) (flat_map (λ p. item_line enc (notes_if noted (take p.0 items) p.1) p.1) ps)
 unfolding AreLines AreNoted line_of
-lines_are noted items [] h = refl
-lines_are noted items (p ∷ ps) h =
+lines_are enc noted items [] h = refl
+lines_are enc noted items (p ∷ ps) h =
     let notes : Option Notes = notes_if noted (take p.0 items) p.1 in
-    let line : List ℕ = print (json_tokens (item_data notes p.1)) in
-    let more : List ℕ = flat_map (λ q. item_line (notes_if noted (take q.0 items) q.1) q.1) ps in
-    ((line_fine notes p.1 h.0.0 h.0.1).one_line, inl (more, append_assoc line (10 ∷ []) more, lines_are noted items ps h.1))
+    let line : List ℕ = print (json_tokens (item_data enc notes p.1)) in
+    let more : List ℕ = flat_map (λ q. item_line enc (notes_if noted (take q.0 items) q.1) q.1) ps in
+    ((line_fine enc notes p.1 h.0.0 h.0.1).one_line, inl (more, append_assoc line (10 ∷ []) more, lines_are enc noted items ps h.1))
 
-all_said : (noted : Bool) (items : List Item) (ps : List (ℕ × Item)) → said_lines (map (line_of noted items) ps) ≡ map (line_of noted items) ps
+all_said : (enc : Encoding) (noted : Bool) (items : List Item) (ps : List (ℕ × Item)) → said_lines (map (line_of enc noted items) ps) ≡ map (line_of enc noted items) ps
 unfolding line_of
-all_said noted items [] = refl
-all_said noted items (p ∷ ps) =
-    ap (λ (b : Bool). cond (not b) (line_of noted items p ∷ said_lines (map (line_of noted items) ps)) (said_lines (map (line_of noted items) ps))) (not_blank (notes_if noted (take p.0 items) p.1) p.1)
-    ∙ ap (λ (l : List (List ℕ)). line_of noted items p ∷ l) (all_said noted items ps)
+all_said enc noted items [] = refl
+all_said enc noted items (p ∷ ps) =
+    ap (λ (b : Bool). cond (not b) (line_of enc noted items p ∷ said_lines (map (line_of enc noted items) ps)) (said_lines (map (line_of enc noted items) ps))) (not_blank enc (notes_if noted (take p.0 items) p.1) p.1)
+    ∙ ap (λ (l : List (List ℕ)). line_of enc noted items p ∷ l) (all_said enc noted items ps)
 
-each_says : (noted : Bool) (items : List Item) (ps : List (ℕ × Item)) → AreNoted noted items ps → AllZip SaysItem (map (line_of noted items) ps) (map (λ p. p.1) ps)
+each_says : (enc : Encoding) (noted : Bool) (items : List Item) (ps : List (ℕ × Item)) → AreNoted noted items ps → AllZip (SaysItem enc) (map (line_of enc noted items) ps) (map (λ p. p.1) ps)
 unfolding AreNoted line_of
-each_says noted items [] h = tt
-each_says noted items (p ∷ ps) h = (says_own (notes_if noted (take p.0 items) p.1) p.1 h.0.0 h.0.1, each_says noted items ps h.1)
+each_says enc noted items [] h = tt
+each_says enc noted items (p ∷ ps) h = (says_own enc (notes_if noted (take p.0 items) p.1) p.1 h.0.0 h.0.1, each_says enc noted items ps h.1)
 
 numbered : (n : ℕ) (items : List Item) → map (λ p. p.1) (enumerate_from n items) ≡ items
 numbered n [] = refl
@@ -389,20 +338,20 @@ are_noted noted items n (i ∷ rest) h few k = ((notes_below noted items n i h f
 
 pub own_lines : OwnLines
 unfolding data_lines line_of
-own_lines noted most v h few short =
+own_lines enc noted most v h few short =
     let items : List Item = value_items v in
     let ps : List (ℕ × Item) = enumerate_from 0 items in
     let sound = sound_items v h in
     let noted_all : AreNoted noted items ps = are_noted noted items 0 items sound (subst (λ (rs : List RecordValue). length rs < 2 ^ 64 - 1) (sym (records_in_value v)) few) sound in
     record {
-      lines = map (line_of noted items) ps;
-      are = lines_are noted items ps noted_all;
+      lines = map (line_of enc noted items) ps;
+      are = lines_are enc noted items ps noted_all;
       short = short;
-      each = subst (λ (l : List (List ℕ)). AllZip SaysItem l items) (sym (all_said noted items ps)) (subst (AllZip SaysItem (map (line_of noted items) ps)) (numbered 0 items) (each_says noted items ps noted_all));
+      each = subst (λ (l : List (List ℕ)). AllZip (SaysItem enc) l items) (sym (all_said enc noted items ps)) (subst (AllZip (SaysItem enc) (map (line_of enc noted items) ps)) (numbered 0 items) (each_says enc noted items ps noted_all));
     }
 
 pub one_transmission : OneTransmission
-one_transmission most others text v w h k s t =
+one_transmission enc most others text v w h k s t =
     let same : s.lines ≡ t.lines = lines_once s.lines t.lines text s.are t.are in
     one_value v w h k
-    (sym (records_in_value v) ∙ same_records (said_lines t.lines) (value_items v) (value_items w) (subst (λ (l : List (List ℕ)). AllZip SaysItem (said_lines l) (value_items v)) same s.each) t.each ∙ records_in_value w)
+    (sym (records_in_value v) ∙ same_records enc (said_lines t.lines) (value_items v) (value_items w) (subst (λ (l : List (List ℕ)). AllZip (SaysItem enc) (said_lines l) (value_items v)) same s.each) t.each ∙ records_in_value w)

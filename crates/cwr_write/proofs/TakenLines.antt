@@ -8,6 +8,7 @@ use Rattle.cwr_fields.specs.declared.codes.TransactionType.TheVariants.{Acknowle
 use Rattle.cwr_shape.specs.Format.Shapes.{IsShape}
 use Rattle.cwr_judge.specs.Format.Items.{AreFirstItems, item_records, records_in}
 use Rattle.cwr_values.specs.Format.Rows.{trailer}
+use Rattle.cwr_json.specs.declared.encodings.Encoding.{Encoding}
 use Rattle.cwr_write.specs.declared.writing.Reached.{Reached}
 use Rattle.cwr_write.specs.declared.writing.Reached.TheVariants as reached_to
 use Rattle.cwr_layouts.specs.Format.Records.{RecordValue}
@@ -73,10 +74,10 @@ pub represents_none : {W : Type 0} (contents : W → Option (List ℕ)) (e : Enc
 represents_none contents e = λ start records r. subst (λ (l : List RecordValue). Encodes contents start l e) (sym (append-nil records)) r
 
 -- what finishing writes is the whole of a transmission
-pub written_whole : {W : Type 0} (limits : LimitValues) (left : Option (List ℕ)) (contents : W → Option (List ℕ)) (failures : W → ℕ) (writer new : W) (items : List Item) (first last : Encoder W) (answer : Result Written WriteFault)
-    → Encodes contents (contents writer) [] first → RepresentsMore contents (given_in items) first last → encoder_limits last ≡ limits → records_in items ≡ given_in items ++ trailer ∷ [] → IfSome left (λ text. SaysItems text items)
-    → IfOk answer (λ w. FinishesWriting contents failures last new (Ok w.bytes)) → IfOk answer (λ w. WritesWhole limits left contents writer new w.bytes)
-written_whole {W = W} limits left contents failures writer new items first last (Ok w) h more same ended said p =
+pub written_whole : {W : Type 0} (enc : Encoding) (limits : LimitValues) (left : Option (List ℕ)) (contents : W → Option (List ℕ)) (failures : W → ℕ) (writer new : W) (items : List Item) (first last : Encoder W) (answer : Result Written WriteFault)
+    → Encodes contents (contents writer) [] first → RepresentsMore contents (given_in items) first last → encoder_limits last ≡ limits → records_in items ≡ given_in items ++ trailer ∷ [] → IfSome left (λ text. SaysItems enc text items)
+    → IfOk answer (λ w. FinishesWriting contents failures last new (Ok w.bytes)) → IfOk answer (λ w. WritesWhole enc limits left contents writer new w.bytes)
+written_whole {W = W} enc limits left contents failures writer new items first last (Ok w) h more same ended said p =
     let f = p.1 (contents writer) ([] ++ given_in items) (more (contents writer) [] h) in
     record {
       value = f.0;
@@ -87,7 +88,7 @@ written_whole {W = W} limits left contents failures writer new items first last 
       records_are = f.1.records_are ∙ sym ended;
       said = said;
     }
-written_whole {W = W} limits left contents failures writer new items first last (Err e) h more same ended said p = tt
+written_whole {W = W} enc limits left contents failures writer new items first last (Err e) h more same ended said p = tt
 
 -- ---- the end of an encoder
 
@@ -124,17 +125,17 @@ Judged contents item before e answer = (start : Option (List ℕ)) (items : List
 
 -- the place of the item is the reason
 abbrev pub PlaceOf : Item → LimitValues → List Item → LineFault → Type 0
-PlaceOf item limits items f = IsPlaceReason limits items item f.why
+PlaceOf item limits items f = (f.record ≡ 0) × IsPlaceReason limits items item f.why
 
 abbrev Refuses : {W : Type 0} → (W → Option (List ℕ)) → Item → Reached → Encoder W → Why → Type 0
 Refuses contents item before e why = (start : Option (List ℕ)) (items : List Item) → Stands contents start items before e → (¬ AreFirstItems (encoder_limits e) (items ++ item ∷ [])) × IsPlaceReason (encoder_limits e) items item why
 
 -- a fault of an item's place changes nothing
-place_fault : {W : Type 0} (item : Item) (before : Reached) (contents : W → Option (List ℕ)) (failures : W → ℕ) (fault : LineFault) (old new : Encoder W) → new ≡ old → Refuses contents item before old fault.why → TakesLine (λ i. i ≡ item) (PlaceOf item) before contents failures (Err (item_faults.Line fault)) old new
-place_fault {W = W} item before contents failures fault old new same refuses = (
+place_fault : {W : Type 0} (item : Item) (before : Reached) (contents : W → Option (List ℕ)) (failures : W → ℕ) (fault : LineFault) (old new : Encoder W) → new ≡ old → fault.record ≡ 0 → Refuses contents item before old fault.why → TakesLine (λ i. i ≡ item) (PlaceOf item) before contents failures (Err (item_faults.Line fault)) old new
+place_fault {W = W} item before contents failures fault old new same first refuses = (
   same,
   (λ start items s i is. subst (λ (x : Item). ¬ AreFirstItems (encoder_limits old) (items ++ x ∷ [])) (sym is) (refuses start items s).0),
-  λ start items s. (refuses start items s).1,
+  λ start items s. (first, (refuses start items s).1),
 )
 
 of_why : (limits : LimitValues) (items : List Item) (item : Item) (why other : Why) → why ≡ other → IsPlaceReason limits items item other → IsPlaceReason limits items item why
@@ -143,23 +144,23 @@ of_why limits items item why other e h = subst (IsPlaceReason limits items item)
 pub taken_fault : {W : Type 0} (item : Item) (before : Reached) (contents : W → Option (List ℕ)) (failures : W → ℕ) (added : List RecordValue) (fault : EncodeFault) (told : ItemFault) (old new : Encoder W) → AddsRecords contents failures added (Err fault) old new
     → Judged contents item before old (Err fault) → IsFaultOf fault told → TakesLine (λ i. i ≡ item) (PlaceOf item) before contents failures (Err told) old new
 taken_fault item before contents failures added encode_faults.OutOfOrder (item_faults.Line t) old new h j f =
-    place_fault item before contents failures t old new h (λ start items s. let p = j start items s in (p.0, of_why (encoder_limits old) items item t.why whys.OutOfOrder f p.1))
+    place_fault item before contents failures t old new h f.0 (λ start items s. let p = j start items s in (p.0, of_why (encoder_limits old) items item t.why whys.OutOfOrder f.1 p.1))
 taken_fault item before contents failures added encode_faults.WrongKind (item_faults.Line t) old new h j f =
-    place_fault item before contents failures t old new h (λ start items s. let p = j start items s in (p.0, of_why (encoder_limits old) items item t.why whys.WrongKind f p.1))
+    place_fault item before contents failures t old new h f.0 (λ start items s. let p = j start items s in (p.0, of_why (encoder_limits old) items item t.why whys.WrongKind f.1 p.1))
 taken_fault item before contents failures added encode_faults.Incomplete (item_faults.Line t) old new h j f =
-    place_fault item before contents failures t old new h (λ start items s. let p = j start items s in (p.0, of_why (encoder_limits old) items item t.why (whys.Incomplete f.0) f.1 p.1))
+    place_fault item before contents failures t old new h f.0 (λ start items s. let p = j start items s in (p.0, of_why (encoder_limits old) items item t.why (whys.Incomplete f.1.0) f.1.1 p.1))
 taken_fault item before contents failures added (encode_faults.Limit limit) (item_faults.Line t) old new h j f =
-    place_fault item before contents failures t old new h (λ start items s. let p = j start items s in (p.0, of_why (encoder_limits old) items item t.why (whys.Limit limit) f p.1))
+    place_fault item before contents failures t old new h f.0 (λ start items s. let p = j start items s in (p.0, of_why (encoder_limits old) items item t.why (whys.Limit limit) f.1 p.1))
 taken_fault {W = W} item before contents failures added (encode_faults.Writer written) told old new h j f = subst (λ (t : ItemFault). TakesLine (λ i. i ≡ item) (PlaceOf item) before contents failures (Err t) old new) (sym f) h.3
 taken_fault item before contents failures added fault told old new h j f = absurd f
 
 -- a run that stops
-pub stops_other : {W : Type 0} (left : Option (List ℕ)) (contents : W → Option (List ℕ)) (failures : W → ℕ) (fault : WriteFault) (old new : Encoder W) → IsOther fault → failures (target_of new) ≡ failures (target_of old) → TakesLines left contents failures (Err fault) old new
-stops_other left contents failures (write_faults.Refused r) old new other same = same
-stops_other left contents failures (write_faults.Early lines) old new other same = same
-stops_other left contents failures write_faults.Reader old new other same = same
-stops_other left contents failures (write_faults.Writer written) old new other same = absurd other
-stops_other left contents failures write_faults.Memory old new other same = same
+pub stops_other : {W : Type 0} (enc : Encoding) (left : Option (List ℕ)) (contents : W → Option (List ℕ)) (failures : W → ℕ) (fault : WriteFault) (old new : Encoder W) → IsOther fault → failures (target_of new) ≡ failures (target_of old) → TakesLines enc left contents failures (Err fault) old new
+stops_other enc left contents failures (write_faults.Refused r) old new other same = same
+stops_other enc left contents failures (write_faults.Early lines) old new other same = same
+stops_other enc left contents failures write_faults.Reader old new other same = same
+stops_other enc left contents failures (write_faults.Writer written) old new other same = absurd other
+stops_other enc left contents failures write_faults.Memory old new other same = same
 
 own_other : (fault : WriteFault) → IsOwnRun fault → IsOther fault
 own_other (write_faults.Refused r) own = tt
@@ -179,11 +180,11 @@ memory_own : (fault : WriteFault) → fault ≡ write_faults.Memory → IsOwnRun
 memory_own fault e = subst IsOwnRun (sym e) tt
 
 -- where a line can't be read
-pub stops_unread : {W : Type 0} (n : ℕ) (left : Option (List ℕ)) (contents : W → Option (List ℕ)) (failures : W → ℕ) (fault : ReadFault) (told : WriteFault) (old new : Encoder W) → IsUnreadFault n fault told → failures (target_of new) ≡ failures (target_of old)
-    → TakesLines left contents failures (Err told) old new
-stops_unread {W = W} n left contents failures read_faults.Reader told old new t same = subst (λ (f : WriteFault). TakesLines left contents failures (Err f) old new) (sym t) same
-stops_unread n left contents failures read_faults.Memory told old new t same = stops_other left contents failures told old new (own_other told (memory_own told t)) same
-stops_unread n left contents failures read_faults.TooLong told old new t same = stops_other left contents failures told old new (own_other told (refused_own n _ told t.2)) same
+pub stops_unread : {W : Type 0} (enc : Encoding) (n : ℕ) (left : Option (List ℕ)) (contents : W → Option (List ℕ)) (failures : W → ℕ) (fault : ReadFault) (told : WriteFault) (old new : Encoder W) → IsUnreadFault n fault told → failures (target_of new) ≡ failures (target_of old)
+    → TakesLines enc left contents failures (Err told) old new
+stops_unread {W = W} enc n left contents failures read_faults.Reader told old new t same = subst (λ (f : WriteFault). TakesLines enc left contents failures (Err f) old new) (sym t) same
+stops_unread enc n left contents failures read_faults.Memory told old new t same = stops_other enc left contents failures told old new (own_other told (memory_own told t)) same
+stops_unread enc n left contents failures read_faults.TooLong told old new t same = stops_other enc left contents failures told old new (own_other told (refused_own n _ told t.3)) same
 
 reads_own : (fault : WriteFault) (old new : ℕ) → IsOwnRun fault → new ≡ old → CountsReaderFault {A = ℕ} (Err fault) old new
 reads_own (write_faults.Refused r) old new own same = same
@@ -195,7 +196,7 @@ reads_own write_faults.Memory old new own same = same
 pub reads_unread : (n : ℕ) (fault : ReadFault) (told : WriteFault) (old mid new : ℕ) → CountsReading {A = Bool} (Err fault) mid new → IsUnreadFault n fault told → mid ≡ old → CountsReaderFault {A = ℕ} (Err told) old new
 reads_unread n read_faults.Reader told old mid new h t same = subst (λ (f : WriteFault). CountsReaderFault {A = ℕ} (Err f) old new) (sym t) (h ∙ ap one_more_failure same)
 reads_unread n read_faults.Memory told old mid new h t same = reads_own told old new (memory_own told t) (h ∙ same)
-reads_unread n read_faults.TooLong told old mid new h t same = reads_own told old new (refused_own n _ told t.2) (h ∙ same)
+reads_unread n read_faults.TooLong told old mid new h t same = reads_own told old new (refused_own n _ told t.3) (h ∙ same)
 
 -- a fault of an item isn't the reader's
 pub reads_stopped : (n : ℕ) (fault : ItemFault) (told : WriteFault) (old new : ℕ) → IsRunFaultOf n fault told → new ≡ old → CountsReaderFault {A = ℕ} (Err told) old new
@@ -203,11 +204,11 @@ reads_stopped n (item_faults.Line f) told old new t same = reads_own told old ne
 reads_stopped n item_faults.Memory told old new t same = reads_own told old new (memory_own told t) same
 reads_stopped n (item_faults.Writer written) told old new t same = subst (λ (f : WriteFault). CountsReaderFault {A = ℕ} (Err f) old new) (sym t) same
 
-pub stops_at : {W : Type 0} (n : ℕ) (is : Item → Type 0) (reason : LimitValues → List Item → LineFault → Type 0) (before : Reached) (left : Option (List ℕ)) (contents : W → Option (List ℕ)) (failures : W → ℕ) (fault : ItemFault) (told : WriteFault) (old mid new : Encoder W) → TakesLine is reason before contents failures (Err fault) mid new
-    → IsRunFaultOf n fault told → failures (target_of mid) ≡ failures (target_of old) → TakesLines left contents failures (Err told) old new
-stops_at {W = W} n is reason before left contents failures (item_faults.Line f) told old mid new h t same = stops_other left contents failures told old new (own_other told (refused_own n _ told t)) (ap (λ (e : Encoder W). failures (target_of e)) h.0 ∙ same)
-stops_at {W = W} n is reason before left contents failures item_faults.Memory told old mid new h t same = stops_other left contents failures told old new (own_other told (memory_own told t)) (ap (λ (e : Encoder W). failures (target_of e)) h ∙ same)
-stops_at {W = W} n is reason before left contents failures (item_faults.Writer written) told old mid new h t same = subst (λ (f : WriteFault). TakesLines left contents failures (Err f) old new) (sym t) (h ∙ ap one_more_failure same)
+pub stops_at : {W : Type 0} (enc : Encoding) (n : ℕ) (is : Item → Type 0) (reason : LimitValues → List Item → LineFault → Type 0) (before : Reached) (left : Option (List ℕ)) (contents : W → Option (List ℕ)) (failures : W → ℕ) (fault : ItemFault) (told : WriteFault) (old mid new : Encoder W) → TakesLine is reason before contents failures (Err fault) mid new
+    → IsRunFaultOf n fault told → failures (target_of mid) ≡ failures (target_of old) → TakesLines enc left contents failures (Err told) old new
+stops_at {W = W} enc n is reason before left contents failures (item_faults.Line f) told old mid new h t same = stops_other enc left contents failures told old new (own_other told (refused_own n _ told t)) (ap (λ (e : Encoder W). failures (target_of e)) h.0 ∙ same)
+stops_at {W = W} enc n is reason before left contents failures item_faults.Memory told old mid new h t same = stops_other enc left contents failures told old new (own_other told (memory_own told t)) (ap (λ (e : Encoder W). failures (target_of e)) h ∙ same)
+stops_at {W = W} enc n is reason before left contents failures (item_faults.Writer written) told old mid new h t same = subst (λ (f : WriteFault). TakesLines enc left contents failures (Err f) old new) (sym t) (h ∙ ap one_more_failure same)
 
 pub reads_none : {A : Type 0} (answer : Result A WriteFault) (old new : ℕ) → NoReader answer → new ≡ old → CountsReaderFault answer old new
 reads_none {A = A} (Ok x) old new none same = same
@@ -280,39 +281,39 @@ stands_with contents item before after old new more same goes at judged = λ sta
     }
 
 -- the item of a transmission that a line says is the one that was made of it
-said_same : (limits : LimitValues) (line : List ℕ) (items : List Item) (i item : Item) → IsKinded item → SaysItem line item → SaysItem line i → AreFirstItems limits (items ++ i ∷ []) → i ≡ item
-said_same limits line items i item kinded own says f = same_item i item (own_heads (last_type Acknowledgement items) i (own_next limits items i f)) (kinded_heads item kinded) (says_once line i item says own)
+said_same : (enc : Encoding) (limits : LimitValues) (line : List ℕ) (items : List Item) (i item : Item) → IsKinded item → SaysItem enc line item → SaysItem enc line i → AreFirstItems limits (items ++ i ∷ []) → i ≡ item
+said_same enc limits line items i item kinded own says f = same_item i item (own_heads (last_type Acknowledgement items) i (own_next limits items i f)) (kinded_heads item kinded) (says_once enc line i item says own)
 
 -- what the reason says of the line
-abbrev pub ReasonOf : List ℕ → LimitValues → List Item → LineFault → Type 0
-ReasonOf line limits items f = (most : ℕ) → IsReason limits most items line f
+abbrev pub ReasonOf : Encoding → List ℕ → LimitValues → List Item → LineFault → Type 0
+ReasonOf enc line limits items f = (most : ℕ) → IsReason enc limits most items line f
 
-order_reason : (limits : LimitValues) (most : ℕ) (items : List Item) (line : List ℕ) (i : Item) (f : LineFault) (why : Why) → SaysItem line i → IsPlaceReason limits items i why → IsReasonOf limits most items line f why
-order_reason limits most items line i f whys.OutOfOrder says h = (i, says, h)
-order_reason limits most items line i f whys.WrongKind says h = (i, says, h)
-order_reason limits most items line i f (whys.Incomplete lack) says h = (i, says, h)
-order_reason limits most items line i f (whys.Limit limit) says h = (i, says, h)
-order_reason limits most items line i f why says h = absurd h
+order_reason : (enc : Encoding) (limits : LimitValues) (most : ℕ) (items : List Item) (line : List ℕ) (i : Item) (f : LineFault) (why : Why) → SaysItem enc line i → f.record ≡ 0 → IsPlaceReason limits items i why → IsReasonOf enc limits most items line f why
+order_reason enc limits most items line i f whys.OutOfOrder says first h = (first, (i, says, h))
+order_reason enc limits most items line i f whys.WrongKind says first h = (first, (i, says, h))
+order_reason enc limits most items line i f (whys.Incomplete lack) says first h = (first, (i, says, h))
+order_reason enc limits most items line i f (whys.Limit limit) says first h = (first, (i, says, h))
+order_reason enc limits most items line i f why says first h = absurd h
 
-data_reason : (limits : LimitValues) (most : ℕ) (items : List Item) (line : List ℕ) (f : LineFault) (why : Why) → IsOfData why → SaysNone line f → IsReasonOf limits most items line f why
-data_reason limits most items line f whys.NotJson h none = absurd h
-data_reason limits most items line f whys.OutOfOrder h none = absurd h
-data_reason limits most items line f whys.WrongKind h none = absurd h
-data_reason limits most items line f (whys.Incomplete lack) h none = absurd h
-data_reason limits most items line f (whys.Limit limit) h none = absurd h
-data_reason limits most items line f whys.TooLong h none = absurd h
-data_reason limits most items line f why h none = none
+data_reason : (enc : Encoding) (limits : LimitValues) (most : ℕ) (items : List Item) (line : List ℕ) (f : LineFault) (why : Why) → IsOfData why → SaysNone enc line f → IsReasonOf enc limits most items line f why
+data_reason enc limits most items line f whys.NotJson h none = absurd h
+data_reason enc limits most items line f whys.OutOfOrder h none = absurd h
+data_reason enc limits most items line f whys.WrongKind h none = absurd h
+data_reason enc limits most items line f (whys.Incomplete lack) h none = absurd h
+data_reason enc limits most items line f (whys.Limit limit) h none = absurd h
+data_reason enc limits most items line f whys.TooLong h none = absurd h
+data_reason enc limits most items line f why h none = none
 
 -- what is taken of the item that a line says
-pub taken_result : {W A : Type 0} (line : List ℕ) (value : Value A) (before : Reached) (contents : W → Option (List ℕ)) (failures : W → ℕ) (item : Item) (answer : Result Reached ItemFault) (old new : Encoder W) → IsUtf8 line
-    → document line ≡ Some (value_view value) → IsItemData (value_view value) (item_records item) → IsKinded item → TakesLine (λ i. i ≡ item) (PlaceOf item) before contents failures answer old new → TakesLine (SaysItem line) (ReasonOf line) before contents failures answer old new
-taken_result line value before contents failures item (Ok after) old new utf8 text says kinded t =
-    taken_so (SaysItem line) (ReasonOf line) (PlaceOf item) before after contents failures item old new (record { value = value_view value; utf8 = utf8; text = text; says = says }) t
-taken_result {W = W} line value before contents failures item (Err (item_faults.Line fault)) old new utf8 text says kinded t =
-    let own : SaysItem line item = record { value = value_view value; utf8 = utf8; text = text; says = says } in
-    (t.0, (λ start items s i is f. t.1 start items s i (said_same (encoder_limits old) line items i item kinded own is f) f), λ start items s most. order_reason (encoder_limits old) most items line item fault fault.why own (t.2 start items s))
-taken_result line value before contents failures item (Err item_faults.Memory) old new utf8 text says kinded t = t
-taken_result line value before contents failures item (Err (item_faults.Writer written)) old new utf8 text says kinded t = t
+pub taken_result : {W A : Type 0} (enc : Encoding) (line : List ℕ) (value : Value A) (before : Reached) (contents : W → Option (List ℕ)) (failures : W → ℕ) (item : Item) (answer : Result Reached ItemFault) (old new : Encoder W) → IsUtf8 line
+    → document line ≡ Some (value_view value) → IsItemData enc (value_view value) (item_records item) → IsKinded item → TakesLine (λ i. i ≡ item) (PlaceOf item) before contents failures answer old new → TakesLine (SaysItem enc line) (ReasonOf enc line) before contents failures answer old new
+taken_result enc line value before contents failures item (Ok after) old new utf8 text says kinded t =
+    taken_so (SaysItem enc line) (ReasonOf enc line) (PlaceOf item) before after contents failures item old new (record { value = value_view value; utf8 = utf8; text = text; says = says }) t
+taken_result {W = W} enc line value before contents failures item (Err (item_faults.Line fault)) old new utf8 text says kinded t =
+    let own : SaysItem enc line item = record { value = value_view value; utf8 = utf8; text = text; says = says } in
+    (t.0, (λ start items s i is f. t.1 start items s i (said_same enc (encoder_limits old) line items i item kinded own is f) f), λ start items s most. order_reason enc (encoder_limits old) most items line item fault fault.why own (t.2 start items s).0 (t.2 start items s).1)
+taken_result enc line value before contents failures item (Err item_faults.Memory) old new utf8 text says kinded t = t
+taken_result enc line value before contents failures item (Err (item_faults.Writer written)) old new utf8 text says kinded t = t
 
 own_is_item : (ty : TransactionType) (i : Item) → IsOwnItem ty i → IsItem i
 own_is_item ty (Opened r) h = h
@@ -324,24 +325,24 @@ own_is_item ty (Transaction t) h =
     (record { each = h.0; begins = (ty, [], subst (IsShape ty) (sym (append-nil (map symbol_of t))) h.1) }, omega (arith, ap length p.whole))
 
 -- a line whose value is no item's data
-pub none_made : {W A : Type 0} (line : List ℕ) (value : Value A) (before : Reached) (contents : W → Option (List ℕ)) (failures : W → ℕ) (fault : ItemFault) (e : Encoder W) → IsUtf8 line → document line ≡ Some (value_view value) → IsOwn fault
-    → (IsLine fault → NoItem (IsItemData (value_view value))) → OnLine fault (IsItemReason (value_view value)) → TakesLine (SaysItem line) (ReasonOf line) before contents failures (Err fault) e e
-none_made line value before contents failures (item_faults.Line f) e utf8 text own none reason = (
+pub none_made : {W A : Type 0} (enc : Encoding) (line : List ℕ) (value : Value A) (before : Reached) (contents : W → Option (List ℕ)) (failures : W → ℕ) (fault : ItemFault) (e : Encoder W) → IsUtf8 line → document line ≡ Some (value_view value) → IsOwn fault
+    → (IsLine fault → NoItem (IsItemData enc (value_view value))) → OnLine fault (IsItemReason enc (value_view value)) → TakesLine (SaysItem enc line) (ReasonOf enc line) before contents failures (Err fault) e e
+none_made enc line value before contents failures (item_faults.Line f) e utf8 text own none reason = (
   refl,
   (λ start items s i says first.
-      none tt i (own_is_item (last_type Acknowledgement items) i (own_next (encoder_limits e) items i first)) (subst (λ (j : Json). IsItemData j (item_records i)) (value_once line says.value (value_view value) says.text text) says.says)),
-  λ start items s most. data_reason (encoder_limits e) most items line f f.why own (record { value = value_view value; utf8 = utf8; text = text; none = none tt; reason = reason }),
+      none tt i (own_is_item (last_type Acknowledgement items) i (own_next (encoder_limits e) items i first)) (subst (λ (j : Json). IsItemData enc j (item_records i)) (value_once line says.value (value_view value) says.text text) says.says)),
+  λ start items s most. data_reason enc (encoder_limits e) most items line f f.why own (record { value = value_view value; utf8 = utf8; text = text; none = none tt; reason = reason }),
 )
-none_made line value before contents failures item_faults.Memory e utf8 text own none reason = refl
-none_made line value before contents failures (item_faults.Writer written) e utf8 text own none reason = absurd own
+none_made enc line value before contents failures item_faults.Memory e utf8 text own none reason = refl
+none_made enc line value before contents failures (item_faults.Writer written) e utf8 text own none reason = absurd own
 
 -- ---- all lines were taken
 
-pub ends_lines : {W : Type 0} (n : ℕ) (left : Option (List ℕ)) (contents : W → Option (List ℕ)) (failures : W → ℕ) (start : Option (List ℕ)) (reached : Reached) (items : List Item) (answer : Result ℕ WriteFault) (old new : Encoder W) → EndsWith n reached answer
-    → RepresentsMore contents (given_in items) old new → is_stopped new ≡ false → failures (target_of new) ≡ failures (target_of old) → Stands contents start items reached new → IfSome left (λ text. SaysItems text items)
-    → TakesLines left contents failures answer old new
-ends_lines n left contents failures start reached items (Ok lines) old new e more unfailed same s said = (items, more, unfailed, same, s.given.ended e.0, said, stands_whole contents start items reached new s e.0)
-ends_lines n left contents failures start reached items (Err fault) old new e more unfailed same s said = stops_other left contents failures fault old new (subst IsOther (sym e.1) tt) same
+pub ends_lines : {W : Type 0} (enc : Encoding) (n : ℕ) (left : Option (List ℕ)) (contents : W → Option (List ℕ)) (failures : W → ℕ) (start : Option (List ℕ)) (reached : Reached) (items : List Item) (answer : Result ℕ WriteFault) (old new : Encoder W) → EndsWith n reached answer
+    → RepresentsMore contents (given_in items) old new → is_stopped new ≡ false → failures (target_of new) ≡ failures (target_of old) → Stands contents start items reached new → IfSome left (λ text. SaysItems enc text items)
+    → TakesLines enc left contents failures answer old new
+ends_lines enc n left contents failures start reached items (Ok lines) old new e more unfailed same s said = (items, more, unfailed, same, s.given.ended e.0, said, stands_whole contents start items reached new s e.0)
+ends_lines enc n left contents failures start reached items (Err fault) old new e more unfailed same s said = stops_other enc left contents failures fault old new (subst IsOther (sym e.1) tt) same
 
 pub ends_read : (n : ℕ) (reached : Reached) (answer : Result ℕ WriteFault) (old new : ℕ) → EndsWith n reached answer → new ≡ old → CountsReaderFault {A = ℕ} answer old new
 ends_read n reached (Ok lines) old new e same = same

@@ -3,6 +3,7 @@
 use crate::refusals::{Key, Refusal, Why, put_key_of, put_name};
 use cwr_encode::{Sink, SinkFault};
 use cwr_fields::Target;
+use cwr_json::Encoding;
 use cwr_layouts::{Kind, RecordRef, field, fields, letters};
 use cwr_values::{Item, Transaction};
 use itoa::Buffer;
@@ -111,13 +112,29 @@ fn put_lack<W: Target>(lack: Lack, sink: &mut Sink<W>) -> Result<(), SinkFault> 
     sink.put(b"\n")
 }
 
-/// Puts a line that says more of a refusal: the keys that there are, where one is unknown; the width, where a text is wider; what is
-/// missing, where an item is incomplete. It begins with two spaces. Of other refusals it puts nothing.
-pub fn put_hint<W: Target>(refusal: &Refusal, sink: &mut Sink<W>) -> Result<(), SinkFault> {
+/// The words for the characters that there may be.
+fn character_words(encoding: Encoding) -> &'static [u8] {
+    match encoding {
+        Encoding::Latin1 => b"  without --utf8 there are only the characters up to U+00FF\n",
+        Encoding::Utf8 => {
+            b"  beside U+F780 to U+F7FF, which are bytes, there are only the characters up to U+007F\n"
+        }
+    }
+}
+
+/// Puts a line that says more of a refusal: the keys that there are, where one is unknown; the width, where a text is wider; which
+/// characters there may be, where another stands; what is missing, where an item is incomplete. It begins with two spaces. Of other
+/// refusals it puts nothing.
+pub fn put_hint<W: Target>(
+    refusal: &Refusal,
+    encoding: Encoding,
+    sink: &mut Sink<W>,
+) -> Result<(), SinkFault> {
     let fault = &refusal.fault;
     match (&fault.why, fault.kind, &fault.key) {
         (Why::UnknownKey, Some(kind), _) => put_keys(kind, sink),
         (Why::UnknownKey, None, _) => sink.put(b"  keys of a line: records\n"),
+        (Why::NotAByte, _, _) => sink.put(character_words(encoding)),
         (Why::TooWide, Some(kind), Key::Field(j)) => put_width(kind, *j, sink),
         (Why::Incomplete(lack), _, _) => put_lack(*lack, sink),
         _ => Ok(()),

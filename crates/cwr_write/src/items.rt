@@ -1,12 +1,13 @@
 //! From the value of a line to an item, and to an encoder.
 
-ghost use Rattle.std.specs.Prelude.{◌≡◌, ◌≤◌, ◌<◌, ℕ, List, Option, length, drop, map, IfOk, IfErr, OnErr, false};
+ghost use Rattle.std.specs.Prelude.{◌≡◌, ◌+◌, ◌≤◌, ◌<◌, ℕ, List, Option, length, drop, map, min, IfOk, IfErr, OnErr, false};
 ghost use Rattle.std.specs.Prelude.{option_map};
 ghost use Rattle.json.specs.Find.{as_array};
 ghost use Rattle.json.specs.Value.{items_view, members_view, value_view};
 ghost use Rattle.cwr_judge.specs.Format.Items.{item_records};
 ghost use Rattle.cwr_layouts.specs.Format.Records.{RecordValue};
 ghost use Rattle.cwr_values.specs.Format.Values.{symbol_of};
+ghost use Rattle.cwr_json.specs.declared.encodings.Encoding.{Encoding};
 ghost use Rattle.cwr_json.specs.Format.Forms.{AreOnlyRecords, AreRecordsData, IsItemData, records_key, told};
 ghost use Rattle.cwr_encode.specs.Steps.Encoders.{AddsRecords, Encodes, encoder_limits, is_stopped};
 ghost use Rattle.cwr_write.specs.Format.AloneKinds.{IsAlone};
@@ -19,6 +20,7 @@ use crate::records::{MemberList, of_record, record_of, says};
 use crate::refusals::{Key, LineFault, Why, of_key, of_line};
 use cwr_encode::{EncodeFault, Encoder};
 use cwr_fields::Target;
+use cwr_json::Encoding;
 use cwr_layouts::{Kind, Record};
 use cwr_values::{Item, PushFault, Transaction};
 use json::Value;
@@ -59,7 +61,7 @@ fn first_said(members: &MemberList<'_>, from: usize) -> usize
 /// Where the list of records stands among a line's members: they have no other that says something.
 fn list_in(members: &MemberList<'_>) -> Result<usize, LineFault>
     ensures ok { IfOk result (IsOnlyAt members.now.items records_key) }
-    ensures err { OnErr result ((rs : List RecordValue) → ¬ AreOnlyRecords (told (members_view members.now.items)) rs) }
+    ensures err { OnErr result ((encoding : Encoding) (rs : List RecordValue) → ¬ AreOnlyRecords encoding (told (members_view members.now.items)) rs) }
     ensures why { IfErr result (λ f. IsOfData f.why) }
     ensures reason { IfErr result (λ f. (f.record ≡ 0) × IsListReason (told (members_view members.now.items)) f.why) }
 {
@@ -95,29 +97,36 @@ fn push_fault(number: u32, kind: Kind, fault: PushFault) -> ItemFault
     }
 }
 
+/// The number of a record after so many, as faults tell it.
+fn number_after(records: usize) -> u32
+    ensures { result ≡ min (records + 1) 4294967295 }
+{
+    u32::try_from(records).unwrap_or(u32::MAX).saturating_add(1)
+}
+
 /// The transaction that values are, of which the first is that record.
 fn transaction_of(
     alloc: Global,
+    encoding: Encoding,
     values: &[Value<'_>],
     first: &Record,
 ) -> Result<Transaction, ItemFault>
     requires some { 0 < length values.now }
-    requires first { IsDataAt values.now 0 first.now }
+    requires first { IsDataAt encoding values.now 0 first.now }
     requires inside { ¬ IsAlone first.now.kind }
-    ensures ok { IfOk result (λ transaction. AreRecordsData (items_view values.now) transaction) }
+    ensures ok { IfOk result (λ transaction. AreRecordsData encoding (items_view values.now) transaction) }
     ensures kinded { IfOk result (λ transaction. IsKinded (Item.Transaction transaction)) }
     ensures err { IfErr result IsOwn }
-    ensures none { IfErr result (λ fault. IsLine fault → NoItem (AreRecordsData (items_view values.now))) }
-    ensures reason { IfErr result (λ fault. OnLine fault (IsAmong (map value_view values.now))) }
+    ensures none { IfErr result (λ fault. IsLine fault → NoItem (AreRecordsData encoding (items_view values.now))) }
+    ensures reason { IfErr result (λ fault. OnLine fault (IsAmong encoding (map value_view values.now))) }
 {
     let mut transaction = match Transaction::new(alloc, first.view()) {
         Ok(transaction) => transaction,
         Err(fault) => return Err(push_fault(1, first.view().kind(), fault)),
     };
-    let mut number: u32 = 1;
     for i in 1..values.len() {
-        number = number.saturating_add(1);
-        let record = match record_of(number, &values[i]) {
+        let number = number_after(transaction.len());
+        let record = match record_of(encoding, number, &values[i]) {
             Ok(record) => record,
             Err(fault) => return Err(ItemFault::Line(fault)),
         };
@@ -129,32 +138,37 @@ fn transaction_of(
 }
 
 /// What is told of a second record beside one that stands alone: what is wrong with it itself comes first.
-fn beside(values: &[Value<'_>], first: &Record) -> LineFault
+fn beside(encoding: Encoding, values: &[Value<'_>], first: &Record) -> LineFault
     requires more { 1 < length values.now }
     requires alone { IsAlone first.now.kind }
-    requires data { IsDataAt values.now 0 first.now }
+    requires data { IsDataAt encoding values.now 0 first.now }
     ensures why { IsOfData result.why }
-    ensures reason { IsAmong (map value_view values.now) result }
+    ensures reason { IsAmong encoding (map value_view values.now) result }
 {
-    match record_of(2, &values[1]) {
+    match record_of(encoding, 2, &values[1]) {
         Ok(_) => of_record(2, Some(first.view().kind()), Key::None, Why::Alone),
         Err(fault) => fault,
     }
 }
 
 /// The item that is one record.
-fn item_alone(kind: Kind, values: &[Value<'_>], first: Record) -> Result<Item, ItemFault>
+fn item_alone(
+    encoding: Encoding,
+    kind: Kind,
+    values: &[Value<'_>],
+    first: Record,
+) -> Result<Item, ItemFault>
     requires some { 0 < length values.now }
     requires kind { (first.kind ≡ kind) × IsAlone kind }
-    requires data { IsDataAt values.now 0 first }
-    ensures ok { IfOk result (λ item. AreRecordsData (items_view values.now) (item_records item)) }
+    requires data { IsDataAt encoding values.now 0 first }
+    ensures ok { IfOk result (λ item. AreRecordsData encoding (items_view values.now) (item_records item)) }
     ensures kinded { IfOk result IsKinded }
     ensures err { IfErr result IsOwn }
-    ensures none { IfErr result (λ fault. NoItem (AreRecordsData (items_view values.now))) }
-    ensures reason { IfErr result (λ fault. OnLine fault (IsAmong (map value_view values.now))) }
+    ensures none { IfErr result (λ fault. NoItem (AreRecordsData encoding (items_view values.now))) }
+    ensures reason { IfErr result (λ fault. OnLine fault (IsAmong encoding (map value_view values.now))) }
 {
     if values.len() > 1 {
-        return Err(ItemFault::Line(beside(values, &first)));
+        return Err(ItemFault::Line(beside(encoding, values, &first)));
     }
     Ok(match kind {
         Kind::Hdr => Item::Opened(first),
@@ -165,24 +179,24 @@ fn item_alone(kind: Kind, values: &[Value<'_>], first: Record) -> Result<Item, I
 }
 
 /// The item that values are.
-fn item_of(alloc: Global, values: &[Value<'_>]) -> Result<Item, ItemFault>
-    ensures ok { IfOk result (λ item. AreRecordsData (items_view values.now) (item_records item)) }
+fn item_of(alloc: Global, encoding: Encoding, values: &[Value<'_>]) -> Result<Item, ItemFault>
+    ensures ok { IfOk result (λ item. AreRecordsData encoding (items_view values.now) (item_records item)) }
     ensures kinded { IfOk result IsKinded }
     ensures err { IfErr result IsOwn }
-    ensures none { IfErr result (λ fault. IsLine fault → NoItem (AreRecordsData (items_view values.now))) }
-    ensures reason { IfErr result (λ fault. OnLine fault (IsOfList (map value_view values.now))) }
+    ensures none { IfErr result (λ fault. IsLine fault → NoItem (AreRecordsData encoding (items_view values.now))) }
+    ensures reason { IfErr result (λ fault. OnLine fault (IsOfList encoding (map value_view values.now))) }
 {
     let Some(first) = values.first() else {
         return Err(ItemFault::Line(of_key("records", Why::Empty)));
     };
-    let record = match record_of(1, first) {
+    let record = match record_of(encoding, 1, first) {
         Ok(record) => record,
         Err(fault) => return Err(ItemFault::Line(fault)),
     };
     let kind = record.view().kind();
     match kind {
-        Kind::Hdr | Kind::Grh | Kind::Grt | Kind::Trl => item_alone(kind, values, record),
-        _ => match transaction_of(alloc, values, &record) {
+        Kind::Hdr | Kind::Grh | Kind::Grt | Kind::Trl => item_alone(encoding, kind, values, record),
+        _ => match transaction_of(alloc, encoding, values, &record) {
             Ok(transaction) => Ok(Item::Transaction(transaction)),
             Err(fault) => Err(fault),
         },
@@ -201,12 +215,16 @@ fn values_in<'v, 'a>(value: &'v Value<'a>) -> Option<&'v [Value<'a>]>
 }
 
 /// The item that the value of a line is.
-pub(crate) fn item_in(alloc: Global, value: &Value<'_>) -> Result<Item, ItemFault>
-    ensures ok { IfOk result (λ item. IsItemData (value_view value.now) (item_records item)) }
+pub(crate) fn item_in(
+    alloc: Global,
+    encoding: Encoding,
+    value: &Value<'_>,
+) -> Result<Item, ItemFault>
+    ensures ok { IfOk result (λ item. IsItemData encoding (value_view value.now) (item_records item)) }
     ensures kinded { IfOk result IsKinded }
     ensures err { IfErr result IsOwn }
-    ensures none { IfErr result (λ fault. IsLine fault → NoItem (IsItemData (value_view value.now))) }
-    ensures reason { IfErr result (λ fault. OnLine fault (IsItemReason (value_view value.now))) }
+    ensures none { IfErr result (λ fault. IsLine fault → NoItem (IsItemData encoding (value_view value.now))) }
+    ensures reason { IfErr result (λ fault. OnLine fault (IsItemReason encoding (value_view value.now))) }
 {
     let Value::Object(members) = value else {
         return Err(ItemFault::Line(of_line(Why::NotAnObject)));
@@ -221,7 +239,7 @@ pub(crate) fn item_in(alloc: Global, value: &Value<'_>) -> Result<Item, ItemFaul
     let Some(values) = values_in(&member.1) else {
         return Err(ItemFault::Line(of_key("records", Why::NotAList)));
     };
-    item_of(alloc, values)
+    item_of(alloc, encoding, values)
 }
 
 /// What is told of an encoder's fault with the item.

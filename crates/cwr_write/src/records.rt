@@ -1,6 +1,6 @@
 //! From the members of an object to a record.
 
-ghost use Rattle.std.specs.Prelude.{◌≡◌, ◌&&◌, ◌++◌, ℕ, ◌<◌, ◌≤◌, List, Bool, true, if◌then◌else◌, length, take, Some, None, IfErr, IfOk, MatchOption, OnErr, OnOk};
+ghost use Rattle.std.specs.Prelude.{◌≡◌, ◌&&◌, ◌++◌, ℕ, ◌<◌, ◌≤◌, List, Bool, true, false, if◌then◌else◌, length, take, Some, None, IfErr, IfOk, MatchOption, OnErr, OnOk};
 ghost use Rattle.std.specs.Str.{bytes_eq};
 ghost use Rattle.json.specs.Json.{Members, no_members, string};
 ghost use Rattle.json.specs.Value.{members_view, value_view};
@@ -8,13 +8,16 @@ ghost use Rattle.cwr_layouts.specs.Format.Kinds.{letters};
 ghost use Rattle.cwr_layouts.specs.Format.Layouts.{FieldLayout, field_at};
 ghost use Rattle.cwr_layouts.specs.Format.Records.{IsRecord, RecordValue};
 ghost use Rattle.cwr_layouts.specs.Format.Carried.{Sets, carried_at};
-ghost use Rattle.cwr_json.specs.Format.Forms.{IsDataOf, IsRecordData, character, characters, first_of, is_note, kind_key, says, told};
+ghost use Rattle.cwr_json.specs.declared.encodings.Encoding.{Encoding};
+ghost use Rattle.cwr_json.specs.Format.Encodings.{StandFor, are_read_as_is, byte_by_byte, character};
+ghost use Rattle.cwr_json.specs.Format.Forms.{IsDataOf, IsRecordData, first_of, is_note, kind_key, says, told};
 ghost use Rattle.cwr_write.specs.Format.Faults.{AreBytes, IsKindReason, IsMemberReason, IsOfData, IsRecordReason, IsValueReason};
-ghost use Rattle.cwr_write.specs.Steps.Filling.{FitsField, IsDraftReason, IsFilled, NoneFrom, has_higher, joined, with_last};
+ghost use Rattle.cwr_write.specs.Steps.Filling.{FitsField, IsBytesReason, IsDraftReason, IsFilled, IsTextOf, NoneFrom, joined, with_last};
 
 use crate::keys::field_of_key;
 use crate::refusals::{Key, LineFault, Why, text_key};
 use arrayvec::ArrayVec;
+use cwr_json::{Encoding, has_escape};
 use cwr_layouts::{Draft, DraftFault, Kind, Record, SetFault, field};
 use json::Value;
 
@@ -82,10 +85,11 @@ const WIDEST_CELL: usize = 700;
 /// The bytes of a cell.
 type Cell = ArrayVec<u8, WIDEST_CELL>;
 
-/// The byte that the first character stands for, and how many bytes that has. It is `None` where no character up to U+00FF comes.
-fn first_byte(text: &[u8]) -> Option<(u8, usize)>
-    ensures { MatchOption result ((b : ℕ) (rest : List ℕ) → b < 256 → ¬ (text.now ≡ character b ++ rest))
-        (λ p. (0 < p.1) × (p.1 ≤ length text.now) × (character p.0 ≡ take p.1 text.now)) }
+/// The byte that the first character stands for in ISO 8859-1, and how many bytes that has. It is `None` where no character up to
+/// U+00FF comes.
+fn first_latin(text: &[u8]) -> Option<(u8, usize)>
+    ensures { MatchOption result ((b : ℕ) (rest : List ℕ) → b < 256 → ¬ (text.now ≡ character Encoding.Latin1 b ++ rest))
+        (λ p. (0 < p.1) × (p.1 ≤ length text.now) × (character Encoding.Latin1 p.0 ≡ take p.1 text.now) × (p.0 < 256)) }
 {
     let first = *text.first()?;
     if first < 128 {
@@ -99,15 +103,62 @@ fn first_byte(text: &[u8]) -> Option<(u8, usize)>
     }
 }
 
-/// The bytes that characters up to U+00FF stand for. It is `None` for a text that has others, or that is wider than any cell.
-fn bytes_of(text: &[u8]) -> Option<Cell>
-    ensures { MatchOption result ((cell : List ℕ) → AreBytes cell → length cell ≤ WIDEST_CELL → ¬ (characters cell ≡ text.now))
-        (λ cell. characters cell.items ≡ text.now) }
+/// The byte that the first character or escape stands for, and how many bytes that has. It is `None` where another one comes.
+fn first_escaped(text: &[u8]) -> Option<(u8, usize)>
+    ensures { MatchOption result ((b : ℕ) (rest : List ℕ) → b < 256 → ¬ (text.now ≡ character Encoding.Utf8 b ++ rest))
+        (λ p. (0 < p.1) × (p.1 ≤ length text.now) × (character Encoding.Utf8 p.0 ≡ take p.1 text.now) × (p.0 < 256)) }
+{
+    let first = *text.first()?;
+    if first < 128 {
+        return Some((first, 1));
+    }
+    let second = *text.get(1)?;
+    let third = *text.get(2)?;
+    if first != 239 || third < 128 || third >= 192 {
+        return None;
+    }
+    match second {
+        158 => Some((third, 3)),
+        159 => Some((third + 64, 3)),
+        _ => None,
+    }
+}
+
+/// The byte that the first character stands for, and how many bytes that has. It is `None` where none comes that stands for one.
+fn first_byte(encoding: Encoding, text: &[u8]) -> Option<(u8, usize)>
+    ensures { MatchOption result ((b : ℕ) (rest : List ℕ) → b < 256 → ¬ (text.now ≡ character encoding b ++ rest))
+        (λ p. (0 < p.1) × (p.1 ≤ length text.now) × (character encoding p.0 ≡ take p.1 text.now) × (p.0 < 256)) }
+{
+    match encoding {
+        Encoding::Latin1 => first_latin(text),
+        Encoding::Utf8 => first_escaped(text),
+    }
+}
+
+/// Whether each character stands for a byte.
+fn are_bytes(encoding: Encoding, text: &[u8]) -> bool
+    ensures yes { result ≡ true → (cell : List ℕ) × AreBytes cell × (byte_by_byte encoding cell ≡ text.now) }
+    ensures no { result ≡ false → (cell : List ℕ) → AreBytes cell → ¬ (byte_by_byte encoding cell ≡ text.now) }
+{
+    let mut i: usize = 0;
+    while i < text.len() {
+        let Some((_, count)) = first_byte(encoding, &text[i..]) else {
+            return false;
+        };
+        i += count;
+    }
+    true
+}
+
+/// The bytes that characters stand for, each for one. It is `None` for a text that has others, or that is wider than any cell.
+fn bytes_of(encoding: Encoding, text: &[u8]) -> Option<Cell>
+    ensures { MatchOption result ((cell : List ℕ) → AreBytes cell → length cell ≤ WIDEST_CELL → ¬ (byte_by_byte encoding cell ≡ text.now))
+        (λ cell. byte_by_byte encoding cell.items ≡ text.now) }
 {
     let mut cell = Cell::new();
     let mut i: usize = 0;
     while i < text.len() {
-        let (byte, count) = first_byte(&text[i..])?;
+        let (byte, count) = first_byte(encoding, &text[i..])?;
         let Ok(()) = cell.try_push(byte) else {
             return None;
         };
@@ -116,32 +167,24 @@ fn bytes_of(text: &[u8]) -> Option<Cell>
     Some(cell)
 }
 
-/// Whether a text has a byte that is in no character up to U+00FF.
-fn has_higher(text: &[u8]) -> bool
-    ensures { result ≡ has_higher text.now }
+/// Whether characters are read as the bytes that they are.
+fn are_read_as_is(encoding: Encoding, text: &[u8]) -> bool
+    ensures { result ≡ are_read_as_is encoding text.now }
 {
-    for b in text {
-        if *b > 195 {
-            return true;
-        }
+    match encoding {
+        Encoding::Latin1 => false,
+        Encoding::Utf8 => !has_escape(text),
     }
-    false
 }
 
-/// Sets a cell of a draft to the bytes that characters stand for.
-fn set_characters(draft: &mut Draft, j: u8, text: &[u8]) -> Result<(), Why>
-    ensures ok { OnOk result ((cell : List ℕ) × (characters cell ≡ text.now) × Sets j cell draft.old draft.new) }
-    ensures err { OnErr result ((cell : List ℕ) → characters cell ≡ text.now → ¬ FitsField draft.old.kind j cell) }
+/// Sets a cell of a draft to bytes.
+fn set_bytes(draft: &mut Draft, j: u8, bytes: &[u8]) -> Result<(), Why>
+    ensures ok { OnOk result (Sets j bytes.now draft.old draft.new) }
+    ensures err { OnErr result (¬ FitsField draft.old.kind j bytes.now) }
     ensures why { IfErr result IsOfData }
-    ensures reason { IfErr result (λ why. (f : FieldLayout) → field_at draft.old.kind j ≡ Some f → IsValueReason f (Some (string text.now)) why) }
+    ensures reason { IfErr result (IsBytesReason draft.old.kind j bytes.now) }
 {
-    if has_higher(text) {
-        return Err(Why::NotAByte);
-    }
-    let Some(cell) = bytes_of(text) else {
-        return Err(Why::TooWide);
-    };
-    match draft.set(j, cell.as_slice()) {
+    match draft.set(j, bytes) {
         Ok(()) => Ok(()),
         Err(SetFault::NoSuchField) => Err(Why::UnknownKey),
         Err(SetFault::Derived) => Err(Why::Computed),
@@ -150,10 +193,41 @@ fn set_characters(draft: &mut Draft, j: u8, text: &[u8]) -> Result<(), Why>
     }
 }
 
+/// Sets a cell of a draft to the bytes that characters stand for, each for one.
+fn set_each(encoding: Encoding, draft: &mut Draft, j: u8, text: &[u8]) -> Result<(), Why>
+    requires { are_read_as_is encoding text.now ≡ false }
+    ensures ok { OnOk result ((cell : List ℕ) × StandFor encoding text.now cell × Sets j cell draft.old draft.new) }
+    ensures err { OnErr result ((cell : List ℕ) → StandFor encoding text.now cell → ¬ FitsField draft.old.kind j cell) }
+    ensures why { IfErr result IsOfData }
+    ensures reason { IfErr result (λ why. (f : FieldLayout) → field_at draft.old.kind j ≡ Some f → f.derived ≡ false → IsValueReason encoding f (Some (string text.now)) why) }
+{
+    if !are_bytes(encoding, text) {
+        return Err(Why::NotAByte);
+    }
+    match bytes_of(encoding, text) {
+        Some(cell) => set_bytes(draft, j, cell.as_slice()),
+        None => Err(Why::TooWide),
+    }
+}
+
+/// Sets a cell of a draft to the bytes that characters stand for.
+fn set_characters(encoding: Encoding, draft: &mut Draft, j: u8, text: &[u8]) -> Result<(), Why>
+    ensures ok { OnOk result ((cell : List ℕ) × StandFor encoding text.now cell × Sets j cell draft.old draft.new) }
+    ensures err { OnErr result ((cell : List ℕ) → StandFor encoding text.now cell → ¬ FitsField draft.old.kind j cell) }
+    ensures why { IfErr result IsOfData }
+    ensures reason { IfErr result (λ why. (f : FieldLayout) → field_at draft.old.kind j ≡ Some f → f.derived ≡ false → IsValueReason encoding f (Some (string text.now)) why) }
+{
+    if are_read_as_is(encoding, text) {
+        set_bytes(draft, j, text)
+    } else {
+        set_each(encoding, draft, j, text)
+    }
+}
+
 /// Whether field `j` is computed.
 fn is_computed(kind: Kind, j: u8) -> bool
     ensures none { result ≡ true → carried_at kind j ≡ None }
-    ensures derived { result ≡ true → (f : FieldLayout) → field_at kind j ≡ Some f → f.derived ≡ true }
+    ensures derived { (f : FieldLayout) → field_at kind j ≡ Some f → f.derived ≡ result }
 {
     match field(kind, j) {
         Some(place) => place.derived,
@@ -162,17 +236,23 @@ fn is_computed(kind: Kind, j: u8) -> bool
 }
 
 /// Sets a cell of a draft to a value.
-fn set_value(draft: &mut Draft, kind: Kind, j: u8, value: &Value<'_>) -> Result<(), Why>
-    ensures ok { OnOk result ((cell : List ℕ) × (value_view value.now ≡ string (characters cell)) × Sets j cell draft.old draft.new) }
-    ensures err { OnErr result (draft.old.kind ≡ kind → (cell : List ℕ) → value_view value.now ≡ string (characters cell) → ¬ FitsField kind j cell) }
+fn set_value(
+    encoding: Encoding,
+    draft: &mut Draft,
+    kind: Kind,
+    j: u8,
+    value: &Value<'_>,
+) -> Result<(), Why>
+    ensures ok { OnOk result ((cell : List ℕ) × IsTextOf encoding (value_view value.now) cell × Sets j cell draft.old draft.new) }
+    ensures err { OnErr result (draft.old.kind ≡ kind → (cell : List ℕ) → IsTextOf encoding (value_view value.now) cell → ¬ FitsField kind j cell) }
     ensures why { IfErr result IsOfData }
-    ensures reason { IfErr result (λ why. draft.old.kind ≡ kind → (f : FieldLayout) → field_at kind j ≡ Some f → IsValueReason f (Some (value_view value.now)) why) }
+    ensures reason { IfErr result (λ why. draft.old.kind ≡ kind → (f : FieldLayout) → field_at kind j ≡ Some f → IsValueReason encoding f (Some (value_view value.now)) why) }
 {
     if is_computed(kind, j) {
         return Err(Why::Computed);
     }
     match value.as_str() {
-        Some(text) => set_characters(draft, j, text.as_bytes()),
+        Some(text) => set_characters(encoding, draft, j, text.as_bytes()),
         None => Err(Why::NotText),
     }
 }
@@ -191,7 +271,7 @@ struct Filling {
 impl Filling {
     /// Nothing came.
     fn new(kind: Kind) -> Filling
-        ensures filled { IsFilled kind no_members result.draft result.seen }
+        ensures filled { (encoding : Encoding) → IsFilled encoding kind no_members result.draft result.seen }
         ensures kind { result.kind ≡ kind }
     {
         Filling {
@@ -203,14 +283,14 @@ impl Filling {
     }
 
     /// Takes a member that says something.
-    fn take(&mut self, key: &str, value: &Value<'_>) -> Result<(), (Key, Why)>
-        ensures ok { OnOk result ((ms : Members) → IsFilled self.old.kind ms self.old.draft self.old.seen
-            → IsFilled self.old.kind (with_last ms key.now (value_view value.now)) self.new.draft self.new.seen) }
-        ensures err { OnErr result ((ms : Members) → IsFilled self.old.kind ms self.old.draft self.old.seen
-            → NoneFrom self.old.kind (with_last ms key.now (value_view value.now))) }
+    fn take(&mut self, encoding: Encoding, key: &str, value: &Value<'_>) -> Result<(), (Key, Why)>
+        ensures ok { OnOk result ((ms : Members) → IsFilled encoding self.old.kind ms self.old.draft self.old.seen
+            → IsFilled encoding self.old.kind (with_last ms key.now (value_view value.now)) self.new.draft self.new.seen) }
+        ensures err { OnErr result ((ms : Members) → IsFilled encoding self.old.kind ms self.old.draft self.old.seen
+            → NoneFrom encoding self.old.kind (with_last ms key.now (value_view value.now))) }
         ensures why { IfErr result (λ f. IsOfData f.1) }
-        ensures reason { IfErr result (λ f. (ms rest : Members) → IsFilled self.old.kind ms self.old.draft self.old.seen
-            → IsMemberReason self.old.kind (joined (with_last ms key.now (value_view value.now)) rest) f.0 f.1) }
+        ensures reason { IfErr result (λ f. (ms rest : Members) → IsFilled encoding self.old.kind ms self.old.draft self.old.seen
+            → IsMemberReason encoding self.old.kind (joined (with_last ms key.now (value_view value.now)) rest) f.0 f.1) }
         ensures kind { self.new.kind ≡ self.old.kind }
     {
         let Some(j) = field_of_key(self.kind, key, self.last) else {
@@ -224,25 +304,25 @@ impl Filling {
         if j == 1 {
             return Ok(());
         }
-        match set_value(&mut self.draft, self.kind, j, value) {
+        match set_value(encoding, &mut self.draft, self.kind, j, value) {
             Ok(()) => Ok(()),
             Err(why) => Err((Key::Field(j), why)),
         }
     }
 
     /// Takes a member, if it says something.
-    fn meet(&mut self, key: &str, value: &Value<'_>) -> Result<(), (Key, Why)>
-        ensures ok { OnOk result ((ms : Members) → IsFilled self.old.kind ms self.old.draft self.old.seen
-            → IsFilled self.old.kind (if says key.now (value_view value.now) then with_last ms key.now (value_view value.now) else ms) self.new.draft self.new.seen) }
-        ensures err { OnErr result ((ms : Members) → IsFilled self.old.kind ms self.old.draft self.old.seen
-            → NoneFrom self.old.kind (if says key.now (value_view value.now) then with_last ms key.now (value_view value.now) else ms)) }
+    fn meet(&mut self, encoding: Encoding, key: &str, value: &Value<'_>) -> Result<(), (Key, Why)>
+        ensures ok { OnOk result ((ms : Members) → IsFilled encoding self.old.kind ms self.old.draft self.old.seen
+            → IsFilled encoding self.old.kind (if says key.now (value_view value.now) then with_last ms key.now (value_view value.now) else ms) self.new.draft self.new.seen) }
+        ensures err { OnErr result ((ms : Members) → IsFilled encoding self.old.kind ms self.old.draft self.old.seen
+            → NoneFrom encoding self.old.kind (if says key.now (value_view value.now) then with_last ms key.now (value_view value.now) else ms)) }
         ensures why { IfErr result (λ f. IsOfData f.1) }
-        ensures reason { IfErr result (λ f. (ms rest : Members) → IsFilled self.old.kind ms self.old.draft self.old.seen
-            → IsMemberReason self.old.kind (joined (if says key.now (value_view value.now) then with_last ms key.now (value_view value.now) else ms) rest) f.0 f.1) }
+        ensures reason { IfErr result (λ f. (ms rest : Members) → IsFilled encoding self.old.kind ms self.old.draft self.old.seen
+            → IsMemberReason encoding self.old.kind (joined (if says key.now (value_view value.now) then with_last ms key.now (value_view value.now) else ms) rest) f.0 f.1) }
         ensures kind { self.new.kind ≡ self.old.kind }
     {
         if says(key, value) {
-            self.take(key, value)
+            self.take(encoding, key, value)
         } else {
             Ok(())
         }
@@ -250,15 +330,15 @@ impl Filling {
 }
 
 /// The draft that members fill.
-fn filled(kind: Kind, members: &MemberList<'_>) -> Result<Draft, (Key, Why)>
-    ensures ok { IfOk result (λ draft. (seen : List Bool) × IsFilled kind (told (members_view members.now.items)) draft seen) }
-    ensures err { OnErr result ((r : RecordValue) → r.kind ≡ kind → ¬ IsDataOf (told (members_view members.now.items)) r) }
+fn filled(encoding: Encoding, kind: Kind, members: &MemberList<'_>) -> Result<Draft, (Key, Why)>
+    ensures ok { IfOk result (λ draft. (seen : List Bool) × IsFilled encoding kind (told (members_view members.now.items)) draft seen) }
+    ensures err { OnErr result ((r : RecordValue) → r.kind ≡ kind → ¬ IsDataOf encoding (told (members_view members.now.items)) r) }
     ensures why { IfErr result (λ f. IsOfData f.1) }
-    ensures reason { IfErr result (λ f. IsMemberReason kind (told (members_view members.now.items)) f.0 f.1) }
+    ensures reason { IfErr result (λ f. IsMemberReason encoding kind (told (members_view members.now.items)) f.0 f.1) }
 {
     let mut filling = Filling::new(kind);
     for member in members {
-        filling.meet(member.0, &member.1)?;
+        filling.meet(encoding, member.0, &member.1)?;
     }
     Ok(filling.draft)
 }
@@ -277,23 +357,27 @@ fn done(draft: &Draft) -> Result<Record, (Key, Why)>
 }
 
 /// The record of that kind that members are.
-fn record_in(kind: Kind, members: &MemberList<'_>) -> Result<Record, (Key, Why)>
+fn record_in(encoding: Encoding, kind: Kind, members: &MemberList<'_>) -> Result<Record, (Key, Why)>
     requires { first_of kind_key (told (members_view members.now.items)) ≡ Some (string (letters kind)) }
-    ensures ok { IfOk result (λ r. IsDataOf (told (members_view members.now.items)) r) }
-    ensures err { OnErr result ((r : RecordValue) → ¬ IsDataOf (told (members_view members.now.items)) r) }
+    ensures ok { IfOk result (λ r. IsDataOf encoding (told (members_view members.now.items)) r) }
+    ensures err { OnErr result ((r : RecordValue) → ¬ IsDataOf encoding (told (members_view members.now.items)) r) }
     ensures why { IfErr result (λ f. IsOfData f.1) }
-    ensures reason { IfErr result (λ f. IsMemberReason kind (told (members_view members.now.items)) f.0 f.1) }
+    ensures reason { IfErr result (λ f. IsMemberReason encoding kind (told (members_view members.now.items)) f.0 f.1) }
 {
-    let draft = filled(kind, members)?;
+    let draft = filled(encoding, kind, members)?;
     done(&draft)
 }
 
 /// The record that a value is, the one of that number in its line.
-pub(crate) fn record_of(number: u32, value: &Value<'_>) -> Result<Record, LineFault>
-    ensures ok { IfOk result (λ r. IsRecordData (value_view value.now) r) }
-    ensures err { OnErr result ((r : RecordValue) → ¬ IsRecordData (value_view value.now) r) }
+pub(crate) fn record_of(
+    encoding: Encoding,
+    number: u32,
+    value: &Value<'_>,
+) -> Result<Record, LineFault>
+    ensures ok { IfOk result (λ r. IsRecordData encoding (value_view value.now) r) }
+    ensures err { OnErr result ((r : RecordValue) → ¬ IsRecordData encoding (value_view value.now) r) }
     ensures why { IfErr result (λ f. IsOfData f.why) }
-    ensures reason { IfErr result (λ f. (f.record ≡ number) × IsRecordReason (value_view value.now) f.kind f.key f.why) }
+    ensures reason { IfErr result (λ f. (f.record ≡ number) × IsRecordReason encoding (value_view value.now) f.kind f.key f.why) }
 {
     let Value::Object(members) = value else {
         return Err(of_record(number, None, Key::None, Why::NotAnObject));
@@ -302,7 +386,7 @@ pub(crate) fn record_of(number: u32, value: &Value<'_>) -> Result<Record, LineFa
         Ok(kind) => kind,
         Err(why) => return Err(of_record(number, None, Key::Field(1), why)),
     };
-    match record_in(kind, members) {
+    match record_in(encoding, kind, members) {
         Ok(record) => Ok(record),
         Err((key, why)) => Err(of_record(number, Some(kind), key, why)),
     }

@@ -47,7 +47,7 @@ pub enum Why {
     UnknownKind,
     /// The field is computed.
     Computed,
-    /// The text has a character that isn't one of U+0000 to U+00FF.
+    /// The text has a character that is no byte: in ISO 8859-1 one from U+0100 on, and beside the escapes of bytes one from U+0080 on.
     NotAByte,
     /// The text is wider than the field.
     TooWide,

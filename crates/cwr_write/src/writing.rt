@@ -18,6 +18,7 @@ use crate::lines::{ReadFault, is_blank, next_line};
 use crate::refusals::{Refusal, Why, of_line};
 use cwr_encode::{EncodeFault, Encoder, Sink, SinkFault};
 use cwr_fields::{Source, Target};
+use cwr_json::Encoding;
 use cwr_shape::Limits;
 use cwr_values::Item;
 use itoa::Buffer;
@@ -140,7 +141,7 @@ fn taken<W: Target>(
     encoder: &mut Encoder<W>,
 ) -> Result<Reached, ItemFault>
     requires { is_stopped encoder.old ≡ false }
-    ensures takes { TakesLine (λ i. i ≡ item.now) (λ limits items f. IsPlaceReason limits items item.now f.why) reached W.contents W.failures result encoder.old encoder.new }
+    ensures takes { TakesLine (λ i. i ≡ item.now) (λ limits items f. (f.record ≡ 0) × IsPlaceReason limits items item.now f.why) reached W.contents W.failures result encoder.old encoder.new }
     ensures limits { encoder_limits encoder.new ≡ encoder_limits encoder.old }
 {
     match take_item(item, reached, encoder) {
@@ -152,13 +153,14 @@ fn taken<W: Target>(
 /// Takes one line.
 fn take_line<W: Target>(
     alloc: Global,
+    encoding: Encoding,
     line: &[u8],
     scratch: &mut Scratch,
     reached: Reached,
     encoder: &mut Encoder<W>,
 ) -> Result<Reached, ItemFault>
     requires { is_stopped encoder.old ≡ false }
-    ensures takes { TakesLine (SaysItem line.now) (λ limits items f. (most : ℕ) → IsReason limits most items line.now f) reached W.contents W.failures result encoder.old encoder.new }
+    ensures takes { TakesLine (SaysItem encoding line.now) (λ limits items f. (most : ℕ) → IsReason encoding limits most items line.now f) reached W.contents W.failures result encoder.old encoder.new }
     ensures limits { encoder_limits encoder.new ≡ encoder_limits encoder.old }
 {
     let value = match Value::from_slice(alloc, line, scratch) {
@@ -166,7 +168,7 @@ fn take_line<W: Target>(
         Err(json::Error::OutOfMemory) => return Err(ItemFault::Memory),
         Err(_) => return Err(ItemFault::Line(of_line(Why::NotJson))),
     };
-    match item_in(alloc, &value) {
+    match item_in(alloc, encoding, &value) {
         Ok(item) => taken(&item, reached, encoder),
         Err(fault) => Err(fault),
     }
@@ -210,16 +212,17 @@ fn ended_with(lines: u64, reached: Reached) -> Result<u64, WriteFault>
 /// Takes all lines, up to TRL's and what follows that. The answer is how many there are.
 fn take_lines<R: Source, W: Target>(
     alloc: Global,
+    encoding: Encoding,
     most: usize,
     reader: &mut R,
     encoder: &mut Encoder<W>,
 ) -> Result<u64, WriteFault>
     requires unfailed { is_stopped encoder.old ≡ false }
     requires fresh { Encodes W.contents (W.contents (target_of encoder.old)) [] encoder.old }
-    ensures takes { TakesLines (R.remaining reader.old) W.contents W.failures result encoder.old encoder.new }
+    ensures takes { TakesLines encoding (R.remaining reader.old) W.contents W.failures result encoder.old encoder.new }
     ensures reads { CountsReaderFault result (R.failures reader.old) (R.failures reader.new) }
     ensures limits { encoder_limits encoder.new ≡ encoder_limits encoder.old }
-    ensures ends { IfSome (R.remaining reader.old) (λ text. length text < 2 ^ 64 - 1 → EndsLines (encoder_limits encoder.old) most text result) }
+    ensures ends { IfSome (R.remaining reader.old) (λ text. length text < 2 ^ 64 - 1 → EndsLines encoding (encoder_limits encoder.old) most text result) }
 {
     let mut line: Vec<u8> = Vec::new(alloc);
     let mut scratch: Scratch = Scratch::new(alloc);
@@ -235,7 +238,7 @@ fn take_lines<R: Source, W: Target>(
         if is_blank(text) {
             continue;
         }
-        match take_line(alloc, text, &mut scratch, reached, encoder) {
+        match take_line(alloc, encoding, text, &mut scratch, reached, encoder) {
             Ok(next) => reached = next,
             Err(fault) => return Err(fault_at(number, fault)),
         }
@@ -243,31 +246,32 @@ fn take_lines<R: Source, W: Target>(
     Err(WriteFault::Early { lines: u64::MAX })
 }
 
-/// Reads lines of JSON, each the data of an item, and writes the transmission that they are. A line may have `most` bytes. The
-/// writer comes back.
+/// Reads lines of JSON, each the data of an item with its cells shown by the encoding, and writes the transmission that they are. A
+/// line may have `most` bytes. The writer comes back.
 ///
 /// Where a line isn't taken, `WriteFault::Refused` says which, and why; the items of the lines before were written, and no TRL.
 /// It holds one line and one item, whatever the input.
 pub fn write<R: Source, W: Target>(
     alloc: Global,
     limits: Limits,
+    encoding: Encoding,
     most: usize,
     reader: &mut R,
     writer: W,
 ) -> (W, Result<Written, WriteFault>)
-    ensures written { IfOk result.1 (λ w. WritesWhole limits (R.remaining reader.old) W.contents writer result.0 w.bytes) }
+    ensures written { IfOk result.1 (λ w. WritesWhole encoding limits (R.remaining reader.old) W.contents writer result.0 w.bytes) }
     ensures failures { CountsWriterFault result.1 (W.failures writer) (W.failures result.0) }
     ensures reads { CountsReaderFault result.1 (R.failures reader.old) (R.failures reader.new) }
     // Of a text of fewer than 2^64 - 1 bytes: all lines are taken, or the first up to which no transmission continues is told.
-    ensures ends { IfSome (R.remaining reader.old) (λ text. length text < 2 ^ 64 - 1 → EndsAtLine limits most text result.1) }
+    ensures ends { IfSome (R.remaining reader.old) (λ text. length text < 2 ^ 64 - 1 → EndsAtLine encoding limits most text result.1) }
     // Nothing else is refused: lines that are data of a transmission within the limits are taken, and it is written.
     ensures takes { IfSome (R.remaining reader.old) (λ text. length text < 2 ^ 64 - 1 → (v : TransmissionValue) → IsTransmission v → FitsIn limits v
-        → SaysTransmission most text v → WritesTransmission W.contents writer result.0 v result.1) }
+        → SaysTransmission encoding most text v → WritesTransmission W.contents writer result.0 v result.1) }
     // All that was written was handed on.
     ensures handed_on { OnOk result.1 (W.handed_on result.0 ≡ true) }
 {
     let mut encoder = Encoder::new(writer, limits);
-    match take_lines(alloc, most, reader, &mut encoder) {
+    match take_lines(alloc, encoding, most, reader, &mut encoder) {
         Ok(lines) => finish(encoder, lines),
         Err(fault) => (encoder.abandon(), Err(fault)),
     }

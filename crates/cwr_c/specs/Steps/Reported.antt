@@ -9,6 +9,7 @@ use Rattle.cwr_tools.specs.declared.verdicts.ToolFault.{ToolFault}
 use Rattle.cwr_tools.specs.Format.Verdicts.{IsVerdictOn}
 use Rattle.cwr_tools.specs.Format.Reports.{ItemLines, lines_of_data, lines_of_explained, lines_of_findings, lines_of_records, text_on}
 use Rattle.cwr_tools.specs.Steps.Verdicts.{IsRightVerdict}
+use Rattle.cwr_json.specs.declared.encodings.Encoding.TheVariants.{Latin1}
 use Rattle.cwr_c.specs.declared.reports.Asked.{Asked}
 use Rattle.cwr_c.specs.declared.reports.Asked.TheVariants as asks
 use Rattle.cwr_c.specs.declared.verdicts.CwrVerdict.{CwrVerdict}
@@ -51,8 +52,8 @@ abbrev pub IsReportOn : Asked → Limits → List ℕ → List ℕ → Verdict �
 IsReportOn asks.Check limits text report verdict = IsTextOn lines_of_findings limits text report verdict
 IsReportOn asks.Show limits text report verdict = IsTextOn lines_of_records limits text report verdict
 IsReportOn asks.Explain limits text report verdict = IsExplainedOn limits text report verdict
-IsReportOn asks.Data limits text report verdict = IsTextOn (lines_of_data false) limits text report verdict
-IsReportOn asks.NotedData limits text report verdict = IsTextOn (lines_of_data true) limits text report verdict
+IsReportOn asks.Data limits text report verdict = IsTextOn (lines_of_data Latin1 false) limits text report verdict
+IsReportOn asks.NotedData limits text report verdict = IsTextOn (lines_of_data Latin1 true) limits text report verdict
 IsReportOn asks.Lint limits text report verdict = IsLintOn lines_of_findings limits text report verdict
 IsReportOn asks.ExplainedLint limits text report verdict = IsLintOn lines_of_explained limits text report verdict
 

@@ -1,5 +1,5 @@
 -- The line with which the bytes end that were read.
-use Rattle.std.specs.Prelude.{◌≡◌, ◌⊎◌, ℕ, ◌-◌, ◌^◌, ◌<◌, ◌≤◌, Bool, false, IsFalse, List, [], ◌∷◌, ◌++◌, length}
+use Rattle.std.specs.Prelude.{◌≡◌, ◌⊎◌, ◌↔◌, ℕ, ◌-◌, ◌^◌, ◌<◌, ◌≤◌, Bool, true, false, IsFalse, List, [], ◌∷◌, ◌++◌, length}
 use Rattle.std.specs.List.{list_any}
 use Rattle.cwr_layouts.specs.Format.Lines.{is_lf, longest_line}
 use Rattle.cwr_decode.specs.Steps.Represents.{EndsInLf}
@@ -38,7 +38,8 @@ pub record EndsWithLine (read front line : List ℕ) : Type 0 where
   pub begins : IsBeforeLine front
   pub short : length line ≤ longest_line
 
--- the line was found, after so many bytes
+-- the line was found, after so many bytes, and whether its line feed was read
 pub record IsFound (read front line : List ℕ) (found : LineAtEnd) : Type 0 where
   pub bytes : found.bytes.now ≡ line
+  pub ended : (found.ended ≡ true) ↔ EndsInLf read
   pub offset : length read < 2 ^ 64 - 1 → found.offset ≡ length front

@@ -1,5 +1,5 @@
 -- The JSON form of a transmission: the data of a record and of an item, and which record data is.
-use Rattle.std.specs.Prelude.{◌≡◌, ℕ, ◌+◌, ◌/◌, ◌%◌, ◌≤◌, Bool, true, false, not, ◌&&◌, ◌||◌, ◌==◌, nat_lt, List, [], ◌∷◌, ◌++◌, length, map, take, count_by, codes, decimal, Option, Some, None, if◌then◌else◌, ⊤}
+use Rattle.std.specs.Prelude.{◌≡◌, ℕ, ◌+◌, ◌≤◌, Bool, true, false, not, ◌&&◌, ◌||◌, ◌==◌, List, [], ◌∷◌, ◌++◌, length, map, take, count_by, codes, decimal, Option, Some, None, if◌then◌else◌, ⊤}
 use Rattle.std.specs.List.{AllZip, after_last, enumerate_from, flat_map, list_all, list_any}
 use Rattle.std.specs.Str.{bytes_eq}
 use Rattle.json.specs.Json.{Json, null, boolean, number, string, array, object, Items, no_items, item, Members, no_members, member}
@@ -15,7 +15,9 @@ use Rattle.cwr_layouts.specs.Format.Records.{RecordValue, IsRecord, blank_cell, 
 use Rattle.cwr_values.specs.declared.items.Item.{Item}
 use Rattle.cwr_values.specs.declared.items.Item.TheVariants.{Opened, GroupOpened, Transaction, GroupClosed, Ended}
 use Rattle.cwr_judge.specs.Format.Items.{is_transaction, item_records, opens_group, records_in}
+use Rattle.cwr_json.specs.declared.encodings.Encoding.{Encoding}
 use Rattle.cwr_json.specs.declared.notes.Notes.{Notes}
+use Rattle.cwr_json.specs.Format.Encodings.{characters, StandFor}
 
 -- ---- what is written
 
@@ -26,13 +28,6 @@ key_byte b = if (b == 32) || (b == 45) then 95 else b
 abbrev pub key_of : List ℕ → List ℕ
 key_of name = map key_byte name
 
--- each byte is the character of that number, U+0020 to U+00FF, in UTF-8
-abbrev pub character : ℕ → List ℕ
-character b = if nat_lt b 128 then b ∷ [] else (192 + b / 64) ∷ (128 + b % 64) ∷ []
-
-unfoldable pub characters : List ℕ → List ℕ
-characters text = flat_map character text
-
 -- the key of a record's kind
 abbrev pub kind_key : List ℕ
 kind_key = codes "record_type"
@@ -42,23 +37,23 @@ abbrev pub records_key : List ℕ
 records_key = codes "records"
 
 -- a cell under its key, without trailing spaces; a blank one is left out
-abbrev pub with_cell : FieldLayout → List ℕ → Members → Members
-with_cell f cell more = if is_spaces cell then more else member (key_of f.name) (string (characters (trimmed cell))) more
+abbrev pub with_cell : Encoding → FieldLayout → List ℕ → Members → Members
+with_cell enc f cell more = if is_spaces cell then more else member (key_of f.name) (string (characters enc (trimmed cell))) more
 
 -- cells beside their fields
-unfoldable pub cell_members : List FieldLayout → List (List ℕ) → Members
-cell_members [] cells = no_members
-cell_members (f ∷ fields) [] = no_members
-cell_members (f ∷ fields) (cell ∷ cells) = with_cell f cell (cell_members fields cells)
+unfoldable pub cell_members : Encoding → List FieldLayout → List (List ℕ) → Members
+cell_members enc [] cells = no_members
+cell_members enc (f ∷ fields) [] = no_members
+cell_members enc (f ∷ fields) (cell ∷ cells) = with_cell enc f cell (cell_members enc fields cells)
 
 -- the members of a record: its kind, and its cells in the order of the layout
-abbrev pub record_members : RecordValue → Members
-record_members r = member kind_key (string (letters r.kind)) (cell_members (carried_fields r.kind) r.cells)
+abbrev pub record_members : Encoding → RecordValue → Members
+record_members enc r = member kind_key (string (letters r.kind)) (cell_members enc (carried_fields r.kind) r.cells)
 
 -- the data of records
-unfoldable pub records_items : List RecordValue → Items
-records_items [] = no_items
-records_items (r ∷ rs) = item (object (record_members r)) (records_items rs)
+unfoldable pub records_items : Encoding → List RecordValue → Items
+records_items enc [] = no_items
+records_items enc (r ∷ rs) = item (object (record_members enc r)) (records_items enc rs)
 
 -- a note is a number under a key that begins with an underscore
 abbrev pub with_note : List ℕ → ℕ → Members → Members
@@ -78,12 +73,12 @@ with_notes None i more = more
 with_notes (Some n) i more = with_group_notes n i (with_note (codes "_line") n.line more)
 
 -- the data of an item: its notes, if it has any, and its records
-abbrev pub item_data : Option Notes → Item → Json
-item_data notes i = object (with_notes notes i (member records_key (array (records_items (item_records i))) no_members))
+abbrev pub item_data : Encoding → Option Notes → Item → Json
+item_data enc notes i = object (with_notes notes i (member records_key (array (records_items enc (item_records i))) no_members))
 
 -- the line of an item: its data with no space, and a line feed
-abbrev pub item_line : Option Notes → Item → List ℕ
-item_line notes i = print (json_tokens (item_data notes i)) ++ 10 ∷ []
+abbrev pub item_line : Encoding → Option Notes → Item → List ℕ
+item_line enc notes i = print (json_tokens (item_data enc notes i)) ++ 10 ∷ []
 
 -- what the notes of an item say, by the items before it
 abbrev pub notes_after : List Item → Item → Notes
@@ -94,8 +89,8 @@ notes_if false before i = None
 notes_if true before i = Some (notes_after before i)
 
 -- the lines of items, with notes or without
-unfoldable pub data_lines : Bool → List Item → List ℕ
-data_lines noted items = flat_map (λ p. item_line (notes_if noted (take p.0 items) p.1) p.1) (enumerate_from 0 items)
+unfoldable pub data_lines : Encoding → Bool → List Item → List ℕ
+data_lines enc noted items = flat_map (λ p. item_line enc (notes_if noted (take p.0 items) p.1) p.1) (enumerate_from 0 items)
 
 -- ---- what is read
 
@@ -126,61 +121,61 @@ abbrev pub are_distinct : List (List ℕ) → Bool
 are_distinct [] = true
 are_distinct (k ∷ ks) = not (list_any (bytes_eq k) ks) && are_distinct ks
 
--- the value stands for the cell of a field: a text of characters that are bytes, filled up with spaces; without one the cell is
--- as in a blank record
-abbrev pub IsCellFrom : FieldLayout → Option Json → List ℕ → Type 0
-IsCellFrom f None cell = cell ≡ blank_cell f.ty f.width
-IsCellFrom f (Some null) cell = ⊥
-IsCellFrom f (Some (boolean b)) cell = ⊥
-IsCellFrom f (Some (number s)) cell = ⊥
-IsCellFrom f (Some (string s)) cell = (text : List ℕ) × (characters text ≡ s) × (length text ≤ f.width) × (cell ≡ filled f.width text)
-IsCellFrom f (Some (array js)) cell = ⊥
-IsCellFrom f (Some (object ms)) cell = ⊥
+-- the value stands for the cell of a field: a text of characters that stand for bytes, filled up with spaces; without one the
+-- cell is as in a blank record
+abbrev pub IsCellFrom : Encoding → FieldLayout → Option Json → List ℕ → Type 0
+IsCellFrom enc f None cell = cell ≡ blank_cell f.ty f.width
+IsCellFrom enc f (Some null) cell = ⊥
+IsCellFrom enc f (Some (boolean b)) cell = ⊥
+IsCellFrom enc f (Some (number s)) cell = ⊥
+IsCellFrom enc f (Some (string s)) cell = (text : List ℕ) × StandFor enc s text × (length text ≤ f.width) × (cell ≡ filled f.width text)
+IsCellFrom enc f (Some (array js)) cell = ⊥
+IsCellFrom enc f (Some (object ms)) cell = ⊥
 
 -- The members, of those that say something, are data of the record: one names its kind, each other is of a field that the kind
 -- carries, none comes twice, and each cell is from its field's value.
-pub record IsDataOf (ms : Members) (r : RecordValue) : Type 0 where
+pub record IsDataOf (enc : Encoding) (ms : Members) (r : RecordValue) : Type 0 where
   pub kind : first_of kind_key ms ≡ Some (string (letters r.kind))
   pub known : list_all (is_known r.kind) (keys ms) ≡ true
   pub once : are_distinct (keys ms) ≡ true
-  pub cells : AllZip (λ f cell. IsCellFrom f (first_of (key_of f.name) ms) cell) (carried_fields r.kind) r.cells
+  pub cells : AllZip (λ f cell. IsCellFrom enc f (first_of (key_of f.name) ms) cell) (carried_fields r.kind) r.cells
   pub fits : IsRecord r
 
 -- data of the record
-abbrev pub IsRecordData : Json → RecordValue → Type 0
-IsRecordData null r = ⊥
-IsRecordData (boolean b) r = ⊥
-IsRecordData (number s) r = ⊥
-IsRecordData (string s) r = ⊥
-IsRecordData (array js) r = ⊥
-IsRecordData (object ms) r = IsDataOf (told ms) r
+abbrev pub IsRecordData : Encoding → Json → RecordValue → Type 0
+IsRecordData enc null r = ⊥
+IsRecordData enc (boolean b) r = ⊥
+IsRecordData enc (number s) r = ⊥
+IsRecordData enc (string s) r = ⊥
+IsRecordData enc (array js) r = ⊥
+IsRecordData enc (object ms) r = IsDataOf enc (told ms) r
 
 -- data of records, one by one
-unfoldable pub AreRecordsData : Items → List RecordValue → Type 0
-AreRecordsData no_items [] = ⊤
-AreRecordsData no_items (r ∷ rs) = ⊥
-AreRecordsData (item j js) [] = ⊥
-AreRecordsData (item j js) (r ∷ rs) = IsRecordData j r × AreRecordsData js rs
+unfoldable pub AreRecordsData : Encoding → Items → List RecordValue → Type 0
+AreRecordsData enc no_items [] = ⊤
+AreRecordsData enc no_items (r ∷ rs) = ⊥
+AreRecordsData enc (item j js) [] = ⊥
+AreRecordsData enc (item j js) (r ∷ rs) = IsRecordData enc j r × AreRecordsData enc js rs
 
-abbrev pub AreListData : Json → List RecordValue → Type 0
-AreListData null rs = ⊥
-AreListData (boolean b) rs = ⊥
-AreListData (number s) rs = ⊥
-AreListData (string s) rs = ⊥
-AreListData (array js) rs = AreRecordsData js rs
-AreListData (object ms) rs = ⊥
+abbrev pub AreListData : Encoding → Json → List RecordValue → Type 0
+AreListData enc null rs = ⊥
+AreListData enc (boolean b) rs = ⊥
+AreListData enc (number s) rs = ⊥
+AreListData enc (string s) rs = ⊥
+AreListData enc (array js) rs = AreRecordsData enc js rs
+AreListData enc (object ms) rs = ⊥
 
 -- the one member that says something is the list of the records
-abbrev pub AreOnlyRecords : Members → List RecordValue → Type 0
-AreOnlyRecords no_members rs = ⊥
-AreOnlyRecords (member k j no_members) rs = (k ≡ records_key) × AreListData j rs
-AreOnlyRecords (member k j (member l i ms)) rs = ⊥
+abbrev pub AreOnlyRecords : Encoding → Members → List RecordValue → Type 0
+AreOnlyRecords enc no_members rs = ⊥
+AreOnlyRecords enc (member k j no_members) rs = (k ≡ records_key) × AreListData enc j rs
+AreOnlyRecords enc (member k j (member l i ms)) rs = ⊥
 
 -- the line's data is of an item with these records
-abbrev pub IsItemData : Json → List RecordValue → Type 0
-IsItemData null rs = ⊥
-IsItemData (boolean b) rs = ⊥
-IsItemData (number s) rs = ⊥
-IsItemData (string s) rs = ⊥
-IsItemData (array js) rs = ⊥
-IsItemData (object ms) rs = AreOnlyRecords (told ms) rs
+abbrev pub IsItemData : Encoding → Json → List RecordValue → Type 0
+IsItemData enc null rs = ⊥
+IsItemData enc (boolean b) rs = ⊥
+IsItemData enc (number s) rs = ⊥
+IsItemData enc (string s) rs = ⊥
+IsItemData enc (array js) rs = ⊥
+IsItemData enc (object ms) rs = AreOnlyRecords enc (told ms) rs

@@ -1,5 +1,5 @@
 -- The text of a record's data, cell by cell.
-use Rattle.std.specs.Prelude.{◌≡◌, ℕ, zero, suc, Bool, false, nat_lt, List, [], ◌∷◌, ◌++◌, codes, decimal, Option, Some, None, if◌then◌else◌}
+use Rattle.std.specs.Prelude.{◌≡◌, ℕ, zero, suc, Bool, false, nat_lt, List, [], ◌++◌, codes, decimal, Option, Some, None, if◌then◌else◌}
 use Rattle.std.specs.List.{enumerate_from, flat_map, list_any, zip}
 use Rattle.json.specs.Print.{escape}
 use Rattle.cwr_fields.specs.Format.Bytes.{is_spaces, trimmed}
@@ -12,15 +12,25 @@ use Rattle.cwr_values.specs.declared.items.Item.{Item}
 use Rattle.cwr_values.specs.declared.items.Item.TheVariants.{Opened, GroupOpened, Transaction, GroupClosed, Ended}
 use Rattle.cwr_judge.specs.Format.Items.{item_records}
 use Rattle.cwr_json.specs.declared.notes.Notes.{Notes}
-use Rattle.cwr_json.specs.Format.Forms.{key_of, character}
-
--- a byte as it stands between quotes
-abbrev pub spelled_byte : ℕ → List ℕ
-spelled_byte b = escape (character b)
+use Rattle.cwr_json.specs.declared.encodings.Encoding.{Encoding}
+use Rattle.cwr_json.specs.Format.Encodings.{byte_by_byte, character, characters}
+use Rattle.cwr_json.specs.Format.Forms.{key_of}
 
 -- bytes as they stand between quotes
-abbrev pub spelled : List ℕ → List ℕ
-spelled text = flat_map spelled_byte text
+abbrev pub spelled : Encoding → List ℕ → List ℕ
+spelled enc bytes = escape (characters enc bytes)
+
+-- a byte that is shown by one character
+abbrev pub spelled_byte : Encoding → ℕ → List ℕ
+spelled_byte enc b = escape (character enc b)
+
+abbrev pub spelled_bytes : Encoding → List ℕ → List ℕ
+spelled_bytes enc bytes = flat_map (spelled_byte enc) bytes
+
+-- each byte stands for itself, whatever the encoding
+pub record IsSimple (bytes : List ℕ) : Type 0 where
+  pub marks : escape bytes ≡ bytes
+  pub low : (enc : Encoding) → byte_by_byte enc bytes ≡ bytes
 
 -- no byte is a control byte below the space
 abbrev pub has_low : List ℕ → Bool
@@ -30,32 +40,32 @@ abbrev pub NoLow : List ℕ → Type 0
 NoLow text = has_low text ≡ false
 
 -- a cell as a member after others, unless it is blank
-abbrev pub member_text : FieldLayout → List ℕ → List ℕ
-member_text f cell = if is_spaces cell then [] else codes ",\"" ++ key_of f.name ++ codes "\":\"" ++ spelled (trimmed cell) ++ codes "\""
+abbrev pub member_text : Encoding → FieldLayout → List ℕ → List ℕ
+member_text enc f cell = if is_spaces cell then [] else codes ",\"" ++ key_of f.name ++ codes "\":\"" ++ spelled enc (trimmed cell) ++ codes "\""
 
 -- the cells beside their fields
-abbrev pub members_beside : List FieldLayout → List (List ℕ) → List ℕ
-members_beside fields cells = flat_map (λ p. member_text p.0 p.1) (zip fields cells)
+abbrev pub members_beside : Encoding → List FieldLayout → List (List ℕ) → List ℕ
+members_beside enc fields cells = flat_map (λ p. member_text enc p.0 p.1) (zip fields cells)
 
 -- the cells of a record
-unfoldable pub member_texts : RecordValue → List ℕ
-member_texts r = members_beside (carried_fields r.kind) r.cells
+unfoldable pub member_texts : Encoding → RecordValue → List ℕ
+member_texts enc r = members_beside enc (carried_fields r.kind) r.cells
 
 -- the kind of a record, as the first member
 abbrev pub head_text : Kind → List ℕ
 head_text kind = codes "{\"record_type\":\"" ++ letters kind ++ codes "\""
 
 -- a record
-abbrev pub record_text : RecordValue → List ℕ
-record_text r = head_text r.kind ++ member_texts r ++ codes "}"
+abbrev pub record_text : Encoding → RecordValue → List ℕ
+record_text enc r = head_text r.kind ++ member_texts enc r ++ codes "}"
 
 -- the member of a field, where the record carries one
-abbrev pub member_of : Option FieldLayout → Option (List ℕ) → List ℕ
-member_of (Some f) (Some cell) = member_text f cell
-member_of f cell = []
+abbrev pub member_of : Encoding → Option FieldLayout → Option (List ℕ) → List ℕ
+member_of enc (Some f) (Some cell) = member_text enc f cell
+member_of enc f cell = []
 
-abbrev pub field_member : RecordValue → ℕ → List ℕ
-field_member r j = member_of (carried_at r.kind j) (record_cell r j)
+abbrev pub field_member : Encoding → RecordValue → ℕ → List ℕ
+field_member enc r j = member_of enc (carried_at r.kind j) (record_cell r j)
 
 -- ---- an item
 
@@ -81,14 +91,14 @@ abbrev pub opening_text : Option Notes → Item → List ℕ
 opening_text notes item = codes "{" ++ notes_text notes item ++ codes "\"records\":["
 
 -- a record after others in its item, so many
-abbrev pub listed_text : ℕ → RecordValue → List ℕ
-listed_text zero r = record_text r
-listed_text (suc before) r = codes "," ++ record_text r
+abbrev pub listed_text : Encoding → ℕ → RecordValue → List ℕ
+listed_text enc zero r = record_text enc r
+listed_text enc (suc before) r = codes "," ++ record_text enc r
 
 -- records, of which so many stand before
-abbrev pub listed_texts : ℕ → List RecordValue → List ℕ
-listed_texts before rs = flat_map (λ p. listed_text p.0 p.1) (enumerate_from before rs)
+abbrev pub listed_texts : Encoding → ℕ → List RecordValue → List ℕ
+listed_texts enc before rs = flat_map (λ p. listed_text enc p.0 p.1) (enumerate_from before rs)
 
 -- the line of an item
-abbrev pub item_text : Option Notes → Item → List ℕ
-item_text notes item = (opening_text notes item ++ listed_texts 0 (item_records item)) ++ codes "]}\n"
+abbrev pub item_text : Encoding → Option Notes → Item → List ℕ
+item_text enc notes item = (opening_text notes item ++ listed_texts enc 0 (item_records item)) ++ codes "]}\n"

@@ -66,7 +66,7 @@ tells_findings tellings.Findings = true
 tells_findings (tellings.Explained name) = true
 tells_findings (tellings.Faults name) = false
 tells_findings tellings.Records = false
-tells_findings (tellings.Data numbers) = false
+tells_findings (tellings.Data encoding numbers) = false
 tells_findings (tellings.Rows table) = false
 
 -- an input whose bytes are known has the status on them, or a device or memory failed

@@ -8,7 +8,9 @@ use Rattle.cwr_values.specs.declared.items.Item.{Item}
 use Rattle.cwr_values.specs.declared.items.Item.TheVariants.{Opened, GroupOpened, Transaction, GroupClosed, Ended}
 use Rattle.cwr_values.specs.Format.Rows.{trailer}
 use Rattle.cwr_judge.specs.Format.Items.{is_transaction, opens_group}
-use Rattle.cwr_json.specs.Format.Forms.{characters, key_of}
+use Rattle.cwr_json.specs.declared.encodings.Encoding.TheVariants.{Latin1}
+use Rattle.cwr_json.specs.Format.Encodings.{byte_by_byte}
+use Rattle.cwr_json.specs.Format.Forms.{key_of}
 use Rattle.cwr_levels.specs.Format.Findings.{is_a}
 use Rattle.cwr_tables.specs.declared.places.Place.{Place}
 use Rattle.cwr_tables.specs.declared.places.RowNumbers.{RowNumbers}
@@ -38,7 +40,7 @@ number_cells (InTransaction group transaction sequence) = decimal group ∷ deci
 
 -- a cell without trailing spaces; each byte is the character of that number, U+0020 to U+00FF, in UTF-8
 abbrev pub shown_cell : List ℕ → List ℕ
-shown_cell cell = characters (trimmed cell)
+shown_cell cell = byte_by_byte Latin1 (trimmed cell)
 
 -- the row of a record with these numbers
 abbrev pub record_row : RowNumbers → RecordValue → List ℕ

@@ -10,6 +10,7 @@ use Rattle.cwr_values.specs.Format.Values.{TransmissionValue, IsTransmission, Fi
 use Rattle.cwr_values.specs.Format.Rows.{canonical_text}
 use Rattle.cwr_judge.specs.Format.Ends.{IsAccepted}
 use Rattle.cwr_judge.specs.Format.Items.{value_items}
+use Rattle.cwr_json.specs.declared.encodings.Encoding.{Encoding}
 use Rattle.cwr_json.specs.Format.Forms.{data_lines}
 use Rattle.cwr_levels.specs.Format.Findings.{findings}
 use Rattle.cwr_tools.specs.declared.verdicts.Verdict.{Verdict}
@@ -61,9 +62,9 @@ transaction_lines true group sequence n t = explained_in group sequence n (Trans
 abbrev pub lines_of_records : ItemLines
 lines_of_records = record { lines = show_lines; last = verdict_line; take_memory = λ item. false }
 
--- the data of each item, with notes or without, and nothing for the verdict
-abbrev pub lines_of_data : Bool → ItemLines
-lines_of_data noted = record { lines = data_lines noted; last = λ verdict. []; take_memory = λ item. false }
+-- the data of each item, its cells shown by the encoding, with notes or without, and nothing for the verdict
+abbrev pub lines_of_data : Encoding → Bool → ItemLines
+lines_of_data enc noted = record { lines = data_lines enc noted; last = λ verdict. []; take_memory = λ item. false }
 
 -- the text on items and the verdict
 abbrev pub text_on : ItemLines → List Item → Verdict → List ℕ

@@ -60,7 +60,7 @@ lines_in reports.Findings = lines_of_findings
 lines_in reports.Explained = lines_of_explained
 lines_in (reports.UpToFault explained) = lines_up_to_fault explained
 lines_in reports.Records = lines_of_records
-lines_in (reports.Data noted) = lines_of_data noted
+lines_in (reports.Data enc noted) = lines_of_data enc noted
 
 -- the last bytes that are read are held
 abbrev pub holds_last : Report → Bool
@@ -80,7 +80,7 @@ lines_at reports.Explained counts item = explained_in counts.groups counts.in_gr
 lines_at (reports.UpToFault false) counts item = finding_lines_in counts.groups counts.in_group item
 lines_at (reports.UpToFault true) counts item = explained_in counts.groups counts.in_group (counts.records + 1) item
 lines_at reports.Records counts item = numbered_records (counts.records + 1) (item_records item)
-lines_at (reports.Data noted) counts item = item_line (notes_at noted counts item) item
+lines_at (reports.Data enc noted) counts item = item_line enc (notes_at noted counts item) item
 
 -- The lines of an item are put, or the writer fails in them. Where memory for them is refused none of them is put.
 abbrev pub PutsLines : {W : Type 0} → (W → Option (List ℕ)) → (W → ℕ) → Bool → List ℕ → Result (Unit {0}) ToolFault → Sink W → Sink W → Type 0

@@ -15,7 +15,7 @@ watched_by reports.Findings watch items = watched watch items
 watched_by reports.Explained watch items = watched watch items
 watched_by (reports.UpToFault explained) watch items = watched watch items
 watched_by reports.Records watch items = watch
-watched_by (reports.Data noted) watch items = watch
+watched_by (reports.Data enc noted) watch items = watch
 
 -- the items are those before the verdict
 abbrev pub WatchesRun : Report → Limits → Option (List ℕ) → Option (List ℕ) → Watch → Watch → Verdict → Type 0

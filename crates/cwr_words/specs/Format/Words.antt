@@ -58,9 +58,9 @@ IsSplitOf found (Check judging) = ⊥
 IsSplitOf found (Show file) = ⊥
 IsSplitOf found (Explain judging) = ⊥
 IsSplitOf found (Lint files quiet explained) = ⊥
-IsSplitOf found (Json file numbers) = ⊥
+IsSplitOf found (Json file numbers utf8) = ⊥
 IsSplitOf found (Csv rows file) = ⊥
-IsSplitOf found (Write file out line) = ⊥
+IsSplitOf found (Write file out line utf8) = ⊥
 IsSplitOf found (Split transactions file prefix only_new) =
     ((text : List ℕ) → one_text found (codes "N") ≡ Some text → non_zero_u32_get transactions ≡ digits_value 10 (without_leading_plus text))
     × (first_value found (codes "FILE") ≡ Some file.now) × (first_value found (codes "PREFIX") ≡ Some prefix.now) × IsFlagOf found (codes "new") only_new
@@ -73,9 +73,9 @@ abbrev pub IsLintOf : Found → Work → Type 0
 IsLintOf found (Lint files quiet explained) = AreNamesOf found (map (λ name. name.now) files.items) × IsFlagOf found (codes "quiet") quiet × IsFlagOf found (codes "explain") explained
 IsLintOf found work = ⊥
 
--- the data of the file FILE, with numbers where that flag is given
+-- the data of the file FILE, with numbers where that flag is given, and in UTF-8 where that one is
 abbrev pub IsExportOf : Found → Work → Type 0
-IsExportOf found (Json file numbers) = (option_map (λ f. f.now) file ≡ first_value found (codes "FILE")) × IsFlagOf found (codes "numbers") numbers
+IsExportOf found (Json file numbers utf8) = (option_map (λ f. f.now) file ≡ first_value found (codes "FILE")) × IsFlagOf found (codes "numbers") numbers × IsFlagOf found (codes "utf8") utf8
 IsExportOf found work = ⊥
 
 -- what a table has rows of, by the word that names it
@@ -87,11 +87,12 @@ abbrev pub IsTableOf : Found → Work → Type 0
 IsTableOf found (Csv rows file) = (option_and_then rows_named (first_value found (codes "KIND")) ≡ Some rows) × (option_map (λ f. f.now) file ≡ first_value found (codes "FILE"))
 IsTableOf found work = ⊥
 
--- a transmission from the lines of the file FILE to the file OUT, where lines may have so many bytes as that option says
+-- a transmission from the lines of the file FILE to the file OUT, where lines may have so many bytes as that option says, in UTF-8 where that flag
+-- is given
 abbrev pub IsImportOf : Found → Work → Type 0
-IsImportOf found (Write file out line) =
+IsImportOf found (Write file out line utf8) =
     (option_map (λ f. f.now) file ≡ first_value found (codes "FILE")) × (option_map (λ f. f.now) out ≡ first_value found (codes "OUT"))
-    × ((text : List ℕ) → one_text found (codes "line") ≡ Some text → line ≡ digits_value 10 (without_leading_plus text))
+    × ((text : List ℕ) → one_text found (codes "line") ≡ Some text → line ≡ digits_value 10 (without_leading_plus text)) × IsFlagOf found (codes "utf8") utf8
 IsImportOf found work = ⊥
 
 -- a join of the files FILE, in their order, to the file OUT
@@ -114,9 +115,9 @@ IsWorkOf name found (Check judging) = (bytes_eq name (codes "show") ≡ false) �
 IsWorkOf name found (Show file) = (bytes_eq name (codes "show") ≡ true) × (option_map (λ f. f.now) file ≡ first_value found (codes "FILE"))
 IsWorkOf name found (Explain judging) = (bytes_eq name (codes "explain") ≡ true) × IsJudgingOf found judging
 IsWorkOf name found (Lint files quiet explained) = (bytes_eq name (codes "lint") ≡ true) × IsLintOf found (Lint files quiet explained)
-IsWorkOf name found (Json file numbers) = (bytes_eq name (codes "json") ≡ true) × IsExportOf found (Json file numbers)
+IsWorkOf name found (Json file numbers utf8) = (bytes_eq name (codes "json") ≡ true) × IsExportOf found (Json file numbers utf8)
 IsWorkOf name found (Csv rows file) = (bytes_eq name (codes "csv") ≡ true) × IsTableOf found (Csv rows file)
-IsWorkOf name found (Write file out line) = (bytes_eq name (codes "write") ≡ true) × IsImportOf found (Write file out line)
+IsWorkOf name found (Write file out line utf8) = (bytes_eq name (codes "write") ≡ true) × IsImportOf found (Write file out line utf8)
 IsWorkOf name found (Split transactions file prefix only_new) = (bytes_eq name (codes "split") ≡ true) × IsSplitOf found (Split transactions file prefix only_new)
 IsWorkOf name found (Join out files only_new) = (bytes_eq name (codes "join") ≡ true) × IsJoinOf found (Join out files only_new)
 IsWorkOf name found (Renumber file out only_new) = (bytes_eq name (codes "renumber") ≡ true) × IsRenumberingOf found (Renumber file out only_new)

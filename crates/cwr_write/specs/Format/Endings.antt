@@ -7,6 +7,7 @@ use Rattle.cwr_values.specs.Format.Rows.{canonical_text}
 use Rattle.cwr_values.specs.declared.items.Item.{Item}
 use Rattle.cwr_judge.specs.Format.Items.{AreFirstItems, value_items}
 use Rattle.cwr_encode.specs.Format.Finishing.{HasAll}
+use Rattle.cwr_json.specs.declared.encodings.Encoding.{Encoding}
 use Rattle.cwr_write.specs.Format.Faults.{IsReason}
 use Rattle.cwr_write.specs.declared.refusals.LineFault.{LineFault}
 use Rattle.cwr_write.specs.Format.Imports.{AreLines, SaysItem, is_blank_line}
@@ -23,41 +24,41 @@ abbrev pub AreShort : ℕ → List (List ℕ) → Type 0
 AreShort most lines = AllByRecursion (λ line. length line ≤ most) lines
 
 -- The text's lines but for the blank ones are data of the transmission's items, one by one, and no line has more than so many bytes.
-pub record SaysTransmission (most : ℕ) (text : List ℕ) (v : TransmissionValue) : Type 0 where
+pub record SaysTransmission (enc : Encoding) (most : ℕ) (text : List ℕ) (v : TransmissionValue) : Type 0 where
   pub lines : List (List ℕ)
   pub are : AreLines lines text
   pub short : AreShort most lines
-  pub each : AllZip SaysItem (said_lines lines) (value_items v)
+  pub each : AllZip (SaysItem enc) (said_lines lines) (value_items v)
 
 -- With these lines some transmission within the limits begins: but for the blank ones they are data of its first items, and no line
 -- has more than so many bytes.
-pub record AreTaken (limits : LimitValues) (most : ℕ) (lines : List (List ℕ)) : Type 0 where
+pub record AreTaken (enc : Encoding) (limits : LimitValues) (most : ℕ) (lines : List (List ℕ)) : Type 0 where
   pub items : List Item
   pub short : AreShort most lines
-  pub each : AllZip SaysItem (said_lines lines) items
+  pub each : AllZip (SaysItem enc) (said_lines lines) items
   pub first : AreFirstItems limits items
 
 -- Line n, blank ones counted, is the first up to which no transmission continues, and the reason is true of it.
-pub record StopsAtLine (limits : LimitValues) (most : ℕ) (text : List ℕ) (n : ℕ) (fault : LineFault) : Type 0 where
+pub record StopsAtLine (enc : Encoding) (limits : LimitValues) (most : ℕ) (text : List ℕ) (n : ℕ) (fault : LineFault) : Type 0 where
   pub before : List (List ℕ)
   pub line : List ℕ
   pub after : List (List ℕ)
   pub are : AreLines (before ++ line ∷ after) text
   pub number : n ≡ length before + 1
-  pub taken : AreTaken limits most before
-  pub stops : ¬ AreTaken limits most (before ++ line ∷ [])
-  pub reason : IsReason limits most taken.items line fault
+  pub taken : AreTaken enc limits most before
+  pub stops : ¬ AreTaken enc limits most (before ++ line ∷ [])
+  pub reason : IsReason enc limits most taken.items line fault
 
 -- All n lines are taken, and no transmission ends with them.
-pub record EndsEarly (limits : LimitValues) (most : ℕ) (text : List ℕ) (n : ℕ) : Type 0 where
+pub record EndsEarly (enc : Encoding) (limits : LimitValues) (most : ℕ) (text : List ℕ) (n : ℕ) : Type 0 where
   pub lines : List (List ℕ)
   pub are : AreLines lines text
   pub number : n ≡ length lines
-  pub taken : AreTaken limits most lines
-  pub unended : (v : TransmissionValue) → IsTransmission v → ¬ AllZip SaysItem (said_lines lines) (value_items v)
+  pub taken : AreTaken enc limits most lines
+  pub unended : (v : TransmissionValue) → IsTransmission v → ¬ AllZip (SaysItem enc) (said_lines lines) (value_items v)
 
 -- All n lines are taken, and a transmission within the limits ends with them.
-pub record EndsWell (limits : LimitValues) (most : ℕ) (text : List ℕ) (n : ℕ) : Type 0 where
+pub record EndsWell (enc : Encoding) (limits : LimitValues) (most : ℕ) (text : List ℕ) (n : ℕ) : Type 0 where
   pub lines : List (List ℕ)
   pub are : AreLines lines text
   pub number : n ≡ length lines
@@ -65,14 +66,14 @@ pub record EndsWell (limits : LimitValues) (most : ℕ) (text : List ℕ) (n : �
   pub whole : IsTransmission value
   pub within : FitsIn limits value
   pub short : AreShort most lines
-  pub each : AllZip SaysItem (said_lines lines) (value_items value)
+  pub each : AllZip (SaysItem enc) (said_lines lines) (value_items value)
 
 -- how a run over the text ends, unless a device or memory failed
-abbrev pub EndsAtLine : LimitValues → ℕ → List ℕ → Result Written WriteFault → Type 0
-EndsAtLine limits most text (Ok w) = EndsWell limits most text w.lines
-EndsAtLine limits most text (Err (Refused r)) = StopsAtLine limits most text r.line r.fault
-EndsAtLine limits most text (Err (Early n)) = EndsEarly limits most text n
-EndsAtLine limits most text (Err fault) = Unit {0}
+abbrev pub EndsAtLine : Encoding → LimitValues → ℕ → List ℕ → Result Written WriteFault → Type 0
+EndsAtLine enc limits most text (Ok w) = EndsWell enc limits most text w.lines
+EndsAtLine enc limits most text (Err (Refused r)) = StopsAtLine enc limits most text r.line r.fault
+EndsAtLine enc limits most text (Err (Early n)) = EndsEarly enc limits most text n
+EndsAtLine enc limits most text (Err fault) = Unit {0}
 
 -- after what the writer had, the canonical text of the transmission is written, unless a device or memory failed
 abbrev pub WritesTransmission : {W : Type 0} → (W → Option (List ℕ)) → W → W → TransmissionValue → Result Written WriteFault → Type 0

@@ -1,5 +1,5 @@
 -- What the reason of a refusal says of its line.
-use Rattle.std.specs.Prelude.{◌≡◌, ◌≢◌, ◌⊎◌, ℕ, ◌+◌, ◌<◌, min, not, true, false, nat_lt, List, [], ◌∷◌, ◌++◌, length, map, count_by, Option, Some, None, IsSomeAnd, Result, Err}
+use Rattle.std.specs.Prelude.{◌≡◌, ◌≢◌, ◌⊎◌, ℕ, ◌+◌, ◌<◌, min, not, true, false, nat_lt, List, [], ◌∷◌, ◌++◌, length, map, count_by, Option, Some, None, IsSome, IsSomeAnd, Result, Err}
 use Rattle.std.specs.List.{list_all, list_any}
 use Rattle.std.specs.Str.{IsUtf8, bytes_eq}
 use Rattle.json.specs.Find.{as_array, as_str}
@@ -21,7 +21,9 @@ use Rattle.cwr_judge.specs.Format.Items.{item_records, records_in}
 use Rattle.cwr_encode.specs.declared.encoders.EncodeFault.{EncodeFault}
 use Rattle.cwr_encode.specs.declared.encoders.EncodeFault.TheVariants as faults
 use Rattle.cwr_encode.specs.Format.Encoders.{JudgesFoot, JudgesGroup, JudgesOpening, JudgesTransaction}
-use Rattle.cwr_json.specs.Format.Forms.{AreRecordsData, IsCellFrom, IsItemData, IsRecordData, characters, first_of, key_of, kind_key, records_key, told}
+use Rattle.cwr_json.specs.declared.encodings.Encoding.{Encoding}
+use Rattle.cwr_json.specs.Format.Encodings.{StandFor}
+use Rattle.cwr_json.specs.Format.Forms.{AreRecordsData, IsCellFrom, IsItemData, IsRecordData, first_of, key_of, kind_key, records_key, told}
 use Rattle.cwr_write.specs.Format.Imports.{SaysItem}
 use Rattle.cwr_write.specs.declared.writing.Reached.{Reached}
 use Rattle.cwr_write.specs.declared.writing.Reached.TheVariants as reached_to
@@ -89,8 +91,8 @@ IsOfData TooLong = ⊥
 IsOfData why = Unit {0}
 
 -- the line is data of an item, and the reason is its place after the others
-abbrev pub SaysMisplaced : LimitValues → List Item → List ℕ → Why → Type 0
-SaysMisplaced limits items line why = (i : Item) × SaysItem line i × IsPlaceReason limits items i why
+abbrev pub SaysMisplaced : Encoding → LimitValues → List Item → List ℕ → Why → Type 0
+SaysMisplaced enc limits items line why = (i : Item) × SaysItem enc line i × IsPlaceReason limits items i why
 
 -- ---- data
 
@@ -114,20 +116,20 @@ IsKindReason value UnknownKind = OfText value (λ s. kind_of s ≡ None)
 IsKindReason value why = ⊥
 
 -- why a value isn't one of the field's
-abbrev pub IsValueReason : FieldLayout → Option Json → Why → Type 0
-IsValueReason f value Computed = f.derived ≡ true
-IsValueReason f value NotText = IsNoText value
-IsValueReason f value NotAByte = OfText value (λ s. (text : List ℕ) → AreBytes text → ¬ (characters text ≡ s))
-IsValueReason f value TooWide = OfText value (λ s. (text : List ℕ) → AreBytes text → characters text ≡ s → f.width < length text)
-IsValueReason f value (Cell fault) = (cell : List ℕ) × IsCellFrom f value cell × HasFault f.ty cell fault
-IsValueReason f value why = ⊥
+abbrev pub IsValueReason : Encoding → FieldLayout → Option Json → Why → Type 0
+IsValueReason enc f value Computed = (f.derived ≡ true) × IsSome value
+IsValueReason enc f value NotText = (f.derived ≡ false) × IsNoText value
+IsValueReason enc f value NotAByte = (f.derived ≡ false) × OfText value (λ s. (text : List ℕ) → AreBytes text → ¬ StandFor enc s text)
+IsValueReason enc f value TooWide = (f.derived ≡ false) × OfText value (λ s. (text : List ℕ) × AreBytes text × StandFor enc s text × (f.width < length text))
+IsValueReason enc f value (Cell fault) = (f.derived ≡ false) × ((cell : List ℕ) × IsCellFrom enc f value cell × HasFault f.ty cell fault)
+IsValueReason enc f value why = ⊥
 
 -- why members are data of no record of the kind: a key that no field has, or one that comes twice, or the value of a field
-abbrev pub IsMemberReason : Kind → Members → Key → Why → Type 0
-IsMemberReason this_kind ms key UnknownKey = (k : List ℕ) × (list_any (bytes_eq k) (keys ms) ≡ true) × (list_any (λ f. bytes_eq k (key_of f.name)) (layout this_kind) ≡ false)
-IsMemberReason this_kind ms (said_of.Field j) Repeated = IsSomeAnd (field_at this_kind j) (λ f. 1 < count_by (bytes_eq (key_of f.name)) (keys ms))
-IsMemberReason this_kind ms (said_of.Field j) why = IsSomeAnd (field_at this_kind j) (λ f. IsValueReason f (first_of (key_of f.name) ms) why)
-IsMemberReason this_kind ms key why = ⊥
+abbrev pub IsMemberReason : Encoding → Kind → Members → Key → Why → Type 0
+IsMemberReason enc this_kind ms key UnknownKey = (k : List ℕ) × (list_any (bytes_eq k) (keys ms) ≡ true) × (list_any (λ f. bytes_eq k (key_of f.name)) (layout this_kind) ≡ false)
+IsMemberReason enc this_kind ms (said_of.Field j) Repeated = IsSomeAnd (field_at this_kind j) (λ f. 1 < count_by (bytes_eq (key_of f.name)) (keys ms))
+IsMemberReason enc this_kind ms (said_of.Field j) why = IsSomeAnd (field_at this_kind j) (λ f. IsValueReason enc f (first_of (key_of f.name) ms) why)
+IsMemberReason enc this_kind ms key why = ⊥
 
 -- the members of a value that is an object; of none where it isn't
 abbrev pub members_in : Json → Option Members
@@ -135,10 +137,10 @@ members_in (object ms) = Some ms
 members_in j = None
 
 -- why a value is data of no record, once its kind is known or before
-abbrev pub IsRecordReason : Json → Option Kind → Key → Why → Type 0
-IsRecordReason j kind key NotAnObject = members_in j ≡ None
-IsRecordReason j None key why = IsSomeAnd (members_in j) (λ ms. IsKindReason (first_of kind_key (told ms)) why)
-IsRecordReason j (Some kind) key why = IsSomeAnd (members_in j) (λ ms. (first_of kind_key (told ms) ≡ Some (string (letters kind))) × IsMemberReason kind (told ms) key why)
+abbrev pub IsRecordReason : Encoding → Json → Option Kind → Key → Why → Type 0
+IsRecordReason enc j kind key NotAnObject = members_in j ≡ None
+IsRecordReason enc j None key why = IsSomeAnd (members_in j) (λ ms. IsKindReason (first_of kind_key (told ms)) why)
+IsRecordReason enc j (Some kind) key why = IsSomeAnd (members_in j) (λ ms. (first_of kind_key (told ms) ≡ Some (string (letters kind))) × IsMemberReason enc kind (told ms) key why)
 
 -- why the told members of a line are no list of records
 abbrev pub IsListReason : Members → Why → Type 0
@@ -155,46 +157,52 @@ BeginsAlone [] = ⊥
 BeginsAlone (r ∷ rs) = IsAlone r.kind
 
 -- why a value after those of the records isn't one of their item's: it is a record that can't come after them, or data of none
-abbrev pub IsNextReason : List RecordValue → Json → LineFault → Why → Type 0
-IsNextReason records j f Misplaced = (r : RecordValue) × IsRecordData j r × ¬ BeginsWithOneMore records r
-IsNextReason records j f Alone = (r : RecordValue) × IsRecordData j r × BeginsAlone records
-IsNextReason records j f why = IsRecordReason j f.kind f.key why
+abbrev pub IsNextReason : Encoding → List RecordValue → Json → LineFault → Why → Type 0
+IsNextReason enc records j f Misplaced = (r : RecordValue) × IsRecordData enc j r × ¬ BeginsWithOneMore records r
+IsNextReason enc records j f Alone = (r : RecordValue) × IsRecordData enc j r × BeginsAlone records
+IsNextReason enc records j f why = IsRecordReason enc j f.kind f.key why
 
--- The fault is that of one of the values, told by its number. All before it are records' data.
-pub record IsAmong (js : List Json) (f : LineFault) : Type 0 where
+-- a record may come after these: some transaction begins with them, or there are none; or a first one is an item alone
+abbrev pub MayGoOn : List RecordValue → Type 0
+MayGoOn [] = Unit {0}
+MayGoOn (r ∷ rs) = IsBegun (r ∷ rs) ⊎ IsAlone r.kind
+
+-- The fault is that of one of the values, told by its number. All before it are data of records, none of which is at fault.
+pub record IsAmong (enc : Encoding) (js : List Json) (f : LineFault) : Type 0 where
   pub before : List Json
   pub value : Json
   pub after : List Json
   pub whole : js ≡ before ++ value ∷ after
   pub number : f.record ≡ min (length before + 1) 4294967295
   pub records : List RecordValue
-  pub said : AreRecordsData (items_of before) records
-  pub reason : IsNextReason records value f f.why
+  pub said : AreRecordsData enc (items_of before) records
+  pub goes_on : MayGoOn records
+  pub reason : IsNextReason enc records value f f.why
 
 -- why a line's value is data of no item: it is no object, it has no list of records, or one of those is wrong
-abbrev pub IsItemReason : Json → LineFault → Type 0
-IsItemReason j f = ((f.record ≡ 0) × (f.why ≡ NotAnObject) × (members_in j ≡ None))
+abbrev pub IsItemReason : Encoding → Json → LineFault → Type 0
+IsItemReason enc j f = ((f.record ≡ 0) × (f.why ≡ NotAnObject) × (members_in j ≡ None))
     ⊎ (((f.record ≡ 0) × IsSomeAnd (members_in j) (λ ms. IsListReason (told ms) f.why))
-    ⊎ IsSomeAnd (members_in j) (λ ms. (js : List Json) × (first_of records_key (told ms) ≡ Some (array (items_of js))) × IsAmong js f))
+    ⊎ IsSomeAnd (members_in j) (λ ms. (js : List Json) × (first_of records_key (told ms) ≡ Some (array (items_of js))) × IsAmong enc js f))
 
 -- the line is JSON in UTF-8, and no data of an item of a transmission, for that reason
-pub record SaysNone (line : List ℕ) (f : LineFault) : Type 0 where
+pub record SaysNone (enc : Encoding) (line : List ℕ) (f : LineFault) : Type 0 where
   pub value : Json
   pub utf8 : IsUtf8 line
   pub text : document line ≡ Some value
-  pub none : NoItem (IsItemData value)
-  pub reason : IsItemReason value f
+  pub none : NoItem (IsItemData enc value)
+  pub reason : IsItemReason enc value f
 
 -- What the reason says of a line after items: it has more than so many bytes; it isn't JSON in UTF-8; it is data of an item, which
 -- can't come there; or else it is JSON, but data of no item of a transmission, and what is told of it is so.
-abbrev pub IsReasonOf : LimitValues → ℕ → List Item → List ℕ → LineFault → Why → Type 0
-IsReasonOf limits most items line f TooLong = most < length line
-IsReasonOf limits most items line f NotJson = IsUtf8 line → document line ≡ None
-IsReasonOf limits most items line f OutOfOrder = SaysMisplaced limits items line OutOfOrder
-IsReasonOf limits most items line f WrongKind = SaysMisplaced limits items line WrongKind
-IsReasonOf limits most items line f (Incomplete lack) = SaysMisplaced limits items line (Incomplete lack)
-IsReasonOf limits most items line f (Limit limit) = SaysMisplaced limits items line (Limit limit)
-IsReasonOf limits most items line f why = SaysNone line f
+abbrev pub IsReasonOf : Encoding → LimitValues → ℕ → List Item → List ℕ → LineFault → Why → Type 0
+IsReasonOf enc limits most items line f TooLong = (f.record ≡ 0) × (most < length line)
+IsReasonOf enc limits most items line f NotJson = (f.record ≡ 0) × (IsUtf8 line → document line ≡ None)
+IsReasonOf enc limits most items line f OutOfOrder = (f.record ≡ 0) × SaysMisplaced enc limits items line OutOfOrder
+IsReasonOf enc limits most items line f WrongKind = (f.record ≡ 0) × SaysMisplaced enc limits items line WrongKind
+IsReasonOf enc limits most items line f (Incomplete lack) = (f.record ≡ 0) × SaysMisplaced enc limits items line (Incomplete lack)
+IsReasonOf enc limits most items line f (Limit limit) = (f.record ≡ 0) × SaysMisplaced enc limits items line (Limit limit)
+IsReasonOf enc limits most items line f why = SaysNone enc line f
 
-abbrev pub IsReason : LimitValues → ℕ → List Item → List ℕ → LineFault → Type 0
-IsReason limits most items line f = IsReasonOf limits most items line f f.why
+abbrev pub IsReason : Encoding → LimitValues → ℕ → List Item → List ℕ → LineFault → Type 0
+IsReason enc limits most items line f = IsReasonOf enc limits most items line f f.why

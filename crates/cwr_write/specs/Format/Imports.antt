@@ -9,6 +9,7 @@ use Rattle.cwr_values.specs.Format.Values.{TransmissionValue, IsTransmission, Fi
 use Rattle.cwr_values.specs.Format.Rows.{canonical_text, records_of}
 use Rattle.cwr_values.specs.declared.items.Item.{Item}
 use Rattle.cwr_judge.specs.Format.Items.{item_records, records_in}
+use Rattle.cwr_json.specs.declared.encodings.Encoding.{Encoding}
 use Rattle.cwr_json.specs.Format.Forms.{IsItemData}
 use Rattle.cwr_layouts.specs.Format.Lines.{is_lf}
 use Rattle.cwr_encode.specs.Format.Finishing.{HasAll}
@@ -20,11 +21,11 @@ abbrev pub is_blank_line : List ℕ → Bool
 is_blank_line line = list_all (λ b. (b == 32) || (b == 9) || (b == 13)) line
 
 -- the line is JSON in UTF-8, and that is data of the item
-pub record SaysItem (line : List ℕ) (i : Item) : Type 0 where
+pub record SaysItem (enc : Encoding) (line : List ℕ) (i : Item) : Type 0 where
   pub value : Json
   pub utf8 : IsUtf8 line
   pub text : document line ≡ Some value
-  pub says : IsItemData value (item_records i)
+  pub says : IsItemData enc value (item_records i)
 
 -- the lines of a text: each ends with a line feed, but the last one may end with the text
 unfoldable pub AreLines : List (List ℕ) → List ℕ → Type 0
@@ -32,21 +33,21 @@ AreLines [] text = text ≡ []
 AreLines (l ∷ ls) text = IsFalse (list_any is_lf l) × (((rest : List ℕ) × (text ≡ l ++ 10 ∷ rest) × AreLines ls rest) ⊎ ((text ≡ l) × (0 < length l) × (ls ≡ [])))
 
 -- the text's lines but for the blank ones are data of the items, one by one
-pub record SaysItems (text : List ℕ) (items : List Item) : Type 0 where
+pub record SaysItems (enc : Encoding) (text : List ℕ) (items : List Item) : Type 0 where
   pub lines : List (List ℕ)
   pub are : AreLines lines text
-  pub each : AllZip SaysItem (filter (λ line. not (is_blank_line line)) lines) items
+  pub each : AllZip (SaysItem enc) (filter (λ line. not (is_blank_line line)) lines) items
 
 -- After what the writer had, the canonical text of a transmission within the limits is written, in so many bytes. Its records are those of the
 -- items that the lines are data of.
-pub record WritesWhole {W : Type 0} (limits : LimitValues) (left : Option (List ℕ)) (contents : W → Option (List ℕ)) (old new : W) (n : ℕ) : Type 0 where
+pub record WritesWhole {W : Type 0} (enc : Encoding) (limits : LimitValues) (left : Option (List ℕ)) (contents : W → Option (List ℕ)) (old new : W) (n : ℕ) : Type 0 where
   pub value : TransmissionValue
   pub whole : IsTransmission value
   pub within : FitsIn limits value
   pub written : HasAll contents (contents old) new (canonical_text value) n
   pub items : List Item
   pub records_are : records_of value ≡ records_in items
-  pub said : IfSome left (λ text. SaysItems text items)
+  pub said : IfSome left (λ text. SaysItems enc text items)
 
 -- the writer's failures count one more where its fault is answered, and else they stay
 abbrev pub CountsWriterFault : {A : Type 0} → Result A WriteFault → ℕ → ℕ → Type 0

@@ -1,19 +1,21 @@
 -- A draft that members fill.
-use Rattle.std.specs.Prelude.{◌≡◌, ℕ, ◌≤◌, Bool, true, false, nat_lt, List, length, get_or, option_map, unwrap_or, IsSomeAnd}
+use Rattle.std.specs.Prelude.{◌≡◌, ℕ, ◌≤◌, ◌<◌, Bool, true, false, List, length, get_or, None, option_map, unwrap_or, IsSomeAnd}
 use Rattle.std.specs.List.{AllZip, list_all, list_any}
 use Rattle.std.specs.Str.{bytes_eq}
-use Rattle.json.specs.Json.{Json, Members, no_members, member}
+use Rattle.json.specs.Json.{Json, string, Members, no_members, member}
 use Rattle.json.specs.Strict.{keys}
 use Rattle.cwr_fields.specs.Format.Bytes.{filled}
-use Rattle.cwr_fields.specs.Format.Cells.{Allows}
+use Rattle.cwr_fields.specs.Format.Cells.{Allows, HasFault}
 use Rattle.cwr_layouts.specs.declared.kinds.Kind.{Kind}
 use Rattle.cwr_layouts.specs.Format.Carried.{HasCellFault, carried_at}
 use Rattle.cwr_write.specs.declared.refusals.Key.{Key}
 use Rattle.cwr_write.specs.declared.refusals.Key.TheVariants as said_of
 use Rattle.cwr_write.specs.declared.refusals.Why.{Why}
-use Rattle.cwr_write.specs.declared.refusals.Why.TheVariants.{Cell}
+use Rattle.cwr_write.specs.declared.refusals.Why.TheVariants.{Cell, Computed, TooWide, UnknownKey}
 use Rattle.cwr_layouts.specs.Format.Layouts.{field_at}
 use Rattle.cwr_layouts.specs.Format.Records.{RecordValue, carried_fields}
+use Rattle.cwr_json.specs.declared.encodings.Encoding.{Encoding}
+use Rattle.cwr_json.specs.Format.Encodings.{StandFor}
 use Rattle.cwr_json.specs.Format.Forms.{IsCellFrom, IsDataOf, are_distinct, first_of, is_known, key_of}
 
 -- the kind has a field j, and that has the key
@@ -27,21 +29,29 @@ with_last (member l i ms) k j = member l i (with_last ms k j)
 
 -- The draft, of that kind, has the cells that the members give, and each other as it is in a blank record. Each of their keys is
 -- known, none comes twice, and a field is marked exactly where its key is one of theirs.
-pub record IsFilled (kind : Kind) (ms : Members) (draft : RecordValue) (seen : List Bool) : Type 0 where
+pub record IsFilled (enc : Encoding) (kind : Kind) (ms : Members) (draft : RecordValue) (seen : List Bool) : Type 0 where
   pub kind_is : draft.kind ≡ kind
   pub known : list_all (is_known kind) (keys ms) ≡ true
   pub once : are_distinct (keys ms) ≡ true
-  pub cells : AllZip (λ f cell. IsCellFrom f (first_of (key_of f.name) ms) cell) (carried_fields kind) draft.cells
+  pub cells : AllZip (λ f cell. IsCellFrom enc f (first_of (key_of f.name) ms) cell) (carried_fields kind) draft.cells
   pub marks : (j : ℕ) (k : List ℕ) → names_field kind j k ≡ true → get_or seen j false ≡ false → list_any (bytes_eq k) (keys ms) ≡ false
   pub marked : (j : ℕ) (k : List ℕ) → names_field kind j k ≡ true → get_or seen j false ≡ true → list_any (bytes_eq k) (keys ms) ≡ true
 
--- it has a byte that is in no character up to U+00FF
-abbrev pub has_higher : List ℕ → Bool
-has_higher text = list_any (λ b. nat_lt 195 b) text
+-- the value is a text of characters that stand for the bytes
+abbrev pub IsTextOf : Encoding → Json → List ℕ → Type 0
+IsTextOf enc j bytes = (s : List ℕ) × (j ≡ string s) × StandFor enc s bytes
 
 -- the text, filled up with spaces, is a cell of field j
 abbrev pub FitsField : Kind → ℕ → List ℕ → Type 0
 FitsField kind j text = IsSomeAnd (carried_at kind j) (λ f. (length text ≤ f.width) × Allows f.ty (filled f.width text))
+
+-- why the text isn't set as a cell of field j, which isn't computed
+abbrev pub IsBytesReason : Kind → ℕ → List ℕ → Why → Type 0
+IsBytesReason this_kind j text UnknownKey = field_at this_kind j ≡ None
+IsBytesReason this_kind j text Computed = IsSomeAnd (field_at this_kind j) (λ f. f.derived ≡ true)
+IsBytesReason this_kind j text TooWide = IsSomeAnd (carried_at this_kind j) (λ f. f.width < length text)
+IsBytesReason this_kind j text (Cell fault) = IsSomeAnd (carried_at this_kind j) (λ f. (length text ≤ f.width) × HasFault f.ty (filled f.width text) fault)
+IsBytesReason this_kind j text why = ⊥
 
 -- members, and others after them
 unfoldable pub joined : Members → Members → Members
@@ -49,8 +59,8 @@ joined no_members more = more
 joined (member k j ms) more = member k j (joined ms more)
 
 -- members that begin so are data of no record of the kind
-abbrev pub NoneFrom : Kind → Members → Type 0
-NoneFrom kind ms = (rest : Members) (r : RecordValue) → r.kind ≡ kind → ¬ IsDataOf (joined ms rest) r
+abbrev pub NoneFrom : Encoding → Kind → Members → Type 0
+NoneFrom enc kind ms = (rest : Members) (r : RecordValue) → r.kind ≡ kind → ¬ IsDataOf enc (joined ms rest) r
 
 -- a cell of a draft isn't one of its field: of which field, and why
 abbrev pub IsDraftReason : RecordValue → Key → Why → Type 0

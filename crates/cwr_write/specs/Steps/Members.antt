@@ -8,6 +8,7 @@ use Rattle.cwr_layouts.specs.declared.kinds.Kind.TheVariants.{Hdr, Grh, Grt}
 use Rattle.cwr_layouts.specs.Format.Records.{RecordValue}
 use Rattle.cwr_values.specs.declared.items.Item.{Item}
 use Rattle.cwr_values.specs.declared.items.Item.TheVariants.{Opened, GroupOpened, Transaction, GroupClosed, Ended}
+use Rattle.cwr_json.specs.declared.encodings.Encoding.{Encoding}
 use Rattle.cwr_json.specs.Format.Forms.{IsRecordData, says, told}
 use Rattle.cwr_write.specs.Format.AloneKinds.{IsAlone}
 
@@ -23,11 +24,11 @@ pub record IsOnlyAt {A : Type 0} (items : List (Bor (List ℕ) × Value A)) (key
   pub only : told (members_view items) ≡ member key (value_view found.1) no_members
 
 -- the value there is data of the record
-pub record IsDataAt {A : Type 0} (values : List (Value A)) (at : ℕ) (r : RecordValue) : Type 0 where
+pub record IsDataAt {A : Type 0} (enc : Encoding) (values : List (Value A)) (at : ℕ) (r : RecordValue) : Type 0 where
   pub found : Value A
   pub within : at < length values
   pub is : found ≡ get_or values at found
-  pub is_data : IsRecordData (value_view found) r
+  pub is_data : IsRecordData enc (value_view found) r
 
 -- the item has its record's kind, and a transaction begins with a record that isn't an item alone
 abbrev pub IsKinded : Item → Type 0

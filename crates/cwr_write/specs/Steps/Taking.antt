@@ -14,6 +14,7 @@ use Rattle.cwr_encode.specs.Steps.Encoders.{Encodes, RepresentsMore, encoder_lim
 use Rattle.cwr_shape.specs.declared.symbols.Symbol.{Symbol}
 use Rattle.cwr_shape.specs.Format.Ranges.{LimitValues}
 use Rattle.cwr_values.specs.Format.Values.{TransmissionValue, IsTransmission, FitsIn}
+use Rattle.cwr_json.specs.declared.encodings.Encoding.{Encoding}
 use Rattle.cwr_write.specs.Format.Faults.{IsAmong, IsOfData, JudgesItem, reached_after}
 use Rattle.cwr_write.specs.declared.hints.Lack.{Lack}
 use Rattle.cwr_write.specs.declared.refusals.LineFault.{LineFault}
@@ -58,8 +59,8 @@ OnLine (item_faults.Line f) is = is f
 OnLine fault is = Unit {0}
 
 -- a list has no values, or the fault is of one of them
-abbrev pub IsOfList : List Json → LineFault → Type 0
-IsOfList js f = ((f.record ≡ 0) × (f.why ≡ whys.Empty) × (js ≡ [])) ⊎ IsAmong js f
+abbrev pub IsOfList : Encoding → List Json → LineFault → Type 0
+IsOfList enc js f = ((f.record ≡ 0) × (f.why ≡ whys.Empty) × (js ≡ [])) ⊎ IsAmong enc js f
 
 -- the fault is one of the line
 abbrev pub IsLine : ItemFault → Type 0
@@ -77,7 +78,7 @@ IsWhyOf (encode_faults.Writer written) why = ⊥
 -- what is told of an encoder's fault
 abbrev pub IsFaultOf : EncodeFault → ItemFault → Type 0
 IsFaultOf (encode_faults.Writer written) told = told ≡ item_faults.Writer written
-IsFaultOf fault (item_faults.Line f) = IsWhyOf fault f.why
+IsFaultOf fault (item_faults.Line f) = (f.record ≡ 0) × IsWhyOf fault f.why
 IsFaultOf fault told = ⊥
 
 -- how far the lines have come with the item: none comes after TRL's
@@ -135,12 +136,12 @@ TakesLine is reason before contents failures (Err (item_faults.Line fault)) old 
 TakesLine is reason before contents failures (Err item_faults.Memory) old new = new ≡ old
 
 -- Lines of a text were taken, so many, all but these bytes, and they are data of the items. None has more than so many bytes.
-pub record SaidSoFar (most n : ℕ) (text : List ℕ) (after : Option (List ℕ)) (items : List Item) : Type 0 where
+pub record SaidSoFar (enc : Encoding) (most n : ℕ) (text : List ℕ) (after : Option (List ℕ)) (items : List Item) : Type 0 where
   pub lines : List (List ℕ)
   pub rest : List ℕ
   pub after_is : after ≡ Some rest
   pub with_rest : (tail : List (List ℕ)) → AreLines tail rest → AreLines (lines ++ tail) text
-  pub each : AllZip SaysItem (filter (λ line. not (is_blank_line line)) lines) items
+  pub each : AllZip (SaysItem enc) (filter (λ line. not (is_blank_line line)) lines) items
   pub number : n ≡ length lines
   pub short : AreShort most lines
 
@@ -154,19 +155,19 @@ pub record StandsWhole {W : Type 0} (contents : W → Option (List ℕ)) (items 
   pub items_are : value_items value ≡ items
 
 -- what taking lines does: the items of all are accepted, or the writer failed in the last
-abbrev pub TakesLines : {W : Type 0} → Option (List ℕ) → (W → Option (List ℕ)) → (W → ℕ) → Result ℕ WriteFault → Encoder W → Encoder W → Type 0
-TakesLines left contents failures (Ok lines) old new =
+abbrev pub TakesLines : {W : Type 0} → Encoding → Option (List ℕ) → (W → Option (List ℕ)) → (W → ℕ) → Result ℕ WriteFault → Encoder W → Encoder W → Type 0
+TakesLines enc left contents failures (Ok lines) old new =
     (items : List Item) × RepresentsMore contents (given_in items) old new × (is_stopped new ≡ false) × (failures (target_of new) ≡ failures (target_of old))
-    × (records_in items ≡ given_in items ++ trailer ∷ []) × IfSome left (λ text. SaysItems text items) × StandsWhole contents items new
-TakesLines left contents failures (Err (write_faults.Writer written)) old new = failures (target_of new) ≡ one_more_failure (failures (target_of old))
-TakesLines left contents failures (Err fault) old new = failures (target_of new) ≡ failures (target_of old)
+    × (records_in items ≡ given_in items ++ trailer ∷ []) × IfSome left (λ text. SaysItems enc text items) × StandsWhole contents items new
+TakesLines enc left contents failures (Err (write_faults.Writer written)) old new = failures (target_of new) ≡ one_more_failure (failures (target_of old))
+TakesLines enc left contents failures (Err fault) old new = failures (target_of new) ≡ failures (target_of old)
 
 -- how a run over the text ends, unless a device or memory failed
-abbrev pub EndsLines : LimitValues → ℕ → List ℕ → Result ℕ WriteFault → Type 0
-EndsLines limits most text (Ok n) = EndsWell limits most text n
-EndsLines limits most text (Err (write_faults.Refused r)) = StopsAtLine limits most text r.line r.fault
-EndsLines limits most text (Err (write_faults.Early n)) = EndsEarly limits most text n
-EndsLines limits most text (Err fault) = Unit {0}
+abbrev pub EndsLines : Encoding → LimitValues → ℕ → List ℕ → Result ℕ WriteFault → Type 0
+EndsLines enc limits most text (Ok n) = EndsWell enc limits most text n
+EndsLines enc limits most text (Err (write_faults.Refused r)) = StopsAtLine enc limits most text r.line r.fault
+EndsLines enc limits most text (Err (write_faults.Early n)) = EndsEarly enc limits most text n
+EndsLines enc limits most text (Err fault) = Unit {0}
 
 -- what is told where an encoder's end is refused after so many lines
 abbrev pub IsFinishFault : ℕ → EncodeFault → WriteFault → Type 0
@@ -220,7 +221,7 @@ IsUnfailed result = Unit {0}
 abbrev pub IsUnreadFault : ℕ → ReadFault → WriteFault → Type 0
 IsUnreadFault n read_faults.Reader told = told ≡ write_faults.Reader
 IsUnreadFault n read_faults.Memory told = told ≡ write_faults.Memory
-IsUnreadFault n read_faults.TooLong told = (f : LineFault) × (f.why ≡ whys.TooLong) × IsRefusedAt n f told
+IsUnreadFault n read_faults.TooLong told = (f : LineFault) × (f.why ≡ whys.TooLong) × (f.record ≡ 0) × IsRefusedAt n f told
 
 -- the answer isn't that the reader failed
 abbrev pub NoReader : {A : Type 0} → Result A WriteFault → Type 0

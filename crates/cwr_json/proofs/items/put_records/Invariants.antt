@@ -9,7 +9,7 @@ invariant-loop-shown g l = record {
   unfailed : has_failed l.sink ≡ false;
   counts : g.W.Target.failures (writer_of l.sink) ≡ g.W.Target.failures (writer_of l.initial.sink);
   written : (start : Option (List ℕ)) (before : List ℕ) → HasWritten g.W.Target.contents start before l.initial.sink
-      → HasWritten g.W.Target.contents start (before ++ listed_texts 0 (take l.i l.transaction)) l.sink;
+      → HasWritten g.W.Target.contents start (before ++ listed_texts l.encoding 0 (take l.i l.transaction)) l.sink;
 }
 
 abbrev pub decreases-loop-shown : goal.decreases-loop-shown

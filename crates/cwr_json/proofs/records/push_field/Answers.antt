@@ -4,14 +4,14 @@ use Rattle.cwr_layouts.specs.declared.kinds.Kind.{Kind}
 use Rattle.cwr_layouts.specs.Format.Layouts.{field_with_start}
 use Rattle.cwr_layouts.specs.Steps.Views.{field_view}
 use Rattle.cwr_json.proofs.FieldsShown.{short_line}
-use Rattle.cwr_json.proofs.MembersOfFields.{field_member-no_cell, field_member-none, field_member-some, high_cell}
+use Rattle.cwr_json.proofs.MembersOfFields.{field_member-none, field_member-some, high_cell}
 use Rattle.cwr_json.proofs.records.push_field.Goals as goal
 
 pub returns-in_default-field-clause-value : goal.returns-in_default-field-clause-value
 returns-in_default-field-clause-value c =
     let place : None ≡ field_with_start c.args.shown.now.kind c.args.j
     = sym (ap (option_map field_view) c.in_default-field.is) ∙ c.field.ensures ∙ ap (λ (kind : Kind). field_with_start kind c.args.j) c.kind.ensures.value in
-    sym (ap (λ (l : List ℕ). c.args.text.now.items ++ l) (field_member-none c.args.shown.now c.args.j place) ∙ append-nil c.args.text.now.items)
+    sym (ap (λ (l : List ℕ). c.args.text.now.items ++ l) (field_member-none c.args.encoding c.args.shown.now c.args.j place) ∙ append-nil c.args.text.now.items)
 
 pub push_member-requires-clause-room : goal.push_member-requires-clause-room
 push_member-requires-clause-room c =
@@ -32,7 +32,7 @@ returns-clause-value c =
     let place : Some (field_view c.in-Some-field.place) ≡ field_with_start c.args.shown.now.kind c.args.j
     = sym (ap (option_map field_view) c.in-Some-field.is) ∙ c.field.ensures ∙ ap (λ (kind : Kind). field_with_start kind c.args.j) c.kind.ensures.value in
     c.push_member.ensures.value
-    ∙ ap (λ (l : List ℕ). c.args.text.now.items ++ l) (sym (field_member-some c.args.shown.now c.args.j (field_view c.in-Some-field.place) c.in-Some.cell.now c.in-Some.ensures.value place))
+    ∙ ap (λ (l : List ℕ). c.args.text.now.items ++ l) (sym (field_member-some c.args.encoding c.args.shown.now c.args.j (field_view c.in-Some-field.place) c.in-Some.cell.now c.in-Some.ensures.value place))
 
 pub returns-clause-len : goal.returns-clause-len
 returns-clause-len c =

@@ -4,13 +4,14 @@ use Rattle.std.specs.Option.{is_some}
 use Rattle.cwr_tools.specs.Format.Reports.{lines_checked, lines_of_data, lines_of_findings, lines_of_records}
 use Rattle.cwr_program.specs.declared.endings.Look.{Look}
 use Rattle.cwr_program.specs.Steps.Looks.{LooksAfter, tells_findings}
-use Rattle.cwr_program.proofs.EndsOnTexts.{looks_after, looks_found, sees_nothing}
+use Rattle.cwr_program.specs.Steps.Tellings.{CountsLook}
+use Rattle.cwr_program.proofs.EndsOnTexts.{found_counts_none, looks_after, looks_found, sees_nothing}
 use Rattle.cwr_program.proofs.reports.tell.Goals as goal
 
 pub returns-in-Findings-clause-looks : goal.returns-in-Findings-clause-looks
 returns-in-Findings-clause-looks g c =
     looks_after lines_of_findings c.args.limits (g.R.Source.remaining c.args.reader.now) (g.R.Source.remaining c.check_watched-writer.new.reader) (g.R.Source.remaining c.look_after-look.new.reader) g.W.Target.contents
-    c.args.writer c.check_watched-writer.result.0 c.check_watched-writer.result.1 c.look_after-look.result c.check_watched-writer.ensures.accepted c.look_after-look.ensures
+    c.args.writer c.check_watched-writer.result.0 c.check_watched-writer.result.1 c.look_after-look.result c.check_watched-writer.ensures.accepted c.look_after-look.ensures.looks
 
 pub returns-in-Explained-clause-looks : goal.returns-in-Explained-clause-looks
 returns-in-Explained-clause-looks g c =
@@ -23,15 +24,15 @@ returns-in-Records-clause-seen g c = sees_nothing c.args.limits (g.R.Source.rema
 pub returns-in-Records-clause-looks : goal.returns-in-Records-clause-looks
 returns-in-Records-clause-looks g c =
     looks_after lines_of_records c.args.limits (g.R.Source.remaining c.args.reader.now) (g.R.Source.remaining c.show-writer.new.reader) (g.R.Source.remaining c.look_after-look-in-Records.new.reader) g.W.Target.contents
-    c.args.writer c.show-writer.result.0 c.show-writer.result.1 c.look_after-look-in-Records.result c.show-writer.ensures.accepted c.look_after-look-in-Records.ensures
+    c.args.writer c.show-writer.result.0 c.show-writer.result.1 c.look_after-look-in-Records.result c.show-writer.ensures.accepted c.look_after-look-in-Records.ensures.looks
 
 pub returns-in-Data-clause-seen : goal.returns-in-Data-clause-seen
 returns-in-Data-clause-seen g c = sees_nothing c.args.limits (g.R.Source.remaining c.args.reader.now) c.args.watch.now c.json-writer.result.1 (c.requires (ap tells_findings c.in-Data.is))
 
 pub returns-in-Data-clause-looks : goal.returns-in-Data-clause-looks
 returns-in-Data-clause-looks g c =
-    looks_after (lines_of_data c.in-Data.numbers) c.args.limits (g.R.Source.remaining c.args.reader.now) (g.R.Source.remaining c.json-writer.new.reader) (g.R.Source.remaining c.look_after-look-in-Data.new.reader) g.W.Target.contents
-    c.args.writer c.json-writer.result.0 c.json-writer.result.1 c.look_after-look-in-Data.result c.json-writer.ensures.accepted c.look_after-look-in-Data.ensures
+    looks_after (lines_of_data c.in-Data.encoding c.in-Data.numbers) c.args.limits (g.R.Source.remaining c.args.reader.now) (g.R.Source.remaining c.json-writer.new.reader) (g.R.Source.remaining c.look_after-look-in-Data.new.reader) g.W.Target.contents
+    c.args.writer c.json-writer.result.0 c.json-writer.result.1 c.look_after-look-in-Data.result c.json-writer.ensures.accepted c.look_after-look-in-Data.ensures.looks
 
 pub returns-in-Faults-clause-seen : goal.returns-in-Faults-clause-seen
 returns-in-Faults-clause-seen g c = sees_nothing c.args.limits (g.R.Source.remaining c.args.reader.now) c.args.watch.now c.lint-writer.result.1 (c.requires (ap tells_findings c.in-Faults.is))
@@ -39,4 +40,40 @@ returns-in-Faults-clause-seen g c = sees_nothing c.args.limits (g.R.Source.remai
 pub returns-in-Faults-clause-looks : goal.returns-in-Faults-clause-looks
 returns-in-Faults-clause-looks g c =
     looks_after (lines_checked (is_some c.in-Faults.name)) c.args.limits (g.R.Source.remaining c.args.reader.now) (g.R.Source.remaining c.lint-writer.new.reader) (g.R.Source.remaining c.look_after-look-in-Faults.new.reader) g.W.Target.contents
-    c.args.writer c.lint-writer.result.0 c.lint-writer.result.1 c.look_after-look-in-Faults.result c.lint-writer.ensures.accepted c.look_after-look-in-Faults.ensures
+    c.args.writer c.lint-writer.result.0 c.lint-writer.result.1 c.look_after-look-in-Faults.result c.lint-writer.ensures.accepted c.look_after-look-in-Faults.ensures.looks
+
+pub returns-in-Findings-clause-told : goal.returns-in-Findings-clause-told
+returns-in-Findings-clause-told g c = (g.R.Source.remaining c.check_watched-writer.new.reader, c.check_watched-writer.ensures.reported)
+
+pub returns-in-Findings-clause-reader_failures : goal.returns-in-Findings-clause-reader_failures
+returns-in-Findings-clause-reader_failures g c = (g.R.Source.failures c.check_watched-writer.new.reader, (c.check_watched-writer.ensures.reader_failures, c.look_after-look.ensures.failures))
+
+pub returns-in-Records-clause-told : goal.returns-in-Records-clause-told
+returns-in-Records-clause-told g c = (g.R.Source.remaining c.show-writer.new.reader, c.show-writer.ensures.reported)
+
+pub returns-in-Records-clause-reader_failures : goal.returns-in-Records-clause-reader_failures
+returns-in-Records-clause-reader_failures g c = (g.R.Source.failures c.show-writer.new.reader, (c.show-writer.ensures.reader_failures, c.look_after-look-in-Records.ensures.failures))
+
+pub returns-in-Data-clause-told : goal.returns-in-Data-clause-told
+returns-in-Data-clause-told g c = (g.R.Source.remaining c.json-writer.new.reader, c.json-writer.ensures.reported)
+
+pub returns-in-Data-clause-reader_failures : goal.returns-in-Data-clause-reader_failures
+returns-in-Data-clause-reader_failures g c = (g.R.Source.failures c.json-writer.new.reader, (c.json-writer.ensures.reader_failures, c.look_after-look-in-Data.ensures.failures))
+
+pub returns-in-Explained-clause-told : goal.returns-in-Explained-clause-told
+returns-in-Explained-clause-told g c = (g.R.Source.remaining c.explain-writer.new.reader, c.explain-writer.ensures.explains)
+
+pub returns-in-Explained-clause-reader_failures : goal.returns-in-Explained-clause-reader_failures
+returns-in-Explained-clause-reader_failures g c = (
+  g.R.Source.failures c.explain-writer.new.reader,
+  (
+    c.explain-writer.ensures.reader_failures,
+    subst (λ (l : Look). CountsLook l (g.R.Source.failures c.explain-writer.new.reader) (g.R.Source.failures c.explain-writer.new.reader)) (sym c.look_of.ensures) (found_counts_none c.explain-writer.result.2 (g.R.Source.failures c.explain-writer.new.reader)),
+  ),
+)
+
+pub returns-in-Faults-clause-told : goal.returns-in-Faults-clause-told
+returns-in-Faults-clause-told g c = (g.R.Source.remaining c.lint-writer.new.reader, (c.lint-writer.ensures.lints, c.lint-writer.ensures.tells))
+
+pub returns-in-Faults-clause-reader_failures : goal.returns-in-Faults-clause-reader_failures
+returns-in-Faults-clause-reader_failures g c = (g.R.Source.failures c.lint-writer.new.reader, (c.lint-writer.ensures.reader_failures, c.look_after-look-in-Faults.ensures.failures))

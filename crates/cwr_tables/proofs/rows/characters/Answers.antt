@@ -1,5 +1,6 @@
 use Rattle.std.proofs.Common.{ℕ, List, ◌++◌, ◌<◌, get_or, length, sym, ap, ◌∙◌, arith}
-use Rattle.cwr_json.specs.Format.Forms.{character}
+use Rattle.cwr_json.specs.declared.encodings.Encoding.TheVariants.{Latin1}
+use Rattle.cwr_json.specs.Format.Encodings.{character}
 use Rattle.cwr_tables.proofs.Characters.{characters_more, characters_none}
 use Rattle.cwr_tables.proofs.rows.characters.Goals as goal
 
@@ -12,6 +13,6 @@ loop-b-preserved c =
     let cell : List ℕ = c.args.cell.now in
     let within : i < length cell = omega arith in
     record {
-      value = c.push_character.ensures.value ∙ ap (λ (l : List ℕ). l ++ character (get_or cell i 0)) c.loop-b.invariant.value ∙ sym (characters_more cell i within);
+      value = c.push_character.ensures.value ∙ ap (λ (l : List ℕ). l ++ character Latin1 (get_or cell i 0)) c.loop-b.invariant.value ∙ sym (characters_more cell i within);
       len = omega (arith, c.push_character.ensures.len, c.loop-b.invariant.len);
     }

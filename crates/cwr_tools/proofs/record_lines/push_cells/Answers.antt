@@ -2,7 +2,8 @@ use Rattle.std.proofs.Common.{◌≡◌, ℕ, ◌+◌, ◌≤◌, ◌<◌, ◌++
 use Rattle.cwr_layouts.specs.declared.kinds.Kind.{Kind}
 use Rattle.cwr_layouts.specs.Format.Layouts.{layout}
 use Rattle.cwr_tools.specs.Steps.FieldLines.{field_line}
-use Rattle.cwr_tools.proofs.CellsOfFields.{few_fields, lines_before, lines_more, lines_whole}
+use Rattle.cwr_layouts.proofs.AllKinds.{few_fields}
+use Rattle.cwr_tools.proofs.CellsOfFields.{lines_before, lines_more, lines_whole}
 use Rattle.cwr_tools.proofs.record_lines.push_cells.Goals as goal
 
 pub push_field-requires : goal.push_field-requires

@@ -15,24 +15,24 @@ returns-in-None-clause-ok c =
     (omega (arith, c.in-None.ensures.lookup, ap length c.deref-2.ensures.value))
 
 pub returns-in_default-clause-err : goal.returns-in_default-clause-err
-returns-in_default-clause-err c = none_there c.args.members.now.items c.first_said-at.result c.first_said-at.ensures.same (omega (arith, c.in_default.ensures.lookup, ap length c.deref.ensures.value))
+returns-in_default-clause-err c = λ enc. none_there enc c.args.members.now.items c.first_said-at.result c.first_said-at.ensures.same (omega (arith, c.in_default.ensures.lookup, ap length c.deref.ensures.value))
 
 pub returns-then-ne-clause-err : goal.returns-then-ne-clause-err
 returns-then-ne-clause-err c =
     let p = member_in _ _ c.first_said-at.result c.in-Some.member.now c.deref.ensures.value c.in-Some.ensures.lookup.3.0 c.in-Some.ensures.lookup.1 in
-    other_key c.args.members.now.items c.first_said-at.result c.in-Some.member.now p.0 p.1 (c.first_said-at.ensures.said p.0) c.first_said-at.ensures.same (key_other c.in-Some.member.now.0.now records_key (sym c.if-ne.ensures))
+    λ enc. other_key enc c.args.members.now.items c.first_said-at.result c.in-Some.member.now p.0 p.1 (c.first_said-at.ensures.said p.0) c.first_said-at.ensures.same (key_other c.in-Some.member.now.0.now records_key (sym c.if-ne.ensures))
 
 pub returns-in-Some-get-clause-err : goal.returns-in-Some-get-clause-err
 returns-in-Some-get-clause-err c =
     let p = member_in _ _ c.first_said-at.result c.in-Some.member.now c.deref.ensures.value c.in-Some.ensures.lookup.3.0 c.in-Some.ensures.lookup.1 in
     let q = member_in _ _ c.first_said-more.result c.in-Some-get.other.now c.deref-2.ensures.value c.in-Some-get.ensures.lookup.3.0 c.in-Some-get.ensures.lookup.1 in
-    another_there c.args.members.now.items c.first_said-at.result c.first_said-more.result c.in-Some.member.now c.in-Some-get.other.now p.0 p.1 (c.first_said-at.ensures.said p.0) c.first_said-at.ensures.same q.0 q.1 (c.first_said-more.ensures.said q.0) c.first_said-more.ensures.same
+    λ enc. another_there enc c.args.members.now.items c.first_said-at.result c.first_said-more.result c.in-Some.member.now c.in-Some-get.other.now p.0 p.1 (c.first_said-at.ensures.said p.0) c.first_said-at.ensures.same q.0 q.1 (c.first_said-more.ensures.said q.0) c.first_said-more.ensures.same
 
 pub returns-in-Some-2-clause-err : goal.returns-in-Some-2-clause-err
 returns-in-Some-2-clause-err c =
     let p = member_in _ _ c.first_said-at.result c.in-Some.member.now c.deref.ensures.value c.in-Some.ensures.lookup.3.0 c.in-Some.ensures.lookup.1 in
     let q = member_in _ _ c.first_said-more.result c.in-Some-2.other.now c.deref-2.ensures.value c.in-Some-2.ensures.lookup.3.0 c.in-Some-2.ensures.lookup.1 in
-    another_there c.args.members.now.items c.first_said-at.result c.first_said-more.result c.in-Some.member.now c.in-Some-2.other.now p.0 p.1 (c.first_said-at.ensures.said p.0) c.first_said-at.ensures.same q.0 q.1 (c.first_said-more.ensures.said q.0) c.first_said-more.ensures.same
+    λ enc. another_there enc c.args.members.now.items c.first_said-at.result c.first_said-more.result c.in-Some.member.now c.in-Some-2.other.now p.0 p.1 (c.first_said-at.ensures.said p.0) c.first_said-at.ensures.same q.0 q.1 (c.first_said-more.ensures.said q.0) c.first_said-more.ensures.same
 
 pub returns-in_default-clause-reason : goal.returns-in_default-clause-reason
 returns-in_default-clause-reason c = (c.of_key.ensures.record, subst (IsListReason (told (members_view c.args.members.now.items))) (sym c.of_key.ensures.why) (missing_reason c.args.members.now.items c.first_said-at.result c.first_said-at.ensures.same (omega (arith, c.in_default.ensures.lookup, ap length c.deref.ensures.value))))

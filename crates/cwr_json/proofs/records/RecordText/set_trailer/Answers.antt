@@ -5,4 +5,4 @@ use Rattle.cwr_json.proofs.records.RecordText.set_trailer.Goals as goal
 
 pub returns : goal.returns
 unfolding member_texts
-returns c = c.push.ensures.value ∙ ap (λ (l : List ℕ). l ++ codes "{\"record_type\":\"TRL\"}") c.clear.ensures
+returns c enc = c.push.ensures.value ∙ ap (λ (l : List ℕ). l ++ codes "{\"record_type\":\"TRL\"}") c.clear.ensures

@@ -3,4 +3,4 @@ use Rattle.cwr_write.proofs.FilledDrafts.{filled_none}
 use Rattle.cwr_write.proofs.records.Filling.new.Goals as goal
 
 pub returns-clause-filled : goal.returns-clause-filled
-returns-clause-filled c = filled_none c.args.kind _ _ 256 c.blank.ensures refl
+returns-clause-filled c = λ enc. filled_none enc c.args.kind _ _ 256 c.blank.ensures refl

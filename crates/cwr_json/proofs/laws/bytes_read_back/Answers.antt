@@ -1,0 +1,5 @@
+use Rattle.cwr_json.proofs.Encoded.{read_back}
+use Rattle.cwr_json.proofs.laws.bytes_read_back.Goals as goal
+
+pub returns : goal.returns
+returns c = read_back

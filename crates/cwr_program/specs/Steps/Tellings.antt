@@ -1,0 +1,44 @@
+-- What is written of a transmission, and which failures of its devices are counted.
+use Rattle.std.specs.Prelude.{◌≡◌, ℕ, List, Option, Some, None, IfOk, Result, Ok, Err}
+use Rattle.std.specs.Option.{is_some}
+use Rattle.cwr_fields.specs.Format.Failures.{one_more_failure}
+use Rattle.cwr_shape.specs.declared.limits.Limits.{Limits}
+use Rattle.cwr_tools.specs.declared.verdicts.Verdict.{Verdict}
+use Rattle.cwr_tools.specs.declared.verdicts.ToolFault.{ToolFault}
+use Rattle.cwr_tools.specs.declared.verdicts.ToolFault.TheVariants.{Writer}
+use Rattle.cwr_tools.specs.Format.Reports.{CountsReaderFault, lines_of_data, lines_of_findings, lines_of_records}
+use Rattle.cwr_tools.specs.Steps.Reports.{Reports}
+use Rattle.cwr_explain.specs.Steps.Explained.{Explains}
+use Rattle.cwr_lint.specs.Steps.Lints.{Lints, Tells}
+use Rattle.cwr_program.specs.declared.endings.Look.{Look}
+use Rattle.cwr_program.specs.declared.endings.Look.TheVariants.{Failed}
+use Rattle.cwr_program.specs.declared.reports.Judgement.{Judgement}
+use Rattle.cwr_program.specs.declared.reports.Telling.{Telling}
+use Rattle.cwr_program.specs.declared.reports.Telling.TheVariants as tellings
+
+-- the lines that are asked for were written, while the input was read from the one state to the other
+abbrev pub TellsUpTo : {W : Type 0} → Telling → Limits → Option (List ℕ) → Option (List ℕ) → (W → Option (List ℕ)) → W → W → Result Verdict ToolFault → Type 0
+TellsUpTo tellings.Findings limits before after contents old new outcome = Reports lines_of_findings limits before after contents old new outcome
+TellsUpTo (tellings.Explained name) limits before after contents old new outcome = Explains limits before after contents old new outcome
+TellsUpTo (tellings.Faults name) limits before after contents old new outcome =
+    Lints (is_some name) limits before after contents old new outcome × IfOk outcome (Tells (is_some name) limits before after contents old new)
+TellsUpTo tellings.Records limits before after contents old new outcome = Reports lines_of_records limits before after contents old new outcome
+TellsUpTo (tellings.Data encoding numbers) limits before after contents old new outcome = Reports (lines_of_data encoding numbers) limits before after contents old new outcome
+
+-- so it was, before what follows the transmission was looked at
+abbrev pub TellsText : {W : Type 0} → Telling → Limits → Option (List ℕ) → (W → Option (List ℕ)) → W → W → Result Verdict ToolFault → Type 0
+TellsText telling limits before contents old new outcome = (after : Option (List ℕ)) × TellsUpTo telling limits before after contents old new outcome
+
+-- a look at what follows counts one more failure where it failed
+abbrev pub CountsLook : Look → ℕ → ℕ → Type 0
+CountsLook Failed old new = new ≡ one_more_failure old
+CountsLook look old new = new ≡ old
+
+-- the reader's failures are those of the run that had this outcome, and then of the look
+abbrev pub CountsReading : Result Verdict ToolFault → Look → ℕ → ℕ → Type 0
+CountsReading outcome look old new = (between : ℕ) × CountsReaderFault outcome old between × CountsLook look between new
+
+-- the writer's failures count one more where its fault is answered, and else they stay
+abbrev pub CountsWriting : Result Judgement ToolFault → ℕ → ℕ → Type 0
+CountsWriting (Err (Writer written)) old new = new ≡ one_more_failure old
+CountsWriting judged old new = new ≡ old
