@@ -11,8 +11,9 @@ use Rattle.cwr_tools.specs.declared.totals.Totals.{Totals}
 use Rattle.cwr_tools.proofs.CountedTotals.{IsCount}
 use Rattle.cwr_tables.specs.declared.places.Place.{Place}
 use Rattle.cwr_tables.specs.Format.RecordTables.{heading, item_rows, place_after, rows_of}
+use Rattle.cwr_tables.specs.Format.WorkTables.{work_heading, work_row, work_rows}
 use Rattle.cwr_csv.specs.declared.tables.Table.{Table}
-use Rattle.cwr_csv.specs.declared.tables.Table.TheVariants.{Records}
+use Rattle.cwr_csv.specs.declared.tables.Table.TheVariants.{Records, Works}
 use Rattle.cwr_csv.specs.Format.TableLines.{table_text}
 use Rattle.cwr_csv.specs.Steps.ItemRows.{place_at, rows_at, table_heading}
 
@@ -53,13 +54,21 @@ rows_of-snoc : (this_kind : Kind) (given : List Item) (item : Item) → rows_of 
 unfolding rows_of
 rows_of-snoc this_kind given item = rows_from-snoc (λ (before : List Item) (it : Item). item_rows this_kind (place_after before it) it) given item
 
+work_rows-snoc : (given : List Item) (item : Item) → work_rows (given ++ item ∷ []) ≡ work_rows given ++ work_row (place_after given item) item
+unfolding work_rows
+work_rows-snoc given item = rows_from-snoc (λ (before : List Item) (it : Item). work_row (place_after before it) it) given item
+
 -- no items have a heading alone
 pub table_none : (table : Table) → table_heading table ≡ table_text table []
-unfolding rows_of
+unfolding rows_of work_rows
 table_none (Records this_kind) = sym (append-nil (heading this_kind))
+table_none Works = sym (append-nil work_heading)
 
 -- with one item more
 pub table_more : (table : Table) (c : Totals) (given : List Item) (item : Item) → IsCount c given → table_text table (given ++ item ∷ []) ≡ table_text table given ++ rows_at table c item
 table_more (Records this_kind) c given item k =
     ap (λ (l : List ℕ). heading this_kind ++ l) (rows_of-snoc this_kind given item ∙ ap (λ (p : Place). rows_of this_kind given ++ item_rows this_kind p item) (counted_place c given item k))
     ∙ sym (append_assoc (heading this_kind) (rows_of this_kind given) (item_rows this_kind (place_at c item) item))
+table_more Works c given item k =
+    ap (λ (l : List ℕ). work_heading ++ l) (work_rows-snoc given item ∙ ap (λ (p : Place). work_rows given ++ work_row p item) (counted_place c given item k))
+    ∙ sym (append_assoc work_heading (work_rows given) (work_row (place_at c item) item))

@@ -7,4 +7,6 @@ use cwr_layouts::Kind;
 pub enum Table {
     /// The records of a kind.
     Records(Kind),
+    /// The works, new and revised.
+    Works,
 }

@@ -175,6 +175,7 @@ fn table_of(rows: Rows) -> Table
 {
     match rows {
         Rows::Records(kind) => Table::Records(kind),
+        Rows::Works => Table::Works,
     }
 }
 

@@ -24,3 +24,7 @@ characters_more text i h =
 pub characters_none : byte_by_byte Latin1 [] ≡ []
 unfolding byte_by_byte
 characters_none = refl
+
+pub characters_space : byte_by_byte Latin1 (32 ∷ []) ≡ 32 ∷ []
+unfolding byte_by_byte
+characters_space = refl

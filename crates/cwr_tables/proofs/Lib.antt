@@ -6,3 +6,9 @@ pub mod ShortNames
 pub mod TextsOfRows
 pub mod KindsOfRows
 pub mod NothingPut
+pub mod NamesJoined
+pub mod Owners
+pub mod PutInTurn
+pub mod TextsOfWorks
+pub mod WorkFields
+pub mod NamedOwners

@@ -35,7 +35,7 @@ fn calls_for_quotes(b: u8) -> bool
 
 /// Whether a byte of the cell calls for quotes.
 #[inline(always)]
-fn needs_quotes(cell: &[u8]) -> bool
+pub(crate) fn needs_quotes(cell: &[u8]) -> bool
     ensures { result ≡ list_any calls_for_quotes cell.now }
 {
     cell.iter().any(|b| calls_for_quotes(*b))
@@ -56,7 +56,7 @@ fn push_doubled(text: &mut Text, b: u8)
 }
 
 /// Appends bytes as they stand between quotes.
-fn push_all_doubled(text: &mut Text, cell: &[u8])
+pub(crate) fn push_all_doubled(text: &mut Text, cell: &[u8])
     requires { length text.old.items + 2 * length cell.now ≤ LONGEST }
     ensures value { text.new.items ≡ text.old.items ++ flat_map doubled cell.now }
     ensures len { length text.new.items ≤ length text.old.items + 2 * length cell.now }

@@ -5,7 +5,11 @@ mod cells;
 mod places;
 mod record_tables;
 mod rows;
+mod work_tables;
+mod work_texts;
+mod works;
 
 pub use places::Place;
 pub use record_tables::{put_heading, put_rows};
 pub use rows::RowText;
+pub use work_tables::{put_work_heading, put_work_row};

@@ -15,7 +15,7 @@ use cwr_levels::is_of;
 use cwr_values::{Item, Transaction};
 
 /// Puts the text that was made.
-fn put_text<W: Target>(text: &RowText, sink: &mut Sink<W>) -> Result<(), SinkFault>
+pub(crate) fn put_text<W: Target>(text: &RowText, sink: &mut Sink<W>) -> Result<(), SinkFault>
     requires { has_failed sink.old ≡ false }
     ensures puts { Puts W.contents W.failures text.now result sink.old sink.new }
     ensures fault { IfErr result (λ f. f.written ≡ written_of sink.new) }

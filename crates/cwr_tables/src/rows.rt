@@ -22,10 +22,10 @@ use std::marker::Model;
 const LONGEST_NUMBERS: usize = 150;
 
 /// The most bytes of a cell after them, and of the comma before it.
-const LONGEST_NEXT: usize = 2 * LONGEST_CELL + 3;
+pub(crate) const LONGEST_NEXT: usize = 2 * LONGEST_CELL + 3;
 
 /// A cell in UTF-8.
-type Characters = ArrayVec<u8, LONGEST_CELL>;
+pub(crate) type Characters = ArrayVec<u8, LONGEST_CELL>;
 
 /// Appends the character of a byte's number, in UTF-8.
 #[inline(always)]
@@ -41,16 +41,25 @@ fn push_character(text: &mut Characters, b: u8)
     }
 }
 
+/// Appends each byte as the character of its number, in UTF-8.
+pub(crate) fn push_characters(text: &mut Characters, cell: &[u8])
+    requires { length text.old.items + 2 * length cell.now ≤ LONGEST_CELL }
+    ensures value { text.new.items ≡ text.old.items ++ byte_by_byte Latin1 cell.now }
+    ensures len { length text.new.items ≤ length text.old.items + 2 * length cell.now }
+{
+    for b in cell {
+        push_character(text, *b);
+    }
+}
+
 /// Each byte as the character of its number, in UTF-8.
-fn characters(cell: &[u8]) -> Characters
+pub(crate) fn characters(cell: &[u8]) -> Characters
     requires { length cell.now ≤ 720 }
     ensures value { result.items ≡ byte_by_byte Latin1 cell.now }
     ensures len { length result.items ≤ 2 * length cell.now }
 {
     let mut text = ArrayVec::new();
-    for b in cell {
-        push_character(&mut text, *b);
-    }
+    push_characters(&mut text, cell);
     text
 }
 
@@ -89,7 +98,7 @@ fn key(name: &[u8]) -> Characters
 
 /// Appends a cell after others.
 #[inline(always)]
-fn push_next(text: &mut Text, cell: &[u8])
+pub(crate) fn push_next(text: &mut Text, cell: &[u8])
     requires { length text.old.items + 2 * length cell.now + 3 ≤ LONGEST }
     ensures value { text.new.items ≡ text.old.items ++ next_cell cell.now }
     ensures len { length text.new.items ≤ length text.old.items + 2 * length cell.now + 3 }
@@ -100,7 +109,7 @@ fn push_next(text: &mut Text, cell: &[u8])
 
 /// Appends a record's cell after others.
 #[inline(always)]
-fn push_shown(text: &mut Text, cell: &[u8])
+pub(crate) fn push_shown(text: &mut Text, cell: &[u8])
     requires room { length text.old.items + LONGEST_NEXT ≤ LONGEST }
     requires short { length cell.now ≤ 720 }
     ensures value { text.new.items ≡ text.old.items ++ next_cell (shown_cell cell.now) }
@@ -166,7 +175,7 @@ fn push_columns(text: &mut Text, kind: Kind)
 }
 
 /// Appends a number as a cell before others.
-fn push_first_number(text: &mut Text, number: u64)
+pub(crate) fn push_first_number(text: &mut Text, number: u64)
     requires { length text.old.items + 42 ≤ LONGEST }
     ensures value { text.new.items ≡ text.old.items ++ cell_text (decimal number) }
     ensures len { length text.new.items ≤ length text.old.items + 42 }
@@ -175,7 +184,7 @@ fn push_first_number(text: &mut Text, number: u64)
 }
 
 /// Appends a number as a cell after others.
-fn push_next_number(text: &mut Text, number: u64)
+pub(crate) fn push_next_number(text: &mut Text, number: u64)
     requires { length text.old.items + 43 ≤ LONGEST }
     ensures value { text.new.items ≡ text.old.items ++ next_cell (decimal number) }
     ensures len { length text.new.items ≤ length text.old.items + 43 }
@@ -210,7 +219,7 @@ fn push_numbers(text: &mut Text, numbers: RowNumbers)
 /// A buffer for the text of one row. It takes no memory.
 #[derive(Drop)]
 pub struct RowText {
-    text: Text,
+    pub(crate) text: Text,
 }
 
 impl Model for RowText {

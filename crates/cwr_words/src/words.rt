@@ -31,6 +31,8 @@ pub struct Judging<'a> {
 pub enum Rows {
     /// The records of a kind.
     Records(Kind),
+    /// The works.
+    Works,
 }
 
 /// What is done. Each file that is read may be called `-`, which is standard input.
@@ -200,10 +202,13 @@ const LEVELS: [&str; 5] = ["F", "R", "T", "G", "E"];
 /// The id of what a table has rows of.
 const KIND: &str = "KIND";
 
-/// What tables have rows of: the kinds of records, by their letters.
+/// The word for the table of works.
+const WORKS: &str = "works";
+
+/// What tables have rows of: the works, or the records of a kind, by its letters.
 #[rattlefmt::skip]
-const TABLES: [&str; 40] = [
-    "HDR", "GRH", "GRT", "TRL", "AGR", "TER", "IPA", "NWR", "REV", "SPU", "OPU", "SPT", "SWR", "OWR", "SWT", "PWR", "ALT", "EWT",
+const TABLES: [&str; 41] = [
+    "works", "HDR", "GRH", "GRT", "TRL", "AGR", "TER", "IPA", "NWR", "REV", "SPU", "OPU", "SPT", "SWR", "OWR", "SWT", "PWR", "ALT", "EWT",
     "VER", "PER", "REC", "ORN", "COM", "ACK", "MSG", "OPT", "OWT", "NPN", "NPR", "NWN", "NPA", "NET", "NOW", "NCT", "NVT", "NAT",
     "INS", "IND", "ARI", "XRF",
 ];
@@ -341,12 +346,12 @@ fn tabulating<'a>(alloc: Global) -> Result<Command<'a>, AllocError> {
     let kind = Arg::new(alloc, KIND)
         .required(true)
         .value_parser(&TABLES[..])
-        .help("The records that the table has: those of this type");
+        .help("What the table has rows of: the works, or the records of this type");
     let file = Arg::new(alloc, FILE).help(
         "The transmission; without it standard input is read, as it is for -",
     );
     let command = Command::new(alloc, CSV).about(
-        "Writes records of a transmission as a table (CSV), and its verdict to standard error",
+        "Writes a table (CSV) of a transmission, and its verdict to standard error",
     );
     with_reading(alloc, command)?.arg(kind)?.arg(file)
 }
@@ -463,7 +468,7 @@ Exit status: 0 good, 1 refused, truncated or a limit, 2 a wrong command line (or
 Examples: cwr check works.cwr
           cwr explain works.cwr
           cwr lint --explain works.cwr
-          cwr csv SWR works.cwr
+          cwr csv works works.cwr
           cwr split -n 1000 works.cwr part-
           cwr join whole.cwr part-00000001 part-00000002";
 
@@ -580,6 +585,9 @@ fn export_in<'a>(given: &ArgMatches<'a>) -> Work<'a>
 fn rows_of(word: &str) -> Option<Rows>
     ensures { result ≡ rows_named word.now }
 {
+    if word == WORKS {
+        return Some(Rows::Works);
+    }
     Some(Rows::Records(Kind::of(word.as_bytes())?))
 }
 

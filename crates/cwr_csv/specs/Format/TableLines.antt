@@ -3,12 +3,14 @@ use Rattle.std.specs.Prelude.{ℕ, false, List, []}
 use Rattle.cwr_values.specs.declared.items.Item.{Item}
 use Rattle.cwr_tools.specs.Format.Reports.{ItemLines}
 use Rattle.cwr_tables.specs.Format.RecordTables.{table_of}
+use Rattle.cwr_tables.specs.Format.WorkTables.{work_table}
 use Rattle.cwr_csv.specs.declared.tables.Table.{Table}
-use Rattle.cwr_csv.specs.declared.tables.Table.TheVariants.{Records}
+use Rattle.cwr_csv.specs.declared.tables.Table.TheVariants.{Records, Works}
 
 -- the text of the table
 abbrev pub table_text : Table → List Item → List ℕ
 table_text (Records this_kind) given = table_of this_kind given
+table_text Works given = work_table given
 
 -- that, and nothing for the verdict
 abbrev pub lines_of_table : Table → ItemLines

@@ -7,3 +7,4 @@ use Rattle.cwr_csv.specs.declared.tables.Table.TheVariants as tables
 -- the table that has rows of these
 abbrev pub table_of : Rows → Table
 table_of (rows.Records this_kind) = tables.Records this_kind
+table_of rows.Works = tables.Works

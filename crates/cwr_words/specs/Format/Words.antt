@@ -14,7 +14,7 @@ use Rattle.cwr_shape.specs.declared.reasons.Level.TheVariants as levels
 use Rattle.cwr_shape.specs.Format.Ranges.{limit_values}
 use Rattle.cwr_words.specs.declared.words.Judging.{Judging}
 use Rattle.cwr_words.specs.declared.words.Rows.{Rows}
-use Rattle.cwr_words.specs.declared.words.Rows.TheVariants.{Records}
+use Rattle.cwr_words.specs.declared.words.Rows.TheVariants.{Records, Works}
 use Rattle.cwr_words.specs.declared.words.Task.{Task}
 use Rattle.cwr_words.specs.declared.words.Work.{Work}
 use Rattle.cwr_words.specs.declared.words.Work.TheVariants.{Check, Show, Explain, Lint, Json, Csv, Write, Split, Join, Renumber, Manual}
@@ -80,7 +80,7 @@ IsExportOf found work = ⊥
 
 -- what a table has rows of, by the word that names it
 abbrev pub rows_named : List ℕ → Option Rows
-rows_named word = option_map Records (kind_of word)
+rows_named word = if bytes_eq word (codes "works") then Some Works else option_map Records (kind_of word)
 
 -- the table that KIND names, of the file FILE
 abbrev pub IsTableOf : Found → Work → Type 0

@@ -35,8 +35,14 @@ items-init g c =
       same = refl;
     }
 
-pub put_item-requires : goal.put_item-requires
-put_item-requires g c = c.items.invariant.tabling.put.unfailed
+pub put_item-requires-clause-unfailed : goal.put_item-requires-clause-unfailed
+put_item-requires-clause-unfailed g c = c.items.invariant.tabling.put.unfailed
+
+pub put_item-requires-clause-few : goal.put_item-requires-clause-few
+put_item-requires-clause-few g c =
+    let reading = some_read c.args.limits c.items.reading.decoder c.next_item.new.self.decoder (g.R.Source.remaining c.args.reader.now) _ _ c.items.invariant.tabling.given c.in-Ok-Some.field-0 c.in-Ok-Some.item _ _ c.in-Ok-Some.field-0-is
+    c.items.invariant.tabling.reading c.in-Ok-Some.ensures.reads c.in-Ok-Some.ensures.again in
+    (next_room c.args.limits c.next_item.new.self.decoder (g.R.Source.remaining c.args.reader.now) _ c.items.counts c.items.invariant.tabling.given c.in-Ok-Some.item reading c.items.invariant.tabling.counts).records
 
 pub count-requires-clause-groups : goal.count-requires-clause-groups
 count-requires-clause-groups g c = (room_in c.args.table c.args.limits _ _ _ g.W.Target.contents g.W.Target.failures c.items.counts c.args.sink.now c.items.sink c.items.invariant.tabling).groups
