@@ -12,3 +12,4 @@ pub mod PutInTurn
 pub mod TextsOfWorks
 pub mod WorkFields
 pub mod NamedOwners
+pub mod ReadBack

@@ -2,3 +2,4 @@
 pub mod Tables
 pub mod RecordTables
 pub mod WorkTables
+pub mod Laws
