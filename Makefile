@@ -43,7 +43,6 @@ made = $(addprefix $(OUT)/made/,cwr.1 cwr.bash copyright)
 
 all: ## proves the program and the C library, and builds them
 	$(rt)
-	rt ci cwr cwr_c
 	cd crates/cwr && rt run -- check ../../samples/good/acknowledgement.cwr
 	cd crates/cwr_c && rt lib
 	@touch $(PROGRAM) $(ARCHIVE) # rt leaves them as they are where nothing has changed for them

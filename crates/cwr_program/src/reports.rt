@@ -127,7 +127,7 @@ fn tell<R: Source, W: Target + Drop>(
     ensures seen { OnOk result.1 (SeesAccepted limits (R.remaining reader.old) watch.old watch.new) }
     ensures looks { OnOk result.1 (LooksAfter limits (R.remaining reader.old) result.2) }
     // What is asked for was written, and handed on.
-    ensures told { TellsText telling limits (R.remaining reader.old) W.contents writer result.0 result.1 }
+    ensures told { TellsText telling.entry limits (R.remaining reader.old) W.contents writer result.0 result.1 }
     ensures handed_on { OnOk result.1 (W.handed_on result.0 ≡ true) }
     // No failure is passed over, and none is answered that didn't come.
     ensures reader_failures { CountsReading result.1 result.2 (R.failures reader.old) (R.failures reader.new) }
@@ -198,7 +198,7 @@ pub(crate) fn judge_input<'a, F: Read + Drop, I: Read + Drop, P: Pace + Drop, W:
 ) -> (W, Result<Judgement, ToolFault>, Told<'a>)
     requires { tells_findings telling ≡ false → asked.now.wanted.fail_on ≡ None }
     ensures judges { JudgesOn asked.now.limits asked.now.wanted (remaining_of F.remaining I.remaining input.entry) result.1 }
-    ensures told { IfOk result.1 (λ judgement. TellsText telling asked.now.limits (remaining_of F.remaining I.remaining input.entry) W.contents writer result.0 (Ok judgement.verdict)) }
+    ensures told { IfOk result.1 (λ judgement. TellsText telling.entry asked.now.limits (remaining_of F.remaining I.remaining input.entry) W.contents writer result.0 (Ok judgement.verdict)) }
     ensures handed_on { OnOk result.1 (W.handed_on result.0 ≡ true) }
     ensures writer_failures { CountsWriting result.1 (W.failures writer) (W.failures result.0) }
 {

@@ -20,7 +20,7 @@ fn asked(rt: &(impl Abort + AllocGlobal), words: &[&str]) -> Option<(String, Lim
 
 /// Words, what they ask for, and its limits.
 #[rattlefmt::skip]
-static ASKED: [(&[&str], &str, Numbers); 19] = [
+static ASKED: [(&[&str], &str, Numbers); 21] = [
     (&["cwr"], "Check(Judging { files: [], quiet: false, fail_on: None })", LARGEST),
     (&["cwr", "check"], "Check(Judging { files: [], quiet: false, fail_on: None })", LARGEST),
     (&["cwr", "show"], "Show(None)", LARGEST),
@@ -32,6 +32,8 @@ static ASKED: [(&[&str], &str, Numbers); 19] = [
     (&["cwr", "explain", "--fail-on=F"], "Explain(Judging { files: [], quiet: false, fail_on: Some(F) })", LARGEST),
     (&["cwr", "lint"], "Lint { files: [], quiet: false, explained: false }", LARGEST),
     (&["cwr", "lint", "a.cwr", "--quiet", "-", "--explain"], "Lint { files: [\"a.cwr\", \"-\"], quiet: true, explained: true }", LARGEST),
+    (&["cwr", "json", "--utf8", "a.cwr"], "Json { file: Some(\"a.cwr\"), numbers: false, utf8: true }", LARGEST),
+    (&["cwr", "write", "--utf8", "-o", "b.cwr", "--line=9", "a.jsonl"], "Write { file: Some(\"a.jsonl\"), out: Some(\"b.cwr\"), line: 9, utf8: true }", LARGEST),
     (&["cwr", "show", "--groups", "3"], "Show(None)", (99_999_999, 3, 999_999)),
     (&["cwr", "split", "-n", "1", "a.cwr", "part-"], "Split { transactions: 1, file: \"a.cwr\", prefix: \"part-\", only_new: false }", LARGEST),
     (&["cwr", "split", "a.cwr", "-n99999999", "part-"], "Split { transactions: 99999999, file: \"a.cwr\", prefix: \"part-\", only_new: false }", LARGEST),

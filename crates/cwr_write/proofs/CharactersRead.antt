@@ -2,6 +2,7 @@
 use Rattle.std.proofs.Common.{◌≡◌, ℕ, suc, ◌+◌, ◌<◌, ◌≤◌, Bool, true, false, cond, List, [], ◌∷◌, ◌++◌, length, take, drop, get_or, Some, refl, sym, ap, ap₂, subst, ◌∙◌, append_assoc, append-nil, arith, length-drop, ltb-true}
 use Rattle.std.specs.Prelude.{◌&&◌, flat_map, nat_lt}
 use Rattle.std.specs.List.{list_all}
+use Rattle.std.specs.Str.{IsAscii}
 use Rattle.std.proofs.lemmas.Bool.{and_parts, lt-ltb}
 use Rattle.std.proofs.lemmas.List.Folds.{list_all-append}
 use Rattle.std.proofs.Math.Seq.{take-add}
@@ -11,7 +12,7 @@ use Rattle.json.specs.Json.{Json, null, boolean, number, string, array, object}
 use Rattle.json.specs.Find.{as_str}
 use Rattle.cwr_json.specs.declared.encodings.Encoding.{Encoding}
 use Rattle.cwr_json.specs.Format.Encodings.{StandFor, are_read_as_is, byte_by_byte, character}
-use Rattle.cwr_json.proofs.Encoded.{none_if, one_if}
+use Rattle.cwr_json.proofs.Encoded.{character_if, none_if, one_if}
 use Rattle.cwr_write.specs.Format.Faults.{AreBytes}
 
 pub characters_none : (enc : Encoding) (cell : List ℕ) → cell ≡ [] → byte_by_byte enc cell ≡ []
@@ -97,6 +98,21 @@ no_room enc text cell other i n so_far less full fits e =
 
 pub stand_as_is : (enc : Encoding) (text : List ℕ) → are_read_as_is enc text ≡ true → StandFor enc text text
 stand_as_is enc text e = ap (λ (x : Bool). cond x text (byte_by_byte enc text)) e
+
+-- bytes below 128 are characters of their own
+ascii_each : (enc : Encoding) (text : List ℕ) → IsAscii text → byte_by_byte enc text ≡ text
+unfolding byte_by_byte
+ascii_each enc [] h = refl
+ascii_each enc (b ∷ text) h =
+    let low : b < 128 = h 0 in
+    ap₂ (λ (x : Bool) (l : List ℕ). character_if enc x b ++ l) (lt-ltb b 128 low) (ascii_each enc text (λ i. h (suc i)))
+
+pub stand_ascii : (enc : Encoding) (text : List ℕ) → IsAscii text → StandFor enc text text
+stand_ascii enc text h = by (are_read_as_is enc text)
+  where
+    by : (x : Bool) → cond x text (byte_by_byte enc text) ≡ text
+    by true = refl
+    by false = ascii_each enc text h
 
 pub stand_each : (enc : Encoding) (text cell : List ℕ) → are_read_as_is enc text ≡ false → byte_by_byte enc cell ≡ text → StandFor enc text cell
 stand_each enc text cell e h = ap (λ (x : Bool). cond x cell (byte_by_byte enc cell)) e ∙ h

@@ -167,10 +167,14 @@ fn bytes_of(encoding: Encoding, text: &[u8]) -> Option<Cell>
     Some(cell)
 }
 
-/// Whether characters are read as the bytes that they are.
-fn are_read_as_is(encoding: Encoding, text: &[u8]) -> bool
-    ensures { result ≡ are_read_as_is encoding text.now }
+/// Whether characters stand for the bytes that they are.
+fn are_own_bytes(encoding: Encoding, text: &[u8]) -> bool
+    ensures yes { result ≡ true → StandFor encoding text.now text.now }
+    ensures no { result ≡ false → are_read_as_is encoding text.now ≡ false }
 {
+    if text.is_ascii() {
+        return true;
+    }
     match encoding {
         Encoding::Latin1 => false,
         Encoding::Utf8 => !has_escape(text),
@@ -217,7 +221,7 @@ fn set_characters(encoding: Encoding, draft: &mut Draft, j: u8, text: &[u8]) -> 
     ensures why { IfErr result IsOfData }
     ensures reason { IfErr result (λ why. (f : FieldLayout) → field_at draft.old.kind j ≡ Some f → f.derived ≡ false → IsValueReason encoding f (Some (string text.now)) why) }
 {
-    if are_read_as_is(encoding, text) {
+    if are_own_bytes(encoding, text) {
         set_bytes(draft, j, text)
     } else {
         set_each(encoding, draft, j, text)

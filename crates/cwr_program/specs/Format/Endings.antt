@@ -79,7 +79,7 @@ abbrev pub IsOfInput : Work → Type 0
 IsOfInput (Check judging) = are_standard (map (λ name. name.now) judging.files.items) ≡ true
 IsOfInput (Explain judging) = are_standard (map (λ name. name.now) judging.files.items) ≡ true
 IsOfInput (Show file) = is_standard (option_map (λ name. name.now) file) ≡ true
-IsOfInput (Json file numbers) = is_standard (option_map (λ name. name.now) file) ≡ true
+IsOfInput (Json file numbers utf8) = is_standard (option_map (λ name. name.now) file) ≡ true
 IsOfInput (Csv rows file) = is_standard (option_map (λ name. name.now) file) ≡ true
 IsOfInput (Lint files quiet explained) = are_standard (map (λ name. name.now) files.items) ≡ true
 IsOfInput work = ⊥

@@ -31,9 +31,9 @@ TellsUpTo (tellings.Rows table) limits before after contents old new outcome = R
 abbrev pub TellsText : {W : Type 0} → Telling → Limits → Option (List ℕ) → (W → Option (List ℕ)) → W → W → Result Verdict ToolFault → Type 0
 TellsText telling limits before contents old new outcome = (after : Option (List ℕ)) × TellsUpTo telling limits before after contents old new outcome
 
--- a look at what follows counts one more failure where it failed
+-- a look at what follows counts no failure, unless it failed
 abbrev pub CountsLook : Look → ℕ → ℕ → Type 0
-CountsLook Failed old new = new ≡ one_more_failure old
+CountsLook Failed old new = Unit {0}
 CountsLook look old new = new ≡ old
 
 -- the reader's failures are those of the run that had this outcome, and then of the look

@@ -162,10 +162,10 @@ IsNextReason enc records j f Misplaced = (r : RecordValue) × IsRecordData enc j
 IsNextReason enc records j f Alone = (r : RecordValue) × IsRecordData enc j r × BeginsAlone records
 IsNextReason enc records j f why = IsRecordReason enc j f.kind f.key why
 
--- a record may come after these: some transaction begins with them, or there are none; or a first one is an item alone
+-- none of the records is at fault: there are none, or some transaction begins with them, or the one is an item alone
 abbrev pub MayGoOn : List RecordValue → Type 0
 MayGoOn [] = Unit {0}
-MayGoOn (r ∷ rs) = IsBegun (r ∷ rs) ⊎ IsAlone r.kind
+MayGoOn (r ∷ rs) = IsBegun (r ∷ rs) ⊎ (IsAlone r.kind × (rs ≡ []))
 
 -- The fault is that of one of the values, told by its number. All before it are data of records, none of which is at fault.
 pub record IsAmong (enc : Encoding) (js : List Json) (f : LineFault) : Type 0 where
