@@ -30,9 +30,10 @@ use Rattle.cwr_program.specs.declared.endings.Wanted.{Wanted}
 use Rattle.cwr_program.specs.declared.faults.Told.{Told}
 use Rattle.cwr_program.specs.declared.faults.Fault.TheVariants as faults
 use Rattle.cwr_program.specs.declared.reports.Judgement.{Judgement}
+use Rattle.cwr_program.specs.declared.reports.Telling.{Telling}
 use Rattle.cwr_program.specs.Format.Endings.{EndsOnInput, FallsShort, IsStatusOn, Meets}
 use Rattle.cwr_program.specs.Format.Inputs.{are_standard, is_standard}
-use Rattle.cwr_program.specs.Steps.Tellings.{CountsLook, CountsWriting}
+use Rattle.cwr_program.specs.Steps.Tellings.{CountsLook, CountsWriting, TellsText, TellsUpTo}
 use Rattle.cwr_program.specs.Steps.Looks.{IsLook, JudgesOn, LooksAfter, LooksOnce, follows, good_status, judged_with, judgement_in, look_of, status_after, status_in}
 
 -- ---- what stands after a transmission
@@ -176,6 +177,11 @@ judges_on limits wanted before (Err tool_faults.Output) look old new fresh judge
 
 -- ---- what is told, and counted
 
+-- what was written is what is asked for
+pub told_as : {W : Type 0} (telling by : Telling) (limits : Limits) (before after : Option (List ℕ)) (contents : W → Option (List ℕ)) (old new : W) (outcome : Result Verdict ToolFault) → telling ≡ by → TellsUpTo by limits before after contents old new outcome
+    → TellsText telling limits before contents old new outcome
+told_as telling by limits before after contents old new outcome is told = (after, subst (λ (t : Telling). TellsUpTo t limits before after contents old new outcome) (sym is) told)
+
 -- a look that found something, or that wasn't asked for, counts no failure
 pub found_counts_none : (found : Option Trailing) (n : ℕ) → CountsLook (look_of found) n n
 found_counts_none None n = refl
@@ -189,6 +195,11 @@ judged_told P wanted (Ok verdict) look found p = by (status_in wanted verdict lo
     by : (o : Option Status) → IfOk (judged_with verdict look o) (λ judgement. P (Ok judgement.verdict))
     by None = tt
     by (Some status) = p
+
+-- so does what was told
+pub told_verdict : {W : Type 0} (telling : Telling) (limits : Limits) (before : Option (List ℕ)) (contents : W → Option (List ℕ)) (old new : W) (wanted : Wanted) (outcome : Result Verdict ToolFault) (look : Look) (found : Bool)
+    → TellsText telling limits before contents old new outcome → IfOk (judgement_in wanted outcome look found) (λ judgement. TellsText telling limits before contents old new (Ok judgement.verdict))
+told_verdict telling limits before contents old new wanted outcome look found told = judged_told (λ o. TellsText telling limits before contents old new o) wanted outcome look found told
 
 pub judged_on : (P : Type 0) (wanted : Wanted) (outcome : Result Verdict ToolFault) (look : Look) (found : Bool) → OnOk outcome P → OnOk (judgement_in wanted outcome look found) P
 judged_on P wanted (Err fault) look found p = tt

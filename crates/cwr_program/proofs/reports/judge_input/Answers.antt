@@ -5,7 +5,7 @@ use Rattle.cwr_program.specs.declared.reports.Judgement.{Judgement}
 use Rattle.cwr_program.specs.Steps.Inputs.{remaining_of}
 use Rattle.cwr_program.specs.Steps.Looks.{JudgesOn, judgement_in}
 use Rattle.cwr_program.specs.Steps.Tellings.{CountsWriting, TellsText}
-use Rattle.cwr_program.proofs.EndsOnTexts.{from_source, judged_counts, judged_on, judged_told, judges_on}
+use Rattle.cwr_program.proofs.EndsOnTexts.{from_source, judged_counts, judged_on, judges_on, told_verdict}
 use Rattle.cwr_program.proofs.reports.judge_input.Goals as goal
 
 pub returns-clause-judges : goal.returns-clause-judges
@@ -19,7 +19,7 @@ returns-clause-told g c =
     subst (λ (r : Result Judgement ToolFault). IfOk r (λ judgement. TellsText c.args.telling c.args.asked.now.limits (remaining_of g.F.Read.remaining g.I.Read.remaining c.args.input) g.W.Target.contents c.args.writer c.tell-writer.result.0 (Ok judgement.verdict))) (sym c.judgement_of-judged.ensures)
     (from_source (λ (known : Option (List ℕ)). IfOk (judgement_in c.args.asked.now.wanted c.tell-writer.result.1 c.tell-writer.result.2 c.tell-writer.new.watch.found) (λ judgement. TellsText c.args.telling c.args.asked.now.limits known g.W.Target.contents c.args.writer c.tell-writer.result.0 (Ok judgement.verdict)))
     (remaining_of g.F.Read.remaining g.I.Read.remaining) c.args.input c.new-reader.result.inner _ c.new-reader.ensures.inner c.new-reader.ensures.ahead
-    (judged_told (λ outcome. TellsText c.args.telling c.args.asked.now.limits _ g.W.Target.contents c.args.writer c.tell-writer.result.0 outcome) c.args.asked.now.wanted c.tell-writer.result.1 c.tell-writer.result.2 c.tell-writer.new.watch.found c.tell-writer.ensures.told))
+    (told_verdict c.args.telling c.args.asked.now.limits _ g.W.Target.contents c.args.writer c.tell-writer.result.0 c.args.asked.now.wanted c.tell-writer.result.1 c.tell-writer.result.2 c.tell-writer.new.watch.found c.tell-writer.ensures.told))
 
 pub returns-clause-writer_failures : goal.returns-clause-writer_failures
 returns-clause-writer_failures g c =
