@@ -73,10 +73,11 @@ pub returns-in-Data-clause-reader_failures : goal.returns-in-Data-clause-reader_
 returns-in-Data-clause-reader_failures g c = (g.R.Source.failures c.json-writer.new.reader, c.json-writer.ensures.reader_failures, c.look_after-look-in-Data.ensures.failures)
 
 pub returns-in-Rows-clause-told : goal.returns-in-Rows-clause-told
-returns-in-Rows-clause-told g c = (g.R.Source.remaining c.csv-writer.new.reader, c.csv-writer.ensures.reported)
+returns-in-Rows-clause-told g c =
+    told_as c.args.telling _ c.args.limits (g.R.Source.remaining c.args.reader.now) (g.R.Source.remaining c.csv-writer.new.reader) g.W.Target.contents c.args.writer c.csv-writer.result.0 c.csv-writer.result.1 c.in-Rows.is c.csv-writer.ensures.reported
 
 pub returns-in-Rows-clause-reader_failures : goal.returns-in-Rows-clause-reader_failures
-returns-in-Rows-clause-reader_failures g c = (g.R.Source.failures c.csv-writer.new.reader, (c.csv-writer.ensures.reader_failures, c.look_after-look-in-Rows.ensures.failures))
+returns-in-Rows-clause-reader_failures g c = (g.R.Source.failures c.csv-writer.new.reader, c.csv-writer.ensures.reader_failures, c.look_after-look-in-Rows.ensures.failures)
 
 pub returns-in-Explained-clause-told : goal.returns-in-Explained-clause-told
 returns-in-Explained-clause-told g c =
