@@ -84,6 +84,22 @@ COMMANDS
               from 128 on is the character U+F780 to U+F7FF. Without it each
               such byte is the character U+0080 to U+00FF.
 
+   cwr csv [OPTIONS] KIND [FILE]
+       Writes a table to standard output (RFC 4180, UTF-8): a heading, and a
+       row for each record of one type. KIND is the type as the file spells
+       it, as `SWR`. The verdict goes to standard error.
+
+       The first columns are the numbers that `cwr check` names: `group`, from
+       1, and `transaction` and `record`, from 0. The others are the keys of
+       `cwr json`. Cells are as they stand, without trailing spaces. So a
+       spreadsheet should import them as text: else it may take `=1+1` for a
+       formula, and `007` for a number.
+
+       With `works` as KIND each NWR and REV has a row: its work number, title
+       and ISWC, its writers (SWR and OWR) and its publishers (SPU and OPU).
+       Names are joined by semicolons, those of writers with the last name
+       first. The shares of each right are added up, in percent.
+
    cwr write [OPTIONS] [FILE]
        Writes the transmission that lines of JSON are, with all its numbers.
        FILE has lines as `cwr json` writes them. How it ended goes to standard
@@ -340,6 +356,16 @@ EXAMPLES
            GOOD groups 2 transactions 3 records 12
            $ cwr write works.jsonl -o again.cwr
            WRITTEN lines 9 bytes 1599
+
+       Its works, for a spreadsheet:
+
+           $ cwr csv works works.cwr > works.csv
+           GOOD groups 2 transactions 3 records 12
+           $ cut -d, -f4-7,9 works.csv
+           submitter_work_number,title,iswc,writers,writers_pr_share
+           W0001,BLUE RIVER,,SMITH ANNA,0.00
+           W0002,RED HILL,,SMITH ANNA,0.00
+           W0003,GREEN SEA,,SMITH ANNA,0.00
 
        A file that isn't there:
 

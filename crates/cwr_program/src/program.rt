@@ -4,6 +4,7 @@ ghost use Rattle.std.specs.Prelude.{◌≡◌, ◌≢◌, ◌≤◌, map, true, 
 ghost use Rattle.clap.specs.Values.{kind_of};
 ghost use Rattle.cwr_program.specs.Format.Endings.{EndsOnInput, IsOfInput, fault_status, wanted_in};
 ghost use Rattle.cwr_program.specs.Format.Inputs.{are_standard};
+ghost use Rattle.cwr_program.specs.Format.Tables.{table_of};
 
 use crate::endings::{Status, Wanted};
 use crate::faults::{Fault, tell_fault};
@@ -17,9 +18,10 @@ use crate::reports::{Asked, Telling, report_input, telling_of};
 use crate::several::report_several;
 use crate::splits::{Cut, split_file};
 use clap::error::ErrorKind;
+use cwr_csv::Table;
 use cwr_json::Encoding;
 use cwr_shape::Limits;
-use cwr_words::{Task, Work, task_of};
+use cwr_words::{Rows, Task, Work, task_of};
 use std::convert::AsStr;
 use std::io;
 use std::io::{Read, Write};
@@ -167,6 +169,16 @@ fn judge<'a, R: Files + AllocGlobal, I: Read + Drop, P: Pace, O: Write + Drop, E
     report_input(asked, telling, input, output, error)
 }
 
+/// The table that has rows of these.
+fn table_of(rows: Rows) -> Table
+    ensures { result ≡ table_of rows }
+{
+    match rows {
+        Rows::Records(kind) => Table::Records(kind),
+        Rows::Works => Table::Works,
+    }
+}
+
 /// Does what is asked for.
 fn perform<'a, R: Files + AllocGlobal, I: Read + Drop, P: Pace, O: Write + Drop, E: Write>(
     rt: &R,
@@ -214,6 +226,11 @@ fn perform<'a, R: Files + AllocGlobal, I: Read + Drop, P: Pace, O: Write + Drop,
                 encoding: encoding_of(*utf8),
                 numbers: *numbers,
             };
+            let input = open_input(rt, *file, &mut Some(standard), &mut *pace)?;
+            return report_input(&asked, telling, input, output, error);
+        }
+        Work::Csv { rows, file } => {
+            let telling = Telling::Rows(table_of(*rows));
             let input = open_input(rt, *file, &mut Some(standard), &mut *pace)?;
             return report_input(&asked, telling, input, output, error);
         }

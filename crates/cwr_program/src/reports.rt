@@ -15,6 +15,7 @@ use crate::file_lines::FileLines;
 use crate::inputs::{Input, shown_name};
 use crate::outputs::{Gathered, gathered, told_of};
 use crate::progress::Pace;
+use cwr_csv::{Table, csv};
 use cwr_encode::{Sink, SinkFault};
 use cwr_explain::{Trailing, explain, read_trailing};
 use cwr_fields::{Counted, Source, Target};
@@ -44,6 +45,8 @@ pub(crate) enum Telling<'a> {
         /// With the numbers of groups, transactions and lines.
         numbers: bool,
     },
+    /// A table, and the verdict to standard error.
+    Rows(Table),
 }
 
 /// What is told of an input that is judged, where it is explained too.
@@ -155,6 +158,11 @@ fn tell<R: Source, W: Target + Drop>(
             let look = look_after(reader, &outcome);
             (writer, outcome, look)
         }
+        Telling::Rows(table) => {
+            let (writer, outcome) = csv(alloc, limits, table, reader, writer);
+            let look = look_after(reader, &outcome);
+            (writer, outcome, look)
+        }
     }
 }
 
@@ -254,7 +262,7 @@ pub(crate) fn tell_aside<E: Write>(
             name,
             &judgement.look,
         ),
-        Telling::Data { .. } => {
+        Telling::Data { .. } | Telling::Rows(_) => {
             // What standard error doesn't take is lost.
             let _ = put_verdict_line(
                 &judgement.verdict,

@@ -120,7 +120,7 @@ fn put_records<W: Target>(
 }
 
 /// The fault of a run whose writer failed.
-pub(crate) fn writer_fault(fault: SinkFault) -> ToolFault
+pub fn writer_fault(fault: SinkFault) -> ToolFault
     ensures { result ≡ ToolFault.Writer fault.written }
 {
     ToolFault::Writer {

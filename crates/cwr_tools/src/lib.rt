@@ -23,13 +23,13 @@ mod verdicts;
 mod watch;
 
 pub use checking::{CheckedFront, check, check_explained, check_up_to_fault, check_watched};
-pub use item_lines::put_transaction_findings;
+pub use item_lines::{put_transaction_findings, writer_fault};
 pub use joining::join;
 pub use json_lines::json;
 pub use note_lines::level_words;
 pub use outcomes::{put_join_outcome, put_split_outcome};
 pub use outputs::{OutputFault, Outputs};
-pub use reporting::put_verdict_line;
+pub use reporting::{put_verdict_line, verdict_of};
 pub use showing::show;
 pub use splitting::split;
 pub use totals::{HandedOut, Totals};

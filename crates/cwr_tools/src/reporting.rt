@@ -28,7 +28,7 @@ use cwr_shape::Limits;
 use std::alloc::Global;
 
 /// The verdict on a text at whose reading this fault was reported, or the fault that ends the run.
-fn verdict_of(fault: ReadFault) -> Result<Verdict, ToolFault>
+pub fn verdict_of(fault: ReadFault) -> Result<Verdict, ToolFault>
     ensures { IsVerdictOf fault result }
 {
     match fault {

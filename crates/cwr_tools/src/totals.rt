@@ -43,7 +43,7 @@ pub struct Totals {
 
 impl Totals {
     /// Nothing was handed out.
-    pub(crate) fn new() -> Self
+    pub fn new() -> Self
         ensures { result ≡ record { groups = 0; transactions = 0; in_group = 0; before_group = 0; records = 0 } }
     {
         Totals {
@@ -56,7 +56,7 @@ impl Totals {
     }
 
     /// Counts one item more.
-    pub(crate) fn count(&mut self, item: &Item)
+    pub fn count(&mut self, item: &Item)
         requires groups { self.old.groups ≤ 199999998 }
         requires transactions { self.old.transactions ≤ 199999998 }
         requires in_group { self.old.in_group ≤ 199999998 }
@@ -80,7 +80,7 @@ impl Totals {
     }
 
     /// The verdict on a text that is accepted with these numbers.
-    pub(crate) fn good(&self) -> Verdict
+    pub fn good(&self) -> Verdict
         ensures { result ≡ Verdict.Good self.now.groups self.now.transactions self.now.records }
     {
         Verdict::Good {

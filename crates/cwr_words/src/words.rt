@@ -5,10 +5,11 @@ ghost use Rattle.std.specs.Str.{bytes_eq};
 ghost use Rattle.std.specs.Str.Parse.{digits_value, without_leading_plus};
 ghost use Rattle.clap.specs.Words.{found_of, has_subcommand, one_text};
 ghost use Rattle.cwr_shape.specs.Format.Ranges.{limit_values};
-ghost use Rattle.cwr_words.specs.Format.Words.{AreNamesOf, IsAskedBy, IsExportOf, IsImportOf, IsJoinOf, IsJudgingOf, IsLintOf, IsPlainCheck, IsRenumberingOf, IsSplitOf, IsWorkOf, level_named};
+ghost use Rattle.cwr_words.specs.Format.Words.{AreNamesOf, IsAskedBy, IsExportOf, IsImportOf, IsJoinOf, IsJudgingOf, IsLintOf, IsPlainCheck, IsRenumberingOf, IsSplitOf, IsTableOf, IsWorkOf, level_named, rows_named};
 
 use clap::error::ErrorKind;
 use clap::{Arg, ArgAction, ArgMatches, Command, Error, value_parser};
+use cwr_layouts::Kind;
 use cwr_shape::{Level, Limits};
 use std::alloc::{AllocError, Global};
 use std::convert::AsStr;
@@ -23,6 +24,15 @@ pub struct Judging<'a> {
     pub quiet: bool,
     /// A finding of this level, or of a worse one, ends the run as a refusal does.
     pub fail_on: Option<Level>,
+}
+
+/// What a table has rows of.
+#[derive(Clone, Copy, Debug, PartialEq, Eq)]
+pub enum Rows {
+    /// The records of a kind.
+    Records(Kind),
+    /// The works.
+    Works,
 }
 
 /// What is done. Each file that is read may be called `-`, which is standard input.
@@ -51,6 +61,13 @@ pub enum Work<'a> {
         numbers: bool,
         /// Cells in UTF-8 are shown as their texts.
         utf8: bool,
+    },
+    /// A table of one is written.
+    Csv {
+        /// What the table has rows of.
+        rows: Rows,
+        /// The name of the transmission's file, or none for that on standard input.
+        file: Option<&'a str>,
     },
     /// A transmission is written from lines of JSON.
     Write {
@@ -124,6 +141,9 @@ const LINT: &str = "lint";
 /// The name of the subcommand that writes JSON.
 const JSON: &str = "json";
 
+/// The name of the subcommand that writes tables.
+const CSV: &str = "csv";
+
 /// The name of the subcommand that reads JSON.
 const WRITE: &str = "write";
 
@@ -177,6 +197,20 @@ const NEW: &str = "new";
 
 /// The levels by their letters.
 const LEVELS: [&str; 5] = ["F", "R", "T", "G", "E"];
+
+/// The id of what a table has rows of.
+const KIND: &str = "KIND";
+
+/// The word for the table of works.
+const WORKS: &str = "works";
+
+/// What tables have rows of: the works, or the records of a kind, by its letters.
+#[rattlefmt::skip]
+const TABLES: [&str; 41] = [
+    "works", "HDR", "GRH", "GRT", "TRL", "AGR", "TER", "IPA", "NWR", "REV", "SPU", "OPU", "SPT", "SWR", "OWR", "SWT", "PWR", "ALT", "EWT",
+    "VER", "PER", "REC", "ORN", "COM", "ACK", "MSG", "OPT", "OWT", "NPN", "NPR", "NWN", "NPA", "NET", "NOW", "NCT", "NVT", "NAT",
+    "INS", "IND", "ARI", "XRF",
+];
 
 /// The id of the most bytes of a line.
 const LINE: &str = "line";
@@ -306,6 +340,21 @@ fn exporting<'a>(alloc: Global) -> Result<Command<'a>, AllocError> {
     .arg(utf8)
 }
 
+/// The subcommand that writes tables.
+fn tabulating<'a>(alloc: Global) -> Result<Command<'a>, AllocError> {
+    let kind = Arg::new(alloc, KIND)
+        .required(true)
+        .value_parser(&TABLES[..])
+        .help("What the table has rows of: the works, or the records of this type");
+    let file = Arg::new(alloc, FILE).help(
+        "The transmission; without it standard input is read, as it is for -",
+    );
+    let command = Command::new(alloc, CSV).about(
+        "Writes a table (CSV) of a transmission, and its verdict to standard error",
+    );
+    with_reading(alloc, command)?.arg(kind)?.arg(file)
+}
+
 /// The subcommand that reads JSON.
 fn importing<'a>(alloc: Global) -> Result<Command<'a>, AllocError> {
     let file = Arg::new(alloc, FILE).help(
@@ -397,8 +446,8 @@ The last line on standard output:
 In the place of REFUSED `cwr lint` writes a line for each fault, and then:
   FAULTS F findings N records R              so many faults and findings were told, in R lines
 
-`cwr json` writes it to standard error, and the lines of JSON alone to standard output. So does `cwr renumber` without
-OUT; GOOD then has the numbers of what is written.
+`cwr json` and `cwr csv` write it to standard error, and the lines of JSON or the table alone to standard output. So does
+`cwr renumber` without OUT; GOOD then has the numbers of what is written.
 
 `cwr write` writes to standard error:
   WRITTEN lines L bytes B                    the transmission is written
@@ -418,6 +467,7 @@ Exit status: 0 good, 1 refused, truncated or a limit, 2 a wrong command line (or
 Examples: cwr check works.cwr
           cwr explain works.cwr
           cwr lint --explain works.cwr
+          cwr csv works works.cwr
           cwr split -n 1000 works.cwr part-
           cwr join whole.cwr part-00000001 part-00000002";
 
@@ -440,6 +490,7 @@ fn command<'a>(alloc: Global) -> Result<Command<'a>, AllocError> {
         )?)?
         .subcommand(linting(alloc)?)?
         .subcommand(exporting(alloc)?)?
+        .subcommand(tabulating(alloc)?)?
         .subcommand(importing(alloc)?)?
         .subcommand(splitting(alloc)?)?
         .subcommand(joining(alloc)?)?
@@ -529,6 +580,26 @@ fn export_in<'a>(given: &ArgMatches<'a>) -> Work<'a>
     }
 }
 
+/// What the word names that a table has rows of.
+fn rows_of(word: &str) -> Option<Rows>
+    ensures { result ≡ rows_named word.now }
+{
+    if word == WORKS {
+        return Some(Rows::Works);
+    }
+    Some(Rows::Records(Kind::of(word.as_bytes())?))
+}
+
+/// The work of a table. `None` where what it has rows of is missing.
+fn table_in<'a>(given: &ArgMatches<'a>) -> Option<Work<'a>>
+    ensures { IfSome result (λ work. IsTableOf (found_of given.now) work) }
+{
+    Some(Work::Csv {
+        rows: rows_of(given.get_str(KIND)?)?,
+        file: given.get_str(FILE),
+    })
+}
+
 /// The work of an import. `None` where the bound on lines is missing or out of its range.
 fn import_in<'a>(given: &ArgMatches<'a>) -> Option<Work<'a>>
     ensures { IfSome result (λ work. IsImportOf (found_of given.now) work) }
@@ -593,6 +664,8 @@ fn work_in<'a>(
         Ok(Some(lint_in(alloc, given)?))
     } else if name == JSON {
         Ok(Some(export_in(given)))
+    } else if name == CSV {
+        Ok(table_in(given))
     } else if name == WRITE {
         Ok(import_in(given))
     } else if name == JOIN {

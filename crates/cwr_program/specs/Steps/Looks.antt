@@ -67,6 +67,7 @@ tells_findings (tellings.Explained name) = true
 tells_findings (tellings.Faults name) = false
 tells_findings tellings.Records = false
 tells_findings (tellings.Data encoding numbers) = false
+tells_findings (tellings.Rows table) = false
 
 -- an input whose bytes are known has the status on them, or a device or memory failed
 abbrev pub JudgesOn : Limits → Wanted → Option (List ℕ) → Result Judgement ToolFault → Type 0

@@ -1,19 +1,23 @@
 -- What the words of a subcommand ask for.
 use Rattle.std.specs.Prelude.{◌≡◌, ℕ, Bool, true, false, List, [], map, Option, Some, None, option_map, codes, if◌then◌else◌}
+use Rattle.std.specs.Option.{option_and_then}
 use Rattle.std.specs.Str.{bytes_eq}
 use Rattle.std.specs.Int.NonZero.{non_zero_u32_get}
 use Rattle.std.specs.Str.Parse.{digits_value, without_leading_plus}
 use Rattle.clap.specs.declared.parser.matches.ArgMatches.{ArgMatches}
 use Rattle.clap.specs.declared.parser.matches.Found.{Found}
 use Rattle.clap.specs.Words.{one_text, first_value, matched_of, raw_values, rows_of, subcommand_name_of, subcommand_rows_of}
+use Rattle.cwr_layouts.specs.Format.Kinds.{kind_of}
 use Rattle.cwr_shape.specs.declared.limits.Limits.{Limits}
 use Rattle.cwr_shape.specs.declared.reasons.Level.{Level}
 use Rattle.cwr_shape.specs.declared.reasons.Level.TheVariants as levels
 use Rattle.cwr_shape.specs.Format.Ranges.{limit_values}
 use Rattle.cwr_words.specs.declared.words.Judging.{Judging}
+use Rattle.cwr_words.specs.declared.words.Rows.{Rows}
+use Rattle.cwr_words.specs.declared.words.Rows.TheVariants.{Records, Works}
 use Rattle.cwr_words.specs.declared.words.Task.{Task}
 use Rattle.cwr_words.specs.declared.words.Work.{Work}
-use Rattle.cwr_words.specs.declared.words.Work.TheVariants.{Check, Show, Explain, Lint, Json, Write, Split, Join, Renumber, Manual}
+use Rattle.cwr_words.specs.declared.words.Work.TheVariants.{Check, Show, Explain, Lint, Json, Csv, Write, Split, Join, Renumber, Manual}
 
 -- the flag of that id is given
 abbrev pub IsFlagOf : Found → List ℕ → Bool → Type 0
@@ -55,6 +59,7 @@ IsSplitOf found (Show file) = ⊥
 IsSplitOf found (Explain judging) = ⊥
 IsSplitOf found (Lint files quiet explained) = ⊥
 IsSplitOf found (Json file numbers utf8) = ⊥
+IsSplitOf found (Csv rows file) = ⊥
 IsSplitOf found (Write file out line utf8) = ⊥
 IsSplitOf found (Split transactions file prefix only_new) =
     ((text : List ℕ) → one_text found (codes "N") ≡ Some text → non_zero_u32_get transactions ≡ digits_value 10 (without_leading_plus text))
@@ -72,6 +77,15 @@ IsLintOf found work = ⊥
 abbrev pub IsExportOf : Found → Work → Type 0
 IsExportOf found (Json file numbers utf8) = (option_map (λ f. f.now) file ≡ first_value found (codes "FILE")) × IsFlagOf found (codes "numbers") numbers × IsFlagOf found (codes "utf8") utf8
 IsExportOf found work = ⊥
+
+-- what a table has rows of, by the word that names it
+abbrev pub rows_named : List ℕ → Option Rows
+rows_named word = if bytes_eq word (codes "works") then Some Works else option_map Records (kind_of word)
+
+-- the table that KIND names, of the file FILE
+abbrev pub IsTableOf : Found → Work → Type 0
+IsTableOf found (Csv rows file) = (option_and_then rows_named (first_value found (codes "KIND")) ≡ Some rows) × (option_map (λ f. f.now) file ≡ first_value found (codes "FILE"))
+IsTableOf found work = ⊥
 
 -- a transmission from the lines of the file FILE to the file OUT, where lines may have so many bytes as that option says, in UTF-8 where that flag
 -- is given
@@ -93,7 +107,7 @@ IsRenumberingOf found (Renumber file out only_new) =
     (option_map (λ f. f.now) file ≡ first_value found (codes "FILE")) × (option_map (λ f. f.now) out ≡ first_value found (codes "OUT")) × IsFlagOf found (codes "new") only_new
 IsRenumberingOf found work = ⊥
 
--- Work of the subcommand of that name: transmissions are checked or explained; one is shown, linted or written as JSON, that of the first file that
+-- Work of the subcommand of that name: transmissions are checked or explained; one is shown, linted, or written as JSON or as a table, that of the first file that
 -- FILE names, if it names one; one is written from lines of JSON, one is split, some are joined, the numbers of one are put right, or the manual
 -- is printed.
 abbrev pub IsWorkOf : List ℕ → Found → Work → Type 0
@@ -102,6 +116,7 @@ IsWorkOf name found (Show file) = (bytes_eq name (codes "show") ≡ true) × (op
 IsWorkOf name found (Explain judging) = (bytes_eq name (codes "explain") ≡ true) × IsJudgingOf found judging
 IsWorkOf name found (Lint files quiet explained) = (bytes_eq name (codes "lint") ≡ true) × IsLintOf found (Lint files quiet explained)
 IsWorkOf name found (Json file numbers utf8) = (bytes_eq name (codes "json") ≡ true) × IsExportOf found (Json file numbers utf8)
+IsWorkOf name found (Csv rows file) = (bytes_eq name (codes "csv") ≡ true) × IsTableOf found (Csv rows file)
 IsWorkOf name found (Write file out line utf8) = (bytes_eq name (codes "write") ≡ true) × IsImportOf found (Write file out line utf8)
 IsWorkOf name found (Split transactions file prefix only_new) = (bytes_eq name (codes "split") ≡ true) × IsSplitOf found (Split transactions file prefix only_new)
 IsWorkOf name found (Join out files only_new) = (bytes_eq name (codes "join") ≡ true) × IsJoinOf found (Join out files only_new)

@@ -2,6 +2,7 @@ use Rattle.std.proofs.Common.{sym, ap, subst}
 use Rattle.std.specs.Prelude.{OnOk}
 use Rattle.std.specs.Option.{is_some}
 use Rattle.cwr_tools.specs.Format.Reports.{lines_checked, lines_of_data, lines_of_findings, lines_of_records}
+use Rattle.cwr_csv.specs.Format.TableLines.{lines_of_table}
 use Rattle.cwr_program.specs.declared.endings.Look.{Look}
 use Rattle.cwr_program.specs.Steps.Looks.{LooksAfter, tells_findings}
 use Rattle.cwr_program.specs.Steps.Tellings.{CountsLook}
@@ -34,6 +35,14 @@ returns-in-Data-clause-looks g c =
     looks_after (lines_of_data c.in-Data.encoding c.in-Data.numbers) c.args.limits (g.R.Source.remaining c.args.reader.now) (g.R.Source.remaining c.json-writer.new.reader) (g.R.Source.remaining c.look_after-look-in-Data.new.reader) g.W.Target.contents
     c.args.writer c.json-writer.result.0 c.json-writer.result.1 c.look_after-look-in-Data.result c.json-writer.ensures.accepted c.look_after-look-in-Data.ensures.looks
 
+pub returns-in-Rows-clause-seen : goal.returns-in-Rows-clause-seen
+returns-in-Rows-clause-seen g c = sees_nothing c.args.limits (g.R.Source.remaining c.args.reader.now) c.args.watch.now c.csv-writer.result.1 (c.requires (ap tells_findings c.in-Rows.is))
+
+pub returns-in-Rows-clause-looks : goal.returns-in-Rows-clause-looks
+returns-in-Rows-clause-looks g c =
+    looks_after (lines_of_table c.in-Rows.table) c.args.limits (g.R.Source.remaining c.args.reader.now) (g.R.Source.remaining c.csv-writer.new.reader) (g.R.Source.remaining c.look_after-look-in-Rows.new.reader) g.W.Target.contents
+    c.args.writer c.csv-writer.result.0 c.csv-writer.result.1 c.look_after-look-in-Rows.result c.csv-writer.ensures.accepted c.look_after-look-in-Rows.ensures.looks
+
 pub returns-in-Faults-clause-seen : goal.returns-in-Faults-clause-seen
 returns-in-Faults-clause-seen g c = sees_nothing c.args.limits (g.R.Source.remaining c.args.reader.now) c.args.watch.now c.lint-writer.result.1 (c.requires (ap tells_findings c.in-Faults.is))
 
@@ -62,6 +71,13 @@ returns-in-Data-clause-told g c =
 
 pub returns-in-Data-clause-reader_failures : goal.returns-in-Data-clause-reader_failures
 returns-in-Data-clause-reader_failures g c = (g.R.Source.failures c.json-writer.new.reader, c.json-writer.ensures.reader_failures, c.look_after-look-in-Data.ensures.failures)
+
+pub returns-in-Rows-clause-told : goal.returns-in-Rows-clause-told
+returns-in-Rows-clause-told g c =
+    told_as c.args.telling _ c.args.limits (g.R.Source.remaining c.args.reader.now) (g.R.Source.remaining c.csv-writer.new.reader) g.W.Target.contents c.args.writer c.csv-writer.result.0 c.csv-writer.result.1 c.in-Rows.is c.csv-writer.ensures.reported
+
+pub returns-in-Rows-clause-reader_failures : goal.returns-in-Rows-clause-reader_failures
+returns-in-Rows-clause-reader_failures g c = (g.R.Source.failures c.csv-writer.new.reader, c.csv-writer.ensures.reader_failures, c.look_after-look-in-Rows.ensures.failures)
 
 pub returns-in-Explained-clause-told : goal.returns-in-Explained-clause-told
 returns-in-Explained-clause-told g c =

@@ -1,0 +1,2 @@
+pub mod RowsOfItems
+pub mod TablesOn

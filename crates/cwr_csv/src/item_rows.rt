@@ -1,0 +1,73 @@
+//! The rows of items, put to a sink.
+
+ghost use Rattle.std.specs.Prelude.{◌≡◌, ◌+◌, ◌≤◌, false, length};
+ghost use Rattle.cwr_encode.specs.Steps.Sinks.{has_failed};
+ghost use Rattle.cwr_judge.specs.Format.Items.{item_records};
+ghost use Rattle.cwr_tools.specs.Steps.Reports.{PutsLines};
+ghost use Rattle.cwr_csv.specs.Steps.ItemRows.{place_at, rows_at, table_heading};
+
+use crate::tables::Table;
+use cwr_encode::Sink;
+use cwr_fields::Target;
+use cwr_tables::{Place, RowText, put_heading, put_rows, put_work_heading, put_work_row};
+use cwr_tools::{ToolFault, Totals, writer_fault};
+use cwr_values::Item;
+
+/// Where an item stands that comes after items with these numbers.
+fn place_at(counts: &Totals, item: &Item) -> Place
+    ensures { result ≡ place_at counts.now item.now }
+{
+    let opened: u64 = match item {
+        Item::GroupOpened(_) => 1,
+        Item::Opened(_) | Item::Transaction(_) | Item::GroupClosed(_) | Item::Ended => 0,
+    };
+    Place {
+        group: u64::from(counts.groups) + opened,
+        transaction: u64::from(counts.in_group),
+    }
+}
+
+/// Puts the heading of a table. It is made in the buffer.
+pub(crate) fn put_first<W: Target>(
+    table: Table,
+    text: &mut RowText,
+    sink: &mut Sink<W>,
+) -> Result<(), ToolFault>
+    requires { has_failed sink.old ≡ false }
+    ensures { PutsLines W.contents W.failures false (table_heading table) result sink.old sink.new }
+{
+    match table {
+        Table::Records(kind) => match put_heading(kind, text, sink) {
+            Ok(()) => Ok(()),
+            Err(fault) => Err(writer_fault(fault)),
+        },
+        Table::Works => match put_work_heading(text, sink) {
+            Ok(()) => Ok(()),
+            Err(fault) => Err(writer_fault(fault)),
+        },
+    }
+}
+
+/// Puts the rows of an item that comes after items with these numbers. They are made in the buffer.
+pub(crate) fn put_item<W: Target>(
+    table: Table,
+    counts: &Totals,
+    item: &Item,
+    text: &mut RowText,
+    sink: &mut Sink<W>,
+) -> Result<(), ToolFault>
+    requires unfailed { has_failed sink.old ≡ false }
+    requires few { counts.now.records + length (item_records item.now) ≤ 99999999 }
+    ensures { PutsLines W.contents W.failures false (rows_at table counts.now item.now) result sink.old sink.new }
+{
+    match table {
+        Table::Records(kind) => match put_rows(kind, place_at(counts, item), item, text, sink) {
+            Ok(()) => Ok(()),
+            Err(fault) => Err(writer_fault(fault)),
+        },
+        Table::Works => match put_work_row(place_at(counts, item), item, text, sink) {
+            Ok(()) => Ok(()),
+            Err(fault) => Err(writer_fault(fault)),
+        },
+    }
+}

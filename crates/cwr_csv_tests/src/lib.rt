@@ -1,0 +1,5 @@
+//! Tests of tables, on worked lines.
+#![tactic(auto)]
+
+#[cfg(test)]
+mod runs;

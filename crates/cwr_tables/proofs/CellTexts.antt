@@ -1,0 +1,16 @@
+-- What a cell stands as, with quotes and without.
+use Rattle.std.proofs.Common.{◌≡◌, ℕ, Bool, true, false, cond, List, ◌++◌, ap}
+use Rattle.std.specs.Prelude.{codes}
+use Rattle.std.specs.List.{flat_map, list_any}
+use Rattle.cwr_tables.specs.Format.Tables.{calls_for_quotes, cell_text, doubled}
+
+abbrev by_test : List ℕ → Bool → List ℕ
+by_test cell b = cond b (codes "\"" ++ flat_map doubled cell ++ codes "\"") cell
+
+pub cell_quoted : (cell : List ℕ) → list_any calls_for_quotes cell ≡ true → cell_text cell ≡ codes "\"" ++ flat_map doubled cell ++ codes "\""
+unfolding cell_text
+cell_quoted cell h = ap (by_test cell) h
+
+pub cell_plain : (cell : List ℕ) → list_any calls_for_quotes cell ≡ false → cell_text cell ≡ cell
+unfolding cell_text
+cell_plain cell h = ap (by_test cell) h

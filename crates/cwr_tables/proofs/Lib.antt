@@ -1,0 +1,15 @@
+pub mod CellTexts
+pub mod Characters
+pub mod CellsOfRows
+pub mod ColumnsOfFields
+pub mod ShortNames
+pub mod TextsOfRows
+pub mod KindsOfRows
+pub mod NothingPut
+pub mod NamesJoined
+pub mod Owners
+pub mod PutInTurn
+pub mod TextsOfWorks
+pub mod WorkFields
+pub mod NamedOwners
+pub mod ReadBack

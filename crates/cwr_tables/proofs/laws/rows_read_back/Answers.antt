@@ -1,0 +1,5 @@
+use Rattle.cwr_tables.proofs.ReadBack.{rows_read_back}
+use Rattle.cwr_tables.proofs.laws.rows_read_back.Goals as goal
+
+pub returns : goal.returns
+returns c = rows_read_back

@@ -1,0 +1,7 @@
+use Rattle.std.proofs.Common.{◌++◌, List, ℕ, ap, ◌∙◌}
+use Rattle.std.specs.Prelude.{codes}
+use Rattle.cwr_tables.proofs.TextsOfRows.{trailer_is}
+use Rattle.cwr_tables.proofs.rows.RowText.set_trailer.Goals as goal
+
+pub returns : goal.returns
+returns c = c.push.ensures.value ∙ ap (λ (l : List ℕ). l ++ codes ",,\r\n") c.clear.ensures ∙ trailer_is

@@ -1,0 +1,18 @@
+use Rattle.std.proofs.Common.{◌≡◌, ◌≤◌, ◌-◌, ◌++◌, ℕ, List, Option, length, take, false}
+use Rattle.cwr_encode.specs.Steps.Sinks.{HasWritten, has_failed, writer_of}
+use Rattle.cwr_tables.specs.Format.WorkTables.{names}
+use Rattle.cwr_tables.specs.Steps.WorkTexts.{has_owners, within}
+use Rattle.cwr_tables.proofs.work_tables.put_names.Given as goal
+
+abbrev pub invariant-loop-shown : goal.invariant-loop-shown
+invariant-loop-shown g l = record {
+  inside : l.i ≤ length l.transaction;
+  later : l.later ≡ has_owners l.fn.side (take l.i l.transaction);
+  unfailed : has_failed l.sink ≡ false;
+  counts : g.W.Target.failures (writer_of l.sink) ≡ g.W.Target.failures (writer_of l.initial.sink);
+  written : (start : Option (List ℕ)) (before : List ℕ) → HasWritten g.W.Target.contents start before l.initial.sink
+      → HasWritten g.W.Target.contents start (before ++ within l.fn.quoted (names l.fn.side (take l.i l.transaction))) l.sink;
+}
+
+abbrev pub decreases-loop-shown : goal.decreases-loop-shown
+decreases-loop-shown g l = length l.transaction - l.i

@@ -1,0 +1,5 @@
+-- What is promised, in the words of the format.
+pub mod Tables
+pub mod RecordTables
+pub mod WorkTables
+pub mod Laws

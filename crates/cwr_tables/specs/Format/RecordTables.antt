@@ -1,0 +1,77 @@
+-- The table of the records of a kind: a heading, and a row for each record.
+use Rattle.std.specs.Prelude.{ℕ, ◌+◌, List, [], ◌∷◌, ◌++◌, codes, count_by, decimal, map, take, if◌then◌else◌}
+use Rattle.std.specs.List.{after_last, enumerate_from, flat_map}
+use Rattle.cwr_fields.specs.Format.Bytes.{trimmed}
+use Rattle.cwr_layouts.specs.declared.kinds.Kind.{Kind}
+use Rattle.cwr_layouts.specs.Format.Records.{RecordValue, carried_fields}
+use Rattle.cwr_values.specs.declared.items.Item.{Item}
+use Rattle.cwr_values.specs.declared.items.Item.TheVariants.{Opened, GroupOpened, Transaction, GroupClosed, Ended}
+use Rattle.cwr_values.specs.Format.Rows.{trailer}
+use Rattle.cwr_judge.specs.Format.Items.{is_transaction, opens_group}
+use Rattle.cwr_json.specs.declared.encodings.Encoding.TheVariants.{Latin1}
+use Rattle.cwr_json.specs.Format.Encodings.{byte_by_byte}
+use Rattle.cwr_json.specs.Format.Forms.{key_of}
+use Rattle.cwr_levels.specs.Format.Findings.{is_a}
+use Rattle.cwr_tables.specs.declared.places.Place.{Place}
+use Rattle.cwr_tables.specs.declared.places.RowNumbers.{RowNumbers}
+use Rattle.cwr_tables.specs.declared.places.RowNumbers.TheVariants.{Outside, InGroup, InTransaction}
+use Rattle.cwr_tables.specs.Format.Tables.{row_text}
+
+-- ---- columns
+
+-- the first columns
+abbrev pub number_columns : List (List ℕ)
+number_columns = codes "group" ∷ codes "transaction" ∷ codes "record" ∷ []
+
+-- the columns of a kind: the first ones, and then one for each field that its records carry
+abbrev pub columns : Kind → List (List ℕ)
+columns this_kind = number_columns ++ map (λ f. key_of f.name) (carried_fields this_kind)
+
+abbrev pub heading : Kind → List ℕ
+heading this_kind = row_text (columns this_kind)
+
+-- ---- rows
+
+-- the first cells of a row: a number that a record hasn't is blank
+abbrev pub number_cells : RowNumbers → List (List ℕ)
+number_cells Outside = [] ∷ [] ∷ [] ∷ []
+number_cells (InGroup group) = decimal group ∷ [] ∷ [] ∷ []
+number_cells (InTransaction group transaction sequence) = decimal group ∷ decimal transaction ∷ decimal sequence ∷ []
+
+-- a cell without trailing spaces; each byte is the character of that number, U+0020 to U+00FF, in UTF-8
+abbrev pub shown_cell : List ℕ → List ℕ
+shown_cell cell = byte_by_byte Latin1 (trimmed cell)
+
+-- the row of a record with these numbers
+abbrev pub record_row : RowNumbers → RecordValue → List ℕ
+record_row numbers r = row_text (number_cells numbers ++ map shown_cell r.cells)
+
+-- the same where the record is of the kind, and else nothing
+abbrev pub row_of_kind : Kind → RowNumbers → RecordValue → List ℕ
+row_of_kind this_kind numbers r = if is_a this_kind r then record_row numbers r else []
+
+-- the rows of a transaction's records of the kind
+abbrev pub transaction_rows : Kind → Place → List RecordValue → List ℕ
+transaction_rows this_kind p t = flat_map (λ q. row_of_kind this_kind (InTransaction p.group p.transaction q.0) q.1) (enumerate_from 0 t)
+
+-- the rows of an item's records of the kind
+abbrev pub item_rows : Kind → Place → Item → List ℕ
+item_rows this_kind p (Opened r) = row_of_kind this_kind Outside r
+item_rows this_kind p (GroupOpened r) = row_of_kind this_kind (InGroup p.group) r
+item_rows this_kind p (Transaction t) = transaction_rows this_kind p t
+item_rows this_kind p (GroupClosed r) = row_of_kind this_kind (InGroup p.group) r
+item_rows this_kind p Ended = row_of_kind this_kind Outside trailer
+
+-- ---- the table
+
+-- where an item stands, by the items before it
+abbrev pub place_after : List Item → Item → Place
+place_after before item = record { group = count_by opens_group before + (if opens_group item then 1 else 0); transaction = count_by is_transaction (after_last opens_group before) }
+
+-- the rows of items
+unfoldable pub rows_of : Kind → List Item → List ℕ
+rows_of this_kind items = flat_map (λ q. item_rows this_kind (place_after (take q.0 items) q.1) q.1) (enumerate_from 0 items)
+
+-- the table of items
+abbrev pub table_of : Kind → List Item → List ℕ
+table_of this_kind items = heading this_kind ++ rows_of this_kind items

@@ -1,0 +1,16 @@
+//! Tables of CWR 2.1 transmissions, as RFC 4180 has them.
+#![tactic(auto)]
+
+mod cells;
+pub mod laws;
+mod places;
+mod record_tables;
+mod rows;
+mod work_tables;
+mod work_texts;
+mod works;
+
+pub use places::Place;
+pub use record_tables::{put_heading, put_rows};
+pub use rows::RowText;
+pub use work_tables::{put_work_heading, put_work_row};

@@ -1,0 +1,138 @@
+//! The table of the records of a kind, put to a sink.
+
+ghost use Rattle.std.specs.Prelude.{◌≡◌, IfErr, false};
+ghost use Rattle.cwr_encode.specs.Steps.Sinks.{Puts, has_failed, written_of};
+ghost use Rattle.cwr_values.specs.Format.Rows.{trailer};
+ghost use Rattle.cwr_tables.specs.declared.places.RowNumbers.TheVariants.{Outside};
+ghost use Rattle.cwr_tables.specs.Format.RecordTables.{heading, item_rows, row_of_kind, transaction_rows};
+
+use crate::places::{Place, RowNumbers};
+use crate::rows::RowText;
+use cwr_encode::{Sink, SinkFault};
+use cwr_fields::Target;
+use cwr_layouts::{Kind, RecordRef};
+use cwr_levels::is_of;
+use cwr_values::{Item, Transaction};
+
+/// Puts the text that was made.
+pub(crate) fn put_text<W: Target>(text: &RowText, sink: &mut Sink<W>) -> Result<(), SinkFault>
+    requires { has_failed sink.old ≡ false }
+    ensures puts { Puts W.contents W.failures text.now result sink.old sink.new }
+    ensures fault { IfErr result (λ f. f.written ≡ written_of sink.new) }
+{
+    sink.put(text.as_slice())
+}
+
+/// Puts the heading of the table of the kind. It is made in the buffer.
+pub fn put_heading<W: Target>(
+    kind: Kind,
+    text: &mut RowText,
+    sink: &mut Sink<W>,
+) -> Result<(), SinkFault>
+    requires { has_failed sink.old ≡ false }
+    ensures puts { Puts W.contents W.failures (heading kind) result sink.old sink.new }
+    ensures fault { IfErr result (λ f. f.written ≡ written_of sink.new) }
+{
+    text.set_heading(kind);
+    put_text(text, sink)
+}
+
+/// Puts the row of a record with these numbers, if it is of the kind.
+fn put_row<W: Target>(
+    kind: Kind,
+    numbers: RowNumbers,
+    shown: &RecordRef<'_>,
+    text: &mut RowText,
+    sink: &mut Sink<W>,
+) -> Result<(), SinkFault>
+    requires { has_failed sink.old ≡ false }
+    ensures puts { Puts W.contents W.failures (row_of_kind kind numbers shown.now) result sink.old sink.new }
+    ensures fault { IfErr result (λ f. f.written ≡ written_of sink.new) }
+{
+    if !is_of(shown, kind) {
+        return Ok(());
+    }
+    text.set_row(numbers, shown);
+    put_text(text, sink)
+}
+
+/// Puts the row of TRL, if the kind is that.
+fn put_trailer<W: Target>(
+    kind: Kind,
+    text: &mut RowText,
+    sink: &mut Sink<W>,
+) -> Result<(), SinkFault>
+    requires { has_failed sink.old ≡ false }
+    ensures puts { Puts W.contents W.failures (row_of_kind kind Outside trailer) result sink.old sink.new }
+    ensures fault { IfErr result (λ f. f.written ≡ written_of sink.new) }
+{
+    if kind != Kind::Trl {
+        return Ok(());
+    }
+    text.set_trailer();
+    put_text(text, sink)
+}
+
+/// Puts the rows of a transaction's records of the kind.
+fn put_transaction<W: Target>(
+    kind: Kind,
+    place: Place,
+    transaction: &Transaction,
+    text: &mut RowText,
+    sink: &mut Sink<W>,
+) -> Result<(), SinkFault>
+    requires { has_failed sink.old ≡ false }
+    ensures puts { Puts W.contents W.failures (transaction_rows kind place transaction.now) result sink.old sink.new }
+    ensures fault { IfErr result (λ f. f.written ≡ written_of sink.new) }
+{
+    let count = transaction.len();
+    let mut i: usize = 0;
+    while let Some(shown) = transaction.record(i) {
+        let numbers = RowNumbers::InTransaction {
+            group: place.group,
+            transaction: place.transaction,
+            sequence: i as u64,
+        };
+        put_row(kind, numbers, &shown, text, sink)?;
+        prove!(i < count);
+        i += 1;
+    }
+    Ok(())
+}
+
+/// Puts the rows of an item's records of the kind. They are made in the buffer.
+pub fn put_rows<W: Target>(
+    kind: Kind,
+    place: Place,
+    item: &Item,
+    text: &mut RowText,
+    sink: &mut Sink<W>,
+) -> Result<(), SinkFault>
+    requires { has_failed sink.old ≡ false }
+    ensures puts { Puts W.contents W.failures (item_rows kind place item.now) result sink.old sink.new }
+    ensures fault { IfErr result (λ f. f.written ≡ written_of sink.new) }
+{
+    match item {
+        Item::Opened(record) => put_row(kind, RowNumbers::Outside, &record.view(), text, sink),
+        Item::GroupOpened(record) => {
+            put_row(
+                kind,
+                RowNumbers::InGroup(place.group),
+                &record.view(),
+                text,
+                sink,
+            )
+        }
+        Item::GroupClosed(record) => {
+            put_row(
+                kind,
+                RowNumbers::InGroup(place.group),
+                &record.view(),
+                text,
+                sink,
+            )
+        }
+        Item::Transaction(transaction) => put_transaction(kind, place, transaction, text, sink),
+        Item::Ended => put_trailer(kind, text, sink),
+    }
+}
