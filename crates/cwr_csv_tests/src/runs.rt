@@ -114,13 +114,25 @@ fn tables_are_written(rt: HostRuntime) {
 #[test]
 fn faults_of_devices_are_answered(rt: HostRuntime) {
     for room in [0, 10, 60] {
-        let (written, answer) = tabled(&rt, Table::Records(Kind::Grt), ONE_ACKNOWLEDGEMENT, usize::MAX, room);
-        assert!(rt; matches!(answer, Err(ToolFault::Writer { written: count }) if count == room as u64), "room {room}");
+        let (written, answer) = tabled(
+            &rt,
+            Table::Records(Kind::Grt),
+            ONE_ACKNOWLEDGEMENT,
+            usize::MAX,
+            room,
+        );
+        assert!(rt;
+            matches!(answer, Err(ToolFault::Writer { written: count }) if count == room as u64),
+            "room {room}"
+        );
         assert!(rt; written.len() == room, "room {room}");
     }
     let (written, answer) = tabled(&rt, Table::Records(Kind::Grt), ONE_ACKNOWLEDGEMENT, 1, 9999);
     assert!(rt; matches!(answer, Err(ToolFault::Reader)));
-    assert!(rt; written.as_slice() == b"group,transaction,record,currency,total_monetary_value\r\n".as_slice());
+    assert!(rt;
+        written.as_slice()
+            == b"group,transaction,record,currency,total_monetary_value\r\n".as_slice()
+    );
 }
 
 /// Lines that are refused, with the rows before.
@@ -129,5 +141,9 @@ fn rows_before_a_refusal_are_written(rt: HostRuntime) {
     let lines = TWO_GROUPS.get(..5).unwrap_or(&[]);
     let (written, answer) = tabled(&rt, Table::Records(Kind::Swr), lines, usize::MAX, 9999);
     assert!(rt; matches!(answer, Ok(Verdict::Truncated { records: 5 })));
-    assert!(rt; written.as_slice().ends_with(b"\r\n1,0,1,W1,SMITH,ANNA,,CA,,,,,,,,,,,,,,,\r\n"));
+    assert!(rt;
+        written
+            .as_slice()
+            .ends_with(b"\r\n1,0,1,W1,SMITH,ANNA,,CA,,,,,,,,,,,,,,,\r\n")
+    );
 }
