@@ -51,16 +51,19 @@ impl Write for Bounded {
     }
 }
 
-/// What is written of lines to a writer of so much room, and what is answered, where the reader fails after so many reads.
+/// What is written of the first lines, so many of them at most, to a writer of so much room, and what is answered, where the reader fails
+/// after so many reads.
 fn tabled(
     rt: &(impl Abort + AllocGlobal),
     table: Table,
     lines: &[&[u8]],
+    most: usize,
     reads: usize,
     room: usize,
 ) -> (Vec<u8>, Result<Verdict, ToolFault>) {
     let limits = Limits::new(99_999_999, 99_999, 999_999).expect(&rt, "largest limits");
-    let text = canonical(rt.alloc(), lines).expect(&rt, "memory for a text");
+    let first = lines.get(..most).unwrap_or(lines);
+    let text = canonical(rt.alloc(), first).expect(&rt, "memory for a text");
     let mut reader = Counted::new(FailsAfter {
         left: text.as_slice(),
         reads,
@@ -105,7 +108,7 @@ const TABLES: &[(&[&[u8]], Table, &[u8])] = &[
 #[test]
 fn tables_are_written(rt: HostRuntime) {
     for (row, (lines, table, wanted)) in TABLES.iter().enumerate() {
-        let (written, answer) = tabled(&rt, *table, *lines, usize::MAX, 9999);
+        let (written, answer) = tabled(&rt, *table, *lines, 99, usize::MAX, 9999);
         assert!(rt; matches!(answer, Ok(Verdict::Good { .. })), "row {row}");
         assert!(rt; written.as_slice() == *wanted, "row {row}");
     }
@@ -118,6 +121,7 @@ fn faults_of_devices_are_answered(rt: HostRuntime) {
             &rt,
             Table::Records(Kind::Grt),
             ONE_ACKNOWLEDGEMENT,
+            99,
             usize::MAX,
             room,
         );
@@ -127,7 +131,14 @@ fn faults_of_devices_are_answered(rt: HostRuntime) {
         );
         assert!(rt; written.len() == room, "room {room}");
     }
-    let (written, answer) = tabled(&rt, Table::Records(Kind::Grt), ONE_ACKNOWLEDGEMENT, 1, 9999);
+    let (written, answer) = tabled(
+        &rt,
+        Table::Records(Kind::Grt),
+        ONE_ACKNOWLEDGEMENT,
+        99,
+        1,
+        9999,
+    );
     assert!(rt; matches!(answer, Err(ToolFault::Reader)));
     assert!(rt;
         written.as_slice()
@@ -138,8 +149,14 @@ fn faults_of_devices_are_answered(rt: HostRuntime) {
 /// Lines that are refused, with the rows before.
 #[test]
 fn rows_before_a_refusal_are_written(rt: HostRuntime) {
-    let lines = TWO_GROUPS.get(..5).unwrap_or(&[]);
-    let (written, answer) = tabled(&rt, Table::Records(Kind::Swr), lines, usize::MAX, 9999);
+    let (written, answer) = tabled(
+        &rt,
+        Table::Records(Kind::Swr),
+        TWO_GROUPS,
+        5,
+        usize::MAX,
+        9999,
+    );
     assert!(rt; matches!(answer, Ok(Verdict::Truncated { records: 5 })));
     assert!(rt;
         written
