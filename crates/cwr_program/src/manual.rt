@@ -271,7 +271,8 @@ EXIT STATUS
 FILES
        PREFIX00000001
               The first part of a split. After a refusal or a fault the parts
-              that were finished stay, each a whole transmission.
+              that were finished stay, each a whole transmission. So do the
+              parts of an earlier split that aren't replaced.
 
        NAME.part
               What a file is called until it is whole; `NAME.part1` to
@@ -359,9 +360,7 @@ EXAMPLES
 
        Its works, for a spreadsheet:
 
-           $ cwr csv works works.cwr > works.csv
-           GOOD groups 2 transactions 3 records 12
-           $ cut -d, -f4-7,9 works.csv
+           $ cwr csv works works.cwr 2> /dev/null | cut -d, -f4-7,9
            submitter_work_number,title,iswc,writers,writers_pr_share
            W0001,BLUE RIVER,,SMITH ANNA,0.00
            W0002,RED HILL,,SMITH ANNA,0.00
