@@ -11,13 +11,15 @@ use Rattle.cwr_shape.specs.declared.tallies.Counts.{Counts}
 use Rattle.cwr_shape.specs.Format.Ranges.{LimitValues}
 use Rattle.cwr_shape.specs.Steps.Tallies as tallies
 use Rattle.cwr_shape.specs.Steps.Tallies.{TallyValue}
+use Rattle.cwr_layouts.specs.Format.Records.{RecordValue}
 use Rattle.cwr_values.specs.declared.items.Item.{Item}
+use Rattle.cwr_values.specs.declared.items.Item.TheVariants as items
 use Rattle.cwr_values.specs.Format.Values.{symbol_of}
 use Rattle.cwr_decode.specs.declared.outcomes.Outcome.{Outcome}
 use Rattle.cwr_decode.specs.declared.outcomes.Outcome.TheVariants as outcomes
 use Rattle.cwr_decode.specs.declared.machine.State.{State}
 use Rattle.cwr_decode.specs.declared.machine.State.TheVariants as states
-use Rattle.cwr_decode.specs.Steps.Machines.{Standing, IsReady, Judges, JudgesFront, with_line, with_tally, stopped}
+use Rattle.cwr_decode.specs.Steps.Machines.{Accepts, Standing, IsReady, Judges, JudgesFront, with_line, with_tally, stopped}
 use Rattle.cwr_decode.specs.Steps.Represents.{Represents, RepresentsIn, IsReading, IsInput, IsRight, items_out, text_of}
 use Rattle.cwr_decode.specs.Steps.Calls.{RefusesLast, Advances, Grows}
 use Rattle.cwr_decode.proofs.AfterAcceptedLine.{HasLine, never_too_long}
@@ -93,16 +95,27 @@ after_used old piece used line t = by line.ended t.stops
 halves : (input piece : List ℕ) (used : ℕ) → (input ++ take used piece) ++ drop used piece ≡ input ++ piece
 halves input piece used = append_assoc input (take used piece) (drop used piece) ∙ ap (λ (x : List ℕ). input ++ x) (take-append-drop used piece)
 
--- a line that is accepted without an answer has at least its line feed
-some_used : (t new : Standing) (old : HeldLine) (piece : List ℕ) (used : ℕ) (out : Option Outcome) → Takes old piece used t.line → t.line.ended ≢ Open → Judges t out new → IfNone out (0 < used)
-some_used t new old piece used (Some o) takes ended j = tt
-some_used t new old piece used None takes ended (inr r) = absurd r.reports
-some_used t new old piece used None takes ended (inl a) = by t.line.ended ended (never_too_long t.line a.accepted a.carried a.excess) takes.stops
+-- a line that is accepted has at least its line feed
+accepted_used : (t new : Standing) (old : HeldLine) (piece : List ℕ) (used : ℕ) (out : Option Outcome) → Takes old piece used t.line → t.line.ended ≢ Open → Accepts t out new → 0 < used
+accepted_used t new old piece used out takes ended a = by t.line.ended ended (never_too_long t.line a.accepted a.carried a.excess) takes.stops
   where
     by : (e : LineEnd) → e ≢ Open → (e ≡ Over → ⊥) → Stops e piece used → 0 < used
     by Open p q s = absurd (p refl)
     by Line p q s = s
     by Over p q s = absurd (q refl)
+
+some_used : (t new : Standing) (old : HeldLine) (piece : List ℕ) (used : ℕ) (out : Option Outcome) → Takes old piece used t.line → t.line.ended ≢ Open → Judges t out new → IfNone out (0 < used)
+some_used t new old piece used (Some o) takes ended j = tt
+some_used t new old piece used None takes ended (inr r) = absurd r.reports
+some_used t new old piece used None takes ended (inl a) = accepted_used t new old piece used None takes ended a
+
+-- so has one that ends a transaction
+pub ends_used : (d new : Standing) (piece : List ℕ) (used : ℕ) (whole : List RecordValue) → JudgesFront d piece used (Some (outcomes.Item (items.Transaction whole))) new → 0 < used
+ends_used d new piece used whole a = by a.judges
+  where
+    by : Judges (with_line d a.line) (Some (outcomes.Item (items.Transaction whole))) new → 0 < used
+    by (inl accepts) = accepted_used (with_line d a.line) new d.line piece used (Some (outcomes.Item (items.Transaction whole))) a.takes a.ended accepts
+    by (inr refuses) = let no : outcomes.Item (items.Transaction whole) ≡ outcomes.Refused refuses.reports.refusal = refuses.reports.reported in absurd (cc no)
 
 -- what is left after a line that is judged
 pub judged_rest : (t new : Standing) (out : Option Outcome) → t.line.ended ≢ Open → Judges t out new → Rest t out new

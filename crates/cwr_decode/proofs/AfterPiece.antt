@@ -68,7 +68,7 @@ take-take_drop (suc m) n (x ∷ xs) =
     let more : suc (m + n) ≡ suc m + n = omega arith in
     ap (λ (l : List ℕ). x ∷ l) (take-take_drop m n xs) ∙ ap (λ (k : ℕ). take k (x ∷ xs)) more
 
-pieces : (input piece : List ℕ) (m n : ℕ) → (input ++ take m piece) ++ take n (drop m piece) ≡ input ++ take (m + n) piece
+pub pieces : (input piece : List ℕ) (m n : ℕ) → (input ++ take m piece) ++ take n (drop m piece) ≡ input ++ take (m + n) piece
 pieces input piece m n = append_assoc input (take m piece) (take n (drop m piece)) ∙ ap (λ (x : List ℕ). input ++ x) (take-take_drop m n piece)
 
 whole_piece : (input piece : List ℕ) (m : ℕ) → (input ++ take m piece) ++ drop m piece ≡ input ++ piece

@@ -13,7 +13,7 @@ use Rattle.cwr_decode.specs.declared.machine.State.TheVariants as states
 use Rattle.cwr_decode.specs.Steps.Machines.{FindsCut, FindsFront, Judges, JudgesFront, Standing, with_line}
 use Rattle.cwr_decode.proofs.AfterInputEnd.{no_bytes}
 
-empty_open : (h : HeldLine) → h.ended ≡ Open → length h.bytes ≡ 0 → h ≡ empty_line
+pub empty_open : (h : HeldLine) → h.ended ≡ Open → length h.bytes ≡ 0 → h ≡ empty_line
 empty_open h e none = λ i. record { bytes = no_bytes h.bytes none i; ended = e i }
 
 -- the record of the line is added

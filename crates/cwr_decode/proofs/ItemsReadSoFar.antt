@@ -34,7 +34,7 @@ Answer = Result (Option Item) ReadFault
 
 -- ---- what was read so far
 
-spent_on : (before left after : Option (List ℕ)) (input : List ℕ) (old new : Standing) → Consumes before left input → IfSome before (λ _. IsSpent old left)
+pub spent_on : (before left after : Option (List ℕ)) (input : List ℕ) (old new : Standing) → Consumes before left input → IfSome before (λ _. IsSpent old left)
     → (IsSpent old left → IfSome left (λ _. IsSpent new after)) → IfSome before (λ _. IsSpent new after)
 spent_on None left after input old new lost h on = tt
 spent_on (Some xs) None after input old new lost h on = absurd lost

@@ -24,6 +24,15 @@ use Rattle.cwr_layouts.specs.Format.Kinds.{is_in_transaction as inside_kind}
 use Rattle.cwr_judge.specs.Steps.Open.{continues_open}
 use Rattle.cwr_decode.specs.Steps.Machines.{Standing, Adds, FinishesRecord, Enters, EntersTransaction, Follows, HandsOut, Judges, ReportsFault, with_tally, held_list, reading, stopped}
 
+-- ---- the record of a line
+
+pub same_record : (h : HeldLine) (r s : RecordValue) → held_record h ≡ Some r → held_record h ≡ Some s → r ≡ s
+same_record h r s er es = ap or_r (sym er ∙ es)
+  where
+    or_r : Option RecordValue → RecordValue
+    or_r None = r
+    or_r (Some q) = q
+
 -- ---- whether a record continues the open transaction
 
 pub inside_scope : (p : Scope) → p ≡ scopes.Transaction → has_open_transaction p ≡ true
@@ -154,7 +163,7 @@ enters_now d next cut s r continues taken left result held out new c carried ok 
         something f = cc f
 
 -- a record of a kind that stands inside transactions is added to those that are held
-adds_inside : (kind : Kind) (r : RecordValue) (d new : Standing) → inside_kind kind ≡ true → new ≡ reading d (Some (held_list d.held ++ r ∷ [])) → Enters kind r d None new
+pub adds_inside : (kind : Kind) (r : RecordValue) (d new : Standing) → inside_kind kind ≡ true → new ≡ reading d (Some (held_list d.held ++ r ∷ [])) → Enters kind r d None new
 adds_inside Hdr r d new i e = absurd (cc i)
 adds_inside Grh r d new i e = absurd (cc i)
 adds_inside Grt r d new i e = absurd (cc i)

@@ -3,6 +3,7 @@ pub mod Calls
 pub mod Decoding
 pub mod LastReads
 pub mod Machines
+pub mod Passing
 pub mod PiecesLeft
 pub mod Readings
 pub mod Represents

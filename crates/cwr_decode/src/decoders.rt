@@ -4,6 +4,7 @@ ghost use Rattle.std.specs.Prelude.{◌≡◌, ◌≢◌, ◌≤◌, ◌++◌, [
 ghost use Rattle.cwr_decode.specs.Steps.Calls.{Fed, Feeds, RefusesLast, RunsOutOfMemory, seen_input};
 ghost use Rattle.cwr_decode.specs.Steps.Decoding.{StandsAfter, accepted_records, final_answer, has_ended, limits_of};
 ghost use Rattle.cwr_decode.specs.Steps.Machines.{Empties, WaitsOutside, held_list, end_input};
+ghost use Rattle.cwr_decode.specs.Steps.Passing.{Passes};
 ghost use Rattle.cwr_decode.specs.Steps.Readings.{FeedsOn};
 ghost use Rattle.cwr_decode.specs.Steps.Represents.{IsRight, RepresentsSome, Represents, items_out};
 ghost use Rattle.cwr_decode.specs.Steps.LastReads.{counts_of_records, stage_of_records};
@@ -12,7 +13,8 @@ ghost use Rattle.cwr_shape.specs.Steps.Tallies.{IsTallyOf};
 ghost use Rattle.cwr_shape.specs.declared.symbols.Symbol.{Symbol};
 ghost use Rattle.cwr_values.specs.declared.items.Item.{Item};
 
-use crate::machine::{Machine, State};
+use crate::keepers::Keeper;
+use crate::machine::{Machine, Passed, State};
 use crate::outcomes::{Answer, Outcome};
 use cwr_shape::{Counts, Limits, Stage};
 use cwr_values::{Item, Transaction};
@@ -102,6 +104,16 @@ impl Decoder {
         ensures under_way { RepresentsSome self.old }
     {
         self.machine.feed_quickly(piece)
+    }
+
+    /// Passes over whole transactions of the piece, from the header on that was read last: by quick tests, and only where the keeper
+    /// finds each surely as it should be. What follows them is left.
+    pub(crate) fn pass<K: Keeper>(&mut self, keeper: &mut K, piece: &[u8]) -> Passed
+        requires reading { self.old.state ≡ State.Reading }
+        requires fresh { self.old.finished ≡ false }
+        ensures { Passes K.are_clean self.old piece.now result self.new }
+    {
+        self.machine.pass(keeper, piece)
     }
 
     /// Takes bytes of the next piece, up to the next item, and answers how many bytes it used and what came of them: an

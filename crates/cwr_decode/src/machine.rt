@@ -23,6 +23,8 @@ use cwr_values::{Item, PushFault, Transaction};
 use std::alloc::{AllocError, Global};
 use std::marker::Model;
 
+mod passing;
+
 /// What a decoder does next.
 #[derive(Clone, Copy, Debug, PartialEq, Eq)]
 pub enum State {
@@ -49,6 +51,30 @@ pub enum Found {
     Ends,
     /// Nothing is said of the line, and nothing has changed.
     Nothing,
+}
+
+/// What was passed over.
+#[derive(Clone, Copy, Debug, PartialEq, Eq)]
+pub struct Passed {
+    /// How many bytes.
+    pub used: usize,
+    /// How many transactions.
+    pub transactions: usize,
+    /// How many records these have.
+    pub records: usize,
+}
+
+impl Passed {
+    /// Nothing.
+    pub fn nothing() -> Passed
+        ensures { result ≡ record { used = 0; transactions = 0; records = 0 } }
+    {
+        Passed {
+            used: 0,
+            transactions: 0,
+            records: 0,
+        }
+    }
 }
 
 /// What a decoder holds: at most one line and one transaction.

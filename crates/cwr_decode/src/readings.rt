@@ -4,12 +4,14 @@ ghost use Rattle.std.specs.Prelude.{◌≡◌, ◌≤◌, ℕ, List, [], ◌++�
 ghost use Rattle.cwr_decode.specs.Steps.Decoding.{HasWaiting, accepted_records, final_answer, has_ended, limits_of};
 ghost use Rattle.cwr_decode.specs.Steps.Represents.{RepresentsSome, Represents};
 ghost use Rattle.cwr_decode.specs.Steps.Machines.{WaitsOutside, again};
+ghost use Rattle.cwr_decode.specs.Steps.Passing.{CountsPassing, PassesOrFails, ReadsPassing};
 ghost use Rattle.cwr_decode.specs.Steps.Readings.{answer_of, CountsQuickly, CountsReader, FeedsOn, Reads, ReadsQuickly};
 ghost use Rattle.cwr_decode.specs.Steps.LastReads.{AreHeld, HoldsLast, ReadsLast, counts_of_records, stage_of_records};
 
 use crate::decoders::Decoder;
+use crate::keepers::Keeper;
 use crate::last_bytes::LastBytes;
-use crate::machine::State;
+use crate::machine::{Passed, State};
 use crate::outcomes::Outcome;
 use cwr_fields::Source;
 use cwr_judge::Refusal;
@@ -137,6 +139,30 @@ fn pull_quickly<R: Source>(
         Some(whole) => Quick::Whole(whole),
         None => Quick::Nothing,
     }
+}
+
+/// Passes over whole transactions of what the reader shows next, once the header that waits is entered. `None` where the reader failed.
+fn pass_shown<R: Source, K: Keeper>(
+    decoder: &mut Decoder,
+    last: &mut Option<LastBytes>,
+    reader: &mut R,
+    keeper: &mut K,
+) -> Option<Passed>
+    ensures passes { PassesOrFails K.are_clean decoder.old (R.remaining reader.old) result decoder.new (R.remaining reader.new) }
+    ensures failures { CountsPassing result (R.failures reader.old) (R.failures reader.new) }
+    ensures last { ReadsLast (R.remaining reader.old) (R.remaining reader.new) last.old last.new }
+{
+    if !decoder.is_settled() {
+        return Some(Passed::nothing());
+    }
+    let piece = match reader.fill() {
+        Ok(piece) => piece,
+        Err(_) => return None,
+    };
+    let passed = decoder.pass(keeper, piece);
+    keep_last(last, &piece[..passed.used]);
+    reader.consume(passed.used);
+    Some(passed)
 }
 
 /// Feeds what the reader shows next, or the end of the input. `None` where more is needed.
@@ -294,6 +320,24 @@ impl<'a, R: Source> Reading<'a, R> {
             Quick::Whole(whole) => Ok(Some(Item::Transaction(whole))),
             Quick::Failed => Err(ReadFault::Reader),
             Quick::Nothing => read_on(&mut self.decoder, &mut self.last, self.reader),
+        }
+    }
+
+    /// Passes over whole transactions of what the reader shows next, where the keeper finds each surely as it should be, and reads the
+    /// next item. It is as if `next_item` had answered the transactions that were passed over, but nothing is held of them. Beside the
+    /// answer stands how many they were.
+    pub fn next_item_passing<K: Keeper>(
+        &mut self,
+        keeper: &mut K,
+    ) -> (Passed, Result<Option<Item>, ReadFault>)
+        ensures same_reference { self.new.reader.ghost_name ≡ self.old.reader.ghost_name }
+        ensures reads { ReadsPassing K.are_clean self.old.decoder (R.remaining self.old.reader.now) result.0 result.1 self.new.decoder (R.remaining self.new.reader.now) }
+        ensures failures { CountsReader result.1 (R.failures self.old.reader.now) (R.failures self.new.reader.now) }
+        ensures last { ReadsLast (R.remaining self.old.reader.now) (R.remaining self.new.reader.now) self.old.last self.new.last }
+    {
+        match pass_shown(&mut self.decoder, &mut self.last, self.reader, keeper) {
+            Some(passed) => (passed, self.next_item()),
+            None => (Passed::nothing(), Err(ReadFault::Reader)),
         }
     }
 

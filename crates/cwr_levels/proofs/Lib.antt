@@ -14,3 +14,4 @@ pub mod CopyStarts
 pub mod FoundByRule
 pub mod CountedRecords
 pub mod FoundByRecord
+pub mod SummedRecords

@@ -46,7 +46,7 @@ fn is_wrong_iswc(iswc: &[u8]) -> bool
 }
 
 /// Whether the record's work code isn't blank and isn't right.
-fn has_wrong_iswc(shown: &RecordRef<'_>) -> bool
+pub(crate) fn has_wrong_iswc(shown: &RecordRef<'_>) -> bool
     ensures { (t : List RecordValue) (k : ℕ) → result ≡ breaks V1 t k shown.now }
 {
     match shown.kind() {
@@ -69,7 +69,7 @@ fn is_number(number: &[u8], party: Option<&[u8]>) -> bool
 
 /// Whether a territory names another party than the nearest publisher or writer before it; also where there is none.
 #[inline(always)]
-fn names_another_party(shown: &RecordRef<'_>, before: &Before<'_>) -> bool
+pub(crate) fn names_another_party(shown: &RecordRef<'_>, before: &Before<'_>) -> bool
     ensures { (t : List RecordValue) (k : ℕ) → is_work t ≡ true → IsBefore (take k t) before.now → result ≡ breaks V2 t k shown.now }
 {
     match shown.kind() {

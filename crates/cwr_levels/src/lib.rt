@@ -9,6 +9,7 @@ mod registered;
 mod report_lines;
 mod rules;
 mod shares;
+mod sums;
 mod totals;
 mod walk;
 
@@ -18,4 +19,5 @@ pub use report_lines::{
     limit_line, refusal_line, split_line, truncated_line,
 };
 pub use rules::{Finding, Rule};
+pub use sums::Sums;
 pub use walk::findings;

@@ -10,7 +10,7 @@ use std::marker::Model;
 
 /// Whether a record is one that stands before a copy.
 #[inline(always)]
-fn stands_before_copy(shown: &RecordRef<'_>) -> bool
+pub(crate) fn stands_before_copy(shown: &RecordRef<'_>) -> bool
     ensures { result ≡ stands_before_copy shown.now }
 {
     is_of(shown, Kind::Ack) || is_of(shown, Kind::Msg)

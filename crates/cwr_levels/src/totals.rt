@@ -47,7 +47,7 @@ pub(crate) struct TransactionTotals {
 impl TransactionTotals {
     /// Those over no record.
     #[inline(always)]
-    fn none() -> TransactionTotals
+    pub(crate) fn none() -> TransactionTotals
         ensures { AreTotals [] result }
     {
         TransactionTotals {
@@ -82,7 +82,7 @@ impl TransactionTotals {
 
     /// With one more record, which stands after `sequence` others. Most kinds count nothing.
     #[inline(always)]
-    fn with(self, sequence: usize, shown: &RecordRef<'_>) -> TransactionTotals
+    pub(crate) fn with(self, sequence: usize, shown: &RecordRef<'_>) -> TransactionTotals
         requires { sequence + 1 < 2 ^ 64 }
         ensures { (rs : List RecordValue) → length rs ≡ sequence → AreTotals rs self → AreTotals (rs ++ shown.now ∷ []) result }
     {

@@ -3,6 +3,7 @@ pub mod FieldLines
 pub mod Joined
 pub mod Joins
 pub mod OtherRecords
+pub mod Passing
 pub mod Reports
 pub mod SplitItems
 pub mod SplitOutputs

@@ -13,6 +13,7 @@ mod other_records;
 mod outcomes;
 mod outputs;
 mod passed;
+mod reading_on;
 mod record_lines;
 mod reporting;
 mod showing;

@@ -15,6 +15,7 @@ ghost use Rattle.cwr_tools.specs.Steps.Reports.{PutsReport, Reports, holds_last,
 ghost use Rattle.cwr_tools.specs.Steps.Watching.{WatchesRun};
 
 use crate::item_lines::{Report, put_item, writer_fault};
+use crate::reading_on::{WorkSums, read_on};
 use crate::record_lines::RecordLines;
 use crate::totals::{HandedOut, Totals};
 use crate::verdicts::{ToolFault, Verdict};
@@ -65,7 +66,7 @@ fn begin_reading<'a, R: Source>(
 }
 
 /// Reads a transmission item by item, up to its end or to where it is refused or ends too early, and puts the lines of
-/// each item. Then `last` gets what was read last, where that is held, and `handed_out` says what was handed out. The watch sees the
+/// each item; transactions of which nothing is told are passed over. Then `last` gets what was read last, where that is held, and `handed_out` says what was handed out. The watch sees the
 /// findings that are told.
 fn put_items<R: Source, W: Target>(
     report: Report,
@@ -88,8 +89,9 @@ fn put_items<R: Source, W: Target>(
     let mut counts = Totals::new();
     let mut lines = RecordLines::new();
     let mut text = RecordText::new();
+    let mut works = WorkSums::new();
     'items: loop {
-        match reading.next_item() {
+        match read_on(report, &mut reading, &mut works, &mut counts) {
             Ok(Some(item)) => {
                 put_item(
                     report,

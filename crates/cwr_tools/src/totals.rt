@@ -2,9 +2,11 @@
 
 ghost use Rattle.std.specs.Prelude.{◌≡◌, ◌+◌, ◌≤◌, length};
 ghost use Rattle.cwr_judge.specs.Format.Items.{item_records};
+ghost use Rattle.cwr_tools.specs.Steps.Passing.{FitTotals, totals_passing};
 ghost use Rattle.cwr_tools.specs.Steps.Verdicts.{totals_with};
 
 use crate::verdicts::Verdict;
+use cwr_decode::Passed;
 use cwr_values::Item;
 
 /// What a run has handed out.
@@ -77,6 +79,17 @@ impl Totals {
                 self.records += transaction.len() as u32;
             }
         }
+    }
+
+    /// Counts transactions that were passed over. A number that gets too large stays at `u32::MAX`.
+    pub(crate) fn pass(&mut self, passed: &Passed)
+        ensures { FitTotals self.old passed.now → self.new ≡ totals_passing self.old passed.now }
+    {
+        let transactions = u32::try_from(passed.transactions).unwrap_or(u32::MAX);
+        let records = u32::try_from(passed.records).unwrap_or(u32::MAX);
+        self.transactions = self.transactions.saturating_add(transactions);
+        self.in_group = self.in_group.saturating_add(transactions);
+        self.records = self.records.saturating_add(records);
     }
 
     /// The verdict on a text that is accepted with these numbers.

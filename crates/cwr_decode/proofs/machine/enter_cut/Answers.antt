@@ -2,22 +2,10 @@ use Rattle.std.proofs.Common.{Bool, List, Option, Some, None, refl, sym, ap, sub
 use Rattle.std.specs.Prelude.{◌≡◌, true, IsSomeAnd}
 use Rattle.cwr_layouts.specs.declared.kinds.Kind.{Kind}
 use Rattle.cwr_layouts.specs.Format.Records.{RecordValue, IsRecord}
-use Rattle.cwr_layouts.specs.Steps.Held.{HeldLine, held_record}
 use Rattle.cwr_layouts.specs.Format.Kinds.{is_in_transaction}
-use Rattle.cwr_judge.specs.Steps.Judged.{IsCounted}
 use Rattle.cwr_decode.specs.Steps.Machines.{HandsOut, Standing, reading, with_tally}
-use Rattle.cwr_decode.proofs.LineSteps.{added_now, waits_now}
+use Rattle.cwr_decode.proofs.LineSteps.{added_now, same_record, waits_now}
 use Rattle.cwr_decode.proofs.machine.enter_cut.Goals as goal
-
-same_record : (h : HeldLine) (r s : RecordValue) → held_record h ≡ Some r → held_record h ≡ Some s → r ≡ s
-same_record h r s er es = inside (Some r) (Some s) (sym er ∙ es)
-  where
-    or_r : Option RecordValue → RecordValue
-    or_r None = r
-    or_r (Some q) = q
-
-    inside : (a b : Option RecordValue) → a ≡ b → or_r a ≡ or_r b
-    inside a b e = ap or_r e
 
 pub known_record-requires : goal.known_record-requires
 known_record-requires c =

@@ -16,6 +16,7 @@ use Rattle.cwr_values.specs.declared.items.Item.{Item}
 use Rattle.cwr_tools.specs.Steps.Watching.{WatchesRun, watched_by}
 use Rattle.cwr_tools.proofs.WatchedRuns.{IsWatching, fault_right, fault_tells, good_right, watched_before, watches_item, watches_nothing}
 use Rattle.cwr_tools.proofs.ReportsOn.{IsReporting, fault_reported, good_reported, item_fault, nothing, reads_item, reports_item, reports_nothing, room_in, same_fault, stops_after, stops_decoder}
+use Rattle.cwr_tools.proofs.ToldReports.{told_grows, told_reporting, told_watching}
 use Rattle.cwr_tools.proofs.reporting.put_items.Goals as goal
 
 pub items-init : goal.items-init
@@ -33,40 +34,41 @@ items-init g c =
     }
 
 pub put_item-requires-clause-unfailed : goal.put_item-requires-clause-unfailed
-put_item-requires-clause-unfailed g c = c.items.invariant.reporting.put.unfailed
+put_item-requires-clause-unfailed g c = (told_reporting _ _ _ _ _ _ _ _ _ _ _ _ _ _ c.items.invariant.reporting c.in-Ok-Some.ensures.told).put.unfailed
 
 pub put_item-requires-clause-few : goal.put_item-requires-clause-few
 put_item-requires-clause-few g c =
-    let reading = reads_item c.args.report c.args.limits c.items.reading.decoder c.next_item.new.self.decoder (g.R.Source.remaining c.args.reader.now) _ _ g.W.Target.contents g.W.Target.failures c.items.counts c.args.sink.now c.items.sink
-    c.in-Ok-Some.field-0 c.in-Ok-Some.item _ _ c.in-Ok-Some.field-0-is c.items.invariant.reporting c.in-Ok-Some.ensures.reads c.in-Ok-Some.ensures.again in
-    (next_room c.args.limits c.next_item.new.self.decoder (g.R.Source.remaining c.args.reader.now) _ c.items.counts c.items.invariant.reporting.given c.in-Ok-Some.item reading c.items.invariant.reporting.counts).records
+    let reading = reads_item c.args.report c.args.limits c.in-Ok-Some.ensures.told.reads.between c.read_on.new.reading.decoder (g.R.Source.remaining c.args.reader.now) _ _ g.W.Target.contents g.W.Target.failures c.read_on.new.counts c.args.sink.now c.items.sink
+    c.in-Ok-Some.field-0 c.in-Ok-Some.item _ _ c.in-Ok-Some.field-0-is (told_reporting _ _ _ _ _ _ _ _ _ _ _ _ _ _ c.items.invariant.reporting c.in-Ok-Some.ensures.told) c.in-Ok-Some.ensures.told.reads.reads c.in-Ok-Some.ensures.told.reads.again in
+    (next_room c.args.limits c.read_on.new.reading.decoder (g.R.Source.remaining c.args.reader.now) _ c.read_on.new.counts (told_reporting _ _ _ _ _ _ _ _ _ _ _ _ _ _ c.items.invariant.reporting c.in-Ok-Some.ensures.told).given c.in-Ok-Some.item reading (told_reporting _ _ _ _ _ _ _ _ _ _ _ _ _ _ c.items.invariant.reporting c.in-Ok-Some.ensures.told).counts).records
 
 pub count-requires-clause-groups : goal.count-requires-clause-groups
-count-requires-clause-groups g c = (room_in c.args.report c.args.limits _ _ _ g.W.Target.contents g.W.Target.failures c.items.counts c.args.sink.now c.items.sink c.items.invariant.reporting).groups
+count-requires-clause-groups g c = (room_in c.args.report c.args.limits _ _ _ g.W.Target.contents g.W.Target.failures c.read_on.new.counts c.args.sink.now c.items.sink (told_reporting _ _ _ _ _ _ _ _ _ _ _ _ _ _ c.items.invariant.reporting c.in-Ok-Some.ensures.told)).groups
 
 pub count-requires-clause-transactions : goal.count-requires-clause-transactions
-count-requires-clause-transactions g c = (room_in c.args.report c.args.limits _ _ _ g.W.Target.contents g.W.Target.failures c.items.counts c.args.sink.now c.items.sink c.items.invariant.reporting).transactions
+count-requires-clause-transactions g c = (room_in c.args.report c.args.limits _ _ _ g.W.Target.contents g.W.Target.failures c.read_on.new.counts c.args.sink.now c.items.sink (told_reporting _ _ _ _ _ _ _ _ _ _ _ _ _ _ c.items.invariant.reporting c.in-Ok-Some.ensures.told)).transactions
 
 pub count-requires-clause-in_group : goal.count-requires-clause-in_group
-count-requires-clause-in_group g c = (room_in c.args.report c.args.limits _ _ _ g.W.Target.contents g.W.Target.failures c.items.counts c.args.sink.now c.items.sink c.items.invariant.reporting).in_group
+count-requires-clause-in_group g c = (room_in c.args.report c.args.limits _ _ _ g.W.Target.contents g.W.Target.failures c.read_on.new.counts c.args.sink.now c.items.sink (told_reporting _ _ _ _ _ _ _ _ _ _ _ _ _ _ c.items.invariant.reporting c.in-Ok-Some.ensures.told)).in_group
 
 pub count-requires-clause-records : goal.count-requires-clause-records
 count-requires-clause-records g c =
-    let reading = reads_item c.args.report c.args.limits c.items.reading.decoder c.next_item.new.self.decoder (g.R.Source.remaining c.args.reader.now) _ _ g.W.Target.contents g.W.Target.failures c.items.counts c.args.sink.now c.items.sink
-    c.in-Ok-Some.field-0 c.in-Ok-Some.item _ _ c.in-Ok-Some.field-0-is c.items.invariant.reporting c.in-Ok-Some.ensures.reads c.in-Ok-Some.ensures.again in
-    (next_room c.args.limits c.next_item.new.self.decoder (g.R.Source.remaining c.args.reader.now) _ c.items.counts c.items.invariant.reporting.given c.in-Ok-Some.item reading c.items.invariant.reporting.counts).records
+    let reading = reads_item c.args.report c.args.limits c.in-Ok-Some.ensures.told.reads.between c.read_on.new.reading.decoder (g.R.Source.remaining c.args.reader.now) _ _ g.W.Target.contents g.W.Target.failures c.read_on.new.counts c.args.sink.now c.items.sink
+    c.in-Ok-Some.field-0 c.in-Ok-Some.item _ _ c.in-Ok-Some.field-0-is (told_reporting _ _ _ _ _ _ _ _ _ _ _ _ _ _ c.items.invariant.reporting c.in-Ok-Some.ensures.told) c.in-Ok-Some.ensures.told.reads.reads c.in-Ok-Some.ensures.told.reads.again in
+    (next_room c.args.limits c.read_on.new.reading.decoder (g.R.Source.remaining c.args.reader.now) _ c.read_on.new.counts (told_reporting _ _ _ _ _ _ _ _ _ _ _ _ _ _ c.items.invariant.reporting c.in-Ok-Some.ensures.told).given c.in-Ok-Some.item reading (told_reporting _ _ _ _ _ _ _ _ _ _ _ _ _ _ c.items.invariant.reporting c.in-Ok-Some.ensures.told).counts).records
 
 pub items-smaller-in_ok-put_item-in-Ok-Some : goal.items-smaller-in_ok-put_item-in-Ok-Some
 items-smaller-in_ok-put_item-in-Ok-Some g c =
-    let reading = reads_item c.args.report c.args.limits c.items.reading.decoder c.next_item.new.self.decoder (g.R.Source.remaining c.args.reader.now) _ _ g.W.Target.contents g.W.Target.failures c.items.counts c.args.sink.now c.items.sink
-    c.in-Ok-Some.field-0 c.in-Ok-Some.item _ _ c.in-Ok-Some.field-0-is c.items.invariant.reporting c.in-Ok-Some.ensures.reads c.in-Ok-Some.ensures.again in
-    let room = (next_room c.args.limits c.next_item.new.self.decoder (g.R.Source.remaining c.args.reader.now) _ c.items.counts c.items.invariant.reporting.given c.in-Ok-Some.item reading c.items.invariant.reporting.counts) in
+    let reading = reads_item c.args.report c.args.limits c.in-Ok-Some.ensures.told.reads.between c.read_on.new.reading.decoder (g.R.Source.remaining c.args.reader.now) _ _ g.W.Target.contents g.W.Target.failures c.read_on.new.counts c.args.sink.now c.items.sink
+    c.in-Ok-Some.field-0 c.in-Ok-Some.item _ _ c.in-Ok-Some.field-0-is (told_reporting _ _ _ _ _ _ _ _ _ _ _ _ _ _ c.items.invariant.reporting c.in-Ok-Some.ensures.told) c.in-Ok-Some.ensures.told.reads.reads c.in-Ok-Some.ensures.told.reads.again in
+    let room = (next_room c.args.limits c.read_on.new.reading.decoder (g.R.Source.remaining c.args.reader.now) _ c.read_on.new.counts (told_reporting _ _ _ _ _ _ _ _ _ _ _ _ _ _ c.items.invariant.reporting c.in-Ok-Some.ensures.told).given c.in-Ok-Some.item reading (told_reporting _ _ _ _ _ _ _ _ _ _ _ _ _ _ c.items.invariant.reporting c.in-Ok-Some.ensures.told).counts) in
     omega (
       arith,
       room.groups,
       room.transactions,
       room.records,
-      total_grows c.items.counts c.in-Ok-Some.item,
+      total_grows c.read_on.new.counts c.in-Ok-Some.item,
+      told_grows _ _ _ _ _ _ _ _ _ _ _ _ _ _ c.items.invariant.reporting c.in-Ok-Some.ensures.told,
       ap (λ (n : Totals). n.groups) c.count.ensures,
       ap (λ (n : Totals). n.transactions) c.count.ensures,
       ap (λ (n : Totals). n.records) c.count.ensures,
@@ -74,16 +76,16 @@ items-smaller-in_ok-put_item-in-Ok-Some g c =
 
 pub items-preserved-in_ok-put_item-in-Ok-Some : goal.items-preserved-in_ok-put_item-in-Ok-Some
 items-preserved-in_ok-put_item-in-Ok-Some g c =
-    let reading = reads_item c.args.report c.args.limits c.items.reading.decoder c.next_item.new.self.decoder (g.R.Source.remaining c.args.reader.now) _ _ g.W.Target.contents g.W.Target.failures c.items.counts c.args.sink.now c.items.sink
-    c.in-Ok-Some.field-0 c.in-Ok-Some.item _ _ c.in-Ok-Some.field-0-is c.items.invariant.reporting c.in-Ok-Some.ensures.reads c.in-Ok-Some.ensures.again in
+    let reading = reads_item c.args.report c.args.limits c.in-Ok-Some.ensures.told.reads.between c.read_on.new.reading.decoder (g.R.Source.remaining c.args.reader.now) _ _ g.W.Target.contents g.W.Target.failures c.read_on.new.counts c.args.sink.now c.items.sink
+    c.in-Ok-Some.field-0 c.in-Ok-Some.item _ _ c.in-Ok-Some.field-0-is (told_reporting _ _ _ _ _ _ _ _ _ _ _ _ _ _ c.items.invariant.reporting c.in-Ok-Some.ensures.told) c.in-Ok-Some.ensures.told.reads.reads c.in-Ok-Some.ensures.told.reads.again in
     record {
-      reporting = subst (λ (counts : Totals). IsReporting c.args.report c.args.limits c.next_item.new.self.decoder (g.R.Source.remaining c.args.reader.now) (g.R.Source.remaining c.next_item.new.self.reader.now) g.W.Target.contents g.W.Target.failures
+      reporting = subst (λ (counts : Totals). IsReporting c.args.report c.args.limits c.read_on.new.reading.decoder (g.R.Source.remaining c.args.reader.now) (g.R.Source.remaining c.read_on.new.reading.reader.now) g.W.Target.contents g.W.Target.failures
           counts c.args.sink.now c.put_item.new.sink) (sym c.count.ensures)
-          (reports_item c.args.report c.args.limits c.items.reading.decoder c.next_item.new.self.decoder (g.R.Source.remaining c.args.reader.now) _ _ g.W.Target.contents g.W.Target.failures c.items.counts c.args.sink.now c.items.sink c.put_item.new.sink
-          c.in-Ok-Some.item tt c.items.invariant.reporting reading c.in_ok-put_item-in-Ok-Some.ensures.puts);
-      watching = subst (λ (counts : Totals). IsWatching c.args.report c.args.limits c.next_item.new.self.decoder (g.R.Source.remaining c.args.reader.now) (g.R.Source.remaining c.next_item.new.self.reader.now) counts c.args.watch.now c.put_item.new.watch) (sym c.count.ensures)
-          (watches_item c.args.report c.args.limits c.items.reading.decoder c.next_item.new.self.decoder (g.R.Source.remaining c.args.reader.now) _ _ c.items.counts c.args.watch.now c.items.watch c.put_item.new.watch
-          c.in-Ok-Some.field-0 c.in-Ok-Some.item _ _ c.in-Ok-Some.field-0-is c.items.invariant.watching c.in-Ok-Some.ensures.reads c.in-Ok-Some.ensures.again c.in_ok-put_item-in-Ok-Some.ensures.watched);
+          (reports_item c.args.report c.args.limits c.in-Ok-Some.ensures.told.reads.between c.read_on.new.reading.decoder (g.R.Source.remaining c.args.reader.now) _ _ g.W.Target.contents g.W.Target.failures c.read_on.new.counts c.args.sink.now c.items.sink c.put_item.new.sink
+          c.in-Ok-Some.item tt (told_reporting _ _ _ _ _ _ _ _ _ _ _ _ _ _ c.items.invariant.reporting c.in-Ok-Some.ensures.told) reading c.in_ok-put_item-in-Ok-Some.ensures.puts);
+      watching = subst (λ (counts : Totals). IsWatching c.args.report c.args.limits c.read_on.new.reading.decoder (g.R.Source.remaining c.args.reader.now) (g.R.Source.remaining c.read_on.new.reading.reader.now) counts c.args.watch.now c.put_item.new.watch) (sym c.count.ensures)
+          (watches_item c.args.report c.args.limits c.in-Ok-Some.ensures.told.reads.between c.read_on.new.reading.decoder (g.R.Source.remaining c.args.reader.now) _ _ c.read_on.new.counts c.args.watch.now c.items.watch c.put_item.new.watch
+          c.in-Ok-Some.field-0 c.in-Ok-Some.item _ _ c.in-Ok-Some.field-0-is (told_watching _ _ _ _ _ _ _ _ _ _ _ _ c.items.invariant.watching c.in-Ok-Some.ensures.told) c.in-Ok-Some.ensures.told.reads.reads c.in-Ok-Some.ensures.told.reads.again c.in_ok-put_item-in-Ok-Some.ensures.watched);
       failures = c.in-Ok-Some.ensures.failures ∙ c.items.invariant.failures;
       last = λ explains. holds_more _ _ _ _ _ (c.items.invariant.last explains) c.in-Ok-Some.ensures.last;
       same = c.in-Ok-Some.ensures.same_reference ∙ c.items.invariant.same;
@@ -91,15 +93,16 @@ items-preserved-in_ok-put_item-in-Ok-Some g c =
 
 pub items-smaller : goal.items-smaller
 items-smaller g c =
-    let reading = reads_item c.args.report c.args.limits c.items.reading.decoder c.next_item.new.self.decoder (g.R.Source.remaining c.args.reader.now) _ _ g.W.Target.contents g.W.Target.failures c.items.counts c.args.sink.now c.items.sink
-    c.in-Ok-Some.field-0 c.in-Ok-Some.item _ _ c.in-Ok-Some.field-0-is c.items.invariant.reporting c.in-Ok-Some.ensures.reads c.in-Ok-Some.ensures.again in
-    let room = (next_room c.args.limits c.next_item.new.self.decoder (g.R.Source.remaining c.args.reader.now) _ c.items.counts c.items.invariant.reporting.given c.in-Ok-Some.item reading c.items.invariant.reporting.counts) in
+    let reading = reads_item c.args.report c.args.limits c.in-Ok-Some.ensures.told.reads.between c.read_on.new.reading.decoder (g.R.Source.remaining c.args.reader.now) _ _ g.W.Target.contents g.W.Target.failures c.read_on.new.counts c.args.sink.now c.items.sink
+    c.in-Ok-Some.field-0 c.in-Ok-Some.item _ _ c.in-Ok-Some.field-0-is (told_reporting _ _ _ _ _ _ _ _ _ _ _ _ _ _ c.items.invariant.reporting c.in-Ok-Some.ensures.told) c.in-Ok-Some.ensures.told.reads.reads c.in-Ok-Some.ensures.told.reads.again in
+    let room = (next_room c.args.limits c.read_on.new.reading.decoder (g.R.Source.remaining c.args.reader.now) _ c.read_on.new.counts (told_reporting _ _ _ _ _ _ _ _ _ _ _ _ _ _ c.items.invariant.reporting c.in-Ok-Some.ensures.told).given c.in-Ok-Some.item reading (told_reporting _ _ _ _ _ _ _ _ _ _ _ _ _ _ c.items.invariant.reporting c.in-Ok-Some.ensures.told).counts) in
     omega (
       arith,
       room.groups,
       room.transactions,
       room.records,
-      total_grows c.items.counts c.in-Ok-Some.item,
+      total_grows c.read_on.new.counts c.in-Ok-Some.item,
+      told_grows _ _ _ _ _ _ _ _ _ _ _ _ _ _ c.items.invariant.reporting c.in-Ok-Some.ensures.told,
       ap (λ (n : Totals). n.groups) c.count.ensures,
       ap (λ (n : Totals). n.transactions) c.count.ensures,
       ap (λ (n : Totals). n.records) c.count.ensures,
@@ -107,16 +110,16 @@ items-smaller g c =
 
 pub items-preserved : goal.items-preserved
 items-preserved g c =
-    let reading = reads_item c.args.report c.args.limits c.items.reading.decoder c.next_item.new.self.decoder (g.R.Source.remaining c.args.reader.now) _ _ g.W.Target.contents g.W.Target.failures c.items.counts c.args.sink.now c.items.sink
-    c.in-Ok-Some.field-0 c.in-Ok-Some.item _ _ c.in-Ok-Some.field-0-is c.items.invariant.reporting c.in-Ok-Some.ensures.reads c.in-Ok-Some.ensures.again in
+    let reading = reads_item c.args.report c.args.limits c.in-Ok-Some.ensures.told.reads.between c.read_on.new.reading.decoder (g.R.Source.remaining c.args.reader.now) _ _ g.W.Target.contents g.W.Target.failures c.read_on.new.counts c.args.sink.now c.items.sink
+    c.in-Ok-Some.field-0 c.in-Ok-Some.item _ _ c.in-Ok-Some.field-0-is (told_reporting _ _ _ _ _ _ _ _ _ _ _ _ _ _ c.items.invariant.reporting c.in-Ok-Some.ensures.told) c.in-Ok-Some.ensures.told.reads.reads c.in-Ok-Some.ensures.told.reads.again in
     record {
-      reporting = subst (λ (counts : Totals). IsReporting c.args.report c.args.limits c.next_item.new.self.decoder (g.R.Source.remaining c.args.reader.now) (g.R.Source.remaining c.next_item.new.self.reader.now) g.W.Target.contents g.W.Target.failures
+      reporting = subst (λ (counts : Totals). IsReporting c.args.report c.args.limits c.read_on.new.reading.decoder (g.R.Source.remaining c.args.reader.now) (g.R.Source.remaining c.read_on.new.reading.reader.now) g.W.Target.contents g.W.Target.failures
           counts c.args.sink.now c.put_item.new.sink) (sym c.count.ensures)
-          (reports_item c.args.report c.args.limits c.items.reading.decoder c.next_item.new.self.decoder (g.R.Source.remaining c.args.reader.now) _ _ g.W.Target.contents g.W.Target.failures c.items.counts c.args.sink.now c.items.sink c.put_item.new.sink
-          c.in-Ok-Some.item tt c.items.invariant.reporting reading c.in_ok-put_item-in-Ok-Some.ensures.puts);
-      watching = subst (λ (counts : Totals). IsWatching c.args.report c.args.limits c.next_item.new.self.decoder (g.R.Source.remaining c.args.reader.now) (g.R.Source.remaining c.next_item.new.self.reader.now) counts c.args.watch.now c.put_item.new.watch) (sym c.count.ensures)
-          (watches_item c.args.report c.args.limits c.items.reading.decoder c.next_item.new.self.decoder (g.R.Source.remaining c.args.reader.now) _ _ c.items.counts c.args.watch.now c.items.watch c.put_item.new.watch
-          c.in-Ok-Some.field-0 c.in-Ok-Some.item _ _ c.in-Ok-Some.field-0-is c.items.invariant.watching c.in-Ok-Some.ensures.reads c.in-Ok-Some.ensures.again c.in_ok-put_item-in-Ok-Some.ensures.watched);
+          (reports_item c.args.report c.args.limits c.in-Ok-Some.ensures.told.reads.between c.read_on.new.reading.decoder (g.R.Source.remaining c.args.reader.now) _ _ g.W.Target.contents g.W.Target.failures c.read_on.new.counts c.args.sink.now c.items.sink c.put_item.new.sink
+          c.in-Ok-Some.item tt (told_reporting _ _ _ _ _ _ _ _ _ _ _ _ _ _ c.items.invariant.reporting c.in-Ok-Some.ensures.told) reading c.in_ok-put_item-in-Ok-Some.ensures.puts);
+      watching = subst (λ (counts : Totals). IsWatching c.args.report c.args.limits c.read_on.new.reading.decoder (g.R.Source.remaining c.args.reader.now) (g.R.Source.remaining c.read_on.new.reading.reader.now) counts c.args.watch.now c.put_item.new.watch) (sym c.count.ensures)
+          (watches_item c.args.report c.args.limits c.in-Ok-Some.ensures.told.reads.between c.read_on.new.reading.decoder (g.R.Source.remaining c.args.reader.now) _ _ c.read_on.new.counts c.args.watch.now c.items.watch c.put_item.new.watch
+          c.in-Ok-Some.field-0 c.in-Ok-Some.item _ _ c.in-Ok-Some.field-0-is (told_watching _ _ _ _ _ _ _ _ _ _ _ _ c.items.invariant.watching c.in-Ok-Some.ensures.told) c.in-Ok-Some.ensures.told.reads.reads c.in-Ok-Some.ensures.told.reads.again c.in_ok-put_item-in-Ok-Some.ensures.watched);
       failures = c.in-Ok-Some.ensures.failures ∙ c.items.invariant.failures;
       last = λ explains. holds_more _ _ _ _ _ (c.items.invariant.last explains) c.in-Ok-Some.ensures.last;
       same = c.in-Ok-Some.ensures.same_reference ∙ c.items.invariant.same;
@@ -124,33 +127,33 @@ items-preserved g c =
 
 pub returns-in_err-put_item-in-Ok-Some-clause-puts : goal.returns-in_err-put_item-in-Ok-Some-clause-puts
 returns-in_err-put_item-in-Ok-Some-clause-puts g c =
-    let reading = reads_item c.args.report c.args.limits c.items.reading.decoder c.next_item.new.self.decoder (g.R.Source.remaining c.args.reader.now) _ _ g.W.Target.contents g.W.Target.failures c.items.counts c.args.sink.now c.items.sink
-    c.in-Ok-Some.field-0 c.in-Ok-Some.item _ _ c.in-Ok-Some.field-0-is c.items.invariant.reporting c.in-Ok-Some.ensures.reads c.in-Ok-Some.ensures.again in
-    let faulty : PutsReport (lines_in c.args.report) nothing c.args.limits (g.R.Source.remaining c.args.reader.now) (g.R.Source.remaining c.next_item.new.self.reader.now) g.W.Target.contents g.W.Target.failures c.from_residual.result c.args.sink.now c.put_item.new.sink
-    = subst (λ (r : Result Verdict ToolFault). PutsReport (lines_in c.args.report) nothing c.args.limits (g.R.Source.remaining c.args.reader.now) (g.R.Source.remaining c.next_item.new.self.reader.now) g.W.Target.contents g.W.Target.failures r c.args.sink.now c.put_item.new.sink)
+    let reading = reads_item c.args.report c.args.limits c.in-Ok-Some.ensures.told.reads.between c.read_on.new.reading.decoder (g.R.Source.remaining c.args.reader.now) _ _ g.W.Target.contents g.W.Target.failures c.read_on.new.counts c.args.sink.now c.items.sink
+    c.in-Ok-Some.field-0 c.in-Ok-Some.item _ _ c.in-Ok-Some.field-0-is (told_reporting _ _ _ _ _ _ _ _ _ _ _ _ _ _ c.items.invariant.reporting c.in-Ok-Some.ensures.told) c.in-Ok-Some.ensures.told.reads.reads c.in-Ok-Some.ensures.told.reads.again in
+    let faulty : PutsReport (lines_in c.args.report) nothing c.args.limits (g.R.Source.remaining c.args.reader.now) (g.R.Source.remaining c.read_on.new.reading.reader.now) g.W.Target.contents g.W.Target.failures c.from_residual.result c.args.sink.now c.put_item.new.sink
+    = subst (λ (r : Result Verdict ToolFault). PutsReport (lines_in c.args.report) nothing c.args.limits (g.R.Source.remaining c.args.reader.now) (g.R.Source.remaining c.read_on.new.reading.reader.now) g.W.Target.contents g.W.Target.failures r c.args.sink.now c.put_item.new.sink)
     (sym (same_fault c.from_residual.result c.in_err-put_item-in-Ok-Some.field-0.0 c.from_residual.ensures.1))
-    (item_fault c.args.report nothing c.args.limits c.items.reading.decoder c.next_item.new.self.decoder (g.R.Source.remaining c.args.reader.now) _ _ g.W.Target.contents g.W.Target.failures c.items.counts c.args.sink.now c.items.sink c.put_item.new.sink
-    c.in-Ok-Some.item c.in_err-put_item-in-Ok-Some.field-0.0 c.items.invariant.reporting reading c.in_err-put_item-in-Ok-Some.ensures.puts) in
+    (item_fault c.args.report nothing c.args.limits c.in-Ok-Some.ensures.told.reads.between c.read_on.new.reading.decoder (g.R.Source.remaining c.args.reader.now) _ _ g.W.Target.contents g.W.Target.failures c.read_on.new.counts c.args.sink.now c.items.sink c.put_item.new.sink
+    c.in-Ok-Some.item c.in_err-put_item-in-Ok-Some.field-0.0 (told_reporting _ _ _ _ _ _ _ _ _ _ _ _ _ _ c.items.invariant.reporting c.in-Ok-Some.ensures.told) reading c.in_err-put_item-in-Ok-Some.ensures.puts) in
     search rules
 
 pub returns-in-Ok-None-clause-puts : goal.returns-in-Ok-None-clause-puts
 returns-in-Ok-None-clause-puts g c =
-    let all : HasReadAll c.args.limits (g.R.Source.remaining c.args.reader.now) (g.R.Source.remaining c.next_item.new.self.reader.now) c.items.invariant.reporting.given
-    = none_read c.args.limits c.items.reading.decoder c.next_item.new.self.decoder (g.R.Source.remaining c.args.reader.now) _ _ c.items.invariant.reporting.given c.in-Ok-None.field-0 _ c.in-Ok-None.field-0-is
-    c.items.invariant.reporting.reading c.in-Ok-None.ensures.reads c.in-Ok-None.ensures.again (λ e. ap g.R.Source.remaining e) in
-    let good : PutsReport (lines_in c.args.report) nothing c.args.limits (g.R.Source.remaining c.args.reader.now) (g.R.Source.remaining c.next_item.new.self.reader.now) g.W.Target.contents g.W.Target.failures (Ok c.good.result) c.args.sink.now c.items.sink
-    = good_reported (lines_in c.args.report) c.args.limits _ _ g.W.Target.contents g.W.Target.failures c.args.sink.now c.items.sink c.items.invariant.reporting.given c.items.counts c.good.result all
-    c.items.invariant.reporting.counts c.items.invariant.reporting.put c.good.ensures in
+    let all : HasReadAll c.args.limits (g.R.Source.remaining c.args.reader.now) (g.R.Source.remaining c.read_on.new.reading.reader.now) (told_reporting _ _ _ _ _ _ _ _ _ _ _ _ _ _ c.items.invariant.reporting c.in-Ok-None.ensures.told).given
+    = none_read c.args.limits c.in-Ok-None.ensures.told.reads.between c.read_on.new.reading.decoder (g.R.Source.remaining c.args.reader.now) _ _ (told_reporting _ _ _ _ _ _ _ _ _ _ _ _ _ _ c.items.invariant.reporting c.in-Ok-None.ensures.told).given c.in-Ok-None.field-0 _ c.in-Ok-None.field-0-is
+    (told_reporting _ _ _ _ _ _ _ _ _ _ _ _ _ _ c.items.invariant.reporting c.in-Ok-None.ensures.told).reading c.in-Ok-None.ensures.told.reads.reads c.in-Ok-None.ensures.told.reads.again (λ e. e) in
+    let good : PutsReport (lines_in c.args.report) nothing c.args.limits (g.R.Source.remaining c.args.reader.now) (g.R.Source.remaining c.read_on.new.reading.reader.now) g.W.Target.contents g.W.Target.failures (Ok c.good.result) c.args.sink.now c.items.sink
+    = good_reported (lines_in c.args.report) c.args.limits _ _ g.W.Target.contents g.W.Target.failures c.args.sink.now c.items.sink (told_reporting _ _ _ _ _ _ _ _ _ _ _ _ _ _ c.items.invariant.reporting c.in-Ok-None.ensures.told).given c.read_on.new.counts c.good.result all
+    (told_reporting _ _ _ _ _ _ _ _ _ _ _ _ _ _ c.items.invariant.reporting c.in-Ok-None.ensures.told).counts (told_reporting _ _ _ _ _ _ _ _ _ _ _ _ _ _ c.items.invariant.reporting c.in-Ok-None.ensures.told).put c.good.ensures in
     search rules
 
 pub returns-in-Err-clause-puts : goal.returns-in-Err-clause-puts
 returns-in-Err-clause-puts g c =
-    let stop : StopsAfter c.args.limits c.in-Err.fault (g.R.Source.remaining c.args.reader.now) (g.R.Source.remaining c.next_item.new.self.reader.now) c.items.invariant.reporting.given
-    = stops_after c.args.limits c.items.reading.decoder c.next_item.new.self.decoder (g.R.Source.remaining c.args.reader.now) _ _ c.items.invariant.reporting.given c.in-Err.fault _ _
-    c.items.invariant.reporting.reading c.in-Err.ensures.reads c.in-Err.ensures.again in
-    let stopped : PutsReport (lines_in c.args.report) nothing c.args.limits (g.R.Source.remaining c.args.reader.now) (g.R.Source.remaining c.next_item.new.self.reader.now) g.W.Target.contents g.W.Target.failures c.verdict_of.result c.args.sink.now c.items.sink
-    = fault_reported (lines_in c.args.report) c.args.limits _ _ g.W.Target.contents g.W.Target.failures c.args.sink.now c.items.sink c.items.invariant.reporting.given c.in-Err.fault c.verdict_of.result stop
-    c.items.invariant.reporting.put c.verdict_of.ensures in
+    let stop : StopsAfter c.args.limits c.in-Err.fault (g.R.Source.remaining c.args.reader.now) (g.R.Source.remaining c.read_on.new.reading.reader.now) (told_reporting _ _ _ _ _ _ _ _ _ _ _ _ _ _ c.items.invariant.reporting c.in-Err.ensures.told).given
+    = stops_after c.args.limits c.in-Err.ensures.told.reads.between c.read_on.new.reading.decoder (g.R.Source.remaining c.args.reader.now) _ _ (told_reporting _ _ _ _ _ _ _ _ _ _ _ _ _ _ c.items.invariant.reporting c.in-Err.ensures.told).given c.in-Err.fault _ _
+    (told_reporting _ _ _ _ _ _ _ _ _ _ _ _ _ _ c.items.invariant.reporting c.in-Err.ensures.told).reading c.in-Err.ensures.told.reads.reads c.in-Err.ensures.told.reads.again in
+    let stopped : PutsReport (lines_in c.args.report) nothing c.args.limits (g.R.Source.remaining c.args.reader.now) (g.R.Source.remaining c.read_on.new.reading.reader.now) g.W.Target.contents g.W.Target.failures c.verdict_of.result c.args.sink.now c.items.sink
+    = fault_reported (lines_in c.args.report) c.args.limits _ _ g.W.Target.contents g.W.Target.failures c.args.sink.now c.items.sink (told_reporting _ _ _ _ _ _ _ _ _ _ _ _ _ _ c.items.invariant.reporting c.in-Err.ensures.told).given c.in-Err.fault c.verdict_of.result stop
+    (told_reporting _ _ _ _ _ _ _ _ _ _ _ _ _ _ c.items.invariant.reporting c.in-Err.ensures.told).put c.verdict_of.ensures in
     search rules
 
 pub returns-in_err-put_item-in-Ok-Some-clause-last : goal.returns-in_err-put_item-in-Ok-Some-clause-last
@@ -158,20 +161,20 @@ returns-in_err-put_item-in-Ok-Some-clause-last g c = λ explains. err_last c.arg
 
 pub returns-in-Ok-None-clause-last : goal.returns-in-Ok-None-clause-last
 returns-in-Ok-None-clause-last g c = λ explains.
-    let good : IsSomeAnd c.last_read.result (IsReadLast c.args.limits (g.R.Source.remaining c.args.reader.now) (g.R.Source.remaining c.next_item.new.self.reader.now) c.good.result)
-    = good_answered c.args.limits _ _ c.next_item.new.self.last c.last_read.result c.good.result _ _ _ c.good.ensures
+    let good : IsSomeAnd c.last_read.result (IsReadLast c.args.limits (g.R.Source.remaining c.args.reader.now) (g.R.Source.remaining c.read_on.new.reading.reader.now) c.good.result)
+    = good_answered c.args.limits _ _ c.read_on.new.reading.last c.last_read.result c.good.result _ _ _ c.good.ensures
     (holds_more _ _ _ _ _ (c.items.invariant.last explains) c.in-Ok-None.ensures.last) c.last_read.ensures.bytes in
     search rules
 
 pub returns-in-Err-clause-last : goal.returns-in-Err-clause-last
 returns-in-Err-clause-last g c = λ explains.
-    let stop : StopsAfter c.args.limits c.in-Err.fault (g.R.Source.remaining c.args.reader.now) (g.R.Source.remaining c.next_item.new.self.reader.now) c.items.invariant.reporting.given
-    = stops_after c.args.limits c.items.reading.decoder c.next_item.new.self.decoder (g.R.Source.remaining c.args.reader.now) _ _ c.items.invariant.reporting.given c.in-Err.fault _ _
-    c.items.invariant.reporting.reading c.in-Err.ensures.reads c.in-Err.ensures.again in
-    let same : stop.0.decoder ≡ c.next_item.new.self.decoder = stops_decoder c.args.limits c.items.reading.decoder c.next_item.new.self.decoder (g.R.Source.remaining c.args.reader.now) _ _ c.items.invariant.reporting.given c.in-Err.fault _ _
-    c.items.invariant.reporting.reading c.in-Err.ensures.reads c.in-Err.ensures.again in
-    let stopped : IfOk c.verdict_of.result (λ verdict. IsSomeAnd c.last_read-in-Err.result (IsReadLast c.args.limits (g.R.Source.remaining c.args.reader.now) (g.R.Source.remaining c.next_item.new.self.reader.now) verdict))
-    = fault_answered c.args.limits _ _ c.items.invariant.reporting.given c.next_item.new.self.last c.last_read-in-Err.result c.in-Err.fault c.verdict_of.result stop
+    let stop : StopsAfter c.args.limits c.in-Err.fault (g.R.Source.remaining c.args.reader.now) (g.R.Source.remaining c.read_on.new.reading.reader.now) (told_reporting _ _ _ _ _ _ _ _ _ _ _ _ _ _ c.items.invariant.reporting c.in-Err.ensures.told).given
+    = stops_after c.args.limits c.in-Err.ensures.told.reads.between c.read_on.new.reading.decoder (g.R.Source.remaining c.args.reader.now) _ _ (told_reporting _ _ _ _ _ _ _ _ _ _ _ _ _ _ c.items.invariant.reporting c.in-Err.ensures.told).given c.in-Err.fault _ _
+    (told_reporting _ _ _ _ _ _ _ _ _ _ _ _ _ _ c.items.invariant.reporting c.in-Err.ensures.told).reading c.in-Err.ensures.told.reads.reads c.in-Err.ensures.told.reads.again in
+    let same : stop.0.decoder ≡ c.read_on.new.reading.decoder = stops_decoder c.args.limits c.in-Err.ensures.told.reads.between c.read_on.new.reading.decoder (g.R.Source.remaining c.args.reader.now) _ _ (told_reporting _ _ _ _ _ _ _ _ _ _ _ _ _ _ c.items.invariant.reporting c.in-Err.ensures.told).given c.in-Err.fault _ _
+    (told_reporting _ _ _ _ _ _ _ _ _ _ _ _ _ _ c.items.invariant.reporting c.in-Err.ensures.told).reading c.in-Err.ensures.told.reads.reads c.in-Err.ensures.told.reads.again in
+    let stopped : IfOk c.verdict_of.result (λ verdict. IsSomeAnd c.last_read-in-Err.result (IsReadLast c.args.limits (g.R.Source.remaining c.args.reader.now) (g.R.Source.remaining c.read_on.new.reading.reader.now) verdict))
+    = fault_answered c.args.limits _ _ (told_reporting _ _ _ _ _ _ _ _ _ _ _ _ _ _ c.items.invariant.reporting c.in-Err.ensures.told).given c.read_on.new.reading.last c.last_read-in-Err.result c.in-Err.fault c.verdict_of.result stop
     (subst (λ (d : Standing). IfSome c.last_read-in-Err.result (λ last. (last.stage ≡ stage_of_records d) × (last.counts ≡ counts_of_records d))) (sym same) c.last_read-in-Err.ensures.front)
     (holds_more _ _ _ _ _ (c.items.invariant.last explains) c.in-Err.ensures.last) c.last_read-in-Err.ensures.bytes c.verdict_of.ensures in
     search rules
@@ -181,21 +184,21 @@ returns-in_err-put_item-in-Ok-Some-clause-watched g c = fault_tells _ c.from_res
 
 pub returns-in-Ok-None-clause-watched : goal.returns-in-Ok-None-clause-watched
 returns-in-Ok-None-clause-watched g c =
-    let all : HasReadAll c.args.limits (g.R.Source.remaining c.args.reader.now) (g.R.Source.remaining c.next_item.new.self.reader.now) c.items.invariant.watching.given
-    = none_read c.args.limits c.items.reading.decoder c.next_item.new.self.decoder (g.R.Source.remaining c.args.reader.now) _ _ c.items.invariant.watching.given c.in-Ok-None.field-0 _ c.in-Ok-None.field-0-is
-    c.items.invariant.watching.reading c.in-Ok-None.ensures.reads c.in-Ok-None.ensures.again (λ e. ap g.R.Source.remaining e) in
-    let right : IsRightVerdict c.args.limits (g.R.Source.remaining c.args.reader.now) c.good.result (g.R.Source.remaining c.next_item.new.self.reader.now) c.items.invariant.watching.given
-    = good_right c.args.limits _ _ c.items.invariant.watching.given c.items.counts c.good.result all c.items.invariant.watching.counts c.good.ensures in
-    let watching : WatchesRun c.args.report c.args.limits (g.R.Source.remaining c.args.reader.now) (g.R.Source.remaining c.next_item.new.self.reader.now) c.args.watch.now c.items.watch c.good.result
-    = (c.items.invariant.watching.given, right, c.items.invariant.watching.watched) in
+    let all : HasReadAll c.args.limits (g.R.Source.remaining c.args.reader.now) (g.R.Source.remaining c.read_on.new.reading.reader.now) (told_watching _ _ _ _ _ _ _ _ _ _ _ _ c.items.invariant.watching c.in-Ok-None.ensures.told).given
+    = none_read c.args.limits c.in-Ok-None.ensures.told.reads.between c.read_on.new.reading.decoder (g.R.Source.remaining c.args.reader.now) _ _ (told_watching _ _ _ _ _ _ _ _ _ _ _ _ c.items.invariant.watching c.in-Ok-None.ensures.told).given c.in-Ok-None.field-0 _ c.in-Ok-None.field-0-is
+    (told_watching _ _ _ _ _ _ _ _ _ _ _ _ c.items.invariant.watching c.in-Ok-None.ensures.told).reading c.in-Ok-None.ensures.told.reads.reads c.in-Ok-None.ensures.told.reads.again (λ e. e) in
+    let right : IsRightVerdict c.args.limits (g.R.Source.remaining c.args.reader.now) c.good.result (g.R.Source.remaining c.read_on.new.reading.reader.now) (told_watching _ _ _ _ _ _ _ _ _ _ _ _ c.items.invariant.watching c.in-Ok-None.ensures.told).given
+    = good_right c.args.limits _ _ (told_watching _ _ _ _ _ _ _ _ _ _ _ _ c.items.invariant.watching c.in-Ok-None.ensures.told).given c.read_on.new.counts c.good.result all (told_watching _ _ _ _ _ _ _ _ _ _ _ _ c.items.invariant.watching c.in-Ok-None.ensures.told).counts c.good.ensures in
+    let watching : WatchesRun c.args.report c.args.limits (g.R.Source.remaining c.args.reader.now) (g.R.Source.remaining c.read_on.new.reading.reader.now) c.args.watch.now c.items.watch c.good.result
+    = ((told_watching _ _ _ _ _ _ _ _ _ _ _ _ c.items.invariant.watching c.in-Ok-None.ensures.told).given, right, (told_watching _ _ _ _ _ _ _ _ _ _ _ _ c.items.invariant.watching c.in-Ok-None.ensures.told).watched) in
     search rules
 
 pub returns-in-Err-clause-watched : goal.returns-in-Err-clause-watched
 returns-in-Err-clause-watched g c =
-    let stop : StopsAfter c.args.limits c.in-Err.fault (g.R.Source.remaining c.args.reader.now) (g.R.Source.remaining c.next_item.new.self.reader.now) c.items.invariant.watching.given
-    = stops_after c.args.limits c.items.reading.decoder c.next_item.new.self.decoder (g.R.Source.remaining c.args.reader.now) _ _ c.items.invariant.watching.given c.in-Err.fault _ _
-    c.items.invariant.watching.reading c.in-Err.ensures.reads c.in-Err.ensures.again in
-    let watching : IfOk c.verdict_of.result (WatchesRun c.args.report c.args.limits (g.R.Source.remaining c.args.reader.now) (g.R.Source.remaining c.next_item.new.self.reader.now) c.args.watch.now c.items.watch)
-    = watched_before c.args.limits _ _ c.items.invariant.watching.given (λ (items : List Item). c.items.watch ≡ watched_by c.args.report c.args.watch.now items) c.verdict_of.result
-    (fault_right c.args.limits _ _ c.items.invariant.watching.given c.in-Err.fault c.verdict_of.result stop c.verdict_of.ensures) c.items.invariant.watching.watched in
+    let stop : StopsAfter c.args.limits c.in-Err.fault (g.R.Source.remaining c.args.reader.now) (g.R.Source.remaining c.read_on.new.reading.reader.now) (told_watching _ _ _ _ _ _ _ _ _ _ _ _ c.items.invariant.watching c.in-Err.ensures.told).given
+    = stops_after c.args.limits c.in-Err.ensures.told.reads.between c.read_on.new.reading.decoder (g.R.Source.remaining c.args.reader.now) _ _ (told_watching _ _ _ _ _ _ _ _ _ _ _ _ c.items.invariant.watching c.in-Err.ensures.told).given c.in-Err.fault _ _
+    (told_watching _ _ _ _ _ _ _ _ _ _ _ _ c.items.invariant.watching c.in-Err.ensures.told).reading c.in-Err.ensures.told.reads.reads c.in-Err.ensures.told.reads.again in
+    let watching : IfOk c.verdict_of.result (WatchesRun c.args.report c.args.limits (g.R.Source.remaining c.args.reader.now) (g.R.Source.remaining c.read_on.new.reading.reader.now) c.args.watch.now c.items.watch)
+    = watched_before c.args.limits _ _ (told_watching _ _ _ _ _ _ _ _ _ _ _ _ c.items.invariant.watching c.in-Err.ensures.told).given (λ (items : List Item). c.items.watch ≡ watched_by c.args.report c.args.watch.now items) c.verdict_of.result
+    (fault_right c.args.limits _ _ (told_watching _ _ _ _ _ _ _ _ _ _ _ _ c.items.invariant.watching c.in-Err.ensures.told).given c.in-Err.fault c.verdict_of.result stop c.verdict_of.ensures) (told_watching _ _ _ _ _ _ _ _ _ _ _ _ c.items.invariant.watching c.in-Err.ensures.told).watched in
     search rules

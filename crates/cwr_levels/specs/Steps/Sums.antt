@@ -1,0 +1,61 @@
+-- What is kept of the records of a work in place of them, and what that says of them.
+use Rattle.std.specs.Prelude.{◌≡◌, ◌⊎◌, ℕ, Bool, true, false, not, ◌==◌, List, [], ◌∷◌, ◌++◌, length, drop, take, slice_get, Option, Some, None}
+use Rattle.std.specs.List.{list_any, last_or}
+use Rattle.std.specs.Str.{bytes_eq}
+use Rattle.cwr_layouts.specs.declared.kinds.Kind.TheVariants as kinds
+use Rattle.cwr_layouts.specs.Format.Records.{RecordValue}
+use Rattle.cwr_levels.specs.declared.rules.Rule.TheVariants.{V1, V2, V7, V8}
+use Rattle.cwr_levels.specs.declared.sums.Sums.{Sums}
+use Rattle.cwr_levels.specs.Format.Findings.{before_copy, breaks, counts_others, in_blocks, is_blank, is_territory, is_work, nearest}
+use Rattle.cwr_levels.specs.Steps.Walks.{AreTotals, capped, is_publisher, party_number}
+
+-- the record, after k others, breaks none of the rules that speak of one record and those around it
+pub record IsUnbroken (t : List RecordValue) (k : ℕ) (r : RecordValue) : Type 0 where
+  pub iswc : breaks V1 t k r ≡ false
+  pub party : breaks V2 t k r ≡ false
+  pub publisher : breaks V7 t k r ≡ false
+  pub excerpt : breaks V8 t k r ≡ false
+
+-- each of the records does so
+abbrev pub AreUnbroken : List RecordValue → Type 0
+AreUnbroken t = (k : ℕ) (r : RecordValue) → slice_get t k ≡ Some r → IsUnbroken t k r
+
+-- there is a number of components, and it is another
+abbrev pub wants_other : Option ℕ → ℕ → Bool
+wants_other None components = false
+wants_other (Some wanted) components = not (wanted == components)
+
+-- what the header asks of the number of components
+abbrev pub AsksComponents : RecordValue → Option ℕ → Type 0
+AsksComponents header wanted = (n components : ℕ) → components ≡ capped n → wants_other wanted components ≡ counts_others header n
+
+-- these are numbers of publishers among the records, though perhaps not all
+abbrev pub AreNumbersOf : List RecordValue → List (List ℕ) → Type 0
+AreNumbersOf t numbers = (number : List ℕ) → list_any (bytes_eq number) numbers ≡ true → list_any (is_publisher number) t ≡ true
+
+-- the records are those of a work, whole or only begun, of which none is broken, and the sums are those over them
+pub record AreSums (s : Sums) (t : List RecordValue) : Type 0 where
+  pub begun : s.is_begun ≡ true
+  pub work : is_work t ≡ true
+  pub counted : s.records ≡ length t
+  pub totals : AreTotals t s.totals
+  pub publisher : s.publisher ≡ party_number (nearest kinds.Spu t)
+  pub writer : s.writer ≡ party_number (nearest kinds.Swr t)
+  pub territory : is_territory (last_or None (in_blocks t)) ≡ false
+  pub publishers : AreNumbersOf t s.publishers.items
+  pub excerpt : s.has_excerpt_type ≡ true → list_any (is_blank "excerpt type") (take 1 t) ≡ false
+  pub components : (header : RecordValue) → slice_get t 0 ≡ Some header → AsksComponents header s.components
+  pub unbroken : AreUnbroken t
+
+-- the numbers that are kept are those with one record more, and nothing else has changed
+pub record KeepsNumbers (t : List RecordValue) (r : RecordValue) (old new : Sums) : Type 0 where
+  pub others : new ≡ record old { publisher = new.publisher; writer = new.writer; publishers = new.publishers }
+  pub publisher : new.publisher ≡ party_number (nearest kinds.Spu (t ++ r ∷ []))
+  pub writer : new.writer ≡ party_number (nearest kinds.Swr (t ++ r ∷ []))
+  pub territory : is_territory (last_or None (in_blocks (t ++ r ∷ []))) ≡ false
+  pub publishers : AreNumbersOf (t ++ r ∷ []) new.publishers.items
+
+-- The sums are those over the records after an acknowledgement and its messages, which are those of a work. Or there are none of a work
+-- so far.
+abbrev pub StandFor : Sums → List RecordValue → Type 0
+StandFor s t = AreSums s (drop (before_copy t) t) ⊎ ((s.is_begun ≡ false) × (before_copy t ≡ length t))
