@@ -1,0 +1,95 @@
+-- What a run has put of acknowledgements so far continues with each item, up to the verdict or a fault.
+use Rattle.std.proofs.Common.{ℕ, List, [], ◌∷◌, ◌++◌, Option, refl, sym, ap, subst, ◌∙◌, inl, false, true≢false}
+use Rattle.std.specs.Prelude.{◌≡◌, Ok, Err}
+use Rattle.cwr_shape.specs.declared.limits.Limits.{Limits}
+use Rattle.cwr_values.specs.declared.items.Item.{Item}
+use Rattle.cwr_decode.specs.Steps.Machines.{Standing}
+use Rattle.cwr_decode.specs.Steps.Runs.{IsReadingOn}
+use Rattle.cwr_encode.specs.declared.sinks.Sink.{Sink}
+use Rattle.cwr_fields.specs.Format.Failures.{one_more_failure}
+use Rattle.cwr_encode.specs.Steps.Sinks.{HasWritten, has_failed, writer_of}
+use Rattle.cwr_tools.specs.declared.verdicts.Verdict.{Verdict}
+use Rattle.cwr_tools.specs.declared.verdicts.ToolFault.{ToolFault}
+use Rattle.cwr_tools.specs.declared.verdicts.ToolFault.TheVariants as faults
+use Rattle.cwr_tools.specs.declared.totals.Totals.{Totals}
+use Rattle.cwr_tools.specs.Steps.Reports.{HasPut, PutsLines, PutsReport}
+use Rattle.cwr_tools.specs.Steps.Verdicts.{totals_with}
+use Rattle.cwr_tools.proofs.CountedTotals.{IsCount, HasRoomToCount, count_more, has_room}
+use Rattle.cwr_acks.specs.declared.counts.Answers.{Answers}
+use Rattle.cwr_acks.specs.Format.AckLines.{lines_of_acks}
+use Rattle.cwr_acks.specs.Format.AckTexts.{ack_lines}
+use Rattle.cwr_acks.specs.Steps.AckSteps.{HasRoom, answers_with, lines_at, no_answers}
+use Rattle.cwr_acks.proofs.LinesOfItems.{IsAnswers, answers_more, answers_none, answers_room, lines_more, lines_none}
+
+-- the lines of the items so far were put, and they were counted
+pub record IsTelling {W : Type 0} (limits : Limits) (d : Standing) (before now : Option (List ℕ)) (contents : W → Option (List ℕ)) (failures : W → ℕ) (answers : Answers) (c : Totals) (old sink : Sink W) : Type 0 where
+  pub given : List Item
+  pub reading : IsReadingOn limits d before now given
+  pub answers : IsAnswers answers given
+  pub counts : IsCount c given
+  pub put : HasPut contents failures (ack_lines given) old sink
+
+-- nothing was put
+pub tells_nothing : {W : Type 0} (limits : Limits) (d : Standing) (before now : Option (List ℕ)) (contents : W → Option (List ℕ)) (failures : W → ℕ) (answers : Answers) (c : Totals) (sink : Sink W)
+    → IsReadingOn limits d before now [] → answers ≡ no_answers → IsCount c [] → has_failed sink ≡ false → HasWritten contents (contents (writer_of sink)) [] sink
+    → IsTelling limits d before now contents failures answers c sink sink
+tells_nothing limits d before now contents failures answers c sink reading none counts unfailed empty = record {
+  given = [];
+  reading = reading;
+  answers = subst (λ (a : Answers). IsAnswers a []) (sym none) answers_none;
+  counts = counts;
+  put = record {
+    written = subst (λ (l : List ℕ). HasWritten contents (contents (writer_of sink)) l sink) (sym lines_none) empty;
+    unfailed = unfailed;
+    quiet = refl;
+  };
+}
+
+pub room_in : {W : Type 0} (limits : Limits) (d : Standing) (before now : Option (List ℕ)) (contents : W → Option (List ℕ)) (failures : W → ℕ) (answers : Answers) (c : Totals) (old sink : Sink W)
+    → IsTelling limits d before now contents failures answers c old sink → HasRoomToCount c
+room_in limits d before now contents failures answers c old sink h = has_room limits d before now c h.given h.reading h.counts
+
+pub answers_in : {W : Type 0} (limits : Limits) (d : Standing) (before now : Option (List ℕ)) (contents : W → Option (List ℕ)) (failures : W → ℕ) (answers : Answers) (c : Totals) (old sink : Sink W)
+    → IsTelling limits d before now contents failures answers c old sink → HasRoom answers
+answers_in limits d before now contents failures answers c old sink h = answers_room answers c h.given h.answers h.counts (has_room limits d before now c h.given h.reading h.counts)
+
+-- the lines of an item more were put
+pub tells_item : {W : Type 0} (limits : Limits) (d new : Standing) (before left after : Option (List ℕ)) (contents : W → Option (List ℕ)) (failures : W → ℕ) (answers : Answers) (c : Totals) (old sink next : Sink W) (item : Item) (u : Unit {0})
+    → (h : IsTelling limits d before left contents failures answers c old sink) → IsReadingOn limits new before after (h.given ++ item ∷ [])
+    → PutsLines contents failures false (lines_at answers item) (Ok u) sink next
+    → IsTelling limits new before after contents failures (answers_with answers item) (totals_with c item) old next
+tells_item limits d new before left after contents failures answers c old sink next item u h reading p = record {
+  given = h.given ++ item ∷ [];
+  reading = reading;
+  answers = answers_more answers h.given item h.answers;
+  counts = count_more c h.given item h.counts;
+  put = record {
+    written = subst (λ (l : List ℕ). HasWritten contents (contents (writer_of old)) l next) (sym (lines_more answers h.given item h.answers))
+        (p.written (contents (writer_of old)) (ack_lines h.given) h.put.written);
+    unfailed = p.failed;
+    quiet = p.counts ∙ h.put.quiet;
+  };
+}
+
+-- the writer failed in them
+pub item_fault : {W : Type 0} (end : Verdict → List ℕ) (limits : Limits) (d new : Standing) (before left after : Option (List ℕ)) (contents : W → Option (List ℕ)) (failures : W → ℕ) (answers : Answers) (c : Totals) (old sink next : Sink W) (item : Item) (fault : ToolFault)
+    → (h : IsTelling limits d before left contents failures answers c old sink) → IsReadingOn limits new before after (h.given ++ item ∷ [])
+    → PutsLines contents failures false (lines_at answers item) (Err fault) sink next
+    → PutsReport lines_of_acks end limits before after contents failures (Err fault) old next
+item_fault end limits d new before left after contents failures answers c old sink next item (faults.Writer n) h reading p = (
+  h.given ++ item ∷ [],
+  ack_lines (h.given ++ item ∷ []),
+  inl ((new, reading.read), refl),
+  record {
+    written = subst (λ (l : List ℕ). HasWritten contents (contents (writer_of old)) l next) (sym (lines_more answers h.given item h.answers))
+        (p.0.written (contents (writer_of old)) (ack_lines h.given) h.put.written);
+    counted = p.1;
+    failed = p.0.counts ∙ ap one_more_failure h.put.quiet;
+  },
+)
+item_fault end limits d new before left after contents failures answers c old sink next item faults.Memory h reading p = absurd (true≢false (sym p.0))
+item_fault end limits d new before left after contents failures answers c old sink next item faults.Reader h reading p = absurd p
+item_fault end limits d new before left after contents failures answers c old sink next item (faults.Refused r) h reading p = absurd p
+item_fault end limits d new before left after contents failures answers c old sink next item (faults.Truncated r) h reading p = absurd p
+item_fault end limits d new before left after contents failures answers c old sink next item faults.Output h reading p = absurd p
+item_fault end limits d new before left after contents failures answers c old sink next item (faults.Limit l) h reading p = absurd p
