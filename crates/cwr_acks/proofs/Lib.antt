@@ -4,3 +4,4 @@ pub mod AckFields
 pub mod Statuses
 pub mod LinesOfItems
 pub mod AcksOn
+pub mod AnswerLines

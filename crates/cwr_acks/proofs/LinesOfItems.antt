@@ -113,6 +113,7 @@ answers_room answers c given h k room = record {
   all = omega (arith, h.all, fewer is_answer is_transaction answer_is given, k.transactions, room.transactions);
   each = λ n. subst (λ (ns : List ℕ). slice_index ns n ≤ 199999998) (sym h.each)
       (each_small (λ s. count_by (has_status s) given) 199999998 (λ s. omega (arith, fewer (has_status s) is_transaction (status_is s) given, k.transactions, room.transactions)) transaction_statuses n);
+  ten = ap length h.each;
 }
 
 -- ---- lines

@@ -1,7 +1,7 @@
 //! How many acknowledgements there are of each status.
 
 ghost use Rattle.std.specs.Prelude.{◌≡◌};
-ghost use Rattle.cwr_values.specs.declared.items.Item.TheVariants.{Transaction};
+ghost use Rattle.cwr_values.specs.declared.items.Item.TheVariants as items;
 ghost use Rattle.cwr_acks.specs.Format.Acknowledgements.{has_status, is_answer};
 ghost use Rattle.cwr_acks.specs.Steps.AckSteps.{HasRoom, answers_with, no_answers};
 
@@ -46,7 +46,7 @@ impl Answers {
     /// Counts a transaction, if that is an acknowledgement.
     fn count_transaction(&mut self, transaction: &Transaction)
         requires { HasRoom self.old }
-        ensures { self.new ≡ answers_with self.old (Transaction transaction.now) }
+        ensures { self.new ≡ answers_with self.old (items.Transaction transaction.now) }
     {
         if is_answer(transaction) {
             self.all += 1;

@@ -4,10 +4,10 @@ ghost use Rattle.std.specs.Prelude.{◌≡◌, Some, true};
 ghost use Rattle.std.specs.List.{list_any};
 ghost use Rattle.cwr_layouts.specs.Format.Records.{cell_named};
 ghost use Rattle.cwr_fields.specs.Format.MessageCodes.{status_code};
-ghost use Rattle.cwr_values.specs.declared.items.Item.TheVariants.{Transaction};
+ghost use Rattle.cwr_values.specs.declared.items.Item.TheVariants as items;
 ghost use Rattle.cwr_acks.specs.Format.Acknowledgements.{has_status, is_ack, is_ack_of, is_answer, is_message, is_message_of, status_in, worst_level};
 
-use cwr_fields::{Coded, MessageLevel, TransactionStatus};
+use cwr_fields::{Cell, Coded, MessageLevel, TransactionStatus};
 use cwr_layouts::{Kind, RecordRef};
 use cwr_levels::{cell, is_of};
 use cwr_values::Transaction;
@@ -70,7 +70,7 @@ pub(crate) fn status_of(shown: &RecordRef<'_>) -> TransactionStatus
     requires { is_ack shown.now ≡ true }
     ensures { Some result ≡ status_in shown.now }
 {
-    match shown.read(STATUS) {
+    match TransactionStatus::read(cell(shown, STATUS)) {
         Some(status) => status,
         None => unreachable!(),
     }
@@ -85,7 +85,7 @@ fn is_ack_of(status: TransactionStatus, shown: &RecordRef<'_>) -> bool
 
 /// Whether a transaction is an acknowledgement.
 pub(crate) fn is_answer(transaction: &Transaction) -> bool
-    ensures { result ≡ is_answer (Transaction transaction.now) }
+    ensures { result ≡ is_answer (items.Transaction transaction.now) }
 {
     match transaction.record(0) {
         Some(head) => is_ack(&head),
@@ -95,7 +95,7 @@ pub(crate) fn is_answer(transaction: &Transaction) -> bool
 
 /// Whether a transaction is an acknowledgement with that status.
 pub(crate) fn has_status(status: TransactionStatus, transaction: &Transaction) -> bool
-    ensures { result ≡ has_status status (Transaction transaction.now) }
+    ensures { result ≡ has_status status (items.Transaction transaction.now) }
 {
     match transaction.record(0) {
         Some(head) => is_ack_of(status, &head),

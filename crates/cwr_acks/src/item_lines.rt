@@ -1,11 +1,10 @@
 //! The lines of items, put to a sink.
 
-ghost use Rattle.std.specs.Prelude.{◌≡◌, IfErr, false, true, if◌then◌else◌, [], ◌++◌};
+ghost use Rattle.std.specs.Prelude.{◌≡◌, IfErr, false, true, ◌++◌, length};
 ghost use Rattle.cwr_encode.specs.Steps.Sinks.{Puts, has_failed, written_of};
 ghost use Rattle.cwr_tools.specs.Steps.Reports.{PutsLines};
-ghost use Rattle.cwr_acks.specs.Format.Acknowledgements.{is_ack, is_message};
-ghost use Rattle.cwr_acks.specs.Format.AckTexts.{ack_line, answer_lines, message_line, message_lines, message_text};
-ghost use Rattle.cwr_acks.specs.Format.Acknowledgements.{worst_level};
+ghost use Rattle.cwr_acks.specs.Format.Acknowledgements.{is_ack, worst_level};
+ghost use Rattle.cwr_acks.specs.Format.AckTexts.{ack_line, answer_lines, message_lines, message_text};
 ghost use Rattle.cwr_acks.specs.Steps.AckSteps.{counts_text, lines_at};
 
 use crate::counts::Answers;
@@ -120,7 +119,8 @@ fn put_counts<W: Target>(
     text: &mut LineText,
     sink: &mut Sink<W>,
 ) -> Result<(), SinkFault>
-    requires { has_failed sink.old ≡ false }
+    requires unfailed { has_failed sink.old ≡ false }
+    requires ten { length answers.now.by_status ≡ 10 }
     ensures puts { Puts W.contents W.failures (counts_text answers.now) result sink.old sink.new }
     ensures fault { IfErr result (λ f. f.written ≡ written_of sink.new) }
 {
@@ -135,7 +135,8 @@ pub(crate) fn put_item<W: Target>(
     text: &mut LineText,
     sink: &mut Sink<W>,
 ) -> Result<(), ToolFault>
-    requires { has_failed sink.old ≡ false }
+    requires unfailed { has_failed sink.old ≡ false }
+    requires ten { length answers.now.by_status ≡ 10 }
     ensures { PutsLines W.contents W.failures false (lines_at answers.now item.now) result sink.old sink.new }
 {
     let put = match item {

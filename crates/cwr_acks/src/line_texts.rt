@@ -210,6 +210,7 @@ impl LineText {
 
     /// Sets the line of counts.
     pub(crate) fn set_counts(&mut self, answers: &Answers)
+        requires { length answers.now.by_status ≡ 10 }
         ensures { self.new ≡ counts_text answers.now }
     {
         let text = &mut self.text;

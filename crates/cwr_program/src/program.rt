@@ -234,6 +234,10 @@ fn perform<'a, R: Files + AllocGlobal, I: Read + Drop, P: Pace, O: Write + Drop,
             let input = open_input(rt, *file, &mut Some(standard), &mut *pace)?;
             return report_input(&asked, telling, input, output, error);
         }
+        Work::Acks { file } => {
+            let input = open_input(rt, *file, &mut Some(standard), &mut *pace)?;
+            return report_input(&asked, Telling::Answers, input, output, error);
+        }
         Work::Write {
             file,
             out,

@@ -1,5 +1,5 @@
 -- How many acknowledgements there were, and the lines of one item more.
-use Rattle.std.specs.Prelude.{ℕ, ◌+◌, ◌≤◌, Bool, List, [], ◌++◌, codes, decimal, map, replicate, slice_index, zip, if◌then◌else◌}
+use Rattle.std.specs.Prelude.{◌≡◌, ℕ, ◌+◌, ◌≤◌, Bool, List, [], ◌++◌, codes, decimal, length, map, replicate, slice_index, zip, if◌then◌else◌}
 use Rattle.std.specs.List.{flat_map}
 use Rattle.cwr_fields.specs.Format.MessageCodes.{status_code, transaction_statuses}
 use Rattle.cwr_values.specs.declared.items.Item.{Item}
@@ -26,6 +26,7 @@ answers_with answers item = record {
 pub record HasRoom (answers : Answers) : Type 0 where
   pub all : answers.all ≤ 199999998
   pub each : (k : ℕ) → slice_index answers.by_status k ≤ 199999998
+  pub ten : length answers.by_status ≡ 10
 
 -- the line of counts
 abbrev pub counts_text : Answers → List ℕ

@@ -26,8 +26,11 @@ items-init g c =
       same = refl;
     }
 
-pub put_item-requires : goal.put_item-requires
-put_item-requires g c = c.items.invariant.telling.put.unfailed
+pub put_item-requires-clause-unfailed : goal.put_item-requires-clause-unfailed
+put_item-requires-clause-unfailed g c = c.items.invariant.telling.put.unfailed
+
+pub put_item-requires-clause-ten : goal.put_item-requires-clause-ten
+put_item-requires-clause-ten g c = (answers_in c.args.limits _ _ _ g.W.Target.contents g.W.Target.failures c.items.answers c.items.counts c.args.sink.now c.items.sink c.items.invariant.telling).ten
 
 pub count_answer-requires : goal.count_answer-requires
 count_answer-requires g c = answers_in c.args.limits _ _ _ g.W.Target.contents g.W.Target.failures c.items.answers c.items.counts c.args.sink.now c.items.sink c.items.invariant.telling
