@@ -25,7 +25,7 @@ use Rattle.cwr_acks.proofs.LinesOfItems.{IsAnswers, answers_more, answers_none, 
 pub record IsTelling {W : Type 0} (limits : Limits) (d : Standing) (before now : Option (List ℕ)) (contents : W → Option (List ℕ)) (failures : W → ℕ) (answers : Answers) (c : Totals) (old sink : Sink W) : Type 0 where
   pub given : List Item
   pub reading : IsReadingOn limits d before now given
-  pub answers : IsAnswers answers given
+  pub counted : IsAnswers answers given
   pub counts : IsCount c given
   pub put : HasPut contents failures (ack_lines given) old sink
 
@@ -36,7 +36,7 @@ pub tells_nothing : {W : Type 0} (limits : Limits) (d : Standing) (before now : 
 tells_nothing limits d before now contents failures answers c sink reading none counts unfailed empty = record {
   given = [];
   reading = reading;
-  answers = subst (λ (a : Answers). IsAnswers a []) (sym none) answers_none;
+  counted = subst (λ (a : Answers). IsAnswers a []) (sym none) answers_none;
   counts = counts;
   put = record {
     written = subst (λ (l : List ℕ). HasWritten contents (contents (writer_of sink)) l sink) (sym lines_none) empty;
@@ -51,7 +51,7 @@ room_in limits d before now contents failures answers c old sink h = has_room li
 
 pub answers_in : {W : Type 0} (limits : Limits) (d : Standing) (before now : Option (List ℕ)) (contents : W → Option (List ℕ)) (failures : W → ℕ) (answers : Answers) (c : Totals) (old sink : Sink W)
     → IsTelling limits d before now contents failures answers c old sink → HasRoom answers
-answers_in limits d before now contents failures answers c old sink h = answers_room answers c h.given h.answers h.counts (has_room limits d before now c h.given h.reading h.counts)
+answers_in limits d before now contents failures answers c old sink h = answers_room answers c h.given h.counted h.counts (has_room limits d before now c h.given h.reading h.counts)
 
 -- the lines of an item more were put
 pub tells_item : {W : Type 0} (limits : Limits) (d new : Standing) (before left after : Option (List ℕ)) (contents : W → Option (List ℕ)) (failures : W → ℕ) (answers : Answers) (c : Totals) (old sink next : Sink W) (item : Item) (u : Unit {0})
@@ -61,10 +61,10 @@ pub tells_item : {W : Type 0} (limits : Limits) (d new : Standing) (before left 
 tells_item limits d new before left after contents failures answers c old sink next item u h reading p = record {
   given = h.given ++ item ∷ [];
   reading = reading;
-  answers = answers_more answers h.given item h.answers;
+  counted = answers_more answers h.given item h.counted;
   counts = count_more c h.given item h.counts;
   put = record {
-    written = subst (λ (l : List ℕ). HasWritten contents (contents (writer_of old)) l next) (sym (lines_more answers h.given item h.answers))
+    written = subst (λ (l : List ℕ). HasWritten contents (contents (writer_of old)) l next) (sym (lines_more answers h.given item h.counted))
         (p.written (contents (writer_of old)) (ack_lines h.given) h.put.written);
     unfailed = p.failed;
     quiet = p.counts ∙ h.put.quiet;
@@ -81,7 +81,7 @@ item_fault end limits d new before left after contents failures answers c old si
   ack_lines (h.given ++ item ∷ []),
   inl ((new, reading.read), refl),
   record {
-    written = subst (λ (l : List ℕ). HasWritten contents (contents (writer_of old)) l next) (sym (lines_more answers h.given item h.answers))
+    written = subst (λ (l : List ℕ). HasWritten contents (contents (writer_of old)) l next) (sym (lines_more answers h.given item h.counted))
         (p.0.written (contents (writer_of old)) (ack_lines h.given) h.put.written);
     counted = p.1;
     failed = p.0.counts ∙ ap one_more_failure h.put.quiet;

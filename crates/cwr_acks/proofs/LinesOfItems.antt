@@ -1,11 +1,11 @@
 -- The lines of items are those of all but the last, and then those of the last.
 use Rattle.std.proofs.Common.{◌≡◌, ℕ, zero, suc, ◌+◌, ◌<◌, ◌≤◌, Bool, true, false, cond, List, [], ◌∷◌, ◌++◌, length, take, refl, sym, ap, ap₂, subst, ◌∙◌, arith, append-nil}
 use Rattle.std.specs.Prelude.{codes, count_by, decimal, map, slice_index, zip}
-use Rattle.std.specs.List.{enumerate_from, flat_map, list_any}
+use Rattle.std.specs.List.{enumerate_from, flat_map}
 use Rattle.std.proofs.Math.Seq.{take-append_seam}
 use Rattle.std.proofs.lemmas.Grind.{flat_map-append}
 use Rattle.std.proofs.lemmas.List.{take-append-le}
-use Rattle.std.proofs.lemmas.List.Sums.{sum_by-append}
+use Rattle.std.proofs.lemmas.List.Sums.{sum_by-append, sum_by-cons}
 use Rattle.cwr_fields.specs.declared.message_codes.TransactionStatus.{TransactionStatus}
 use Rattle.cwr_fields.specs.Format.MessageCodes.{status_code, transaction_statuses}
 use Rattle.cwr_values.specs.declared.items.Item.{Item}
@@ -57,12 +57,14 @@ pub record IsAnswers (answers : Answers) (given : List Item) : Type 0 where
 pub answers_none : IsAnswers no_answers []
 answers_none = record { all = refl; each = refl }
 
-one_more : (b : Bool) (n : ℕ) → one_more_if b n ≡ n + (cond b 1 0 + 0)
+one_more : (b : Bool) (n : ℕ) → one_more_if b n ≡ n + (0 + cond b 1 0)
 one_more true n = omega arith
 one_more false n = omega arith
 
 count_more : (p : Item → Bool) (given : List Item) (item : Item) → one_more_if (p item) (count_by p given) ≡ count_by p (given ++ item ∷ [])
-count_more p given item = one_more (p item) (count_by p given) ∙ sym (sum_by-append (λ (x : Item). cond (p x) 1 0) given (item ∷ []))
+count_more p given item =
+    let snoc : count_by p (given ++ item ∷ []) ≡ count_by p given + (0 + cond (p item) 1 0) = sum_by-append (λ (x : Item). cond (p x) 1 0) given (item ∷ []) in
+    one_more (p item) (count_by p given) ∙ sym snoc
 
 each_more : (given : List Item) (item : Item) (ss : List TransactionStatus)
     → map (λ (p : TransactionStatus × ℕ). one_more_if (has_status p.0 item) p.1) (zip ss (map (λ s. count_by (has_status s) given) ss)) ≡ map (λ s. count_by (has_status s) (given ++ item ∷ [])) ss
@@ -84,7 +86,10 @@ fewer_if false b h = omega arith
 
 fewer : (p q : Item → Bool) → ((item : Item) → p item ≡ true → q item ≡ true) → (given : List Item) → count_by p given ≤ count_by q given
 fewer p q h [] = omega arith
-fewer p q h (item ∷ given) = omega (arith, fewer_if (p item) (q item) (h item), fewer p q h given)
+fewer p q h (item ∷ given) =
+    let one : count_by p (item ∷ given) ≡ cond (p item) 1 0 + count_by p given = sum_by-cons (λ (x : Item). cond (p x) 1 0) item given in
+    let two : count_by q (item ∷ given) ≡ cond (q item) 1 0 + count_by q given = sum_by-cons (λ (x : Item). cond (q x) 1 0) item given in
+    omega (arith, one, two, fewer_if (p item) (q item) (h item), fewer p q h given)
 
 answer_is : (item : Item) → is_answer item ≡ true → is_transaction item ≡ true
 answer_is (items.Transaction t) h = refl
@@ -102,11 +107,8 @@ status_is s items.Ended h = absurd (cc h)
 
 each_small : (f : TransactionStatus → ℕ) (most : ℕ) → ((s : TransactionStatus) → f s ≤ most) → (ss : List TransactionStatus) (k : ℕ) → slice_index (map f ss) k ≤ most
 each_small f most h [] k = omega arith
-each_small f most h (s ∷ ss) k = small k
-  where
-    small : (k : ℕ) → slice_index (f s ∷ map f ss) k ≤ most
-    small zero = h s
-    small (suc j) = each_small f most h ss j
+each_small f most h (s ∷ ss) zero = h s
+each_small f most h (s ∷ ss) (suc j) = each_small f most h ss j
 
 pub answers_room : (answers : Answers) (c : Totals) (given : List Item) → IsAnswers answers given → IsCount c given → HasRoomToCount c → HasRoom answers
 answers_room answers c given h k room = record {

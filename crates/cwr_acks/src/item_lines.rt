@@ -144,5 +144,8 @@ pub(crate) fn put_item<W: Target>(
         Item::Ended => put_counts(answers, text, sink),
         _ => Ok(()),
     };
-    put.map_err(writer_fault)
+    match put {
+        Ok(()) => Ok(()),
+        Err(fault) => Err(writer_fault(fault)),
+    }
 }

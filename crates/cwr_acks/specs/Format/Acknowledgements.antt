@@ -1,5 +1,5 @@
 -- What an acknowledgement says: its status, and the levels of its messages.
-use Rattle.std.specs.Prelude.{ℕ, Bool, false, ◌&&◌, List, take, count_by, find, Option}
+use Rattle.std.specs.Prelude.{Bool, false, ◌&&◌, List, take, find, Option}
 use Rattle.std.specs.List.{list_any}
 use Rattle.std.specs.Str.{bytes_eq}
 use Rattle.cwr_fields.specs.declared.message_codes.TransactionStatus.{TransactionStatus}

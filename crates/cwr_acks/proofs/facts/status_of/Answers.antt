@@ -1,4 +1,3 @@
-use Rattle.std.proofs.Common.{sym}
 use Rattle.cwr_acks.proofs.Statuses.{names_status, status_named}
 use Rattle.cwr_acks.proofs.facts.status_of.Goals as goal
 

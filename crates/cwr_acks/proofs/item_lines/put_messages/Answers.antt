@@ -1,5 +1,4 @@
-use Rattle.std.proofs.Common.{ℕ, List, ◌∙◌, arith}
-use Rattle.cwr_layouts.specs.Format.Records.{RecordValue}
+use Rattle.std.proofs.Common.{◌∙◌, arith}
 use Rattle.cwr_encode.proofs.PutRows.{found_within}
 use Rattle.cwr_encode.proofs.Numbered.{puts_as, step_more, steps_refused, steps_whole}
 use Rattle.cwr_acks.specs.Format.AckTexts.{message_text}

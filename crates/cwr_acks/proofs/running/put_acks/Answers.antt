@@ -50,6 +50,22 @@ count-requires-clause-records g c =
     c.items.invariant.telling.reading c.in-Ok-Some.ensures.reads c.in-Ok-Some.ensures.again in
     (next_room c.args.limits c.next_item.new.self.decoder (g.R.Source.remaining c.args.reader.now) _ c.items.counts c.items.invariant.telling.given c.in-Ok-Some.item reading c.items.invariant.telling.counts).records
 
+pub items-smaller-in_ok-put_item-in-Ok-Some : goal.items-smaller-in_ok-put_item-in-Ok-Some
+items-smaller-in_ok-put_item-in-Ok-Some g c =
+    let reading = some_read c.args.limits c.items.reading.decoder c.next_item.new.self.decoder (g.R.Source.remaining c.args.reader.now) _ _ c.items.invariant.telling.given c.in-Ok-Some.field-0 c.in-Ok-Some.item _ _ c.in-Ok-Some.field-0-is
+    c.items.invariant.telling.reading c.in-Ok-Some.ensures.reads c.in-Ok-Some.ensures.again in
+    let room = next_room c.args.limits c.next_item.new.self.decoder (g.R.Source.remaining c.args.reader.now) _ c.items.counts c.items.invariant.telling.given c.in-Ok-Some.item reading c.items.invariant.telling.counts in
+    omega (
+      arith,
+      room.groups,
+      room.transactions,
+      room.records,
+      total_grows c.items.counts c.in-Ok-Some.item,
+      ap (λ (n : Totals). n.groups) c.count.ensures,
+      ap (λ (n : Totals). n.transactions) c.count.ensures,
+      ap (λ (n : Totals). n.records) c.count.ensures,
+    )
+
 pub items-smaller : goal.items-smaller
 items-smaller g c =
     let reading = some_read c.args.limits c.items.reading.decoder c.next_item.new.self.decoder (g.R.Source.remaining c.args.reader.now) _ _ c.items.invariant.telling.given c.in-Ok-Some.field-0 c.in-Ok-Some.item _ _ c.in-Ok-Some.field-0-is
@@ -66,16 +82,16 @@ items-smaller g c =
       ap (λ (n : Totals). n.records) c.count.ensures,
     )
 
-pub items-preserved : goal.items-preserved
-items-preserved g c =
+pub items-preserved-in_ok-put_item-in-Ok-Some : goal.items-preserved-in_ok-put_item-in-Ok-Some
+items-preserved-in_ok-put_item-in-Ok-Some g c =
     let reading = some_read c.args.limits c.items.reading.decoder c.next_item.new.self.decoder (g.R.Source.remaining c.args.reader.now) _ _ c.items.invariant.telling.given c.in-Ok-Some.field-0 c.in-Ok-Some.item _ _ c.in-Ok-Some.field-0-is
     c.items.invariant.telling.reading c.in-Ok-Some.ensures.reads c.in-Ok-Some.ensures.again in
     let one : IsTelling c.args.limits c.next_item.new.self.decoder (g.R.Source.remaining c.args.reader.now) (g.R.Source.remaining c.next_item.new.self.reader.now) g.W.Target.contents g.W.Target.failures
-        (answers_with c.items.answers c.in-Ok-Some.item) (totals_with c.items.counts c.in-Ok-Some.item) c.args.sink.now c.put_item.new.sink
+    (answers_with c.items.answers c.in-Ok-Some.item) (totals_with c.items.counts c.in-Ok-Some.item) c.args.sink.now c.put_item.new.sink
     = tells_item c.args.limits c.items.reading.decoder c.next_item.new.self.decoder (g.R.Source.remaining c.args.reader.now) _ _ g.W.Target.contents g.W.Target.failures c.items.answers c.items.counts c.args.sink.now c.items.sink c.put_item.new.sink
-    c.in-Ok-Some.item tt c.items.invariant.telling reading c.in_ok-put_item.ensures in
+    c.in-Ok-Some.item tt c.items.invariant.telling reading c.in_ok-put_item-in-Ok-Some.ensures in
     let two = subst (λ (answers : Answers). IsTelling c.args.limits c.next_item.new.self.decoder (g.R.Source.remaining c.args.reader.now) (g.R.Source.remaining c.next_item.new.self.reader.now) g.W.Target.contents g.W.Target.failures
-        answers (totals_with c.items.counts c.in-Ok-Some.item) c.args.sink.now c.put_item.new.sink) (sym c.count_answer.ensures) one in
+    answers (totals_with c.items.counts c.in-Ok-Some.item) c.args.sink.now c.put_item.new.sink) (sym c.count_answer.ensures) one in
     record {
       telling = subst (λ (counts : Totals). IsTelling c.args.limits c.next_item.new.self.decoder (g.R.Source.remaining c.args.reader.now) (g.R.Source.remaining c.next_item.new.self.reader.now) g.W.Target.contents g.W.Target.failures
           c.count_answer.new.self counts c.args.sink.now c.put_item.new.sink) (sym c.count.ensures) two;
@@ -83,15 +99,32 @@ items-preserved g c =
       same = c.in-Ok-Some.ensures.same_reference ∙ c.items.invariant.same;
     }
 
-pub returns-in_err-put_item-clause-puts : goal.returns-in_err-put_item-clause-puts
-returns-in_err-put_item-clause-puts g c =
+pub items-preserved : goal.items-preserved
+items-preserved g c =
+    let reading = some_read c.args.limits c.items.reading.decoder c.next_item.new.self.decoder (g.R.Source.remaining c.args.reader.now) _ _ c.items.invariant.telling.given c.in-Ok-Some.field-0 c.in-Ok-Some.item _ _ c.in-Ok-Some.field-0-is
+    c.items.invariant.telling.reading c.in-Ok-Some.ensures.reads c.in-Ok-Some.ensures.again in
+    let one : IsTelling c.args.limits c.next_item.new.self.decoder (g.R.Source.remaining c.args.reader.now) (g.R.Source.remaining c.next_item.new.self.reader.now) g.W.Target.contents g.W.Target.failures
+    (answers_with c.items.answers c.in-Ok-Some.item) (totals_with c.items.counts c.in-Ok-Some.item) c.args.sink.now c.put_item.new.sink
+    = tells_item c.args.limits c.items.reading.decoder c.next_item.new.self.decoder (g.R.Source.remaining c.args.reader.now) _ _ g.W.Target.contents g.W.Target.failures c.items.answers c.items.counts c.args.sink.now c.items.sink c.put_item.new.sink
+    c.in-Ok-Some.item tt c.items.invariant.telling reading c.in_ok-put_item-in-Ok-Some.ensures in
+    let two = subst (λ (answers : Answers). IsTelling c.args.limits c.next_item.new.self.decoder (g.R.Source.remaining c.args.reader.now) (g.R.Source.remaining c.next_item.new.self.reader.now) g.W.Target.contents g.W.Target.failures
+    answers (totals_with c.items.counts c.in-Ok-Some.item) c.args.sink.now c.put_item.new.sink) (sym c.count_answer.ensures) one in
+    record {
+      telling = subst (λ (counts : Totals). IsTelling c.args.limits c.next_item.new.self.decoder (g.R.Source.remaining c.args.reader.now) (g.R.Source.remaining c.next_item.new.self.reader.now) g.W.Target.contents g.W.Target.failures
+          c.count_answer.new.self counts c.args.sink.now c.put_item.new.sink) (sym c.count.ensures) two;
+      failures = c.in-Ok-Some.ensures.failures ∙ c.items.invariant.failures;
+      same = c.in-Ok-Some.ensures.same_reference ∙ c.items.invariant.same;
+    }
+
+pub returns-in_err-put_item-in-Ok-Some-clause-puts : goal.returns-in_err-put_item-in-Ok-Some-clause-puts
+returns-in_err-put_item-in-Ok-Some-clause-puts g c =
     let reading = some_read c.args.limits c.items.reading.decoder c.next_item.new.self.decoder (g.R.Source.remaining c.args.reader.now) _ _ c.items.invariant.telling.given c.in-Ok-Some.field-0 c.in-Ok-Some.item _ _ c.in-Ok-Some.field-0-is
     c.items.invariant.telling.reading c.in-Ok-Some.ensures.reads c.in-Ok-Some.ensures.again in
     let faulty : PutsReport lines_of_acks nothing c.args.limits (g.R.Source.remaining c.args.reader.now) (g.R.Source.remaining c.next_item.new.self.reader.now) g.W.Target.contents g.W.Target.failures c.from_residual.result c.args.sink.now c.put_item.new.sink
     = subst (λ (r : Result Verdict ToolFault). PutsReport lines_of_acks nothing c.args.limits (g.R.Source.remaining c.args.reader.now) (g.R.Source.remaining c.next_item.new.self.reader.now) g.W.Target.contents g.W.Target.failures r c.args.sink.now c.put_item.new.sink)
-    (sym (same_fault c.from_residual.result c.in_err-put_item.field-0.0 c.from_residual.ensures.1))
+    (sym (same_fault c.from_residual.result c.in_err-put_item-in-Ok-Some.field-0.0 c.from_residual.ensures.1))
     (item_fault nothing c.args.limits c.items.reading.decoder c.next_item.new.self.decoder (g.R.Source.remaining c.args.reader.now) _ _ g.W.Target.contents g.W.Target.failures c.items.answers c.items.counts c.args.sink.now c.items.sink c.put_item.new.sink
-    c.in-Ok-Some.item c.in_err-put_item.field-0.0 c.items.invariant.telling reading c.in_err-put_item.ensures) in
+    c.in-Ok-Some.item c.in_err-put_item-in-Ok-Some.field-0.0 c.items.invariant.telling reading c.in_err-put_item-in-Ok-Some.ensures) in
     search rules
 
 pub returns-in-Ok-None-clause-puts : goal.returns-in-Ok-None-clause-puts

@@ -1,11 +1,10 @@
-use Rattle.std.proofs.Common.{◌≡◌, ℕ, suc, ◌<◌, ◌≤◌, ◌+◌, Bool, true, false, List, length, Some, refl, ap, sym, ◌∙◌, arith}
-use Rattle.std.specs.Prelude.{slice_get, slice_index, slice_set}
+use Rattle.std.proofs.Common.{◌≡◌, ℕ, suc, ◌<◌, ◌+◌, Bool, List, length, ap, sym, ◌∙◌, arith}
+use Rattle.std.specs.Prelude.{slice_index, slice_set}
 use Rattle.std.proofs.lemmas.Option.{slice_get-get_or}
 use Rattle.cwr_fields.specs.Format.MessageCodes.{transaction_statuses}
 use Rattle.cwr_values.specs.declared.items.Item.{Item}
 use Rattle.cwr_values.specs.declared.items.Item.TheVariants.{Transaction}
 use Rattle.cwr_acks.specs.declared.counts.Answers.{Answers}
-use Rattle.cwr_acks.specs.Format.Acknowledgements.{has_status, is_answer}
 use Rattle.cwr_acks.specs.Steps.AckSteps.{one_more_if}
 use Rattle.cwr_acks.proofs.Statuses.{counted_at, counted_to, counted_whole, counted_with, counted_without}
 use Rattle.cwr_acks.proofs.counts.Answers.count_transaction.Goals as goal
