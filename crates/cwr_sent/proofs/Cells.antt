@@ -7,12 +7,13 @@ use Rattle.cwr_layouts.specs.Format.Records.{RecordValue}
 use Rattle.cwr_levels.specs.Format.Fields.{IsField}
 use Rattle.cwr_levels.specs.Format.Findings.{is_a}
 use Rattle.cwr_levels.proofs.KindTests.{kind_of}
+use Rattle.cwr_sent.specs.Format.SentFacts.{is_work_header}
 
 either : (a b : Bool) → (a || b) ≡ true → (a ≡ true) ⊎ (b ≡ true)
 either true b h = inl refl
 either false b h = inr h
 
-pub title : (r : RecordValue) → (is_a kinds.Nwr r || is_a kinds.Rev r) ≡ true → IsField "title" r.kind 4 60
+pub title : (r : RecordValue) → is_work_header r ≡ true → IsField "title" r.kind 4 60
 title r h =
     let There : Kind → Type 0 = λ k. IsField "title" k 4 60 in
     elim (either (is_a kinds.Nwr r) (is_a kinds.Rev r) h) [

@@ -1,13 +1,12 @@
 -- The table after all items of a transmission.
-use Rattle.std.proofs.Common.{◌≡◌, List, [], ◌∷◌, ◌++◌, refl, sym, ap, ap₂, ◌∙◌, append_assoc, append-nil}
+use Rattle.std.proofs.Common.{◌≡◌, List, [], ◌∷◌, ◌++◌, refl, sym, ap, ◌∙◌, append_assoc, append-nil}
 use Rattle.std.specs.Prelude.{fold, map}
 use Rattle.std.specs.List.{flat_map}
 use Rattle.cwr_layouts.specs.Format.Records.{RecordValue}
 use Rattle.cwr_values.specs.declared.items.Item.{Item}
-use Rattle.cwr_values.specs.declared.items.Item.TheVariants.{Transaction, GroupClosed, GroupOpened, Opened, Ended}
+use Rattle.cwr_values.specs.declared.items.Item.TheVariants.{Transaction, GroupClosed, Ended}
 use Rattle.cwr_values.specs.Format.Values.{GroupValue, TransmissionValue}
-use Rattle.cwr_judge.specs.Format.Items.{group_items, group_rest, value_items}
-use Rattle.cwr_sent.specs.declared.facts.SentFacts.{SentFacts}
+use Rattle.cwr_judge.specs.Format.Items.{group_items, value_items}
 use Rattle.cwr_sent.specs.declared.tables.Entry.{Entry}
 use Rattle.cwr_sent.specs.Format.SentFacts.{facts_in, facts_of}
 use Rattle.cwr_sent.specs.Steps.SentTables.{Filled, filled_after, filled_with, fresh, fresh_rows}

@@ -2,7 +2,7 @@
 
 ghost use Rattle.std.specs.Prelude.{◌≡◌, ◌<◌, ◌^◌, option_map, slice_get};
 ghost use Rattle.cwr_fields.specs.Format.Bytes.{trimmed};
-ghost use Rattle.cwr_sent.specs.Format.SentFacts.{facts_of, header_check, title_check, title_of};
+ghost use Rattle.cwr_sent.specs.Format.SentFacts.{facts_of, header_check, is_work_header, title_check, title_of};
 
 use cwr_fields::trimmed;
 use cwr_layouts::{Kind, RecordRef};
@@ -32,11 +32,18 @@ pub fn title_check(title: &[u8]) -> u32
     check
 }
 
+/// Whether a record is the header of a work.
+fn is_work(head: &RecordRef<'_>) -> bool
+    ensures { result ≡ is_work_header head.now }
+{
+    is_of(head, Kind::Nwr) || is_of(head, Kind::Rev)
+}
+
 /// The check of the title of a transaction with that header.
 fn check_of(head: &RecordRef<'_>) -> u32
     ensures { result ≡ title_check (trimmed (title_of head.now)) }
 {
-    if is_of(head, Kind::Nwr) || is_of(head, Kind::Rev) {
+    if is_work(head) {
         title_check(trimmed(cell(head, TITLE)))
     } else {
         0

@@ -1,5 +1,5 @@
 -- What is kept of the transactions of a transmission that was sent.
-use Rattle.std.specs.Prelude.{ℕ, ◌+◌, ◌-◌, ◌*◌, ◌%◌, Bool, ◌||◌, ◌==◌, fold, List, [], ◌∷◌, map, Option, Some, None, option_map, slice_get, unwrap_or, if◌then◌else◌}
+use Rattle.std.specs.Prelude.{ℕ, ◌+◌, ◌-◌, ◌*◌, ◌%◌, Bool, ◌||◌, ◌==◌, fold, List, [], map, Option, Some, None, option_map, slice_get, unwrap_or, if◌then◌else◌}
 use Rattle.std.specs.Option.{option_and_then}
 use Rattle.std.specs.Str.{bytes_eq}
 use Rattle.cwr_fields.specs.Format.Bytes.{trimmed}
@@ -15,9 +15,13 @@ use Rattle.cwr_sent.specs.declared.facts.SentFacts.{SentFacts}
 abbrev pub title_check : List ℕ → ℕ
 title_check title = fold (λ n b. (257 * n + b) % 4294967296) 0 title
 
+-- the record is the header of a work
+abbrev pub is_work_header : RecordValue → Bool
+is_work_header r = is_a kinds.Nwr r || is_a kinds.Rev r
+
 -- the title of a work; an agreement has none
 abbrev pub title_of : RecordValue → List ℕ
-title_of r = if is_a kinds.Nwr r || is_a kinds.Rev r then cell_named "title" r else []
+title_of r = if is_work_header r then cell_named "title" r else []
 
 -- the kind of a transaction's header
 abbrev pub header_kind : List RecordValue → Kind

@@ -1,13 +1,13 @@
-use Rattle.std.proofs.Common.{rules, ◌≡◌, ◌+◌, List, length, refl, sym, ap, subst, ◌∙◌, ◌++◌, ◌∷◌, [], arith, inl}
+use Rattle.std.proofs.Common.{rules, ◌≡◌, refl, sym, ap, ◌∙◌, ◌++◌, ◌∷◌, [], arith, inl}
 use Rattle.std.proofs.lemmas.List.{length-append}
-use Rattle.cwr_values.specs.declared.items.Item.{Item}
 use Rattle.cwr_values.specs.Format.Values.{TransmissionValue}
-use Rattle.cwr_judge.specs.Format.Items.{value_items}
 use Rattle.cwr_decode.specs.declared.readings.ReadFault.TheVariants as faults
-use Rattle.cwr_decode.specs.Steps.Runs.{HasReadAll, IsReadingOn, StopsReading}
+use Rattle.cwr_decode.specs.Steps.Runs.{HasReadAll, StopsReading}
 use Rattle.cwr_decode.proofs.ItemsMakeOneTransmission.{items_once}
 use Rattle.cwr_decode.proofs.ItemsReadSoFar.{all_items, all_taken, fault_read, fewer_left, memory_stops, none_read, nothing_read_yet, of_fault, some_read}
-use Rattle.cwr_sent.specs.Steps.SentTables.{Filled, filled_after, filled_with}
+use Rattle.cwr_decode.specs.Format.Runs.{TakesFront}
+use Rattle.cwr_sent.specs.Format.SentFacts.{facts_in}
+use Rattle.cwr_sent.specs.Steps.SentTables.{Filled, filled_after, filled_in, filled_with, fresh_rows, rows}
 use Rattle.cwr_sent.proofs.FilledTables.{filled_more, filled_whole}
 use Rattle.cwr_sent.proofs.reading.read_sent.Goals as goal
 
@@ -40,17 +40,35 @@ returns-then-is_err-clause-stops g c =
 pub overflow_add-items : goal.overflow_add-items
 overflow_add-items g c = let h = fewer_left c.args.limits _ _ _ _ c.items.invariant.reading in omega (arith, h, c.items.invariant.counted)
 
+pub items-smaller-else-is_err : goal.items-smaller-else-is_err
+items-smaller-else-is_err g c = let h = fewer_left c.args.limits _ _ _ _ c.items.invariant.reading in omega (arith, h, c.items.invariant.counted)
+
 pub items-smaller : goal.items-smaller
 items-smaller g c = let h = fewer_left c.args.limits _ _ _ _ c.items.invariant.reading in omega (arith, h, c.items.invariant.counted)
+
+pub items-preserved-else-is_err : goal.items-preserved-else-is_err
+items-preserved-else-is_err g c =
+    let on = some_read c.args.limits c.items.reading.decoder c.next_item.new.self.decoder (g.R.Source.remaining c.args.reader.now) _ _ c.items.invariant.given c.in_ok-item.field-0 c.in-Some.item _ _
+    c.in-Some.is c.items.invariant.reading c.in_ok-item.ensures.reads c.in_ok-item.ensures.again in
+    let added : filled_in c.add.new.self ≡ filled_with (filled_in c.items.sent) c.in-Some.item = search rules in
+    record {
+      given = c.items.invariant.given ++ c.in-Some.item ∷ [];
+      reading = on;
+      filled = added ∙ ap (λ (f : Filled). filled_with f c.in-Some.item) c.items.invariant.filled ∙ filled_more c.items.invariant.given c.in-Some.item;
+      counted = omega (arith, c.items.invariant.counted, length-append c.items.invariant.given (c.in-Some.item ∷ []));
+      failures = c.in_ok-item.ensures.failures ∙ c.items.invariant.failures;
+      same = c.in_ok-item.ensures.same_reference ∙ c.items.invariant.same;
+    }
 
 pub items-preserved : goal.items-preserved
 items-preserved g c =
     let on = some_read c.args.limits c.items.reading.decoder c.next_item.new.self.decoder (g.R.Source.remaining c.args.reader.now) _ _ c.items.invariant.given c.in_ok-item.field-0 c.in-Some.item _ _
     c.in-Some.is c.items.invariant.reading c.in_ok-item.ensures.reads c.in_ok-item.ensures.again in
+    let added : filled_in c.add.new.self ≡ filled_with (filled_in c.items.sent) c.in-Some.item = search rules in
     record {
       given = c.items.invariant.given ++ c.in-Some.item ∷ [];
       reading = on;
-      filled = ?;
+      filled = added ∙ ap (λ (f : Filled). filled_with f c.in-Some.item) c.items.invariant.filled ∙ filled_more c.items.invariant.given c.in-Some.item;
       counted = omega (arith, c.items.invariant.counted, length-append c.items.invariant.given (c.in-Some.item ∷ []));
       failures = c.in_ok-item.ensures.failures ∙ c.items.invariant.failures;
       same = c.in_ok-item.ensures.same_reference ∙ c.items.invariant.same;
@@ -62,8 +80,9 @@ returns-clause-takes g c =
     = none_read c.args.limits c.items.reading.decoder c.next_item.new.self.decoder (g.R.Source.remaining c.args.reader.now) _ _ c.items.invariant.given c.in_ok-item.field-0 _ c.in_default.is
     c.items.invariant.reading c.in_ok-item.ensures.reads c.in_ok-item.ensures.again (λ e. ap g.R.Source.remaining e) in
     let are = all_items c.args.limits _ _ c.items.invariant.given all in
-    (
+    let kept : (v : TransmissionValue) × TakesFront c.args.limits (g.R.Source.remaining c.args.reader.now) v (g.R.Source.remaining c.next_item.new.self.reader.now) × (rows c.items.sent ≡ fresh_rows (facts_in v)) = (
       are.value,
       all_taken c.args.limits _ _ c.items.invariant.given are.value all (λ v whole given. items_once are.value v (sym are.given_are ∙ given)),
       ap (λ (f : Filled). f.closed) (c.items.invariant.filled ∙ ap filled_after are.given_are ∙ filled_whole are.value),
-    )
+    ) in
+    search rules
