@@ -5,3 +5,4 @@ pub mod Statuses
 pub mod LinesOfItems
 pub mod AcksOn
 pub mod AnswerLines
+pub mod Matched

@@ -1,6 +1,6 @@
 -- The lines of items are those of all but the last, and then those of the last.
 use Rattle.std.proofs.Common.{◌≡◌, ℕ, zero, suc, ◌+◌, ◌<◌, ◌≤◌, Bool, true, false, cond, List, [], ◌∷◌, ◌++◌, length, take, refl, sym, ap, ap₂, subst, ◌∙◌, arith, append-nil}
-use Rattle.std.specs.Prelude.{codes, count_by, decimal, map, slice_index, zip}
+use Rattle.std.specs.Prelude.{IfSome, Option, Some, None, option_map, codes, count_by, decimal, map, slice_index, zip}
 use Rattle.std.specs.List.{enumerate_from, flat_map}
 use Rattle.std.proofs.Math.Seq.{take-append_seam}
 use Rattle.std.proofs.lemmas.Grind.{flat_map-append}
@@ -15,8 +15,14 @@ use Rattle.cwr_tools.specs.declared.totals.Totals.{Totals}
 use Rattle.cwr_tools.proofs.CountedTotals.{HasRoomToCount, IsCount}
 use Rattle.cwr_acks.specs.declared.counts.Answers.{Answers}
 use Rattle.cwr_acks.specs.Format.Acknowledgements.{has_status, is_answer}
-use Rattle.cwr_acks.specs.Format.AckTexts.{ack_lines, counts_line, lines_after, status_part}
-use Rattle.cwr_acks.specs.Steps.AckSteps.{HasRoom, answers_with, counts_text, lines_at, no_answers, one_more_if}
+use Rattle.cwr_acks.specs.Format.AckLines.{ack_lines, lines_after}
+use Rattle.cwr_acks.specs.Format.AckTexts.{answer_lines, counts_line, status_part}
+use Rattle.cwr_sent.specs.declared.facts.SentFacts.{SentFacts}
+use Rattle.cwr_sent.specs.declared.tables.Sent.{Sent}
+use Rattle.cwr_sent.specs.Steps.SentTables.{facts_in_rows, rows}
+use Rattle.cwr_acks.specs.Format.SentAnswers.{is_answered}
+use Rattle.cwr_acks.proofs.Matched.{fresh_is, marks_are, note_is, rows_from, unanswered_are}
+use Rattle.cwr_acks.specs.Steps.AckSteps.{IsFresh, Table, facts_if, marked_with, rows_if, HasRoom, answers_with, counts_text, lines_at, no_answers, one_more_if}
 
 -- ---- by the items before
 
@@ -129,18 +135,39 @@ counts_are answers given h =
     ap₂ (λ (n : ℕ) (ns : List ℕ). codes "ACKS " ++ decimal n ++ flat_map (λ (p : TransactionStatus × ℕ). status_part (status_code p.0) p.1) (zip transaction_statuses ns) ++ codes "\n") h.all h.each
     ∙ ap (λ (l : List ℕ). codes "ACKS " ++ decimal (count_by is_answer given) ++ l ++ codes "\n") (parts_are (λ s. count_by (has_status s) given) transaction_statuses)
 
-lines_are : (answers : Answers) (given : List Item) (item : Item) → IsAnswers answers given → lines_after given item ≡ lines_at answers item
-lines_are answers given (items.Transaction t) h = refl
-lines_are answers given (items.Opened r) h = refl
-lines_are answers given (items.GroupOpened r) h = refl
-lines_are answers given (items.GroupClosed r) h = refl
-lines_are answers given items.Ended h = sym (counts_are answers given h)
+-- ---- what was sent
+
+-- the table is that of what was sent, marked by the items
+abbrev pub IsMatched : Option Table → Option (List (List SentFacts)) → List Item → Type 0
+IsMatched table sent given = table ≡ option_map (rows_from 1 (is_answered given)) sent
+
+-- without items none is marked
+pub matched_none : (sent : Option Sent) → IfSome sent IsFresh → IsMatched (rows_if sent) (facts_if sent) []
+matched_none None h = refl
+matched_none (Some s) h = ap Some (h ∙ fresh_is (is_answered []) (λ g t. refl) 1 (facts_in_rows (rows s)))
+
+pub matched_more : (table : Option Table) (sent : Option (List (List SentFacts))) (given : List Item) (item : Item) → IsMatched table sent given → IsMatched (option_map (λ (t : Table). marked_with t item) table) sent (given ++ item ∷ [])
+matched_more table None given item h = ap (option_map (λ (t : Table). marked_with t item)) h
+matched_more table (Some s) given item h = ap (option_map (λ (t : Table). marked_with t item)) h ∙ ap Some (marks_are s given item)
+
+-- ---- all lines
+
+lines_of : (sent : Option (List (List SentFacts))) (answers : Answers) (given : List Item) (item : Item) → IsAnswers answers given → lines_after sent given item ≡ lines_at (option_map (rows_from 1 (is_answered given)) sent) answers item
+lines_of None answers given (items.Transaction t) h = refl
+lines_of None answers given items.Ended h = sym (counts_are answers given h)
+lines_of (Some s) answers given (items.Transaction t) h = ap (λ (l : List ℕ). answer_lines t ++ l) (sym (note_is s given t))
+lines_of (Some s) answers given items.Ended h = ap₂ (λ (l m : List ℕ). l ++ m) (sym (unanswered_are s given)) (sym (counts_are answers given h))
+lines_of sent answers given (items.Opened r) h = refl
+lines_of sent answers given (items.GroupOpened r) h = refl
+lines_of sent answers given (items.GroupClosed r) h = refl
 
 -- without items there are none
-pub lines_none : ack_lines [] ≡ []
+pub lines_none : (sent : Option (List (List SentFacts))) → ack_lines sent [] ≡ []
 unfolding ack_lines
-lines_none = refl
+lines_none sent = refl
 
-pub lines_more : (answers : Answers) (given : List Item) (item : Item) → IsAnswers answers given → ack_lines (given ++ item ∷ []) ≡ ack_lines given ++ lines_at answers item
+pub lines_more : (table : Option Table) (sent : Option (List (List SentFacts))) (answers : Answers) (given : List Item) (item : Item) → IsAnswers answers given → IsMatched table sent given → ack_lines sent (given ++ item ∷ []) ≡ ack_lines sent given ++ lines_at table answers item
 unfolding ack_lines
-lines_more answers given item h = lines_from-snoc lines_after given item ∙ ap (λ (l : List ℕ). ack_lines given ++ l) (lines_are answers given item h)
+lines_more table sent answers given item h k =
+    lines_from-snoc (lines_after sent) given item
+    ∙ ap (λ (l : List ℕ). ack_lines sent given ++ l) (lines_of sent answers given item h ∙ ap (λ (o : Option Table). lines_at o answers item) (sym k))

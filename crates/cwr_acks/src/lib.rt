@@ -5,6 +5,7 @@ mod counts;
 mod facts;
 mod item_lines;
 mod line_texts;
+mod matching;
 mod running;
 
 pub use running::acks;

@@ -3,6 +3,7 @@
 ghost use Rattle.std.specs.Prelude.{◌≡◌, ◌+◌, ◌≤◌, [], ◌++◌, decimal, length, true};
 ghost use Rattle.cwr_acks.specs.Format.Acknowledgements.{is_ack, is_message};
 ghost use Rattle.cwr_acks.specs.Format.AckTexts.{ack_line, cell_part, level_part, message_line, number_part, original_text, status_part, status_text, words_of};
+ghost use Rattle.cwr_acks.specs.Format.SentAnswers.{marked_line, unanswered_text};
 ghost use Rattle.cwr_acks.specs.Steps.AckSteps.{counts_text};
 ghost use Rattle.cwr_fields.specs.Format.MessageCodes.{status_code};
 
@@ -13,7 +14,7 @@ use crate::facts::{
 };
 use arrayvec::ArrayVec;
 use cwr_fields::{Coded, MessageLevel, TransactionStatus, is_spaces, trimmed};
-use cwr_layouts::RecordRef;
+use cwr_layouts::{Kind, RecordRef, letters};
 use cwr_levels::{cell, number_of};
 use itoa::Buffer;
 use std::marker::Model;
@@ -205,6 +206,36 @@ impl LineText {
         push_cell_part(text, b" validation ", cell(shown, VALIDATION));
         push(text, b": ");
         push(text, trimmed(cell(shown, MESSAGE)));
+        push(text, b"\n");
+    }
+
+    /// Sets a line of a word on an acknowledgement.
+    pub(crate) fn set_marked(&mut self, word: &[u8], shown: &RecordRef<'_>)
+        requires ack { is_ack shown.now ≡ true }
+        requires short { length word.now ≤ 20 }
+        ensures { self.new ≡ marked_line word.now shown.now }
+    {
+        let text = &mut self.text;
+        text.clear();
+        push(text, word);
+        push_original(text, shown);
+        push_cell_part(text, b" submitter ", cell(shown, SUBMITTER_NUMBER));
+        push_cell_part(text, b" title ", cell(shown, TITLE));
+        push(text, b"\n");
+    }
+
+    /// Sets the line of a transaction of that kind that isn't answered.
+    pub(crate) fn set_unanswered(&mut self, group: u64, sequence: u64, kind: Kind)
+        ensures { self.new ≡ unanswered_text group sequence kind }
+    {
+        let text = &mut self.text;
+        text.clear();
+        push(text, b"UNANSWERED group ");
+        push_number(text, group);
+        push(text, b" transaction ");
+        push_number(text, sequence);
+        push(text, b" ");
+        push(text, letters(kind));
         push(text, b"\n");
     }
 

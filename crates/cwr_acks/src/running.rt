@@ -1,18 +1,21 @@
 //! Whole runs over a text: its acknowledgements.
 
-ghost use Rattle.std.specs.Prelude.{◌≡◌, [], true, false, IfOk, OnOk};
+ghost use Rattle.std.specs.Prelude.{◌≡◌, [], true, false, IfOk, IfSome, OnOk};
 ghost use Rattle.cwr_encode.specs.Steps.Sinks.{HasWritten, has_failed, writer_of};
 ghost use Rattle.cwr_tools.specs.Format.Reports.{CountsReaderFault, CountsWriterFault, JudgesAccepted, JudgesCanonical};
 ghost use Rattle.cwr_tools.specs.Format.Verdicts.{JudgesText};
 ghost use Rattle.cwr_tools.specs.Steps.Reports.{PutsReport, Reports};
 ghost use Rattle.cwr_acks.specs.Format.AckLines.{lines_of_acks};
+ghost use Rattle.cwr_acks.specs.Steps.AckSteps.{IsFresh, facts_if};
 
 use crate::counts::Answers;
 use crate::item_lines::put_item;
 use crate::line_texts::LineText;
+use crate::matching::mark_with;
 use cwr_decode::Reading;
 use cwr_encode::Sink;
 use cwr_fields::{Source, Target};
+use cwr_sent::Sent;
 use cwr_shape::Limits;
 use cwr_tools::{ToolFault, Totals, Verdict, verdict_of};
 use std::alloc::Global;
@@ -21,12 +24,14 @@ use std::alloc::Global;
 fn put_acks<R: Source, W: Target>(
     alloc: Global,
     limits: Limits,
+    mut sent: Option<Sent>,
     reader: &mut R,
     sink: &mut Sink<W>,
 ) -> Result<Verdict, ToolFault>
+    requires fresh { IfSome sent IsFresh }
     requires unfailed { has_failed sink.old ≡ false }
     requires empty { HasWritten W.contents (W.contents (writer_of sink.old)) [] sink.old }
-    ensures puts { PutsReport lines_of_acks (λ verdict. []) limits (R.remaining reader.old) (R.remaining reader.new) W.contents W.failures result sink.old sink.new }
+    ensures puts { PutsReport (lines_of_acks (facts_if sent)) (λ verdict. []) limits (R.remaining reader.old) (R.remaining reader.new) W.contents W.failures result sink.old sink.new }
     ensures failures { CountsReaderFault result (R.failures reader.old) (R.failures reader.new) }
 {
     let mut reading = Reading::new(alloc, limits, reader);
@@ -36,8 +41,9 @@ fn put_acks<R: Source, W: Target>(
     'items: loop {
         match reading.next_item() {
             Ok(Some(item)) => {
-                put_item(&answers, &item, &mut text, sink)?;
+                put_item(&sent, &answers, &item, &mut text, sink)?;
                 answers.count_answer(&item);
+                mark_with(&mut sent, &item);
                 counts.count(&item);
             }
             Ok(None) => return Ok(counts.good()),
@@ -50,16 +56,18 @@ fn put_acks<R: Source, W: Target>(
 fn write_acks<R: Source, W: Target>(
     alloc: Global,
     limits: Limits,
+    sent: Option<Sent>,
     reader: &mut R,
     writer: W,
 ) -> (W, Result<Verdict, ToolFault>)
-    ensures reported { Reports lines_of_acks limits (R.remaining reader.old) (R.remaining reader.new) W.contents writer result.0 result.1 }
+    requires { IfSome sent IsFresh }
+    ensures reported { Reports (lines_of_acks (facts_if sent)) limits (R.remaining reader.old) (R.remaining reader.new) W.contents writer result.0 result.1 }
     ensures reader_failures { CountsReaderFault result.1 (R.failures reader.old) (R.failures reader.new) }
     ensures writer_failures { CountsWriterFault result.1 (W.failures writer) (W.failures result.0) }
     ensures handed_on { OnOk result.1 (W.handed_on result.0 ≡ true) }
 {
     let mut sink = Sink::new(writer);
-    let put = put_acks(alloc, limits, reader, &mut sink);
+    let put = put_acks(alloc, limits, sent, reader, &mut sink);
     let written = sink.written();
     let mut writer = sink.into_inner();
     match put {
@@ -80,18 +88,20 @@ fn write_acks<R: Source, W: Target>(
 pub fn acks<R: Source, W: Target + Drop>(
     alloc: Global,
     limits: Limits,
+    sent: Option<Sent>,
     reader: &mut R,
     writer: W,
 ) -> (W, Result<Verdict, ToolFault>)
-    ensures reported { Reports lines_of_acks limits (R.remaining reader.old) (R.remaining reader.new) W.contents writer result.0 result.1 }
+    requires { IfSome sent IsFresh }
+    ensures reported { Reports (lines_of_acks (facts_if sent)) limits (R.remaining reader.old) (R.remaining reader.new) W.contents writer result.0 result.1 }
     ensures judged { JudgesText limits (R.remaining reader.old) result.1 }
-    ensures accepted { IfOk result.1 (JudgesAccepted lines_of_acks limits (R.remaining reader.old) (R.remaining reader.new) W.contents writer result.0) }
-    ensures canonical { IfOk result.1 (JudgesCanonical lines_of_acks limits (R.remaining reader.old) (R.remaining reader.new) W.contents writer result.0) }
+    ensures accepted { IfOk result.1 (JudgesAccepted (lines_of_acks (facts_if sent)) limits (R.remaining reader.old) (R.remaining reader.new) W.contents writer result.0) }
+    ensures canonical { IfOk result.1 (JudgesCanonical (lines_of_acks (facts_if sent)) limits (R.remaining reader.old) (R.remaining reader.new) W.contents writer result.0) }
     // No failure is passed over: a device failed only where that is the answer.
     ensures reader_failures { CountsReaderFault result.1 (R.failures reader.old) (R.failures reader.new) }
     ensures writer_failures { CountsWriterFault result.1 (W.failures writer) (W.failures result.0) }
     // All that was written was handed on.
     ensures handed_on { OnOk result.1 (W.handed_on result.0 ≡ true) }
 {
-    write_acks(alloc, limits, reader, writer)
+    write_acks(alloc, limits, sent, reader, writer)
 }

@@ -1,6 +1,6 @@
 //! The table of what was sent, in which is marked what was answered.
 
-ghost use Rattle.std.specs.Prelude.{◌≡◌, [], ◌∷◌, ◌++◌, OnOk};
+ghost use Rattle.std.specs.Prelude.{◌≡◌, [], ◌∷◌, ◌++◌, OnOk, length, slice_get, unwrap_or};
 ghost use Rattle.cwr_sent.specs.Steps.SentTables.{entry_at, filled_in, filled_with, marked, rows};
 
 use crate::facts::SentFacts;
@@ -62,6 +62,23 @@ impl Sent {
             }
             Item::GroupClosed(_) => self.close(),
             Item::Opened(_) | Item::GroupOpened(_) | Item::Ended => Ok(()),
+        }
+    }
+
+    /// How many groups there are.
+    pub fn groups(&self) -> usize
+        ensures { result ≡ length (rows self.now) }
+    {
+        self.groups.len()
+    }
+
+    /// The entries of group `group`, from 0; none where it isn't there.
+    pub fn group(&self, group: usize) -> &[Entry]
+        ensures { result.now ≡ unwrap_or (slice_get (rows self.now) group) [] }
+    {
+        match self.groups.get(group) {
+            Some(row) => row.as_slice(),
+            None => &[],
         }
     }
 

@@ -92,13 +92,3 @@ status_part code count = codes " " ++ code ++ codes " " ++ decimal count
 abbrev pub counts_line : List Item → List ℕ
 counts_line items =
     codes "ACKS " ++ decimal (count_by is_answer items) ++ flat_map (λ this_status. status_part (status_code this_status) (count_by (has_status this_status) items)) transaction_statuses ++ codes "\n"
-
--- the lines of an item that comes after others: the last one has the counts of those before it
-abbrev pub lines_after : List Item → Item → List ℕ
-lines_after before (Transaction t) = answer_lines t
-lines_after before Ended = counts_line before
-lines_after before item = []
-
--- the lines of items
-unfoldable pub ack_lines : List Item → List ℕ
-ack_lines items = flat_map (λ q. lines_after (take q.0 items) q.1) (enumerate_from 0 items)
