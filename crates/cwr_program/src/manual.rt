@@ -116,6 +116,13 @@ COMMANDS
        acknowledgement. What each status means stands below, under
        Acknowledgements.
 
+       --sent SENT
+              Matches them with the transmission in the file SENT, by group
+              and sequence. It is read first. Where it is refused or cut off,
+              its verdict goes to standard error, and nothing else is told.
+              What is told of a match stands under Output. Memory holds a few
+              bytes of each of its transactions.
+
    cwr write [OPTIONS] [FILE]
        Writes the transmission that lines of JSON are, with all its numbers.
        FILE has lines as `cwr json` writes them. How it ended goes to standard
@@ -263,6 +270,27 @@ OUTPUT
        ACKS N CO C DU D ...
               There are N acknowledgements, and so many of each status.
 
+       With `--sent` it writes these under an acknowledgement, and what isn't
+       answered before the counts:
+
+       UNSENT group G transaction T TYPE ...
+              No transaction of SENT is the one that it answers: it answers
+              another transmission, or SENT is another file.
+
+       RETITLED group G transaction T TYPE ...
+              The transaction was sent with another title. The titles' checks
+              of 32 bits differ, and neither title is blank. Where many do,
+              SENT is another file.
+
+       AGAIN group G transaction T TYPE ...
+              An acknowledgement before it answers the same transaction. The
+              later one counts.
+
+       UNANSWERED group G transaction T TYPE
+              No acknowledgement answers this transaction of SENT. `cwr csv
+              works SENT` has the title of each work by its group and
+              transaction.
+
        `cwr write` writes one of these to standard error:
 
        WRITTEN lines L bytes B
@@ -376,13 +404,20 @@ EXAMPLES
            $ cwr check --fail-on R findings.cwr > /dev/null; echo $?
            1
 
-       What the acknowledgements of a file say:
+       What the acknowledgements of a file say, and what is rejected:
 
-           $ cwr acks message.cwr
-           AS registration accepted: group 1 transaction 0 NWR level F submitter W0001 title BLUE RIVER
-             level F type F: TITLE CHANGED
-           ACKS 1 CO 0 DU 0 RA 0 AS 1 AC 0 SR 0 CR 0 RJ 0 NP 0 RC 0
-           GOOD groups 1 transactions 1 records 6
+           $ cwr acks answers.cwr 2> /dev/null | sed -n '/^RJ/,/^[^R ]/p' | sed '$d'
+           RJ rejected: group 2 transaction 0 REV level T submitter W0002 title RED HILL
+             level T type T record 1 SWR validation 061: WRITER SHARES DO NOT ADD UP
+             level R type R record 2 SWR validation 017: INTERESTED PARTY IS UNKNOWN
+           $ cwr acks answers.cwr 2> /dev/null | tail -n 1
+           ACKS 4 CO 1 DU 0 RA 0 AS 1 AC 1 SR 0 CR 0 RJ 1 NP 0 RC 0
+
+       What of it was never sent, and what wasn't answered?
+
+           $ cwr acks answers.cwr --sent works.cwr 2> /dev/null | grep '^UN'
+           UNSENT group 7 transaction 3 NWR submitter W0900 title OLD SONG
+           UNANSWERED group 2 transaction 1 REV
 
        A file from which a work was cut out by hand:
 

@@ -96,7 +96,7 @@ pub(crate) fn look_beyond<R: Source>(reader: &mut R) -> Look
 }
 
 /// Looks so where the verdict is good.
-fn look_after<R: Source>(reader: &mut R, outcome: &Result<Verdict, ToolFault>) -> Look
+pub(crate) fn look_after<R: Source>(reader: &mut R, outcome: &Result<Verdict, ToolFault>) -> Look
     ensures looks { LooksOnce (R.remaining reader.old) (R.remaining reader.new) outcome.now result }
     ensures failures { CountsLook result (R.failures reader.old) (R.failures reader.new) }
 {
@@ -167,7 +167,7 @@ fn tell<R: Source, W: Target + Drop>(
             (writer, outcome, look)
         }
         Telling::Answers => {
-            let (writer, outcome) = acks(alloc, limits, reader, writer);
+            let (writer, outcome) = acks(alloc, limits, None, reader, writer);
             let look = look_after(reader, &outcome);
             (writer, outcome, look)
         }
@@ -176,7 +176,7 @@ fn tell<R: Source, W: Target + Drop>(
 
 /// What is made of an input with that outcome, where `found` says whether a finding came that is unwanted. Where nothing may follow the
 /// transmission, and the input failed there, that is its fault.
-fn judgement_of(
+pub(crate) fn judgement_of(
     wanted: Wanted,
     outcome: Result<Verdict, ToolFault>,
     look: Look,

@@ -1,5 +1,5 @@
 -- The table after all items of a transmission.
-use Rattle.std.proofs.Common.{◌≡◌, List, [], ◌∷◌, ◌++◌, refl, sym, ap, ◌∙◌, append_assoc, append-nil}
+use Rattle.std.proofs.Common.{◌≡◌, List, [], ◌∷◌, ◌++◌, refl, sym, ap, ap₂, ◌∙◌, append_assoc, append-nil}
 use Rattle.std.specs.Prelude.{fold, map}
 use Rattle.std.specs.List.{flat_map}
 use Rattle.cwr_layouts.specs.Format.Records.{RecordValue}
@@ -7,9 +7,10 @@ use Rattle.cwr_values.specs.declared.items.Item.{Item}
 use Rattle.cwr_values.specs.declared.items.Item.TheVariants.{Transaction, GroupClosed, Ended}
 use Rattle.cwr_values.specs.Format.Values.{GroupValue, TransmissionValue}
 use Rattle.cwr_judge.specs.Format.Items.{group_items, value_items}
+use Rattle.cwr_sent.specs.declared.facts.SentFacts.{SentFacts}
 use Rattle.cwr_sent.specs.declared.tables.Entry.{Entry}
 use Rattle.cwr_sent.specs.Format.SentFacts.{facts_in, facts_of}
-use Rattle.cwr_sent.specs.Steps.SentTables.{Filled, filled_after, filled_with, fresh, fresh_rows}
+use Rattle.cwr_sent.specs.Steps.SentTables.{Filled, facts_in_rows, filled_after, filled_with, fresh, fresh_rows}
 
 fold_both : (f : Filled) (xs ys : List Item) → fold filled_with f (xs ++ ys) ≡ fold filled_with (fold filled_with f xs) ys
 fold_both f [] ys = refl
@@ -48,3 +49,15 @@ filled_whole v =
 -- one more of the items
 pub filled_more : (items : List Item) (item : Item) → filled_with (filled_after items) item ≡ filled_after (items ++ item ∷ [])
 filled_more items item = sym (fold_both (record { closed = []; open_one = [] }) items (item ∷ []))
+
+-- the facts of such entries
+same_facts : (fs : List SentFacts) → map (λ (e : Entry). e.facts) (map fresh fs) ≡ fs
+same_facts [] = refl
+same_facts (f ∷ fs) = ap (λ (l : List SentFacts). f ∷ l) (same_facts fs)
+
+facts_back : (sent : List (List SentFacts)) → facts_in_rows (fresh_rows sent) ≡ sent
+facts_back [] = refl
+facts_back (row ∷ rest) = ap₂ (λ (x : List SentFacts) (l : List (List SentFacts)). x ∷ l) (same_facts row) (facts_back rest)
+
+pub rows_fresh : (table : List (List Entry)) (sent : List (List SentFacts)) → table ≡ fresh_rows sent → table ≡ fresh_rows (facts_in_rows table)
+rows_fresh table sent e = e ∙ ap fresh_rows (sym (facts_back sent) ∙ ap facts_in_rows (sym e))

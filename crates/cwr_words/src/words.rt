@@ -73,6 +73,8 @@ pub enum Work<'a> {
     Acks {
         /// The name of the transmission's file, or none for that on standard input.
         file: Option<&'a str>,
+        /// The name of the file of the transmission that they answer, or none where they are matched with none.
+        sent: Option<&'a str>,
     },
     /// A transmission is written from lines of JSON.
     Write {
@@ -151,6 +153,9 @@ const CSV: &str = "csv";
 
 /// The name of the subcommand that tells what acknowledgements say.
 const ACKS: &str = "acks";
+
+/// The id of the file of the transmission that acknowledgements answer.
+const SENT: &str = "sent";
 
 /// The name of the subcommand that reads JSON.
 const WRITE: &str = "write";
@@ -365,11 +370,15 @@ fn tabulating<'a>(alloc: Global) -> Result<Command<'a>, AllocError> {
 
 /// The subcommand that tells what acknowledgements say.
 fn answering<'a>(alloc: Global) -> Result<Command<'a>, AllocError> {
+    let sent = Arg::new(alloc, SENT).long(SENT).value_name("SENT").help(
+        "The transmission that they answer: tells what of it isn't answered, and what wasn't sent",
+    );
     over_one(
         alloc,
         ACKS,
         "Tells what the acknowledgements of a transmission say, and its verdict to standard error",
-    )
+    )?
+    .arg(sent)
 }
 
 /// The subcommand that reads JSON.
@@ -466,6 +475,12 @@ In the place of REFUSED `cwr lint` writes a line for each fault, and then:
 `cwr json` and `cwr csv` write it to standard error, and the lines of JSON or the table alone to standard output. So does
 `cwr renumber` without OUT; GOOD then has the numbers of what is written. So does `cwr acks`, whose last line has counts:
   ACKS N CO C DU D ...                       so many acknowledgements, and so many of each status
+
+With --sent it writes what was never sent, or with another title, or is answered again, and before ACKS what isn't answered:
+  UNSENT group G transaction T TYPE ...
+  RETITLED group G transaction T TYPE ...
+  AGAIN group G transaction T TYPE ...
+  UNANSWERED group G transaction T TYPE
 
 `cwr write` writes to standard error:
   WRITTEN lines L bytes B                    the transmission is written
@@ -626,6 +641,7 @@ fn acks_in<'a>(given: &ArgMatches<'a>) -> Work<'a>
 {
     Work::Acks {
         file: given.get_str(FILE),
+        sent: given.get_str(SENT),
     }
 }
 

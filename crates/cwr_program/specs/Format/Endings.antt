@@ -81,7 +81,8 @@ IsOfInput (Explain judging) = are_standard (map (λ name. name.now) judging.file
 IsOfInput (Show file) = is_standard (option_map (λ name. name.now) file) ≡ true
 IsOfInput (Json file numbers utf8) = is_standard (option_map (λ name. name.now) file) ≡ true
 IsOfInput (Csv rows file) = is_standard (option_map (λ name. name.now) file) ≡ true
-IsOfInput (Acks file) = is_standard (option_map (λ name. name.now) file) ≡ true
+IsOfInput (Acks file None) = is_standard (option_map (λ name. name.now) file) ≡ true
+IsOfInput (Acks file (Some sent)) = ⊥
 IsOfInput (Lint files quiet explained) = are_standard (map (λ name. name.now) files.items) ≡ true
 IsOfInput work = ⊥
 

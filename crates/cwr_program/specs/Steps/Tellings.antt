@@ -27,7 +27,7 @@ TellsUpTo (tellings.Faults name) limits before after contents old new outcome =
 TellsUpTo tellings.Records limits before after contents old new outcome = Reports lines_of_records limits before after contents old new outcome
 TellsUpTo (tellings.Data encoding numbers) limits before after contents old new outcome = Reports (lines_of_data encoding numbers) limits before after contents old new outcome
 TellsUpTo (tellings.Rows table) limits before after contents old new outcome = Reports (lines_of_table table) limits before after contents old new outcome
-TellsUpTo tellings.Answers limits before after contents old new outcome = Reports lines_of_acks limits before after contents old new outcome
+TellsUpTo tellings.Answers limits before after contents old new outcome = Reports (lines_of_acks None) limits before after contents old new outcome
 
 -- so it was, before what follows the transmission was looked at
 abbrev pub TellsText : {W : Type 0} → Telling → Limits → Option (List ℕ) → (W → Option (List ℕ)) → W → W → Result Verdict ToolFault → Type 0

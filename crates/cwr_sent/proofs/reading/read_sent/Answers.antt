@@ -8,7 +8,7 @@ use Rattle.cwr_decode.proofs.ItemsReadSoFar.{all_items, all_taken, fault_read, f
 use Rattle.cwr_decode.specs.Format.Runs.{TakesFront}
 use Rattle.cwr_sent.specs.Format.SentFacts.{facts_in}
 use Rattle.cwr_sent.specs.Steps.SentTables.{Filled, filled_after, filled_in, filled_with, fresh_rows, rows}
-use Rattle.cwr_sent.proofs.FilledTables.{filled_more, filled_whole}
+use Rattle.cwr_sent.proofs.FilledTables.{filled_more, filled_whole, rows_fresh}
 use Rattle.cwr_sent.proofs.reading.read_sent.Goals as goal
 
 pub items-init : goal.items-init
@@ -86,3 +86,12 @@ returns-clause-takes g c =
       ap (λ (f : Filled). f.closed) (c.items.invariant.filled ∙ ap filled_after are.given_are ∙ filled_whole are.value),
     ) in
     search rules
+
+pub returns-clause-fresh : goal.returns-clause-fresh
+returns-clause-fresh g c =
+    let all : HasReadAll c.args.limits (g.R.Source.remaining c.args.reader.now) (g.R.Source.remaining c.next_item.new.self.reader.now) c.items.invariant.given
+    = none_read c.args.limits c.items.reading.decoder c.next_item.new.self.decoder (g.R.Source.remaining c.args.reader.now) _ _ c.items.invariant.given c.in_ok-item.field-0 _ c.in_default.is
+    c.items.invariant.reading c.in_ok-item.ensures.reads c.in_ok-item.ensures.again (λ e. ap g.R.Source.remaining e) in
+    let are = all_items c.args.limits _ _ c.items.invariant.given all in
+    let kept = ap (λ (f : Filled). f.closed) (c.items.invariant.filled ∙ ap filled_after are.given_are ∙ filled_whole are.value) in
+    rows_fresh (rows c.items.sent) (facts_in are.value) kept
