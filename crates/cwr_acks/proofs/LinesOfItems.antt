@@ -19,10 +19,11 @@ use Rattle.cwr_acks.specs.Format.AckLines.{ack_lines, lines_after}
 use Rattle.cwr_acks.specs.Format.AckTexts.{answer_lines, counts_line, status_part}
 use Rattle.cwr_sent.specs.declared.facts.SentFacts.{SentFacts}
 use Rattle.cwr_sent.specs.declared.tables.Sent.{Sent}
-use Rattle.cwr_sent.specs.Steps.SentTables.{facts_in_rows, rows}
+use Rattle.cwr_sent.specs.Format.SentRows.{facts_in_rows, rows}
 use Rattle.cwr_acks.specs.Format.SentAnswers.{is_answered}
 use Rattle.cwr_acks.proofs.Matched.{fresh_is, marks_are, note_is, rows_from, unanswered_are}
-use Rattle.cwr_acks.specs.Steps.AckSteps.{IsFresh, Table, facts_if, marked_with, rows_if, HasRoom, answers_with, counts_text, lines_at, no_answers, one_more_if}
+use Rattle.cwr_acks.specs.Format.SentAnswers.{IsFresh, facts_if}
+use Rattle.cwr_acks.specs.Steps.AckSteps.{Table, marked_with, rows_if, HasRoom, answers_with, counts_text, lines_at, no_answers, one_more_if}
 
 -- ---- by the items before
 

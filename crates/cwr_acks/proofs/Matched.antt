@@ -16,7 +16,8 @@ use Rattle.cwr_values.specs.declared.items.Item.TheVariants as items
 use Rattle.cwr_sent.specs.declared.facts.SentFacts.{SentFacts}
 use Rattle.cwr_sent.specs.declared.tables.Entry.{Entry}
 use Rattle.cwr_sent.specs.Format.SentFacts.{facts_at}
-use Rattle.cwr_sent.specs.Steps.SentTables.{entry_at, fresh, fresh_rows, mark_in, mark_row, marked}
+use Rattle.cwr_sent.specs.Format.SentRows.{fresh, fresh_rows}
+use Rattle.cwr_sent.specs.Steps.SentTables.{entry_at, mark_in, mark_row, marked}
 use Rattle.cwr_acks.specs.Format.Acknowledgements.{is_ack}
 use Rattle.cwr_acks.specs.Format.SentAnswers.{answers, group_of, is_answered, names, note_after, note_on, sequence_of, unanswered_line, unanswered_lines}
 use Rattle.cwr_acks.specs.Steps.AckSteps.{Table, entry_for, entry_line, if_wanted, marked_by, marked_with, note_by, note_in, numbered, row_lines, row_of, table_lines}

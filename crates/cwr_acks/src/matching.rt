@@ -2,7 +2,7 @@
 
 ghost use Rattle.std.specs.Prelude.{◌≡◌, ◌≤◌, IfErr, Some, false, true, length, option_map};
 ghost use Rattle.cwr_encode.specs.Steps.Sinks.{Puts, has_failed, written_of};
-ghost use Rattle.cwr_sent.specs.Steps.SentTables.{rows};
+ghost use Rattle.cwr_sent.specs.Format.SentRows.{rows};
 ghost use Rattle.cwr_acks.specs.Format.Acknowledgements.{is_ack};
 ghost use Rattle.cwr_acks.specs.Format.SentAnswers.{are_different, group_of, marked_line, named_check, sequence_of, wants_answer};
 ghost use Rattle.cwr_acks.specs.Steps.AckSteps.{entry_for, entry_line, marked_by, marked_if, marked_with, note_by, note_in, note_in_if, row_lines, rows_if, table_lines, table_lines_if};

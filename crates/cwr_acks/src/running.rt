@@ -6,7 +6,7 @@ ghost use Rattle.cwr_tools.specs.Format.Reports.{CountsReaderFault, CountsWriter
 ghost use Rattle.cwr_tools.specs.Format.Verdicts.{JudgesText};
 ghost use Rattle.cwr_tools.specs.Steps.Reports.{PutsReport, Reports};
 ghost use Rattle.cwr_acks.specs.Format.AckLines.{lines_of_acks};
-ghost use Rattle.cwr_acks.specs.Steps.AckSteps.{IsFresh, facts_if};
+ghost use Rattle.cwr_acks.specs.Format.SentAnswers.{IsFresh, facts_if};
 
 use crate::counts::Answers;
 use crate::item_lines::put_item;

@@ -1,7 +1,7 @@
 //! Acknowledgements that are matched with the transmission that they answer.
 
 ghost use Rattle.std.specs.Prelude.{IfOk};
-ghost use Rattle.cwr_acks.specs.Steps.AckSteps.{IsFresh};
+ghost use Rattle.cwr_acks.specs.Format.SentAnswers.{IsFresh};
 
 use crate::endings::Status;
 use crate::faults::{Fault, Name, Told};

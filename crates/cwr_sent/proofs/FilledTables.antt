@@ -10,7 +10,8 @@ use Rattle.cwr_judge.specs.Format.Items.{group_items, value_items}
 use Rattle.cwr_sent.specs.declared.facts.SentFacts.{SentFacts}
 use Rattle.cwr_sent.specs.declared.tables.Entry.{Entry}
 use Rattle.cwr_sent.specs.Format.SentFacts.{facts_in, facts_of}
-use Rattle.cwr_sent.specs.Steps.SentTables.{Filled, facts_in_rows, filled_after, filled_with, fresh, fresh_rows}
+use Rattle.cwr_sent.specs.Format.SentRows.{facts_in_rows, fresh, fresh_rows}
+use Rattle.cwr_sent.specs.Steps.SentTables.{Filled, filled_after, filled_with}
 
 fold_both : (f : Filled) (xs ys : List Item) → fold filled_with f (xs ++ ys) ≡ fold filled_with (fold filled_with f xs) ys
 fold_both f [] ys = refl

@@ -5,7 +5,7 @@ ghost use Rattle.cwr_decode.specs.Format.Runs.{TakesFront};
 ghost use Rattle.cwr_decode.specs.Steps.Readings.{CountsFault};
 ghost use Rattle.cwr_decode.specs.Steps.Runs.{StopsReading};
 ghost use Rattle.cwr_sent.specs.Format.SentFacts.{facts_in};
-ghost use Rattle.cwr_sent.specs.Steps.SentTables.{facts_in_rows, fresh_rows, rows};
+ghost use Rattle.cwr_sent.specs.Format.SentRows.{facts_in_rows, fresh_rows, rows};
 ghost use Rattle.cwr_values.specs.Format.Values.{TransmissionValue};
 
 use crate::tables::Sent;

@@ -1,7 +1,8 @@
 //! The table of what was sent, in which is marked what was answered.
 
 ghost use Rattle.std.specs.Prelude.{◌≡◌, [], ◌∷◌, ◌++◌, OnOk, length, slice_get, unwrap_or};
-ghost use Rattle.cwr_sent.specs.Steps.SentTables.{entry_at, filled_in, filled_with, marked, rows};
+ghost use Rattle.cwr_sent.specs.Format.SentRows.{rows};
+ghost use Rattle.cwr_sent.specs.Steps.SentTables.{entry_at, filled_in, filled_with, marked};
 
 use crate::facts::SentFacts;
 use cwr_values::Item;

@@ -1,5 +1,5 @@
 -- Acknowledgements matched with the transmission that they answer.
-use Rattle.std.specs.Prelude.{ℕ, Bool, false, not, ◌&&◌, ◌==◌, List, [], ◌∷◌, ◌++◌, codes, decimal, take, Option, Some, None, if◌then◌else◌}
+use Rattle.std.specs.Prelude.{◌≡◌, ℕ, Bool, false, not, ◌&&◌, ◌==◌, List, [], ◌∷◌, ◌++◌, codes, decimal, take, Option, Some, None, option_map, if◌then◌else◌}
 use Rattle.std.specs.List.{enumerate_from, flat_map, list_any}
 use Rattle.std.specs.Str.{bytes_eq}
 use Rattle.cwr_fields.specs.Format.Bytes.{number_of, trimmed}
@@ -10,6 +10,8 @@ use Rattle.cwr_layouts.specs.Format.Records.{RecordValue, cell_named}
 use Rattle.cwr_values.specs.declared.items.Item.{Item}
 use Rattle.cwr_values.specs.declared.items.Item.TheVariants.{Transaction}
 use Rattle.cwr_sent.specs.declared.facts.SentFacts.{SentFacts}
+use Rattle.cwr_sent.specs.declared.tables.Sent.{Sent}
+use Rattle.cwr_sent.specs.Format.SentRows.{facts_in_rows, fresh_rows, rows}
 use Rattle.cwr_sent.specs.Format.SentFacts.{facts_at, title_check}
 use Rattle.cwr_acks.specs.Format.Acknowledgements.{is_ack}
 use Rattle.cwr_acks.specs.Format.AckTexts.{cell_part, original_text}
@@ -88,3 +90,11 @@ note_if (Some sent) before t = note_after sent before t
 abbrev pub unanswered_if : Option (List (List SentFacts)) → List Item → List ℕ
 unanswered_if None items = []
 unanswered_if (Some sent) items = unanswered_lines sent items
+
+-- the facts of what was sent
+abbrev pub facts_if : Option Sent → Option (List (List SentFacts))
+facts_if sent = option_map (λ s. facts_in_rows (rows s)) sent
+
+-- nothing of it is answered yet
+abbrev pub IsFresh : Sent → Type 0
+IsFresh sent = rows sent ≡ fresh_rows (facts_in_rows (rows sent))

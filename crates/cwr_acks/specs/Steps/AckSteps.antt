@@ -6,7 +6,8 @@ use Rattle.cwr_layouts.specs.Format.Records.{RecordValue}
 use Rattle.cwr_sent.specs.declared.facts.SentFacts.{SentFacts}
 use Rattle.cwr_sent.specs.declared.tables.Entry.{Entry}
 use Rattle.cwr_sent.specs.declared.tables.Sent.{Sent}
-use Rattle.cwr_sent.specs.Steps.SentTables.{entry_at, facts_in_rows, fresh_rows, marked, rows}
+use Rattle.cwr_sent.specs.Format.SentRows.{facts_in_rows, fresh_rows, rows}
+use Rattle.cwr_sent.specs.Steps.SentTables.{entry_at, marked}
 use Rattle.cwr_fields.specs.Format.MessageCodes.{status_code, transaction_statuses}
 use Rattle.cwr_values.specs.declared.items.Item.{Item}
 use Rattle.cwr_values.specs.declared.items.Item.TheVariants.{Transaction, Ended}
@@ -102,14 +103,6 @@ table_lines_if (Some table) = table_lines table
 -- the rows of what was sent
 abbrev pub rows_if : Option Sent → Option Table
 rows_if sent = option_map rows sent
-
--- the facts of what was sent
-abbrev pub facts_if : Option Sent → Option (List (List SentFacts))
-facts_if sent = option_map (λ s. facts_in_rows (rows s)) sent
-
--- nothing of it is answered yet
-abbrev pub IsFresh : Sent → Type 0
-IsFresh sent = rows sent ≡ fresh_rows (facts_in_rows (rows sent))
 
 -- ---- lines
 

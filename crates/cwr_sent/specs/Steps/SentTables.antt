@@ -3,14 +3,10 @@ use Rattle.std.specs.Prelude.{ℕ, true, false, List, [], ◌∷◌, ◌++◌, f
 use Rattle.std.specs.Option.{option_and_then}
 use Rattle.cwr_values.specs.declared.items.Item.{Item}
 use Rattle.cwr_values.specs.declared.items.Item.TheVariants.{Transaction, GroupClosed}
-use Rattle.cwr_sent.specs.declared.facts.SentFacts.{SentFacts}
 use Rattle.cwr_sent.specs.declared.tables.Entry.{Entry}
 use Rattle.cwr_sent.specs.declared.tables.Sent.{Sent}
 use Rattle.cwr_sent.specs.Format.SentFacts.{facts_of}
-
--- the entries of the groups that are closed
-abbrev pub rows : Sent → List (List Entry)
-rows sent = map (λ v. v.items) sent.groups.items
+use Rattle.cwr_sent.specs.Format.SentRows.{fresh, rows}
 
 -- entry t of group g, both from 0
 abbrev pub entry_at : List (List Entry) → ℕ → ℕ → Option Entry
@@ -27,18 +23,6 @@ mark_in table g t (Some row) = slice_set table g (mark_row row t (slice_get row 
 -- with that entry marked, where there is one
 abbrev pub marked : List (List Entry) → ℕ → ℕ → List (List Entry)
 marked table g t = mark_in table g t (slice_get table g)
-
--- the facts of the entries
-abbrev pub facts_in_rows : List (List Entry) → List (List SentFacts)
-facts_in_rows table = map (map (λ (e : Entry). e.facts)) table
-
--- an entry that is not answered
-abbrev pub fresh : SentFacts → Entry
-fresh f = record { facts = f; answered = false }
-
--- the entries of transactions with these facts, none of which is answered
-abbrev pub fresh_rows : List (List SentFacts) → List (List Entry)
-fresh_rows sent = map (map fresh) sent
 
 -- closed groups, and the entries of the open one
 pub record Filled : Type 0 where

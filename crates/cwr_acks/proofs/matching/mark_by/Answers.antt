@@ -1,5 +1,5 @@
 use Rattle.std.proofs.Common.{sym, ◌∙◌}
-use Rattle.cwr_sent.specs.Steps.SentTables.{rows}
+use Rattle.cwr_sent.specs.Format.SentRows.{rows}
 use Rattle.cwr_acks.proofs.Matched.{marked_is, unmarked_is}
 use Rattle.cwr_acks.proofs.matching.mark_by.Goals as goal
 

@@ -1,6 +1,6 @@
 use Rattle.std.proofs.Common.{sym, ◌∙◌}
 use Rattle.cwr_encode.proofs.Numbered.{puts_as}
-use Rattle.cwr_sent.specs.Steps.SentTables.{rows}
+use Rattle.cwr_sent.specs.Format.SentRows.{rows}
 use Rattle.cwr_acks.proofs.Matched.{note_in_is}
 use Rattle.cwr_acks.proofs.matching.put_note_in.Goals as goal
 

@@ -3,7 +3,7 @@ use Rattle.std.specs.Prelude.{slice_get}
 use Rattle.std.proofs.lemmas.List.{take_all}
 use Rattle.std.proofs.lemmas.Option.{slice_get_past}
 use Rattle.cwr_encode.proofs.Numbered.{step_more, steps_refused, steps_whole}
-use Rattle.cwr_sent.specs.Steps.SentTables.{rows}
+use Rattle.cwr_sent.specs.Format.SentRows.{rows}
 use Rattle.cwr_acks.specs.Steps.AckSteps.{row_lines}
 use Rattle.cwr_acks.proofs.Matched.{row_there}
 use Rattle.cwr_acks.proofs.matching.put_rows.Goals as goal

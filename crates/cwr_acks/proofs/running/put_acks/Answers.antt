@@ -11,7 +11,8 @@ use Rattle.cwr_tools.proofs.CountedTotals.{counts_none, next_room, total_grows}
 use Rattle.cwr_tools.proofs.ReportsOn.{fault_reported, good_reported, nothing, same_fault, stops_after}
 use Rattle.cwr_acks.specs.declared.counts.Answers.{Answers}
 use Rattle.cwr_acks.specs.Format.AckLines.{lines_of_acks}
-use Rattle.cwr_acks.specs.Steps.AckSteps.{Table, facts_if, marked_with, rows_if}
+use Rattle.cwr_acks.specs.Format.SentAnswers.{facts_if}
+use Rattle.cwr_acks.specs.Steps.AckSteps.{Table, marked_with, rows_if}
 use Rattle.cwr_acks.proofs.LinesOfItems.{matched_none}
 use Rattle.cwr_acks.specs.Steps.AckSteps.{answers_with}
 use Rattle.cwr_acks.proofs.AcksOn.{IsTelling, answers_in, item_fault, room_in, tells_item, tells_nothing}

@@ -1,5 +1,6 @@
 use Rattle.std.proofs.Common.{◌≡◌, ◌+◌, ◌-◌}
-use Rattle.cwr_acks.specs.Steps.AckSteps.{facts_if, rows_if}
+use Rattle.cwr_acks.specs.Format.SentAnswers.{facts_if}
+use Rattle.cwr_acks.specs.Steps.AckSteps.{rows_if}
 use Rattle.cwr_acks.proofs.AcksOn.{IsTelling}
 use Rattle.cwr_acks.proofs.running.put_acks.Given as goal
 

@@ -1,5 +1,5 @@
 use Rattle.cwr_acks.specs.Format.AckLines.{lines_of_acks}
-use Rattle.cwr_acks.specs.Steps.AckSteps.{facts_if}
+use Rattle.cwr_acks.specs.Format.SentAnswers.{facts_if}
 use Rattle.cwr_tools.proofs.ReportsWhole.{reports_flushed, reports_stuck}
 use Rattle.cwr_acks.proofs.running.write_acks.Goals as goal
 

@@ -7,7 +7,8 @@ use Rattle.cwr_decode.proofs.ItemsMakeOneTransmission.{items_once}
 use Rattle.cwr_decode.proofs.ItemsReadSoFar.{all_items, all_taken, fault_read, fewer_left, memory_stops, none_read, nothing_read_yet, of_fault, some_read}
 use Rattle.cwr_decode.specs.Format.Runs.{TakesFront}
 use Rattle.cwr_sent.specs.Format.SentFacts.{facts_in}
-use Rattle.cwr_sent.specs.Steps.SentTables.{Filled, filled_after, filled_in, filled_with, fresh_rows, rows}
+use Rattle.cwr_sent.specs.Format.SentRows.{fresh_rows, rows}
+use Rattle.cwr_sent.specs.Steps.SentTables.{Filled, filled_after, filled_in, filled_with}
 use Rattle.cwr_sent.proofs.FilledTables.{filled_more, filled_whole, rows_fresh}
 use Rattle.cwr_sent.proofs.reading.read_sent.Goals as goal
 

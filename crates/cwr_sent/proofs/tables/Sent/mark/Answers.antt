@@ -3,7 +3,8 @@ use Rattle.std.specs.Prelude.{option_map, slice_get, slice_set}
 use Rattle.std.proofs.lemmas.List.{map-set}
 use Rattle.std.proofs.lemmas.Option.{slice_get-map, slice_get_past, slice_get_read}
 use Rattle.cwr_sent.specs.declared.tables.Entry.{Entry}
-use Rattle.cwr_sent.specs.Steps.SentTables.{mark_in, mark_row, rows}
+use Rattle.cwr_sent.specs.Format.SentRows.{rows}
+use Rattle.cwr_sent.specs.Steps.SentTables.{mark_in, mark_row}
 use Rattle.cwr_sent.proofs.tables.Sent.mark.Goals as goal
 
 pub returns-in_default-get_mut : goal.returns-in_default-get_mut
