@@ -1,6 +1,7 @@
 //! The program `cwr` between its words and its devices.
 #![tactic(auto)]
 
+mod answers;
 mod endings;
 mod faults;
 mod file_lines;

@@ -100,6 +100,29 @@ COMMANDS
        Names are joined by semicolons, those of writers with the last name
        first. The shares of each right are added up, in percent.
 
+   cwr acks [OPTIONS] [FILE]
+       Tells what became of each transaction that the acknowledgements in a
+       transmission answer. The verdict goes to standard error.
+
+       Each acknowledgement has a line. It begins with the status, so that
+       `grep` and `sort` find what is rejected, and goes on with the group and
+       the sequence of the transaction that was sent, its type, the worst
+       level of the messages, the numbers of the submitter and of the
+       recipient, and the title. What is blank is left out, and cells are as
+       they stand, without trailing spaces. Under it each message has a line
+       that begins with two spaces: what it rejects, what it is about, the
+       record in the transaction that was sent, counted from 0, and the text.
+       Other transactions are passed over, and so is the copy in an
+       acknowledgement. What each status means stands below, under
+       Acknowledgements.
+
+       --sent SENT
+              Matches them with the transmission in the file SENT, by group
+              and sequence. It is read first. Where it is refused or cut off,
+              its verdict goes to standard error, and nothing else is told.
+              What is told of a match stands under Output. Memory holds a few
+              bytes of each of its transactions.
+
    cwr write [OPTIONS] [FILE]
        Writes the transmission that lines of JSON are, with all its numbers.
        FILE has lines as `cwr json` writes them. How it ended goes to standard
@@ -241,6 +264,33 @@ OUTPUT
               counted from 1, the transaction and the record from 0. The
               verdict stays as it is.
 
+       `cwr acks` writes a line of counts last, where the transmission is
+       whole:
+
+       ACKS N CO C DU D ...
+              There are N acknowledgements, and so many of each status.
+
+       With `--sent` it writes these under an acknowledgement, and what isn't
+       answered before the counts:
+
+       UNSENT group G transaction T TYPE ...
+              No transaction of SENT is the one that it answers: it answers
+              another transmission, or SENT is another file.
+
+       RETITLED group G transaction T TYPE ...
+              The transaction was sent with another title. The titles' checks
+              of 32 bits differ, and neither title is blank. Where many do,
+              SENT is another file.
+
+       AGAIN group G transaction T TYPE ...
+              An acknowledgement before it answers the same transaction. The
+              later one counts.
+
+       UNANSWERED group G transaction T TYPE
+              No acknowledgement answers this transaction of SENT. `cwr csv
+              works SENT` has the title of each work by its group and
+              transaction.
+
        `cwr write` writes one of these to standard error:
 
        WRITTEN lines L bytes B
@@ -252,6 +302,38 @@ OUTPUT
 
        REFUSED the input ends before the trailer
               No line is TRL's.
+
+ACKNOWLEDGEMENTS
+       These are the statuses that `cwr acks` tells, and what to do.
+
+       CO     conflict: Shares don't go together with those of another claim.
+              Settle it with who made that.
+
+       DU     duplicate: The work was sent before. Nothing, unless it is
+              another work.
+
+       RA     transaction accepted: It passed the checks. Whether it is
+              registered is told later.
+
+       AS     registration accepted: Nothing: it was taken as it was sent.
+
+       AC     registration accepted with changes: Compare what was changed:
+              the messages or the copy tell it.
+
+       SR     registration accepted, ready for payment: Nothing.
+
+       CR     registration accepted with changes, ready for payment: Compare
+              what was changed.
+
+       RJ     rejected: Mend what the messages say, and send it again.
+
+       NP     no participation: The submitter has none in the recipient's
+              territory. Look whether the territories are right.
+
+       RC     claim rejected: Ask the recipient why, where no message says it.
+
+       The level of a message says what is rejected: E the file, G the group,
+       T the transaction, R the record, F the field.
 
 EXIT STATUS
        0      Good: the verdict is `GOOD`, with findings or without; or what
@@ -322,22 +404,20 @@ EXAMPLES
            $ cwr check --fail-on R findings.cwr > /dev/null; echo $?
            1
 
-       What an acknowledgement says:
+       What the acknowledgements of a file say, and what is rejected:
 
-           $ cwr show acknowledgement.cwr | sed -n '/^[0-9]* ACK$/,$p'
-           3 ACK
-             4 creation date: 20240102
-             5 creation time: 101500
-             6 original group id: 00001
-             7 original transaction sequence: 00000000
-             8 original transaction type: NWR
-             9 creation title: BLUE RIVER
-             10 submitter creation number: W0001
-             12 processing date: 20240110
-             13 transaction status: AS
-           4 GRT
-           5 TRL
-           GOOD groups 1 transactions 1 records 5
+           $ cwr acks answers.cwr 2> /dev/null | sed -n '/^RJ/,/^[^R ]/p' | sed '$d'
+           RJ rejected: group 2 transaction 0 REV level T submitter W0002 title RED HILL
+             level T type T record 1 SWR validation 061: WRITER SHARES DO NOT ADD UP
+             level R type R record 2 SWR validation 017: INTERESTED PARTY IS UNKNOWN
+           $ cwr acks answers.cwr 2> /dev/null | tail -n 1
+           ACKS 4 CO 1 DU 0 RA 0 AS 1 AC 1 SR 0 CR 0 RJ 1 NP 0 RC 0
+
+       What of it was never sent, and what wasn't answered?
+
+           $ cwr acks answers.cwr --sent works.cwr 2> /dev/null | grep '^UN'
+           UNSENT group 7 transaction 3 NWR submitter W0900 title OLD SONG
+           UNANSWERED group 2 transaction 1 REV
 
        A file from which a work was cut out by hand:
 

@@ -6,6 +6,7 @@ ghost use Rattle.cwr_program.specs.Format.Endings.{EndsOnInput, IsOfInput, fault
 ghost use Rattle.cwr_program.specs.Format.Inputs.{are_standard};
 ghost use Rattle.cwr_program.specs.Format.Tables.{table_of};
 
+use crate::answers::match_answers;
 use crate::endings::{Status, Wanted};
 use crate::faults::{Fault, tell_fault};
 use crate::imports::{Import, import_file, import_input};
@@ -233,6 +234,13 @@ fn perform<'a, R: Files + AllocGlobal, I: Read + Drop, P: Pace, O: Write + Drop,
             let telling = Telling::Rows(table_of(*rows));
             let input = open_input(rt, *file, &mut Some(standard), &mut *pace)?;
             return report_input(&asked, telling, input, output, error);
+        }
+        Work::Acks { file, sent } => {
+            if let Some(sent) = *sent {
+                return match_answers(rt, &asked, *file, sent, standard, &mut *pace, output, error);
+            }
+            let input = open_input(rt, *file, &mut Some(standard), &mut *pace)?;
+            return report_input(&asked, Telling::Answers, input, output, error);
         }
         Work::Write {
             file,

@@ -15,6 +15,7 @@ use crate::file_lines::FileLines;
 use crate::inputs::{Input, shown_name};
 use crate::outputs::{Gathered, gathered, told_of};
 use crate::progress::Pace;
+use cwr_acks::acks;
 use cwr_csv::{Table, csv};
 use cwr_encode::{Sink, SinkFault};
 use cwr_explain::{Trailing, explain, read_trailing};
@@ -47,6 +48,8 @@ pub(crate) enum Telling<'a> {
     },
     /// A table, and the verdict to standard error.
     Rows(Table),
+    /// What the acknowledgements say, and the verdict to standard error.
+    Answers,
 }
 
 /// What is told of an input that is judged, where it is explained too.
@@ -93,7 +96,7 @@ pub(crate) fn look_beyond<R: Source>(reader: &mut R) -> Look
 }
 
 /// Looks so where the verdict is good.
-fn look_after<R: Source>(reader: &mut R, outcome: &Result<Verdict, ToolFault>) -> Look
+pub(crate) fn look_after<R: Source>(reader: &mut R, outcome: &Result<Verdict, ToolFault>) -> Look
     ensures looks { LooksOnce (R.remaining reader.old) (R.remaining reader.new) outcome.now result }
     ensures failures { CountsLook result (R.failures reader.old) (R.failures reader.new) }
 {
@@ -163,12 +166,17 @@ fn tell<R: Source, W: Target + Drop>(
             let look = look_after(reader, &outcome);
             (writer, outcome, look)
         }
+        Telling::Answers => {
+            let (writer, outcome) = acks(alloc, limits, None, reader, writer);
+            let look = look_after(reader, &outcome);
+            (writer, outcome, look)
+        }
     }
 }
 
 /// What is made of an input with that outcome, where `found` says whether a finding came that is unwanted. Where nothing may follow the
 /// transmission, and the input failed there, that is its fault.
-fn judgement_of(
+pub(crate) fn judgement_of(
     wanted: Wanted,
     outcome: Result<Verdict, ToolFault>,
     look: Look,
@@ -262,7 +270,7 @@ pub(crate) fn tell_aside<E: Write>(
             name,
             &judgement.look,
         ),
-        Telling::Data { .. } | Telling::Rows(_) => {
+        Telling::Data { .. } | Telling::Rows(_) | Telling::Answers => {
             // What standard error doesn't take is lost.
             let _ = put_verdict_line(
                 &judgement.verdict,

@@ -5,7 +5,7 @@ ghost use Rattle.std.specs.Str.{bytes_eq};
 ghost use Rattle.std.specs.Str.Parse.{digits_value, without_leading_plus};
 ghost use Rattle.clap.specs.Words.{found_of, has_subcommand, one_text};
 ghost use Rattle.cwr_shape.specs.Format.Ranges.{limit_values};
-ghost use Rattle.cwr_words.specs.Format.Words.{AreNamesOf, IsAskedBy, IsExportOf, IsImportOf, IsJoinOf, IsJudgingOf, IsLintOf, IsPlainCheck, IsRenumberingOf, IsSplitOf, IsTableOf, IsWorkOf, level_named, rows_named};
+ghost use Rattle.cwr_words.specs.Format.Words.{AreNamesOf, IsAcksOf, IsAskedBy, IsExportOf, IsImportOf, IsJoinOf, IsJudgingOf, IsLintOf, IsPlainCheck, IsRenumberingOf, IsSplitOf, IsTableOf, IsWorkOf, level_named, rows_named};
 
 use clap::error::ErrorKind;
 use clap::{Arg, ArgAction, ArgMatches, Command, Error, value_parser};
@@ -68,6 +68,13 @@ pub enum Work<'a> {
         rows: Rows,
         /// The name of the transmission's file, or none for that on standard input.
         file: Option<&'a str>,
+    },
+    /// What the acknowledgements of one say is told.
+    Acks {
+        /// The name of the transmission's file, or none for that on standard input.
+        file: Option<&'a str>,
+        /// The name of the file of the transmission that they answer, or none where they are matched with none.
+        sent: Option<&'a str>,
     },
     /// A transmission is written from lines of JSON.
     Write {
@@ -143,6 +150,12 @@ const JSON: &str = "json";
 
 /// The name of the subcommand that writes tables.
 const CSV: &str = "csv";
+
+/// The name of the subcommand that tells what acknowledgements say.
+const ACKS: &str = "acks";
+
+/// The id of the file of the transmission that acknowledgements answer.
+const SENT: &str = "sent";
 
 /// The name of the subcommand that reads JSON.
 const WRITE: &str = "write";
@@ -355,6 +368,19 @@ fn tabulating<'a>(alloc: Global) -> Result<Command<'a>, AllocError> {
     with_reading(alloc, command)?.arg(kind)?.arg(file)
 }
 
+/// The subcommand that tells what acknowledgements say.
+fn answering<'a>(alloc: Global) -> Result<Command<'a>, AllocError> {
+    let sent = Arg::new(alloc, SENT).long(SENT).value_name("SENT").help(
+        "The transmission that they answer: tells what of it isn't answered, and what wasn't sent",
+    );
+    over_one(
+        alloc,
+        ACKS,
+        "Tells what the acknowledgements of a transmission say, and its verdict to standard error",
+    )?
+    .arg(sent)
+}
+
 /// The subcommand that reads JSON.
 fn importing<'a>(alloc: Global) -> Result<Command<'a>, AllocError> {
     let file = Arg::new(alloc, FILE).help(
@@ -447,7 +473,14 @@ In the place of REFUSED `cwr lint` writes a line for each fault, and then:
   FAULTS F findings N records R              so many faults and findings were told, in R lines
 
 `cwr json` and `cwr csv` write it to standard error, and the lines of JSON or the table alone to standard output. So does
-`cwr renumber` without OUT; GOOD then has the numbers of what is written.
+`cwr renumber` without OUT; GOOD then has the numbers of what is written. So does `cwr acks`, whose last line has counts:
+  ACKS N CO C DU D ...                       so many acknowledgements, and so many of each status
+
+With --sent it writes what was never sent, or with another title, or is answered again, and before ACKS what isn't answered:
+  UNSENT group G transaction T TYPE ...
+  RETITLED group G transaction T TYPE ...
+  AGAIN group G transaction T TYPE ...
+  UNANSWERED group G transaction T TYPE
 
 `cwr write` writes to standard error:
   WRITTEN lines L bytes B                    the transmission is written
@@ -468,6 +501,7 @@ Examples: cwr check works.cwr
           cwr explain works.cwr
           cwr lint --explain works.cwr
           cwr csv works works.cwr
+          cwr acks acknowledgement.cwr
           cwr split -n 1000 works.cwr part-
           cwr join whole.cwr part-00000001 part-00000002";
 
@@ -491,6 +525,7 @@ fn command<'a>(alloc: Global) -> Result<Command<'a>, AllocError> {
         .subcommand(linting(alloc)?)?
         .subcommand(exporting(alloc)?)?
         .subcommand(tabulating(alloc)?)?
+        .subcommand(answering(alloc)?)?
         .subcommand(importing(alloc)?)?
         .subcommand(splitting(alloc)?)?
         .subcommand(joining(alloc)?)?
@@ -600,6 +635,16 @@ fn table_in<'a>(given: &ArgMatches<'a>) -> Option<Work<'a>>
     })
 }
 
+/// The work of telling what acknowledgements say.
+fn acks_in<'a>(given: &ArgMatches<'a>) -> Work<'a>
+    ensures { IsAcksOf (found_of given.now) result }
+{
+    Work::Acks {
+        file: given.get_str(FILE),
+        sent: given.get_str(SENT),
+    }
+}
+
 /// The work of an import. `None` where the bound on lines is missing or out of its range.
 fn import_in<'a>(given: &ArgMatches<'a>) -> Option<Work<'a>>
     ensures { IfSome result (λ work. IsImportOf (found_of given.now) work) }
@@ -666,6 +711,8 @@ fn work_in<'a>(
         Ok(Some(export_in(given)))
     } else if name == CSV {
         Ok(table_in(given))
+    } else if name == ACKS {
+        Ok(Some(acks_in(given)))
     } else if name == WRITE {
         Ok(import_in(given))
     } else if name == JOIN {

@@ -12,7 +12,7 @@ use Rattle.cwr_write.specs.declared.writing.Written.{Written}
 use Rattle.cwr_write.specs.declared.writing.WriteFault.{WriteFault}
 use Rattle.cwr_write.specs.declared.writing.WriteFault.TheVariants as write_faults
 use Rattle.cwr_words.specs.declared.words.Work.{Work}
-use Rattle.cwr_words.specs.declared.words.Work.TheVariants.{Check, Show, Explain, Lint, Json, Csv}
+use Rattle.cwr_words.specs.declared.words.Work.TheVariants.{Check, Show, Explain, Lint, Json, Csv, Acks}
 use Rattle.cwr_program.specs.declared.endings.Status.{Status}
 use Rattle.cwr_program.specs.declared.endings.Status.TheVariants as statuses
 use Rattle.cwr_program.specs.declared.endings.Wanted.{Wanted}
@@ -81,6 +81,8 @@ IsOfInput (Explain judging) = are_standard (map (λ name. name.now) judging.file
 IsOfInput (Show file) = is_standard (option_map (λ name. name.now) file) ≡ true
 IsOfInput (Json file numbers utf8) = is_standard (option_map (λ name. name.now) file) ≡ true
 IsOfInput (Csv rows file) = is_standard (option_map (λ name. name.now) file) ≡ true
+IsOfInput (Acks file None) = is_standard (option_map (λ name. name.now) file) ≡ true
+IsOfInput (Acks file (Some sent)) = ⊥
 IsOfInput (Lint files quiet explained) = are_standard (map (λ name. name.now) files.items) ≡ true
 IsOfInput work = ⊥
 

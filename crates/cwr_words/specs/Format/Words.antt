@@ -17,7 +17,7 @@ use Rattle.cwr_words.specs.declared.words.Rows.{Rows}
 use Rattle.cwr_words.specs.declared.words.Rows.TheVariants.{Records, Works}
 use Rattle.cwr_words.specs.declared.words.Task.{Task}
 use Rattle.cwr_words.specs.declared.words.Work.{Work}
-use Rattle.cwr_words.specs.declared.words.Work.TheVariants.{Check, Show, Explain, Lint, Json, Csv, Write, Split, Join, Renumber, Manual}
+use Rattle.cwr_words.specs.declared.words.Work.TheVariants.{Check, Show, Explain, Lint, Json, Csv, Acks, Write, Split, Join, Renumber, Manual}
 
 -- the flag of that id is given
 abbrev pub IsFlagOf : Found → List ℕ → Bool → Type 0
@@ -60,6 +60,7 @@ IsSplitOf found (Explain judging) = ⊥
 IsSplitOf found (Lint files quiet explained) = ⊥
 IsSplitOf found (Json file numbers utf8) = ⊥
 IsSplitOf found (Csv rows file) = ⊥
+IsSplitOf found (Acks file sent) = ⊥
 IsSplitOf found (Write file out line utf8) = ⊥
 IsSplitOf found (Split transactions file prefix only_new) =
     ((text : List ℕ) → one_text found (codes "N") ≡ Some text → non_zero_u32_get transactions ≡ digits_value 10 (without_leading_plus text))
@@ -87,6 +88,11 @@ abbrev pub IsTableOf : Found → Work → Type 0
 IsTableOf found (Csv rows file) = (option_and_then rows_named (first_value found (codes "KIND")) ≡ Some rows) × (option_map (λ f. f.now) file ≡ first_value found (codes "FILE"))
 IsTableOf found work = ⊥
 
+-- what the acknowledgements of the file FILE say, matched with the transmission of the file that the option names, if it does
+abbrev pub IsAcksOf : Found → Work → Type 0
+IsAcksOf found (Acks file sent) = (option_map (λ f. f.now) file ≡ first_value found (codes "FILE")) × (option_map (λ f. f.now) sent ≡ first_value found (codes "sent"))
+IsAcksOf found work = ⊥
+
 -- a transmission from the lines of the file FILE to the file OUT, where lines may have so many bytes as that option says, in UTF-8 where that flag
 -- is given
 abbrev pub IsImportOf : Found → Work → Type 0
@@ -107,8 +113,8 @@ IsRenumberingOf found (Renumber file out only_new) =
     (option_map (λ f. f.now) file ≡ first_value found (codes "FILE")) × (option_map (λ f. f.now) out ≡ first_value found (codes "OUT")) × IsFlagOf found (codes "new") only_new
 IsRenumberingOf found work = ⊥
 
--- Work of the subcommand of that name: transmissions are checked or explained; one is shown, linted, or written as JSON or as a table, that of the first file that
--- FILE names, if it names one; one is written from lines of JSON, one is split, some are joined, the numbers of one are put right, or the manual
+-- Work of the subcommand of that name: transmissions are checked or explained; one is shown, linted, or written as JSON or as a table, or what its acknowledgements say is told,
+-- that of the first file that FILE names, if it names one; one is written from lines of JSON, one is split, some are joined, the numbers of one are put right, or the manual
 -- is printed.
 abbrev pub IsWorkOf : List ℕ → Found → Work → Type 0
 IsWorkOf name found (Check judging) = (bytes_eq name (codes "show") ≡ false) × (bytes_eq name (codes "explain") ≡ false) × IsJudgingOf found judging
@@ -117,6 +123,7 @@ IsWorkOf name found (Explain judging) = (bytes_eq name (codes "explain") ≡ tru
 IsWorkOf name found (Lint files quiet explained) = (bytes_eq name (codes "lint") ≡ true) × IsLintOf found (Lint files quiet explained)
 IsWorkOf name found (Json file numbers utf8) = (bytes_eq name (codes "json") ≡ true) × IsExportOf found (Json file numbers utf8)
 IsWorkOf name found (Csv rows file) = (bytes_eq name (codes "csv") ≡ true) × IsTableOf found (Csv rows file)
+IsWorkOf name found (Acks file sent) = (bytes_eq name (codes "acks") ≡ true) × IsAcksOf found (Acks file sent)
 IsWorkOf name found (Write file out line utf8) = (bytes_eq name (codes "write") ≡ true) × IsImportOf found (Write file out line utf8)
 IsWorkOf name found (Split transactions file prefix only_new) = (bytes_eq name (codes "split") ≡ true) × IsSplitOf found (Split transactions file prefix only_new)
 IsWorkOf name found (Join out files only_new) = (bytes_eq name (codes "join") ≡ true) × IsJoinOf found (Join out files only_new)

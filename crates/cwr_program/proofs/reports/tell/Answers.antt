@@ -1,7 +1,8 @@
 use Rattle.std.proofs.Common.{sym, ap, subst}
-use Rattle.std.specs.Prelude.{OnOk}
+use Rattle.std.specs.Prelude.{None, OnOk}
 use Rattle.std.specs.Option.{is_some}
 use Rattle.cwr_tools.specs.Format.Reports.{lines_checked, lines_of_data, lines_of_findings, lines_of_records}
+use Rattle.cwr_acks.specs.Format.AckLines.{lines_of_acks}
 use Rattle.cwr_csv.specs.Format.TableLines.{lines_of_table}
 use Rattle.cwr_program.specs.declared.endings.Look.{Look}
 use Rattle.cwr_program.specs.Steps.Looks.{LooksAfter, tells_findings}
@@ -96,3 +97,18 @@ returns-in-Faults-clause-told g c =
 
 pub returns-in-Faults-clause-reader_failures : goal.returns-in-Faults-clause-reader_failures
 returns-in-Faults-clause-reader_failures g c = (g.R.Source.failures c.lint-writer.new.reader, c.lint-writer.ensures.reader_failures, c.look_after-look-in-Faults.ensures.failures)
+
+pub returns-in-Answers-clause-seen : goal.returns-in-Answers-clause-seen
+returns-in-Answers-clause-seen g c = sees_nothing c.args.limits (g.R.Source.remaining c.args.reader.now) c.args.watch.now c.acks-writer.result.1 (c.requires (ap tells_findings c.in-Answers.is))
+
+pub returns-in-Answers-clause-looks : goal.returns-in-Answers-clause-looks
+returns-in-Answers-clause-looks g c =
+    looks_after (lines_of_acks None) c.args.limits (g.R.Source.remaining c.args.reader.now) (g.R.Source.remaining c.acks-writer.new.reader) (g.R.Source.remaining c.look_after-look-in-Answers.new.reader) g.W.Target.contents
+    c.args.writer c.acks-writer.result.0 c.acks-writer.result.1 c.look_after-look-in-Answers.result c.acks-writer.ensures.accepted c.look_after-look-in-Answers.ensures.looks
+
+pub returns-in-Answers-clause-told : goal.returns-in-Answers-clause-told
+returns-in-Answers-clause-told g c =
+    told_as c.args.telling _ c.args.limits (g.R.Source.remaining c.args.reader.now) (g.R.Source.remaining c.acks-writer.new.reader) g.W.Target.contents c.args.writer c.acks-writer.result.0 c.acks-writer.result.1 c.in-Answers.is c.acks-writer.ensures.reported
+
+pub returns-in-Answers-clause-reader_failures : goal.returns-in-Answers-clause-reader_failures
+returns-in-Answers-clause-reader_failures g c = (g.R.Source.failures c.acks-writer.new.reader, c.acks-writer.ensures.reader_failures, c.look_after-look-in-Answers.ensures.failures)

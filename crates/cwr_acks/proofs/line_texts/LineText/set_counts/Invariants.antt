@@ -1,0 +1,10 @@
+use Rattle.std.proofs.Common.{◌≡◌, ◌+◌, ◌*◌, ◌≤◌, ◌++◌, length}
+use Rattle.std.specs.Prelude.{codes, decimal}
+use Rattle.cwr_acks.proofs.Statuses.{parts_to}
+use Rattle.cwr_acks.proofs.line_texts.LineText.set_counts.Given as goal
+
+abbrev pub invariant-loop-i : goal.invariant-loop-i
+invariant-loop-i l = record {
+  value : l.text.items ≡ codes "ACKS " ++ decimal l.answers.all ++ parts_to l.i l.answers.by_status;
+  len : length l.text.items ≤ 25 + 24 * l.i;
+}

@@ -1,0 +1,5 @@
+-- What is promised, in the words of the format.
+pub mod Acknowledgements
+pub mod AckTexts
+pub mod SentAnswers
+pub mod AckLines

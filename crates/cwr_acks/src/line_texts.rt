@@ -1,0 +1,256 @@
+//! The text of a line, part by part.
+
+ghost use Rattle.std.specs.Prelude.{◌≡◌, ◌+◌, ◌≤◌, [], ◌++◌, decimal, length, true};
+ghost use Rattle.cwr_acks.specs.Format.Acknowledgements.{is_ack, is_message};
+ghost use Rattle.cwr_acks.specs.Format.AckTexts.{ack_line, cell_part, level_part, message_line, number_part, original_text, status_part, status_text, words_of};
+ghost use Rattle.cwr_acks.specs.Format.SentAnswers.{marked_line, unanswered_text};
+ghost use Rattle.cwr_acks.specs.Steps.AckSteps.{counts_text};
+ghost use Rattle.cwr_fields.specs.Format.MessageCodes.{status_code};
+
+use crate::counts::{Answers, STATUSES};
+use crate::facts::{
+    GROUP, LEVEL, MESSAGE, MESSAGE_TYPE, ORIGINAL_TYPE, RECIPIENT_NUMBER, RECORD, RECORD_TYPE,
+    SEQUENCE, STATUS, SUBMITTER_NUMBER, TITLE, VALIDATION, status_of,
+};
+use arrayvec::ArrayVec;
+use cwr_fields::{Coded, MessageLevel, TransactionStatus, is_spaces, trimmed};
+use cwr_layouts::{Kind, RecordRef, letters};
+use cwr_levels::{cell, number_of};
+use itoa::Buffer;
+use std::marker::Model;
+
+/// The most bytes of a line.
+pub(crate) const LONGEST: usize = 1000;
+
+/// The text of a line.
+pub(crate) type Text = ArrayVec<u8, LONGEST>;
+
+/// Appends bytes for which there is room.
+pub(crate) fn push(text: &mut Text, bytes: &[u8])
+    requires { length text.old.items + length bytes.now ≤ LONGEST }
+    ensures value { text.new.items ≡ text.old.items ++ bytes.now }
+    ensures len { length text.new.items ≡ length text.old.items + length bytes.now }
+{
+    let _fits = text.try_extend_from_slice(bytes);
+}
+
+/// Appends a number in plain decimals.
+pub(crate) fn push_number(text: &mut Text, number: u64)
+    requires { length text.old.items + 20 ≤ LONGEST }
+    ensures value { text.new.items ≡ text.old.items ++ decimal number }
+    ensures len { length text.new.items ≤ length text.old.items + 20 }
+{
+    push(text, Buffer::new().format(number).as_bytes());
+}
+
+/// Appends a cell after a word, unless it is blank.
+fn push_cell_part(text: &mut Text, word: &[u8], cell: &[u8])
+    requires { length text.old.items + length word.now + length cell.now ≤ LONGEST }
+    ensures value { text.new.items ≡ text.old.items ++ cell_part word.now cell.now }
+    ensures len { length text.new.items ≤ length text.old.items + length word.now + length cell.now }
+{
+    if is_spaces(cell) {
+        return;
+    }
+    push(text, word);
+    push(text, trimmed(cell));
+}
+
+/// Appends a number after a word, unless it is blank.
+fn push_number_part(text: &mut Text, word: &[u8], cell: &[u8])
+    requires room { length text.old.items + length word.now + 20 ≤ LONGEST }
+    requires short { length cell.now ≤ 8 }
+    ensures value { text.new.items ≡ text.old.items ++ number_part word.now cell.now }
+    ensures len { length text.new.items ≤ length text.old.items + length word.now + 20 }
+{
+    if is_spaces(cell) {
+        return;
+    }
+    push(text, word);
+    push_number(text, number_of(cell));
+}
+
+/// The words of a status.
+fn words_of(status: TransactionStatus) -> &'static [u8]
+    ensures value { result.now ≡ words_of status }
+    ensures len { length result.now ≤ 60 }
+{
+    match status {
+        TransactionStatus::Conflict => b"conflict",
+        TransactionStatus::Duplicate => b"duplicate",
+        TransactionStatus::TransactionAccepted => b"transaction accepted",
+        TransactionStatus::RegistrationAccepted => b"registration accepted",
+        TransactionStatus::AcceptedWithChanges => b"registration accepted with changes",
+        TransactionStatus::ReadyForPayment => b"registration accepted, ready for payment",
+        TransactionStatus::ChangedReadyForPayment => {
+            b"registration accepted with changes, ready for payment"
+        }
+        TransactionStatus::Rejected => b"rejected",
+        TransactionStatus::NoParticipation => b"no participation",
+        TransactionStatus::ClaimRejected => b"claim rejected",
+    }
+}
+
+/// Appends the status of an acknowledgement, and its words.
+fn push_status(text: &mut Text, shown: &RecordRef<'_>)
+    requires ack { is_ack shown.now ≡ true }
+    requires room { length text.old.items + 63 ≤ LONGEST }
+    ensures value { text.new.items ≡ text.old.items ++ status_text shown.now }
+    ensures len { length text.new.items ≤ length text.old.items + 63 }
+{
+    push(text, cell(shown, STATUS));
+    push(text, b" ");
+    push(text, words_of(status_of(shown)));
+}
+
+/// Appends which transaction an acknowledgement answers.
+fn push_original(text: &mut Text, shown: &RecordRef<'_>)
+    requires ack { is_ack shown.now ≡ true }
+    requires room { length text.old.items + 63 ≤ LONGEST }
+    ensures value { text.new.items ≡ text.old.items ++ original_text shown.now }
+    ensures len { length text.new.items ≤ length text.old.items + 63 }
+{
+    push(text, b"group ");
+    push_number(text, number_of(cell(shown, GROUP)));
+    push(text, b" transaction ");
+    push_number(text, number_of(cell(shown, SEQUENCE)));
+    push(text, b" ");
+    push(text, trimmed(cell(shown, ORIGINAL_TYPE)));
+}
+
+/// Appends the worst level of messages, if there are any.
+fn push_level(text: &mut Text, worst: Option<MessageLevel>)
+    requires { length text.old.items + 8 ≤ LONGEST }
+    ensures value { text.new.items ≡ text.old.items ++ level_part worst }
+    ensures len { length text.new.items ≤ length text.old.items + 8 }
+{
+    if let Some(level) = worst {
+        push(text, b" level ");
+        push(text, level.code().as_bytes());
+    }
+}
+
+/// Appends a status, and how many acknowledgements have it.
+fn push_count(text: &mut Text, status: TransactionStatus, count: u32)
+    requires { length text.old.items + 24 ≤ LONGEST }
+    ensures value { text.new.items ≡ text.old.items ++ status_part (status_code status) count }
+    ensures len { length text.new.items ≤ length text.old.items + 24 }
+{
+    push(text, b" ");
+    push(text, status.code().as_bytes());
+    push(text, b" ");
+    push_number(text, u64::from(count));
+}
+
+/// A buffer for the text of one line. It takes no memory.
+#[derive(Drop)]
+pub(crate) struct LineText {
+    text: Text,
+}
+
+impl Model for LineText {
+    ghost use Rattle.std.specs.Prelude.{ℕ, List};
+
+    ghost Value = { List ℕ };
+
+    ghost view = { λ t. t.text.items };
+}
+
+impl LineText {
+    /// An empty buffer.
+    pub(crate) fn new() -> Self
+        ensures { result ≡ [] }
+    {
+        LineText {
+            text: ArrayVec::new(),
+        }
+    }
+
+    /// The text that was set.
+    pub(crate) fn as_slice(&self) -> &[u8]
+        ensures { result.now ≡ self.now }
+    {
+        self.text.as_slice()
+    }
+
+    /// Sets the line of an acknowledgement whose messages have that worst level.
+    pub(crate) fn set_ack(&mut self, shown: &RecordRef<'_>, worst: Option<MessageLevel>)
+        requires { is_ack shown.now ≡ true }
+        ensures { self.new ≡ ack_line shown.now worst }
+    {
+        let text = &mut self.text;
+        text.clear();
+        push_status(text, shown);
+        push(text, b": ");
+        push_original(text, shown);
+        push_level(text, worst);
+        push_cell_part(text, b" submitter ", cell(shown, SUBMITTER_NUMBER));
+        push_cell_part(text, b" recipient ", cell(shown, RECIPIENT_NUMBER));
+        push_cell_part(text, b" title ", cell(shown, TITLE));
+        push(text, b"\n");
+    }
+
+    /// Sets the line of a message.
+    pub(crate) fn set_message(&mut self, shown: &RecordRef<'_>)
+        requires { is_message shown.now ≡ true }
+        ensures { self.new ≡ message_line shown.now }
+    {
+        let text = &mut self.text;
+        text.clear();
+        push(text, b"  level ");
+        push(text, cell(shown, LEVEL));
+        push(text, b" type ");
+        push(text, cell(shown, MESSAGE_TYPE));
+        push_number_part(text, b" record ", cell(shown, RECORD));
+        push_cell_part(text, b" ", cell(shown, RECORD_TYPE));
+        push_cell_part(text, b" validation ", cell(shown, VALIDATION));
+        push(text, b": ");
+        push(text, trimmed(cell(shown, MESSAGE)));
+        push(text, b"\n");
+    }
+
+    /// Sets a line of a word on an acknowledgement.
+    pub(crate) fn set_marked(&mut self, word: &[u8], shown: &RecordRef<'_>)
+        requires ack { is_ack shown.now ≡ true }
+        requires short { length word.now ≤ 20 }
+        ensures { self.new ≡ marked_line word.now shown.now }
+    {
+        let text = &mut self.text;
+        text.clear();
+        push(text, word);
+        push_original(text, shown);
+        push_cell_part(text, b" submitter ", cell(shown, SUBMITTER_NUMBER));
+        push_cell_part(text, b" title ", cell(shown, TITLE));
+        push(text, b"\n");
+    }
+
+    /// Sets the line of a transaction of that kind that isn't answered.
+    pub(crate) fn set_unanswered(&mut self, group: u64, sequence: u64, kind: Kind)
+        ensures { self.new ≡ unanswered_text group sequence kind }
+    {
+        let text = &mut self.text;
+        text.clear();
+        push(text, b"UNANSWERED group ");
+        push_number(text, group);
+        push(text, b" transaction ");
+        push_number(text, sequence);
+        push(text, b" ");
+        push(text, letters(kind));
+        push(text, b"\n");
+    }
+
+    /// Sets the line of counts.
+    pub(crate) fn set_counts(&mut self, answers: &Answers)
+        requires { length answers.now.by_status ≡ 10 }
+        ensures { self.new ≡ counts_text answers.now }
+    {
+        let text = &mut self.text;
+        text.clear();
+        push(text, b"ACKS ");
+        push_number(text, u64::from(answers.all));
+        for i in 0..10 {
+            push_count(text, STATUSES[i], answers.by_status[i]);
+        }
+        push(text, b"\n");
+    }
+}

@@ -1,0 +1,93 @@
+//! Acknowledgements that are matched with the transmission that they answer.
+
+ghost use Rattle.std.specs.Prelude.{IfOk};
+ghost use Rattle.cwr_acks.specs.Format.SentAnswers.{IsFresh};
+
+use crate::endings::Status;
+use crate::faults::{Fault, Name, Told};
+use crate::inputs::open_input;
+use crate::outputs::{gathered, told_of};
+use crate::progress::Pace;
+use crate::reports::{Asked, Telling, judgement_of, look_after, tell_aside};
+use cwr_acks::acks;
+use cwr_encode::Sink;
+use cwr_fields::Counted;
+use cwr_sent::{Sent, read_sent};
+use cwr_tools::{ToolFault, Verdict, put_verdict_line, verdict_of};
+use std::io::{Read, Write};
+use std::rt::Files;
+
+/// Tells on standard error with what verdict the transmission was not read that acknowledgements answer. What standard error doesn't
+/// take is lost.
+fn tell_unread<E: Write>(error: &mut E, name: Name<'_>, verdict: &Verdict) {
+    let _ = write!(error, "{name}: ");
+    let _ = put_verdict_line(verdict, &mut Sink::new(Counted::new(error)));
+}
+
+/// What was sent, from the file of that name, or how the run ends.
+fn sent_of<'a, R: Files + AllocGlobal, I: Read + Drop, P: Pace, E: Write>(
+    rt: &R,
+    asked: &Asked,
+    name: &'a str,
+    standard: &mut Option<I>,
+    pace: &mut P,
+    error: &mut E,
+) -> Result<Result<Sent, Status>, Fault<'a>>
+    ensures { IfOk result (λ read. IfOk read IsFresh) }
+{
+    let input = open_input(rt, Some(name), standard, &mut *pace)?;
+    let mut reader = Counted::new(input);
+    let read = read_sent(asked.alloc, asked.limits, &mut reader);
+    let told: Told<'a> = reader.into_inner().told();
+    match read {
+        Ok(sent) => Ok(Ok(sent)),
+        Err(fault) => match verdict_of(fault) {
+            Ok(verdict) => {
+                tell_unread(error, told.name, &verdict);
+                Ok(Err(Status::Refused))
+            }
+            Err(ToolFault::Reader) => Err(Fault::Read(told)),
+            Err(_) => Err(Fault::Memory),
+        },
+    }
+}
+
+/// Tells what the acknowledgements of a file or of standard input say, matched with the transmission of the file `sent`.
+pub(crate) fn match_answers<
+    'a,
+    R: Files + AllocGlobal,
+    I: Read + Drop,
+    P: Pace,
+    O: Write + Drop,
+    E: Write,
+>(
+    rt: &R,
+    asked: &Asked,
+    file: Option<&'a str>,
+    sent: &'a str,
+    standard: I,
+    pace: &mut P,
+    output: O,
+    error: &mut E,
+) -> Result<Status, Fault<'a>> {
+    let mut standard = Some(standard);
+    let sent = match sent_of(rt, asked, sent, &mut standard, &mut *pace, error)? {
+        Ok(sent) => sent,
+        Err(status) => return Ok(status),
+    };
+    let input = open_input(rt, file, &mut standard, &mut *pace)?;
+    let lines = gathered(asked.alloc, output, Name::StandardOutput).map_err(|_| Fault::Memory)?;
+    let mut reader = Counted::new(input);
+    let (lines, outcome) = acks(asked.alloc, asked.limits, Some(sent), &mut reader, lines);
+    let look = look_after(&mut reader, &outcome);
+    let told = reader.into_inner().told();
+    match judgement_of(asked.wanted, outcome, look, false) {
+        Ok(judgement) => {
+            tell_aside(error, Telling::Answers, told.name, &judgement);
+            Ok(judgement.status)
+        }
+        Err(ToolFault::Reader) => Err(Fault::Read(told)),
+        Err(ToolFault::Writer { .. }) => Err(Fault::Write(told_of(lines))),
+        Err(_) => Err(Fault::Memory),
+    }
+}
