@@ -1,0 +1,114 @@
+//! What the rules of advice ask of all records of a transaction.
+
+ghost use Rattle.std.specs.Prelude.{◌≡◌, ◌+◌, ◌^◌, ◌<◌, ◌++◌, ◌∷◌, [], List, true};
+ghost use Rattle.cwr_layouts.specs.Format.Records.{RecordValue};
+ghost use Rattle.cwr_levels.specs.Format.Findings.{is_owner};
+ghost use Rattle.cwr_advice.specs.Format.Rules.{writers_own_less};
+ghost use Rattle.cwr_advice.specs.Steps.Facts.{AreFacts};
+
+use crate::owners::{is_writer, shares_of};
+use cwr_layouts::{Kind, RecordRef};
+use cwr_levels::is_of;
+use cwr_values::Transaction;
+
+/// Sums over the records of a transaction, as far as 64 bits go, and what kinds of records there are.
+#[derive(Clone, Copy)]
+pub(crate) struct Facts {
+    /// What all owners own of the performing right.
+    pub(crate) owned: u64,
+    /// What the writers own of it.
+    pub(crate) by_writers: u64,
+    /// There is an SPU.
+    pub(crate) has_publisher: bool,
+    /// There is an SPU that owns shares.
+    pub(crate) has_owning_publisher: bool,
+    /// There is an SPT.
+    pub(crate) has_territory: bool,
+    /// There is a COM.
+    pub(crate) has_component: bool,
+    /// There is a VER.
+    pub(crate) has_original: bool,
+}
+
+impl Facts {
+    /// Those over no record.
+    #[inline(always)]
+    fn none() -> Facts
+        ensures { AreFacts [] result }
+    {
+        Facts {
+            owned: 0,
+            by_writers: 0,
+            has_publisher: false,
+            has_owning_publisher: false,
+            has_territory: false,
+            has_component: false,
+            has_original: false,
+        }
+    }
+
+    /// With one more record, which is an owner.
+    fn with_owner(self, shown: &RecordRef<'_>) -> Facts
+        requires { is_owner shown.now ≡ true }
+        ensures { (rs : List RecordValue) → AreFacts rs self → AreFacts (rs ++ shown.now ∷ []) result }
+    {
+        let shares = shares_of(shown);
+        let controlled = is_of(shown, Kind::Spu);
+        let owns = shares.performing + shares.mechanical + shares.synchronization > 0;
+        Facts {
+            owned: self.owned.saturating_add(shares.performing),
+            by_writers: self.by_writers.saturating_add(if is_writer(shown) {
+                shares.performing
+            } else {
+                0
+            }),
+            has_publisher: self.has_publisher | controlled,
+            has_owning_publisher: self.has_owning_publisher | (controlled & owns),
+            ..self
+        }
+    }
+
+    /// With one more record. Most kinds tell nothing.
+    #[inline(always)]
+    fn with(self, shown: &RecordRef<'_>) -> Facts
+        ensures { (rs : List RecordValue) → AreFacts rs self → AreFacts (rs ++ shown.now ∷ []) result }
+    {
+        match shown.kind() {
+            Kind::Spu | Kind::Opu | Kind::Swr | Kind::Owr => self.with_owner(shown),
+            Kind::Spt => Facts {
+                has_territory: true,
+                ..self
+            },
+            Kind::Com => Facts {
+                has_component: true,
+                ..self
+            },
+            Kind::Ver => Facts {
+                has_original: true,
+                ..self
+            },
+            _ => self,
+        }
+    }
+
+    /// Those over the records of a transaction.
+    pub(crate) fn of(transaction: &Transaction) -> Facts
+        ensures { AreFacts transaction.now result }
+    {
+        let mut facts = Facts::none();
+        for sequence in 0..transaction.len() {
+            let Some(shown) = transaction.record(sequence) else {
+                return facts;
+            };
+            facts = facts.with(&shown);
+        }
+        facts
+    }
+
+    /// Whether someone owns some of the performing right, and the writers less than half.
+    pub(crate) fn writers_own_less(&self) -> bool
+        ensures { (t : List RecordValue) → AreFacts t self.now → result ≡ writers_own_less t }
+    {
+        self.owned > 0 && self.by_writers < 4994
+    }
+}
