@@ -123,28 +123,22 @@ static OTHER_WRITER: [Asked; 5] = [
 ];
 
 /// SPT: what is asked of them, in this order.
-static PUBLISHER_TERRITORY: [Asked; 1] = [
-    Asked {
-        rule: AdviceRule::A8b,
-        field: 10,
-    },
-];
+static PUBLISHER_TERRITORY: [Asked; 1] = [Asked {
+    rule: AdviceRule::A8b,
+    field: 10,
+}];
 
 /// SWT: what is asked of them, in this order.
-static WRITER_TERRITORY: [Asked; 1] = [
-    Asked {
-        rule: AdviceRule::A8b,
-        field: 9,
-    },
-];
+static WRITER_TERRITORY: [Asked; 1] = [Asked {
+    rule: AdviceRule::A8b,
+    field: 9,
+}];
 
 /// TER: what is asked of them, in this order.
-static TERRITORY: [Asked; 1] = [
-    Asked {
-        rule: AdviceRule::A8b,
-        field: 5,
-    },
-];
+static TERRITORY: [Asked; 1] = [Asked {
+    rule: AdviceRule::A8b,
+    field: 5,
+}];
 
 /// IPA: what is asked of them, in this order.
 static PARTY: [Asked; 5] = [
@@ -171,12 +165,10 @@ static PARTY: [Asked; 5] = [
 ];
 
 /// ALT: what is asked of them, in this order.
-static ALTERNATIVE_TITLE: [Asked; 1] = [
-    Asked {
-        rule: AdviceRule::A8c,
-        field: 6,
-    },
-];
+static ALTERNATIVE_TITLE: [Asked; 1] = [Asked {
+    rule: AdviceRule::A8c,
+    field: 6,
+}];
 
 /// EWT, VER: what is asked of them, in this order.
 static OTHER_WORK: [Asked; 5] = [

@@ -1,12 +1,11 @@
 //! What the rules of advice ask of all records of a transaction.
 
-ghost use Rattle.std.specs.Prelude.{◌≡◌, ◌+◌, ◌^◌, ◌<◌, ◌++◌, ◌∷◌, [], List, true};
+ghost use Rattle.std.specs.Prelude.{◌≡◌, ◌++◌, ◌∷◌, [], List};
 ghost use Rattle.cwr_layouts.specs.Format.Records.{RecordValue};
-ghost use Rattle.cwr_levels.specs.Format.Findings.{is_owner};
 ghost use Rattle.cwr_advice.specs.Format.Rules.{writers_own_less};
 ghost use Rattle.cwr_advice.specs.Steps.Facts.{AreFacts};
 
-use crate::owners::{is_writer, shares_of};
+use crate::owners::{is_owning_publisher, performing_of_owner, performing_of_writer};
 use cwr_layouts::{Kind, RecordRef};
 use cwr_levels::is_of;
 use cwr_values::Transaction;
@@ -47,47 +46,25 @@ impl Facts {
         }
     }
 
-    /// With one more record, which is an owner.
-    fn with_owner(self, shown: &RecordRef<'_>) -> Facts
-        requires { is_owner shown.now ≡ true }
-        ensures { (rs : List RecordValue) → AreFacts rs self → AreFacts (rs ++ shown.now ∷ []) result }
-    {
-        let shares = shares_of(shown);
-        let controlled = is_of(shown, Kind::Spu);
-        let owns = shares.performing + shares.mechanical + shares.synchronization > 0;
-        Facts {
-            owned: self.owned.saturating_add(shares.performing),
-            by_writers: self.by_writers.saturating_add(if is_writer(shown) {
-                shares.performing
-            } else {
-                0
-            }),
-            has_publisher: self.has_publisher | controlled,
-            has_owning_publisher: self.has_owning_publisher | (controlled & owns),
-            ..self
-        }
-    }
-
-    /// With one more record. Most kinds tell nothing.
-    #[inline(always)]
+    /// With one more record.
     fn with(self, shown: &RecordRef<'_>) -> Facts
         ensures { (rs : List RecordValue) → AreFacts rs self → AreFacts (rs ++ shown.now ∷ []) result }
     {
-        match shown.kind() {
-            Kind::Spu | Kind::Opu | Kind::Swr | Kind::Owr => self.with_owner(shown),
-            Kind::Spt => Facts {
-                has_territory: true,
-                ..self
-            },
-            Kind::Com => Facts {
-                has_component: true,
-                ..self
-            },
-            Kind::Ver => Facts {
-                has_original: true,
-                ..self
-            },
-            _ => self,
+        let owned = performing_of_owner(shown);
+        let by_writers = performing_of_writer(shown);
+        let publisher = is_of(shown, Kind::Spu);
+        let owner = is_owning_publisher(shown);
+        let territory = is_of(shown, Kind::Spt);
+        let component = is_of(shown, Kind::Com);
+        let original = is_of(shown, Kind::Ver);
+        Facts {
+            owned: self.owned.saturating_add(owned),
+            by_writers: self.by_writers.saturating_add(by_writers),
+            has_publisher: self.has_publisher | publisher,
+            has_owning_publisher: self.has_owning_publisher | owner,
+            has_territory: self.has_territory | territory,
+            has_component: self.has_component | component,
+            has_original: self.has_original | original,
         }
     }
 

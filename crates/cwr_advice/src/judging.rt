@@ -1,8 +1,9 @@
 //! The rules, each as a question about a record of a transaction, which stands after `sequence` others.
 
-ghost use Rattle.std.specs.Prelude.{◌≡◌, ◌+◌, ◌<◌, ◌^◌, Some, slice_get, take};
+ghost use Rattle.std.specs.Prelude.{◌≡◌, ◌+◌, ◌<◌, ◌^◌, List, take};
 ghost use Rattle.std.specs.List.{list_any};
-ghost use Rattle.cwr_advice.specs.Format.Rules.{begins_with_agent, breaks, collects_nowhere, in_chain_of, is_agent, is_stray_component, lacks_components, lacks_original};
+ghost use Rattle.cwr_layouts.specs.Format.Records.{RecordValue};
+ghost use Rattle.cwr_advice.specs.Format.Rules.{begins_with_agent, breaks, collects_nowhere, has_no_composite_type, in_chain, is_agent, is_header, is_stray_component, lacks_components, lacks_original, names_agent};
 ghost use Rattle.cwr_advice.specs.Steps.Facts.{AreFacts};
 
 use crate::checked_cells::is_wrong;
@@ -27,6 +28,21 @@ const COMPOSITE_TYPE: u8 = 14;
 /// NWR, REV: version type.
 const VERSION_TYPE: u8 = 15;
 
+/// Whether the record is the header of a work.
+#[inline(always)]
+fn is_header(shown: &RecordRef<'_>) -> bool
+    ensures { result ≡ is_header shown.now }
+{
+    is_of(shown, Kind::Nwr) || is_of(shown, Kind::Rev)
+}
+
+/// Whether the type is that of an administrator or a sub-publisher.
+fn names_agent(ty: &[u8]) -> bool
+    ensures { result ≡ names_agent ty.now }
+{
+    ty == b"AM".as_slice() || ty == b"SE".as_slice()
+}
+
 /// Whether the record is an administrator or a sub-publisher.
 fn is_agent(shown: &RecordRef<'_>) -> bool
     ensures { result ≡ is_agent shown.now }
@@ -34,27 +50,30 @@ fn is_agent(shown: &RecordRef<'_>) -> bool
     if !is_publisher(shown) {
         return false;
     }
-    let ty = cell(shown, PUBLISHER_TYPE);
-    ty == b"AM".as_slice() || ty == b"SE".as_slice()
+    names_agent(cell(shown, PUBLISHER_TYPE))
 }
 
-/// Whether a record is a publisher of the chain to which another publisher belongs.
-fn in_chain_of(shown: &RecordRef<'_>, other: &RecordRef<'_>) -> bool
-    requires { is_publisher shown.now ≡ true }
-    ensures { result ≡ in_chain_of shown.now other.now }
+/// Whether a record is a publisher of the chain with that sequence.
+fn in_chain(sequence: &[u8], other: &RecordRef<'_>) -> bool
+    ensures { result ≡ in_chain sequence.now other.now }
 {
-    is_publisher(other) && cell(other, CHAIN) == cell(shown, CHAIN)
+    if !is_publisher(other) {
+        return false;
+    }
+    cell(other, CHAIN) == sequence
 }
 
-/// Whether one of the first `end` records is a publisher of the chain. The last are asked first, since a chain's publishers stand near
-/// one another: so all questions about a transaction together take at most as many steps as there are chains by records.
-fn chain_is_begun(transaction: &Transaction, end: usize, shown: &RecordRef<'_>) -> bool
-    requires { is_publisher shown.now ≡ true }
-    ensures { result ≡ list_any (in_chain_of shown.now) (take end transaction.now) }
+/// Whether one of the first `end` records is a publisher of the chain with that sequence. The last are asked first, since a chain's
+/// publishers stand near one another: so all questions about a transaction together take at most as many steps as there are chains by
+/// records.
+fn chain_is_begun(transaction: &Transaction, end: usize, sequence: &[u8]) -> bool
+    ensures { result ≡ list_any (in_chain sequence.now) (take end transaction.now) }
 {
-    for at in (0..end).rev() {
-        if let Some(other) = transaction.record(at) {
-            if in_chain_of(shown, &other) {
+    let mut left = end;
+    while left > 0 {
+        left -= 1;
+        if let Some(other) = transaction.record(left) {
+            if in_chain(sequence, &other) {
                 return true;
             }
         }
@@ -66,7 +85,10 @@ fn chain_is_begun(transaction: &Transaction, end: usize, shown: &RecordRef<'_>) 
 fn begins_with_agent(transaction: &Transaction, sequence: usize, shown: &RecordRef<'_>) -> bool
     ensures { result ≡ begins_with_agent transaction.now sequence shown.now }
 {
-    is_agent(shown) && !chain_is_begun(transaction, sequence, shown)
+    if !is_agent(shown) {
+        return false;
+    }
+    !chain_is_begun(transaction, sequence, cell(shown, CHAIN))
 }
 
 /// Whether publishers own shares, and no record says where they collect.
@@ -80,12 +102,20 @@ fn collects_nowhere(facts: &Facts) -> bool
 fn lacks_components(facts: &Facts, shown: &RecordRef<'_>) -> bool
     ensures { (t : List RecordValue) → AreFacts t facts.now → result ≡ lacks_components t shown.now }
 {
-    match shown.kind() {
-        Kind::Nwr | Kind::Rev => {
-            !facts.has_component && !is_spaces(cell(shown, COMPOSITE_TYPE))
-        }
-        _ => false,
+    if !is_header(shown) {
+        return false;
     }
+    !is_spaces(cell(shown, COMPOSITE_TYPE)) && !facts.has_component
+}
+
+/// Whether the record is the header of a work that has no composite type.
+fn has_no_composite_type(header: &RecordRef<'_>) -> bool
+    ensures { result ≡ has_no_composite_type header.now }
+{
+    if !is_header(header) {
+        return false;
+    }
+    is_spaces(cell(header, COMPOSITE_TYPE))
 }
 
 /// Whether the record is a component of a work whose header has no composite type.
@@ -101,26 +131,14 @@ fn is_stray_component(transaction: &Transaction, shown: &RecordRef<'_>) -> bool
     }
 }
 
-/// Whether the record is the header of a work, without a composite type.
-fn has_no_composite_type(header: &RecordRef<'_>) -> bool
-    ensures { result ≡ (is_header header.now && is_blank "composite type" header.now) }
-{
-    match header.kind() {
-        Kind::Nwr | Kind::Rev => is_spaces(cell(header, COMPOSITE_TYPE)),
-        _ => false,
-    }
-}
-
 /// Whether the header of a work says that it is a version, and no record names the original.
 fn lacks_original(facts: &Facts, shown: &RecordRef<'_>) -> bool
     ensures { (t : List RecordValue) → AreFacts t facts.now → result ≡ lacks_original t shown.now }
 {
-    match shown.kind() {
-        Kind::Nwr | Kind::Rev => {
-            !facts.has_original && cell(shown, VERSION_TYPE) == b"MOD".as_slice()
-        }
-        _ => false,
+    if !is_header(shown) {
+        return false;
     }
+    cell(shown, VERSION_TYPE) == b"MOD".as_slice() && !facts.has_original
 }
 
 /// Whether the record, which stands after so many others, breaks the rule, at that field where the rule judges a cell by itself.

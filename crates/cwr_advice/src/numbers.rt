@@ -1,6 +1,6 @@
 //! Numbers and codes of others, as far as they can be judged by themselves: by check digits and by their form.
 
-ghost use Rattle.std.specs.Prelude.{◌≡◌, ◌+◌, ◌*◌, ◌≤◌, ◌<◌, ◌-◌, ◌&&◌, ◌||◌, ◌==◌, ◌%◌, length, drop, take};
+ghost use Rattle.std.specs.Prelude.{◌≡◌, ◌+◌, ◌*◌, ◌≤◌, ◌<◌, ◌-◌, ◌&&◌, ◌||◌, ◌==◌, ◌%◌, ◌^◌, length, drop, take};
 ghost use Rattle.std.specs.List.{list_all};
 ghost use Rattle.cwr_fields.specs.Format.Bytes.{are_digits, is_digit};
 ghost use Rattle.cwr_advice.specs.Format.Numbers.{base_weights, checks, ean_weights, has_base_form, is_ean, is_ean_of, is_ipi_base, is_ipi_name, is_isrc, is_language, is_letter, is_society, is_territory_number, is_zero, name_weights, weighted};

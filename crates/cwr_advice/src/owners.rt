@@ -1,9 +1,9 @@
 //! Who owns what of a work.
 
-ghost use Rattle.std.specs.Prelude.{◌≡◌, ◌<◌, true};
+ghost use Rattle.std.specs.Prelude.{◌≡◌, ◌<◌, true, if◌then◌else◌};
 ghost use Rattle.cwr_levels.specs.Format.Fields.{HasSharesFrom};
-ghost use Rattle.cwr_levels.specs.Format.Findings.{is_owner};
-ghost use Rattle.cwr_advice.specs.Format.Rules.{is_publisher, is_writer, owns_over_half, owns_shares};
+ghost use Rattle.cwr_levels.specs.Format.Findings.{is_owner, share_of};
+ghost use Rattle.cwr_advice.specs.Format.Rules.{is_owning_publisher, is_publisher, is_writer, owns_over_half, owns_shares};
 ghost use Rattle.cwr_advice.specs.Steps.Facts.{AreSharesOf};
 
 use cwr_layouts::{Kind, RecordRef};
@@ -47,14 +47,35 @@ fn shares_from(shown: &RecordRef<'_>, first: u8) -> Owned
 }
 
 /// The shares of an owner.
-pub(crate) fn shares_of(shown: &RecordRef<'_>) -> Owned
+fn shares_of(shown: &RecordRef<'_>) -> Owned
     requires { is_owner shown.now ≡ true }
     ensures { AreSharesOf shown.now result }
 {
-    match shown.kind() {
-        Kind::Spu | Kind::Opu => shares_from(shown, PUBLISHER_SHARES),
-        _ => shares_from(shown, WRITER_SHARES),
+    if is_publisher(shown) {
+        shares_from(shown, PUBLISHER_SHARES)
+    } else {
+        shares_from(shown, WRITER_SHARES)
     }
+}
+
+/// What the record owns of the performing right, if it is an owner, and else nothing.
+pub(crate) fn performing_of_owner(shown: &RecordRef<'_>) -> u64
+    ensures { result ≡ (if is_owner shown.now then share_of "pr share" shown.now else 0) }
+{
+    if !is_owner(shown) {
+        return 0;
+    }
+    shares_of(shown).performing
+}
+
+/// What the record owns of the performing right, if it is a writer, and else nothing.
+pub(crate) fn performing_of_writer(shown: &RecordRef<'_>) -> u64
+    ensures { result ≡ (if is_writer shown.now then share_of "pr share" shown.now else 0) }
+{
+    if !is_writer(shown) {
+        return 0;
+    }
+    shares_of(shown).performing
 }
 
 /// Whether the record owns a share in some right.
@@ -66,6 +87,13 @@ pub(crate) fn owns_shares(shown: &RecordRef<'_>) -> bool
     }
     let owned = shares_of(shown);
     owned.performing + owned.mechanical + owned.synchronization > 0
+}
+
+/// Whether the record is a publisher whom the submitter controls, and owns a share in some right.
+pub(crate) fn is_owning_publisher(shown: &RecordRef<'_>) -> bool
+    ensures { result ≡ is_owning_publisher shown.now }
+{
+    is_of(shown, Kind::Spu) && owns_shares(shown)
 }
 
 /// Whether the record is a publisher that owns more than half of the performing right.

@@ -121,8 +121,7 @@ impl AdviceRule {
                 "COM names a work that is in this one, whose composite type is blank: fill in the type, or leave COM out",
             AdviceRule::A6c =>
                 "the work is a version (MOD), and no VER names its original: add a VER record, or write ORI",
-            AdviceRule::A8a =>
-                "this is no number of a society: it has three digits, as 010",
+            AdviceRule::A8a => "this is no number of a society: it has three digits, as 010",
             AdviceRule::A8b =>
                 "this is no number of a territory: those of countries are 0001 to 0999, those of groups begin with 21, as 2136 for the world",
             AdviceRule::A8c => "this is no code of a language: it has two letters, as EN",

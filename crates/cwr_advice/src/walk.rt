@@ -33,14 +33,7 @@ fn add_advice_at(
     ensures err { OnErr result (advice_at transaction.now sequence shown.now ≢ []) }
 {
     for asked in asked_of(shown.kind()) {
-        if breaks(
-            asked.rule,
-            transaction,
-            facts,
-            sequence,
-            shown,
-            asked.field,
-        ) {
+        if breaks(asked.rule, transaction, facts, sequence, shown, asked.field) {
             found.push(Advice {
                 rec: sequence,
                 field: asked.field,

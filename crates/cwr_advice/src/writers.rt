@@ -42,9 +42,7 @@ pub(crate) fn has_no_publisher(
     requires room { sequence + 1 < 2 ^ 64 }
     ensures { result ≡ has_no_publisher transaction.now sequence shown.now }
 {
-    is_of(shown, Kind::Swr)
-        && facts.has_publisher
-        && !writer_has(transaction, sequence, Kind::Pwr)
+    is_of(shown, Kind::Swr) && facts.has_publisher && !writer_has(transaction, sequence, Kind::Pwr)
 }
 
 /// Whether such a writer owns shares, and no record says where they are collected.
@@ -56,7 +54,5 @@ pub(crate) fn has_no_territory(
     requires { sequence + 1 < 2 ^ 64 }
     ensures { result ≡ has_no_territory transaction.now sequence shown.now }
 {
-    is_of(shown, Kind::Swr)
-        && owns_shares(shown)
-        && !writer_has(transaction, sequence, Kind::Swt)
+    is_of(shown, Kind::Swr) && owns_shares(shown) && !writer_has(transaction, sequence, Kind::Swt)
 }

@@ -1,6 +1,5 @@
 -- Advice on a transaction that is to be sent: which record breaks which rule, and at which field.
-use Prim.Native.String.{String}
-use Rattle.std.specs.Prelude.{ℕ, ◌+◌, Bool, true, not, ◌&&◌, ◌||◌, ◌==◌, nat_lt, List, [], ◌∷◌, ◌++◌, codes, map, filter, take, drop, take_while, unwrap_or, flat_map, if◌then◌else◌}
+use Rattle.std.specs.Prelude.{ℕ, ◌+◌, Bool, true, not, ◌&&◌, ◌||◌, nat_lt, List, [], ◌∷◌, codes, map, filter, take, drop, take_while, unwrap_or, flat_map, if◌then◌else◌}
 use Rattle.std.specs.List.{list_any, sum_by, enumerate_from}
 use Rattle.std.specs.Str.{bytes_eq}
 use Rattle.cwr_fields.specs.Format.Bytes.{is_spaces}
@@ -41,21 +40,29 @@ cell_at r j = unwrap_or (record_cell r j) []
 
 -- ---- A2: chains of publishers, and what a party needs
 
+-- the type of an administrator or a sub-publisher
+abbrev pub names_agent : List ℕ → Bool
+names_agent ty = bytes_eq ty (codes "AM") || bytes_eq ty (codes "SE")
+
 -- an administrator or a sub-publisher
 abbrev pub is_agent : RecordValue → Bool
-is_agent r = is_publisher r && (bytes_eq (cell_named "publisher type" r) (codes "AM") || bytes_eq (cell_named "publisher type" r) (codes "SE"))
+is_agent r = is_publisher r && names_agent (cell_named "publisher type" r)
 
--- a publisher of the same chain: the publisher sequence is the same
-abbrev pub in_chain_of : RecordValue → RecordValue → Bool
-in_chain_of r p = is_publisher p && bytes_eq (cell_named "publisher sequence" p) (cell_named "publisher sequence" r)
+-- a publisher of the chain with that publisher sequence
+abbrev pub in_chain : List ℕ → RecordValue → Bool
+in_chain sequence p = is_publisher p && bytes_eq (cell_named "publisher sequence" p) sequence
 
 -- the first publisher of a chain is an administrator or a sub-publisher
 abbrev pub begins_with_agent : List RecordValue → ℕ → RecordValue → Bool
-begins_with_agent t k r = is_agent r && not (list_any (in_chain_of r) (take k t))
+begins_with_agent t k r = is_agent r && not (list_any (in_chain (cell_named "publisher sequence" r)) (take k t))
 
--- publishers whom the submitter controls own shares, and no record says where they collect
+-- a publisher whom the submitter controls, who owns a share in some right
+abbrev pub is_owning_publisher : RecordValue → Bool
+is_owning_publisher r = is_a kinds.Spu r && owns_shares r
+
+-- there is one, and no record says where they collect
 abbrev pub collects_nowhere : List RecordValue → Bool
-collects_nowhere t = list_any (λ p. is_a kinds.Spu p && owns_shares p) t && not (list_any (is_a kinds.Spt) t)
+collects_nowhere t = list_any is_owning_publisher t && not (list_any (is_a kinds.Spt) t)
 
 -- the records of the writer who stands after k others: those up to the next writer
 abbrev pub records_of_writer : List RecordValue → ℕ → List RecordValue
@@ -89,9 +96,13 @@ writers_own_less t = nat_lt 0 (ownership "pr share" t) && nat_lt (owned_by_write
 abbrev pub lacks_components : List RecordValue → RecordValue → Bool
 lacks_components t r = is_header r && not (is_blank "composite type" r) && not (list_any (is_a kinds.Com) t)
 
--- a component of a work whose header has no composite type
+-- the header of a work without a composite type
+abbrev pub has_no_composite_type : RecordValue → Bool
+has_no_composite_type r = is_header r && is_blank "composite type" r
+
+-- a component of a work whose header has none
 abbrev pub is_stray_component : List RecordValue → RecordValue → Bool
-is_stray_component t r = is_a kinds.Com r && list_any (λ h. is_header h && is_blank "composite type" h) (take 1 t)
+is_stray_component t r = is_a kinds.Com r && list_any has_no_composite_type (take 1 t)
 
 -- a version whose original no record names
 abbrev pub lacks_original : List RecordValue → RecordValue → Bool

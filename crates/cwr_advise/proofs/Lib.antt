@@ -1,0 +1,4 @@
+pub mod LinesOfAdvice
+pub mod AdvisingOn
+pub mod AdvicePut
+pub mod CellLines
