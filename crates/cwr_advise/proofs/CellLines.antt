@@ -8,7 +8,7 @@ use Rattle.cwr_layouts.specs.Format.Records.{RecordValue}
 use Rattle.cwr_layouts.specs.Format.Carried.{carried_at, record_cell}
 use Rattle.cwr_layouts.proofs.FieldStarts.{field_at-start}
 use Rattle.cwr_tools.specs.Format.FindingNotes.{noted_line}
-use Rattle.cwr_tools.proofs.CellsOfFields.{carried_field}
+use Rattle.cwr_json.proofs.FieldsShown.{carried_field}
 use Rattle.cwr_advise.specs.Format.AdviceLines.{cell_line}
 
 noted_line-none : (n : ℕ) (this_kind : Kind) (o : Option FieldLayout) → noted_line n this_kind o None ≡ []

@@ -1,6 +1,5 @@
 use Rattle.std.proofs.Common.{◌∙◌}
-use Rattle.cwr_tools.proofs.RecordsPut.{puts_set}
-use Rattle.cwr_tools.proofs.NotesPut.{puts_nothing}
+use Rattle.cwr_advise.proofs.TextsPut.{puts_nothing, puts_set}
 use Rattle.cwr_advise.proofs.AdvicePut.{noted_none, noted_some}
 use Rattle.cwr_advise.proofs.item_advice.put_noted.Goals as goal
 

@@ -110,9 +110,9 @@ pub returns-in_err-put_item-in-Ok-Some-clause-puts : goal.returns-in_err-put_ite
 returns-in_err-put_item-in-Ok-Some-clause-puts g c =
     let reading = some_read c.args.limits c.items.reading.decoder c.next_item.new.self.decoder (g.R.Source.remaining c.args.reader.now) _ _ c.items.invariant.advising.given c.in-Ok-Some.field-0 c.in-Ok-Some.item _ _ c.in-Ok-Some.field-0-is
     c.items.invariant.advising.reading c.in-Ok-Some.ensures.reads c.in-Ok-Some.ensures.again in
-    let faulty : PutsReport lines_of_advice nothing c.args.limits (g.R.Source.remaining c.args.reader.now) (g.R.Source.remaining c.next_item.new.self.reader.now) g.W.Target.contents g.W.Target.failures c.from_residual-in_err-put_item-in-Ok-Some.result c.args.sink.now c.put_item.new.sink
+    let faulty : PutsReport lines_of_advice nothing c.args.limits (g.R.Source.remaining c.args.reader.now) (g.R.Source.remaining c.next_item.new.self.reader.now) g.W.Target.contents g.W.Target.failures c.from_residual.result c.args.sink.now c.put_item.new.sink
     = subst (λ (r : Result Verdict ToolFault). PutsReport lines_of_advice nothing c.args.limits (g.R.Source.remaining c.args.reader.now) (g.R.Source.remaining c.next_item.new.self.reader.now) g.W.Target.contents g.W.Target.failures r c.args.sink.now c.put_item.new.sink)
-    (sym (same_fault c.from_residual-in_err-put_item-in-Ok-Some.result c.in_err-put_item-in-Ok-Some.field-0.0 c.from_residual-in_err-put_item-in-Ok-Some.ensures.1))
+    (sym (same_fault c.from_residual.result c.in_err-put_item-in-Ok-Some.field-0.0 c.from_residual.ensures.1))
     (item_fault nothing c.args.limits c.items.reading.decoder c.next_item.new.self.decoder (g.R.Source.remaining c.args.reader.now) _ _ g.W.Target.contents g.W.Target.failures c.items.counts c.args.sink.now c.items.sink c.put_item.new.sink
     c.in-Ok-Some.item c.in_err-put_item-in-Ok-Some.field-0.0 c.items.invariant.advising reading c.in_err-put_item-in-Ok-Some.ensures) in
     search rules
