@@ -1,10 +1,11 @@
 -- What is asked of all records, with one more of them.
+use Prim.Native.String.{String}
 use Rattle.std.proofs.Common.{◌≡◌, ℕ, ◌+◌, Bool, true, false, cond, List, [], ◌∷◌, ◌++◌, refl, sym, ap, ap₂, ◌∙◌, arith}
 use Rattle.std.specs.Prelude.{◌||◌, filter, min}
-use Rattle.std.specs.List.{list_any, sum_by}
+use Rattle.std.specs.List.{list_any, sum_by, count_by}
 use Rattle.std.proofs.lemmas.List.Elements.{filter-append}
 use Rattle.std.proofs.lemmas.List.Folds.{list_any-append}
-use Rattle.std.proofs.lemmas.List.Sums.{sum_by-append}
+use Rattle.std.proofs.lemmas.List.Sums.{sum_by-append, sum_by_push}
 use Rattle.cwr_layouts.specs.Format.Records.{RecordValue}
 use Rattle.cwr_levels.specs.Format.Findings.{share_of}
 use Rattle.cwr_levels.specs.Steps.Walks.{capped}
@@ -24,7 +25,14 @@ kept_more : (f : RecordValue → ℕ) (keep : RecordValue → Bool) (rs : List R
 kept_more f keep rs r =
     ap (sum_by f) (filter-append keep rs (r ∷ [])) ∙ sum_by-append f (filter keep rs) (filter keep (r ∷ [])) ∙ ap (λ (n : ℕ). sum_by f (filter keep rs) + n) (one_kept f r (keep r))
 
-pub owned_more : (keep : RecordValue → Bool) (rs : List RecordValue) (r : RecordValue) (a b n : ℕ) → a ≡ capped (sum_by (share_of "pr share") (filter keep rs)) → b ≡ cond (keep r) (share_of "pr share" r) 0
-    → n ≡ min (a + b) 18446744073709551615 → n ≡ capped (sum_by (share_of "pr share") (filter keep (rs ++ r ∷ [])))
-owned_more keep rs r a b n p q e =
-    capped_more a b (cond (keep r) (share_of "pr share" r) 0) (sum_by (share_of "pr share") (filter keep rs)) n p q e ∙ sym (ap capped (kept_more (share_of "pr share") keep rs r))
+-- with the shares in a right of one record more, where that is kept
+pub kept_sum_more : (right : String) (keep : RecordValue → Bool) (rs : List RecordValue) (r : RecordValue) (a b n : ℕ) → a ≡ capped (sum_by (share_of right) (filter keep rs)) → b ≡ cond (keep r) (share_of right r) 0
+    → n ≡ min (a + b) 18446744073709551615 → n ≡ capped (sum_by (share_of right) (filter keep (rs ++ r ∷ [])))
+kept_sum_more right keep rs r a b n p q e =
+    capped_more a b (cond (keep r) (share_of right r) 0) (sum_by (share_of right) (filter keep rs)) n p q e ∙ sym (ap capped (kept_more (share_of right) keep rs r))
+
+-- how many pass, with one record more
+pub counted_more : (p : RecordValue → Bool) (rs : List RecordValue) (r : RecordValue) (a b n : ℕ) → a ≡ capped (count_by p rs) → b ≡ cond (p r) 1 0 → n ≡ min (a + b) 18446744073709551615
+    → n ≡ capped (count_by p (rs ++ r ∷ []))
+counted_more p rs r a b n e f h =
+    capped_more a b (cond (p r) 1 0) (count_by p rs) n e f h ∙ sym (ap capped (sum_by_push (λ x. cond (p x) 1 0) rs r))

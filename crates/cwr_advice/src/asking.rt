@@ -123,16 +123,36 @@ static OTHER_WRITER: [Asked; 5] = [
 ];
 
 /// SPT: what is asked of them, in this order.
-static PUBLISHER_TERRITORY: [Asked; 1] = [Asked {
-    rule: AdviceRule::A8b,
-    field: 10,
-}];
+static PUBLISHER_TERRITORY: [Asked; 3] = [
+    Asked {
+        rule: AdviceRule::A1a,
+        field: 10,
+    },
+    Asked {
+        rule: AdviceRule::A1b,
+        field: 10,
+    },
+    Asked {
+        rule: AdviceRule::A8b,
+        field: 10,
+    },
+];
 
 /// SWT: what is asked of them, in this order.
-static WRITER_TERRITORY: [Asked; 1] = [Asked {
-    rule: AdviceRule::A8b,
-    field: 9,
-}];
+static WRITER_TERRITORY: [Asked; 3] = [
+    Asked {
+        rule: AdviceRule::A1a,
+        field: 9,
+    },
+    Asked {
+        rule: AdviceRule::A1b,
+        field: 9,
+    },
+    Asked {
+        rule: AdviceRule::A8b,
+        field: 9,
+    },
+];
 
 /// TER: what is asked of them, in this order.
 static TERRITORY: [Asked; 1] = [Asked {

@@ -2,10 +2,11 @@
 
 ghost use Rattle.std.specs.Prelude.{◌≡◌, ◌++◌, ◌∷◌, [], List};
 ghost use Rattle.cwr_layouts.specs.Format.Records.{RecordValue};
-ghost use Rattle.cwr_advice.specs.Format.Rules.{writers_own_less};
+ghost use Rattle.cwr_advice.specs.Format.Rules.{has_few_territories, writers_own_less};
 ghost use Rattle.cwr_advice.specs.Steps.Facts.{AreFacts};
 
 use crate::owners::{is_owning_publisher, performing_of_owner, performing_of_writer};
+use crate::territory_cells::count_of_territory;
 use cwr_layouts::{Kind, RecordRef};
 use cwr_levels::is_of;
 use cwr_values::Transaction;
@@ -23,6 +24,8 @@ pub(crate) struct Facts {
     pub(crate) has_owning_publisher: bool,
     /// There is an SPT.
     pub(crate) has_territory: bool,
+    /// How many SPT and SWT there are.
+    pub(crate) territories: u64,
     /// There is a COM.
     pub(crate) has_component: bool,
     /// There is a VER.
@@ -41,6 +44,7 @@ impl Facts {
             has_publisher: false,
             has_owning_publisher: false,
             has_territory: false,
+            territories: 0,
             has_component: false,
             has_original: false,
         }
@@ -55,6 +59,7 @@ impl Facts {
         let publisher = is_of(shown, Kind::Spu);
         let owner = is_owning_publisher(shown);
         let territory = is_of(shown, Kind::Spt);
+        let counted = count_of_territory(shown);
         let component = is_of(shown, Kind::Com);
         let original = is_of(shown, Kind::Ver);
         Facts {
@@ -63,6 +68,7 @@ impl Facts {
             has_publisher: self.has_publisher | publisher,
             has_owning_publisher: self.has_owning_publisher | owner,
             has_territory: self.has_territory | territory,
+            territories: self.territories.saturating_add(counted),
             has_component: self.has_component | component,
             has_original: self.has_original | original,
         }
@@ -80,6 +86,13 @@ impl Facts {
             facts = facts.with(&shown);
         }
         facts
+    }
+
+    /// Whether there are so few territories that they are compared with one another.
+    pub(crate) fn has_few_territories(&self) -> bool
+        ensures { (t : List RecordValue) → AreFacts t self.now → result ≡ has_few_territories t }
+    {
+        self.territories <= 200
     }
 
     /// Whether someone owns some of the performing right, and the writers less than half.

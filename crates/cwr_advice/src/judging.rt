@@ -10,6 +10,7 @@ use crate::checked_cells::is_wrong;
 use crate::facts::Facts;
 use crate::owners::{is_publisher, owns_over_half};
 use crate::rules::AdviceRule;
+use crate::territories::{goes_over, stands_twice};
 use crate::writers::{has_no_publisher, has_no_territory};
 use cwr_fields::is_spaces;
 use cwr_layouts::{Kind, RecordRef};
@@ -155,6 +156,8 @@ pub(crate) fn breaks(
     ensures { result ≡ breaks rule transaction.now sequence shown.now field }
 {
     match rule {
+        AdviceRule::A1a => goes_over(transaction, facts, sequence, shown),
+        AdviceRule::A1b => stands_twice(transaction, facts, sequence, shown),
         AdviceRule::A2a => begins_with_agent(transaction, sequence, shown),
         AdviceRule::A2b => collects_nowhere(facts),
         AdviceRule::A2c => has_no_publisher(transaction, facts, sequence, shown),

@@ -8,6 +8,8 @@ mod judging;
 mod numbers;
 mod owners;
 mod rules;
+mod territories;
+mod territory_cells;
 mod walk;
 mod writers;
 

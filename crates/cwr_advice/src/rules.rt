@@ -9,6 +9,10 @@ use cwr_shape::Level;
 /// A rule of advice: what societies reject though the file is well formed. `docs/ADVICE.md` has their texts.
 #[derive(Clone, Copy, Debug, PartialEq, Eq)]
 pub enum AdviceRule {
+    /// In one territory no more than the whole of a right is collected.
+    A1a,
+    /// A territory stands once for a publisher or a writer.
+    A1b,
     /// A chain of publishers begins with an original publisher.
     A2a,
     /// Publishers who own shares say where they collect.
@@ -52,6 +56,8 @@ impl AdviceRule {
         ensures short { length result.now ≤ 3 }
     {
         match self {
+            AdviceRule::A1a => "A1a",
+            AdviceRule::A1b => "A1b",
             AdviceRule::A2a => "A2a",
             AdviceRule::A2b => "A2b",
             AdviceRule::A2c => "A2c",
@@ -77,14 +83,15 @@ impl AdviceRule {
         ensures { result ≡ level_of_rule self }
     {
         match self {
-            AdviceRule::A2a
+            AdviceRule::A1a
+            | AdviceRule::A2a
             | AdviceRule::A2b
             | AdviceRule::A2c
             | AdviceRule::A2d
             | AdviceRule::A3a
             | AdviceRule::A3b
             | AdviceRule::A6a => Level::T,
-            AdviceRule::A6b | AdviceRule::A6c => Level::R,
+            AdviceRule::A1b | AdviceRule::A6b | AdviceRule::A6c => Level::R,
             _ => Level::F,
         }
     }
@@ -95,6 +102,10 @@ impl AdviceRule {
         ensures short { length result.now ≤ 200 }
     {
         match self {
+            AdviceRule::A1a =>
+                "with this one more than 100 % of a right is collected in this territory: the collection shares of SPT and SWT add up to at most 100",
+            AdviceRule::A1b =>
+                "this territory stands twice for one publisher or writer: leave one of them out",
             AdviceRule::A2a =>
                 "this chain of publishers begins with an administrator or a sub-publisher: put the original publisher (type E) before it",
             AdviceRule::A2b =>

@@ -1,6 +1,7 @@
 -- Advice on a transaction that is to be sent: which record breaks which rule, and at which field.
-use Rattle.std.specs.Prelude.{ℕ, ◌+◌, Bool, true, not, ◌&&◌, ◌||◌, nat_lt, List, [], ◌∷◌, codes, map, filter, take, drop, take_while, unwrap_or, flat_map, if◌then◌else◌}
-use Rattle.std.specs.List.{list_any, sum_by, enumerate_from}
+use Prim.Native.String.{String}
+use Rattle.std.specs.Prelude.{ℕ, ◌+◌, Bool, true, not, ◌&&◌, ◌||◌, nat_lt, nat_le, List, [], ◌∷◌, codes, map, filter, take, drop, take_while, unwrap_or, flat_map, count_by, if◌then◌else◌}
+use Rattle.std.specs.List.{list_any, sum_by, enumerate_from, after_last}
 use Rattle.std.specs.Str.{bytes_eq}
 use Rattle.cwr_fields.specs.Format.Bytes.{is_spaces}
 use Rattle.cwr_layouts.specs.declared.kinds.Kind.{Kind}
@@ -11,7 +12,7 @@ use Rattle.cwr_shape.specs.declared.reasons.Level.{Level}
 use Rattle.cwr_shape.specs.declared.reasons.Level.TheVariants.{T, R, F}
 use Rattle.cwr_levels.specs.Format.Findings.{is_a, is_blank, is_owner, ownership, share_of}
 use Rattle.cwr_advice.specs.declared.rules.AdviceRule.{AdviceRule}
-use Rattle.cwr_advice.specs.declared.rules.AdviceRule.TheVariants.{A2a, A2b, A2c, A2d, A3a, A3b, A4a, A4b, A4c, A4d, A6a, A6b, A6c, A8a, A8b, A8c, A8d}
+use Rattle.cwr_advice.specs.declared.rules.AdviceRule.TheVariants.{A1a, A1b, A2a, A2b, A2c, A2d, A3a, A3b, A4a, A4b, A4c, A4d, A6a, A6b, A6c, A8a, A8b, A8c, A8d}
 use Rattle.cwr_advice.specs.declared.rules.Asked.{Asked}
 use Rattle.cwr_advice.specs.declared.rules.Advice.{Advice}
 use Rattle.cwr_advice.specs.Format.Numbers.{is_ean, is_ipi_base, is_ipi_name, is_isrc, is_language, is_society, is_territory_number, is_zero}
@@ -37,6 +38,44 @@ owns_shares r = is_owner r && nat_lt 0 (share_of "pr share" r + share_of "mr sha
 -- the record's cell of field j
 abbrev pub cell_at : RecordValue → ℕ → List ℕ
 cell_at r j = unwrap_or (record_cell r j) []
+
+-- ---- A1: where shares are collected
+
+-- a territory of a publisher or of a writer
+abbrev pub is_territory : RecordValue → Bool
+is_territory r = is_a kinds.Spt r || is_a kinds.Swt r
+
+-- the one of that number
+abbrev pub is_territory_of : List ℕ → RecordValue → Bool
+is_territory_of code r = is_territory r && bytes_eq (cell_named "tis code" r) code
+
+-- the same, where it isn't left out
+abbrev pub collects_in : List ℕ → RecordValue → Bool
+collects_in code r = is_territory_of code r && not (bytes_eq (cell_named "inclusion exclusion" r) (codes "E"))
+
+-- what is collected there of a right is more than the whole
+abbrev pub is_over_in : List ℕ → List RecordValue → String → Bool
+is_over_in code records right = nat_lt 10006 (sum_by (share_of right) (filter (collects_in code) records))
+
+-- the same of one or more of the three rights
+abbrev pub are_over_in : List ℕ → List RecordValue → Bool
+are_over_in code records = is_over_in code records "pr collection share" || is_over_in code records "mr collection share" || is_over_in code records "sr collection share"
+
+-- so many territories of a work are compared with one another, and where there are more, none
+abbrev pub has_few_territories : List RecordValue → Bool
+has_few_territories t = nat_le (count_by is_territory t) 200
+
+-- a territory whose number is filled in, in a work that has few
+abbrev pub is_compared : List RecordValue → RecordValue → Bool
+is_compared t r = has_few_territories t && is_territory r && not (is_blank "tis code" r)
+
+-- with this territory more than the whole is collected there, and without it not
+abbrev pub goes_over : List RecordValue → ℕ → RecordValue → Bool
+goes_over t k r = is_compared t r && are_over_in (cell_named "tis code" r) (take (k + 1) t) && not (are_over_in (cell_named "tis code" r) (take k t))
+
+-- the same territory stands before it already, after the last publisher or writer
+abbrev pub stands_twice : List RecordValue → ℕ → RecordValue → Bool
+stands_twice t k r = is_compared t r && list_any (is_territory_of (cell_named "tis code" r)) (after_last is_owner (take k t))
 
 -- ---- A2: chains of publishers, and what a party needs
 
@@ -130,6 +169,8 @@ is_wrong rule cell = not (is_spaces cell) && not (is_right rule cell)
 
 -- Record r of the transaction t, after k others, breaks the rule, at field j where that judges a cell by itself.
 abbrev pub breaks : AdviceRule → List RecordValue → ℕ → RecordValue → ℕ → Bool
+breaks A1a t k r j = goes_over t k r
+breaks A1b t k r j = stands_twice t k r
 breaks A2a t k r j = begins_with_agent t k r
 breaks A2b t k r j = collects_nowhere t
 breaks A2c t k r j = has_no_publisher t k r
@@ -153,8 +194,8 @@ asked_of kinds.Spu = at A2a 8 ∷ at A3a 13 ∷ at A4a 10 ∷ at A4b 21 ∷ at A
 asked_of kinds.Opu = at A2a 8 ∷ at A3a 13 ∷ at A4a 10 ∷ at A4b 21 ∷ at A8a 12 ∷ at A8a 14 ∷ at A8a 16 ∷ []
 asked_of kinds.Swr = at A2c 1 ∷ at A2d 1 ∷ at A4a 10 ∷ at A4b 21 ∷ at A8a 11 ∷ at A8a 13 ∷ at A8a 15 ∷ []
 asked_of kinds.Owr = at A4a 10 ∷ at A4b 21 ∷ at A8a 11 ∷ at A8a 13 ∷ at A8a 15 ∷ []
-asked_of kinds.Spt = at A8b 10 ∷ []
-asked_of kinds.Swt = at A8b 9 ∷ []
+asked_of kinds.Spt = at A1a 10 ∷ at A1b 10 ∷ at A8b 10 ∷ []
+asked_of kinds.Swt = at A1a 9 ∷ at A1b 9 ∷ at A8b 9 ∷ []
 asked_of kinds.Ter = at A8b 5 ∷ []
 asked_of kinds.Ipa = at A4a 5 ∷ at A4b 6 ∷ at A8a 10 ∷ at A8a 12 ∷ at A8a 14 ∷ []
 asked_of kinds.Alt = at A8c 6 ∷ []
@@ -167,6 +208,8 @@ asked_of this_kind = []
 
 -- what is usually rejected where the rule is broken
 abbrev pub level_of_rule : AdviceRule → Level
+level_of_rule A1a = T
+level_of_rule A1b = R
 level_of_rule A2a = T
 level_of_rule A2b = T
 level_of_rule A2c = T

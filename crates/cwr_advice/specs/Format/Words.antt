@@ -1,10 +1,12 @@
 -- The rules of advice in words.
 use Rattle.std.specs.Prelude.{ℕ, List, codes}
 use Rattle.cwr_advice.specs.declared.rules.AdviceRule.{AdviceRule}
-use Rattle.cwr_advice.specs.declared.rules.AdviceRule.TheVariants.{A2a, A2b, A2c, A2d, A3a, A3b, A4a, A4b, A4c, A4d, A6a, A6b, A6c, A8a, A8b, A8c, A8d}
+use Rattle.cwr_advice.specs.declared.rules.AdviceRule.TheVariants.{A1a, A1b, A2a, A2b, A2c, A2d, A3a, A3b, A4a, A4b, A4c, A4d, A6a, A6b, A6c, A8a, A8b, A8c, A8d}
 
 -- the name of a rule
 abbrev pub rule_text : AdviceRule → List ℕ
+rule_text A1a = codes "A1a"
+rule_text A1b = codes "A1b"
 rule_text A2a = codes "A2a"
 rule_text A2b = codes "A2b"
 rule_text A2c = codes "A2c"
@@ -25,6 +27,8 @@ rule_text A8d = codes "A8d"
 
 -- what is wrong where it is broken, and what to do
 abbrev pub advice_words : AdviceRule → List ℕ
+advice_words A1a = codes "with this one more than 100 % of a right is collected in this territory: the collection shares of SPT and SWT add up to at most 100"
+advice_words A1b = codes "this territory stands twice for one publisher or writer: leave one of them out"
 advice_words A2a = codes "this chain of publishers begins with an administrator or a sub-publisher: put the original publisher (type E) before it"
 advice_words A2b = codes "publishers (SPU) own shares of this work, and no SPT says where they collect: add the SPT records"
 advice_words A2c = codes "no PWR says which publisher stands for this writer: add one after SWR"
