@@ -70,6 +70,15 @@ COMMANDS
        --quiet
               Prints only what isn't good, and the sums.
 
+   cwr advise [OPTIONS] [FILE]...
+       Judges transmissions, and tells what a society may send back all the
+       same: numbers whose check digits are wrong, chains of publishers
+       without an original one, writers without territories, and more. Of each
+       transaction it prints the findings as `cwr explain` does, and then the
+       advice, each with what to do. The verdict is last. Advice changes
+       neither it nor the status. Several files are told as `cwr check` tells
+       them. The rules are in docs/ADVICE.md of the repository.
+
    cwr json [OPTIONS] [FILE]
        Writes the data of a transmission as lines of JSON to standard output,
        a line for each header, transaction and trailer. The verdict goes to
@@ -257,12 +266,20 @@ OUTPUT
        FILES N good G refused R truncated T failed X
               Several files were judged.
 
-       Before it `cwr check`, `cwr explain` and `cwr lint` write the findings:
+       Before it `cwr check`, `cwr explain`, `cwr lint` and `cwr advise` write
+       the findings:
 
        FINDING group G transaction T record S field F level L rule V
               A rule of the format is broken in that record. The group is
               counted from 1, the transaction and the record from 0. The
               verdict stays as it is.
+
+       After those of a transaction `cwr advise` writes the advice on it, with
+       indented lines under each:
+
+       ADVICE group G transaction T record S field F level L rule A
+              A society may reject that record. Numbers are as those of a
+              finding. L says what is usually rejected.
 
        `cwr acks` writes a line of counts last, where the transmission is
        whole:
@@ -385,6 +402,15 @@ EXAMPLES
            FINDING group 1 transaction 0 record 0 field 7 level F rule V1
            FINDING group 2 transaction 1 record 0 field 1 level T rule V6
            GOOD groups 2 transactions 3 records 12
+
+       What may a society send back?
+
+           $ cwr advise advised_work.cwr
+           ADVICE group 1 transaction 0 record 3 field 10 level F rule A4a
+             where     line 6, SWR
+             cell      line 6, SWR ipi name number: 00014107383
+             advice    this is no IPI name number: it has eleven digits, of which the last two check the others; look it up again
+           GOOD groups 1 transactions 1 records 10
 
        A compressed file, through a pipe:
 

@@ -1,6 +1,6 @@
 //! The program between its words and its devices.
 
-ghost use Rattle.std.specs.Prelude.{◌≡◌, ◌≢◌, ◌≤◌, map, true, None, if◌then◌else◌};
+ghost use Rattle.std.specs.Prelude.{◌≡◌, ◌≢◌, ◌≤◌, ◌||◌, map, true, None, if◌then◌else◌};
 ghost use Rattle.clap.specs.Values.{kind_of};
 ghost use Rattle.cwr_program.specs.Format.Endings.{EndsOnInput, IsOfInput, fault_status, wanted_in};
 ghost use Rattle.cwr_program.specs.Format.Inputs.{are_standard};
@@ -158,7 +158,7 @@ fn judge<'a, R: Files + AllocGlobal, I: Read + Drop, P: Pace, O: Write + Drop, E
     output: O,
     error: &mut E,
 ) -> Result<Status, Fault<'a>>
-    requires { asked.now.faults ≡ true → asked.now.wanted.fail_on ≡ None }
+    requires { (asked.now.faults || asked.now.advised) ≡ true → asked.now.wanted.fail_on ≡ None }
     ensures { are_standard (map (λ name. name.now) names.now) ≡ true → EndsOnInput asked.now.limits asked.now.wanted (I.remaining standard) result }
 {
     if names.len() > 1 {
@@ -200,6 +200,7 @@ fn perform<'a, R: Files + AllocGlobal, I: Read + Drop, P: Pace, O: Write + Drop,
         },
         quiet: false,
         faults: false,
+        advised: false,
     };
     let (judging, explained) = match &task.work {
         Work::Check(judging) => (judging, false),
@@ -217,6 +218,11 @@ fn perform<'a, R: Files + AllocGlobal, I: Read + Drop, P: Pace, O: Write + Drop,
             asked.faults = true;
             let names = files.as_slice();
             return judge(rt, &asked, *explained, names, standard, pace, output, error);
+        }
+        Work::Advise { files } => {
+            asked.advised = true;
+            let names = files.as_slice();
+            return judge(rt, &asked, false, names, standard, pace, output, error);
         }
         Work::Json {
             file,

@@ -1,6 +1,6 @@
 //! Transmissions that are judged, shown, or written as data.
 
-ghost use Rattle.std.specs.Prelude.{◌≡◌, true, false, not, IfOk, Ok, OnOk, None};
+ghost use Rattle.std.specs.Prelude.{◌≡◌, ◌||◌, true, false, not, IfOk, Ok, OnOk, None};
 ghost use Rattle.cwr_tools.specs.Format.Reports.{CountsWriterFault};
 ghost use Rattle.cwr_tools.specs.Format.Verdicts.{JudgesText};
 ghost use Rattle.cwr_tools.specs.Format.Watching.{SeesAccepted};
@@ -16,6 +16,7 @@ use crate::inputs::{Input, shown_name};
 use crate::outputs::{Gathered, gathered, told_of};
 use crate::progress::Pace;
 use cwr_acks::acks;
+use cwr_advise::advise;
 use cwr_csv::{Table, csv};
 use cwr_encode::{Sink, SinkFault};
 use cwr_explain::{Trailing, explain, read_trailing};
@@ -50,17 +51,20 @@ pub(crate) enum Telling<'a> {
     Rows(Table),
     /// What the acknowledgements say, and the verdict to standard error.
     Answers,
+    /// The findings with what explains them, the advice, and the verdict.
+    Advice,
 }
 
 /// What is told of an input that is judged, where it is explained too.
 pub(crate) fn telling_of<'a>(asked: &Asked, explained: bool, word: &'a str) -> Telling<'a>
-    ensures { tells_findings result ≡ not asked.now.faults }
+    ensures { tells_findings result ≡ not (asked.now.faults || asked.now.advised) }
 {
     let name = shown_name(word);
-    match (asked.faults, explained) {
-        (true, _) => Telling::Faults(explained.then_some(name)),
-        (false, true) => Telling::Explained(name),
-        (false, false) => Telling::Findings,
+    match (asked.faults, asked.advised, explained) {
+        (true, _, _) => Telling::Faults(explained.then_some(name)),
+        (false, true, _) => Telling::Advice,
+        (false, false, true) => Telling::Explained(name),
+        (false, false, false) => Telling::Findings,
     }
 }
 
@@ -74,6 +78,8 @@ pub(crate) struct Asked {
     pub(crate) quiet: bool,
     /// Every fault is told.
     pub(crate) faults: bool,
+    /// Advice is told.
+    pub(crate) advised: bool,
 }
 
 /// What was made of an input that could be read: the verdict, what stands after it, and the status.
@@ -171,6 +177,11 @@ fn tell<R: Source, W: Target + Drop>(
             let look = look_after(reader, &outcome);
             (writer, outcome, look)
         }
+        Telling::Advice => {
+            let (writer, outcome) = advise(alloc, limits, reader, writer);
+            let look = look_after(reader, &outcome);
+            (writer, outcome, look)
+        }
     }
 }
 
@@ -265,7 +276,7 @@ pub(crate) fn tell_aside<E: Write>(
     match telling {
         // What follows stands in the explanation.
         Telling::Explained(_) => {}
-        Telling::Findings | Telling::Faults(_) | Telling::Records => tell_following(
+        Telling::Findings | Telling::Faults(_) | Telling::Records | Telling::Advice => tell_following(
             error,
             name,
             &judgement.look,

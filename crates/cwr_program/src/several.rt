@@ -83,7 +83,7 @@ pub(crate) fn report_several<'a, R: Files, I: Read + Drop, P: Pace, O: Write + D
     output: O,
     error: &mut E,
 ) -> Result<Status, Fault<'a>>
-    requires { asked.now.faults ≡ true → asked.now.wanted.fail_on ≡ None }
+    requires { (asked.now.faults || asked.now.advised) ≡ true → asked.now.wanted.fail_on ≡ None }
 {
     let mut lines = match gathered(asked.alloc, output, Name::StandardOutput) {
         Ok(lines) => lines,

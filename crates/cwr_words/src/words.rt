@@ -5,7 +5,7 @@ ghost use Rattle.std.specs.Str.{bytes_eq};
 ghost use Rattle.std.specs.Str.Parse.{digits_value, without_leading_plus};
 ghost use Rattle.clap.specs.Words.{found_of, has_subcommand, one_text};
 ghost use Rattle.cwr_shape.specs.Format.Ranges.{limit_values};
-ghost use Rattle.cwr_words.specs.Format.Words.{AreNamesOf, IsAcksOf, IsAskedBy, IsExportOf, IsImportOf, IsJoinOf, IsJudgingOf, IsLintOf, IsPlainCheck, IsRenumberingOf, IsSplitOf, IsTableOf, IsWorkOf, level_named, rows_named};
+ghost use Rattle.cwr_words.specs.Format.Words.{AreNamesOf, IsAcksOf, IsAdviceOf, IsAskedBy, IsExportOf, IsImportOf, IsJoinOf, IsJudgingOf, IsLintOf, IsPlainCheck, IsRenumberingOf, IsSplitOf, IsTableOf, IsWorkOf, level_named, rows_named};
 
 use clap::error::ErrorKind;
 use clap::{Arg, ArgAction, ArgMatches, Command, Error, value_parser};
@@ -52,6 +52,11 @@ pub enum Work<'a> {
         quiet: bool,
         /// With an explanation of each.
         explained: bool,
+    },
+    /// They are checked, and there is advice on them.
+    Advise {
+        /// The names of the transmissions' files; without one standard input is read.
+        files: Vec<&'a str>,
     },
     /// The data of one is written as JSON.
     Json {
@@ -144,6 +149,9 @@ const EXPLAIN: &str = "explain";
 
 /// The name of the subcommand that tells every fault.
 const LINT: &str = "lint";
+
+/// The name of the subcommand that advises.
+const ADVISE: &str = "advise";
 
 /// The name of the subcommand that writes JSON.
 const JSON: &str = "json";
@@ -336,6 +344,17 @@ fn linting<'a>(alloc: Global) -> Result<Command<'a>, AllocError> {
         .arg(files)
 }
 
+/// The subcommand that advises.
+fn advising<'a>(alloc: Global) -> Result<Command<'a>, AllocError> {
+    let files = Arg::new(alloc, FILE).num_args(1..).help(
+        "The transmissions; without one standard input is read, as it is for -",
+    );
+    let command = Command::new(alloc, ADVISE).about(
+        "Judges transmissions, and tells what a society may send back all the same",
+    );
+    with_reading(alloc, command)?.arg(files)
+}
+
 /// The subcommand that writes JSON.
 fn exporting<'a>(alloc: Global) -> Result<Command<'a>, AllocError> {
     let numbers = flag(
@@ -490,8 +509,11 @@ With --sent it writes what was never sent, or with another title, or is answered
 Before it `cwr check` writes a line for each finding in a transaction, and `cwr show` each record with its cells:
   FINDING group G transaction T record S field F level L rule V
 
-Indented, `cwr explain` writes under each finding the rule in words and the cells that it speaks of, and after the last
-line what a refusal speaks of, what stands there and what may.
+`cwr advise` writes such lines too, and after those of a transaction a line for each piece of advice on it:
+  ADVICE group G transaction T record S field F level L rule A
+
+Indented, `cwr explain` and `cwr advise` write under each what it says in words, and the cells that it speaks of. After the
+last line `cwr explain` writes what a refusal speaks of, what stands there and what may.
 
 Before REFUSED and TRUNCATED `cwr join` writes the number of the input.
 
@@ -500,6 +522,7 @@ Exit status: 0 good, 1 refused, truncated or a limit, 2 a wrong command line (or
 Examples: cwr check works.cwr
           cwr explain works.cwr
           cwr lint --explain works.cwr
+          cwr advise works.cwr
           cwr csv works works.cwr
           cwr acks acknowledgement.cwr
           cwr split -n 1000 works.cwr part-
@@ -523,6 +546,7 @@ fn command<'a>(alloc: Global) -> Result<Command<'a>, AllocError> {
             "Judges transmissions, and explains what is wrong with them",
         )?)?
         .subcommand(linting(alloc)?)?
+        .subcommand(advising(alloc)?)?
         .subcommand(exporting(alloc)?)?
         .subcommand(tabulating(alloc)?)?
         .subcommand(answering(alloc)?)?
@@ -601,6 +625,15 @@ fn lint_in<'a>(alloc: Global, given: &ArgMatches<'a>) -> Result<Work<'a>, AllocE
         files: names_in(alloc, given)?,
         quiet: given.get_flag(QUIET),
         explained: given.get_flag(EXPLAINED),
+    })
+}
+
+/// The work of advice.
+fn advice_in<'a>(alloc: Global, given: &ArgMatches<'a>) -> Result<Work<'a>, AllocError>
+    ensures { IfOk result (IsAdviceOf (found_of given.now)) }
+{
+    Ok(Work::Advise {
+        files: names_in(alloc, given)?,
     })
 }
 
@@ -707,6 +740,8 @@ fn work_in<'a>(
         Ok(split_in(given))
     } else if name == LINT {
         Ok(Some(lint_in(alloc, given)?))
+    } else if name == ADVISE {
+        Ok(Some(advice_in(alloc, given)?))
     } else if name == JSON {
         Ok(Some(export_in(given)))
     } else if name == CSV {

@@ -12,7 +12,7 @@ use Rattle.cwr_write.specs.declared.writing.Written.{Written}
 use Rattle.cwr_write.specs.declared.writing.WriteFault.{WriteFault}
 use Rattle.cwr_write.specs.declared.writing.WriteFault.TheVariants as write_faults
 use Rattle.cwr_words.specs.declared.words.Work.{Work}
-use Rattle.cwr_words.specs.declared.words.Work.TheVariants.{Check, Show, Explain, Lint, Json, Csv, Acks}
+use Rattle.cwr_words.specs.declared.words.Work.TheVariants.{Check, Show, Explain, Lint, Advise, Json, Csv, Acks}
 use Rattle.cwr_program.specs.declared.endings.Status.{Status}
 use Rattle.cwr_program.specs.declared.endings.Status.TheVariants as statuses
 use Rattle.cwr_program.specs.declared.endings.Wanted.{Wanted}
@@ -84,6 +84,7 @@ IsOfInput (Csv rows file) = is_standard (option_map (λ name. name.now) file) �
 IsOfInput (Acks file None) = is_standard (option_map (λ name. name.now) file) ≡ true
 IsOfInput (Acks file (Some sent)) = ⊥
 IsOfInput (Lint files quiet explained) = are_standard (map (λ name. name.now) files.items) ≡ true
+IsOfInput (Advise files) = are_standard (map (λ name. name.now) files.items) ≡ true
 IsOfInput work = ⊥
 
 -- what is wanted of the transmission: the options of a judgement say which findings end it
@@ -91,6 +92,7 @@ abbrev pub wanted_in : Bool → Work → Wanted
 wanted_in whole (Check judging) = record { whole = whole; fail_on = judging.fail_on }
 wanted_in whole (Explain judging) = record { whole = whole; fail_on = judging.fail_on }
 wanted_in whole (Lint files quiet explained) = record { whole = whole; fail_on = None }
+wanted_in whole (Advise files) = record { whole = whole; fail_on = None }
 wanted_in whole work = record { whole = whole; fail_on = None }
 
 -- the status of a fault: what was to be written may not be, or a file, a device or memory failed

@@ -69,6 +69,7 @@ tells_findings tellings.Records = false
 tells_findings (tellings.Data encoding numbers) = false
 tells_findings (tellings.Rows table) = false
 tells_findings tellings.Answers = false
+tells_findings tellings.Advice = false
 
 -- an input whose bytes are known has the status on them, or a device or memory failed
 abbrev pub JudgesOn : Limits → Wanted → Option (List ℕ) → Result Judgement ToolFault → Type 0

@@ -9,6 +9,7 @@ use Rattle.cwr_tools.specs.declared.verdicts.ToolFault.TheVariants.{Writer}
 use Rattle.cwr_tools.specs.Format.Reports.{CountsReaderFault, lines_of_data, lines_of_findings, lines_of_records}
 use Rattle.cwr_tools.specs.Steps.Reports.{Reports}
 use Rattle.cwr_acks.specs.Format.AckLines.{lines_of_acks}
+use Rattle.cwr_advise.specs.Format.AdviceLines.{lines_of_advice}
 use Rattle.cwr_csv.specs.Format.TableLines.{lines_of_table}
 use Rattle.cwr_explain.specs.Steps.Explained.{Explains}
 use Rattle.cwr_lint.specs.Steps.Lints.{Lints, Tells}
@@ -28,6 +29,7 @@ TellsUpTo tellings.Records limits before after contents old new outcome = Report
 TellsUpTo (tellings.Data encoding numbers) limits before after contents old new outcome = Reports (lines_of_data encoding numbers) limits before after contents old new outcome
 TellsUpTo (tellings.Rows table) limits before after contents old new outcome = Reports (lines_of_table table) limits before after contents old new outcome
 TellsUpTo tellings.Answers limits before after contents old new outcome = Reports (lines_of_acks None) limits before after contents old new outcome
+TellsUpTo tellings.Advice limits before after contents old new outcome = Reports lines_of_advice limits before after contents old new outcome
 
 -- so it was, before what follows the transmission was looked at
 abbrev pub TellsText : {W : Type 0} → Telling → Limits → Option (List ℕ) → (W → Option (List ℕ)) → W → W → Result Verdict ToolFault → Type 0

@@ -17,7 +17,7 @@ use Rattle.cwr_words.specs.declared.words.Rows.{Rows}
 use Rattle.cwr_words.specs.declared.words.Rows.TheVariants.{Records, Works}
 use Rattle.cwr_words.specs.declared.words.Task.{Task}
 use Rattle.cwr_words.specs.declared.words.Work.{Work}
-use Rattle.cwr_words.specs.declared.words.Work.TheVariants.{Check, Show, Explain, Lint, Json, Csv, Acks, Write, Split, Join, Renumber, Manual}
+use Rattle.cwr_words.specs.declared.words.Work.TheVariants.{Check, Show, Explain, Lint, Advise, Json, Csv, Acks, Write, Split, Join, Renumber, Manual}
 
 -- the flag of that id is given
 abbrev pub IsFlagOf : Found → List ℕ → Bool → Type 0
@@ -58,6 +58,7 @@ IsSplitOf found (Check judging) = ⊥
 IsSplitOf found (Show file) = ⊥
 IsSplitOf found (Explain judging) = ⊥
 IsSplitOf found (Lint files quiet explained) = ⊥
+IsSplitOf found (Advise files) = ⊥
 IsSplitOf found (Json file numbers utf8) = ⊥
 IsSplitOf found (Csv rows file) = ⊥
 IsSplitOf found (Acks file sent) = ⊥
@@ -73,6 +74,11 @@ IsSplitOf found Manual = ⊥
 abbrev pub IsLintOf : Found → Work → Type 0
 IsLintOf found (Lint files quiet explained) = AreNamesOf found (map (λ name. name.now) files.items) × IsFlagOf found (codes "quiet") quiet × IsFlagOf found (codes "explain") explained
 IsLintOf found work = ⊥
+
+-- advice on the transmissions of the files FILE
+abbrev pub IsAdviceOf : Found → Work → Type 0
+IsAdviceOf found (Advise files) = AreNamesOf found (map (λ name. name.now) files.items)
+IsAdviceOf found work = ⊥
 
 -- the data of the file FILE, with numbers where that flag is given, and in UTF-8 where that one is
 abbrev pub IsExportOf : Found → Work → Type 0
@@ -113,14 +119,16 @@ IsRenumberingOf found (Renumber file out only_new) =
     (option_map (λ f. f.now) file ≡ first_value found (codes "FILE")) × (option_map (λ f. f.now) out ≡ first_value found (codes "OUT")) × IsFlagOf found (codes "new") only_new
 IsRenumberingOf found work = ⊥
 
--- Work of the subcommand of that name: transmissions are checked or explained; one is shown, linted, or written as JSON or as a table, or what its acknowledgements say is told,
--- that of the first file that FILE names, if it names one; one is written from lines of JSON, one is split, some are joined, the numbers of one are put right, or the manual
+-- Work of the subcommand of that name: transmissions are checked, explained, linted or advised on; one is shown, or written as JSON or as a table, or what its
+-- acknowledgements say is told, that of the first file that FILE names, if it names one; one is written from lines of JSON, one is split, some are joined, the
+-- numbers of one are put right, or the manual
 -- is printed.
 abbrev pub IsWorkOf : List ℕ → Found → Work → Type 0
 IsWorkOf name found (Check judging) = (bytes_eq name (codes "show") ≡ false) × (bytes_eq name (codes "explain") ≡ false) × IsJudgingOf found judging
 IsWorkOf name found (Show file) = (bytes_eq name (codes "show") ≡ true) × (option_map (λ f. f.now) file ≡ first_value found (codes "FILE"))
 IsWorkOf name found (Explain judging) = (bytes_eq name (codes "explain") ≡ true) × IsJudgingOf found judging
 IsWorkOf name found (Lint files quiet explained) = (bytes_eq name (codes "lint") ≡ true) × IsLintOf found (Lint files quiet explained)
+IsWorkOf name found (Advise files) = (bytes_eq name (codes "advise") ≡ true) × IsAdviceOf found (Advise files)
 IsWorkOf name found (Json file numbers utf8) = (bytes_eq name (codes "json") ≡ true) × IsExportOf found (Json file numbers utf8)
 IsWorkOf name found (Csv rows file) = (bytes_eq name (codes "csv") ≡ true) × IsTableOf found (Csv rows file)
 IsWorkOf name found (Acks file sent) = (bytes_eq name (codes "acks") ≡ true) × IsAcksOf found (Acks file sent)

@@ -3,6 +3,7 @@ use Rattle.std.specs.Prelude.{None, OnOk}
 use Rattle.std.specs.Option.{is_some}
 use Rattle.cwr_tools.specs.Format.Reports.{lines_checked, lines_of_data, lines_of_findings, lines_of_records}
 use Rattle.cwr_acks.specs.Format.AckLines.{lines_of_acks}
+use Rattle.cwr_advise.specs.Format.AdviceLines.{lines_of_advice}
 use Rattle.cwr_csv.specs.Format.TableLines.{lines_of_table}
 use Rattle.cwr_program.specs.declared.endings.Look.{Look}
 use Rattle.cwr_program.specs.Steps.Looks.{LooksAfter, tells_findings}
@@ -112,3 +113,18 @@ returns-in-Answers-clause-told g c =
 
 pub returns-in-Answers-clause-reader_failures : goal.returns-in-Answers-clause-reader_failures
 returns-in-Answers-clause-reader_failures g c = (g.R.Source.failures c.acks-writer.new.reader, c.acks-writer.ensures.reader_failures, c.look_after-look-in-Answers.ensures.failures)
+
+pub returns-in-Advice-clause-seen : goal.returns-in-Advice-clause-seen
+returns-in-Advice-clause-seen g c = sees_nothing c.args.limits (g.R.Source.remaining c.args.reader.now) c.args.watch.now c.advise-writer.result.1 (c.requires (ap tells_findings c.in-Advice.is))
+
+pub returns-in-Advice-clause-looks : goal.returns-in-Advice-clause-looks
+returns-in-Advice-clause-looks g c =
+    looks_after lines_of_advice c.args.limits (g.R.Source.remaining c.args.reader.now) (g.R.Source.remaining c.advise-writer.new.reader) (g.R.Source.remaining c.look_after-look-in-Advice.new.reader) g.W.Target.contents
+    c.args.writer c.advise-writer.result.0 c.advise-writer.result.1 c.look_after-look-in-Advice.result c.advise-writer.ensures.accepted c.look_after-look-in-Advice.ensures.looks
+
+pub returns-in-Advice-clause-told : goal.returns-in-Advice-clause-told
+returns-in-Advice-clause-told g c =
+    told_as c.args.telling _ c.args.limits (g.R.Source.remaining c.args.reader.now) (g.R.Source.remaining c.advise-writer.new.reader) g.W.Target.contents c.args.writer c.advise-writer.result.0 c.advise-writer.result.1 c.in-Advice.is c.advise-writer.ensures.reported
+
+pub returns-in-Advice-clause-reader_failures : goal.returns-in-Advice-clause-reader_failures
+returns-in-Advice-clause-reader_failures g c = (g.R.Source.failures c.advise-writer.new.reader, c.advise-writer.ensures.reader_failures, c.look_after-look-in-Advice.ensures.failures)

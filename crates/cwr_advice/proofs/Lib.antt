@@ -1,0 +1,9 @@
+pub mod WeightedDigits
+pub mod AdvisedFields
+pub mod TerritoryFields
+pub mod CountedFacts
+pub mod BegunChains
+pub mod SinceParty
+pub mod WriterRecords
+pub mod KeptInTurn
+pub mod AdviceByRecord

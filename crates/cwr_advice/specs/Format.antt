@@ -1,0 +1,4 @@
+-- What is promised, in the words of the format.
+pub mod Numbers
+pub mod Rules
+pub mod Words

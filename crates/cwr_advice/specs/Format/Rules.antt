@@ -1,0 +1,238 @@
+-- Advice on a transaction that is to be sent: which record breaks which rule, and at which field.
+use Prim.Native.String.{String}
+use Rattle.std.specs.Prelude.{ℕ, ◌+◌, Bool, true, not, ◌&&◌, ◌||◌, nat_lt, nat_le, List, [], ◌∷◌, codes, map, filter, take, drop, take_while, unwrap_or, flat_map, count_by, if◌then◌else◌}
+use Rattle.std.specs.List.{list_any, sum_by, enumerate_from, after_last}
+use Rattle.std.specs.Str.{bytes_eq}
+use Rattle.cwr_fields.specs.Format.Bytes.{is_spaces}
+use Rattle.cwr_layouts.specs.declared.kinds.Kind.{Kind}
+use Rattle.cwr_layouts.specs.declared.kinds.Kind.TheVariants as kinds
+use Rattle.cwr_layouts.specs.Format.Carried.{record_cell}
+use Rattle.cwr_layouts.specs.Format.Records.{RecordValue, cell_named}
+use Rattle.cwr_shape.specs.declared.reasons.Level.{Level}
+use Rattle.cwr_shape.specs.declared.reasons.Level.TheVariants.{T, R, F}
+use Rattle.cwr_levels.specs.Format.Findings.{is_a, is_blank, is_owner, ownership, share_of}
+use Rattle.cwr_advice.specs.declared.rules.AdviceRule.{AdviceRule}
+use Rattle.cwr_advice.specs.declared.rules.AdviceRule.TheVariants.{A1a, A1b, A2a, A2b, A2c, A2d, A3a, A3b, A4a, A4b, A4c, A4d, A6a, A6b, A6c, A8a, A8b, A8c, A8d}
+use Rattle.cwr_advice.specs.declared.rules.Asked.{Asked}
+use Rattle.cwr_advice.specs.declared.rules.Advice.{Advice}
+use Rattle.cwr_advice.specs.Format.Numbers.{is_ean, is_ipi_base, is_ipi_name, is_isrc, is_language, is_society, is_territory_number, is_zero}
+
+-- ---- words on records
+
+-- a publisher of a work
+abbrev pub is_publisher : RecordValue → Bool
+is_publisher r = is_a kinds.Spu r || is_a kinds.Opu r
+
+-- a writer of a work
+abbrev pub is_writer : RecordValue → Bool
+is_writer r = is_a kinds.Swr r || is_a kinds.Owr r
+
+-- the header of a work
+abbrev pub is_header : RecordValue → Bool
+is_header r = is_a kinds.Nwr r || is_a kinds.Rev r
+
+-- it owns a share in some right
+abbrev pub owns_shares : RecordValue → Bool
+owns_shares r = is_owner r && nat_lt 0 (share_of "pr share" r + share_of "mr share" r + share_of "sr share" r)
+
+-- the record's cell of field j
+abbrev pub cell_at : RecordValue → ℕ → List ℕ
+cell_at r j = unwrap_or (record_cell r j) []
+
+-- ---- A1: where shares are collected
+
+-- a territory of a publisher or of a writer
+abbrev pub is_territory : RecordValue → Bool
+is_territory r = is_a kinds.Spt r || is_a kinds.Swt r
+
+-- the one of that number
+abbrev pub is_territory_of : List ℕ → RecordValue → Bool
+is_territory_of code r = is_territory r && bytes_eq (cell_named "tis code" r) code
+
+-- the same, where it isn't left out
+abbrev pub collects_in : List ℕ → RecordValue → Bool
+collects_in code r = is_territory_of code r && not (bytes_eq (cell_named "inclusion exclusion" r) (codes "E"))
+
+-- what is collected there of a right is more than the whole
+abbrev pub is_over_in : List ℕ → List RecordValue → String → Bool
+is_over_in code records right = nat_lt 10006 (sum_by (share_of right) (filter (collects_in code) records))
+
+-- the same of one or more of the three rights
+abbrev pub are_over_in : List ℕ → List RecordValue → Bool
+are_over_in code records = is_over_in code records "pr collection share" || is_over_in code records "mr collection share" || is_over_in code records "sr collection share"
+
+-- so many territories of a work are compared with one another, and where there are more, none
+abbrev pub has_few_territories : List RecordValue → Bool
+has_few_territories t = nat_le (count_by is_territory t) 200
+
+-- a territory whose number is filled in, in a work that has few
+abbrev pub is_compared : List RecordValue → RecordValue → Bool
+is_compared t r = has_few_territories t && is_territory r && not (is_blank "tis code" r)
+
+-- with this territory more than the whole is collected there, and without it not
+abbrev pub goes_over : List RecordValue → ℕ → RecordValue → Bool
+goes_over t k r = is_compared t r && are_over_in (cell_named "tis code" r) (take (k + 1) t) && not (are_over_in (cell_named "tis code" r) (take k t))
+
+-- the same territory stands before it already, after the last publisher or writer
+abbrev pub stands_twice : List RecordValue → ℕ → RecordValue → Bool
+stands_twice t k r = is_compared t r && list_any (is_territory_of (cell_named "tis code" r)) (after_last is_owner (take k t))
+
+-- ---- A2: chains of publishers, and what a party needs
+
+-- the type of an administrator or a sub-publisher
+abbrev pub names_agent : List ℕ → Bool
+names_agent ty = bytes_eq ty (codes "AM") || bytes_eq ty (codes "SE")
+
+-- an administrator or a sub-publisher
+abbrev pub is_agent : RecordValue → Bool
+is_agent r = is_publisher r && names_agent (cell_named "publisher type" r)
+
+-- a publisher of the chain with that publisher sequence
+abbrev pub in_chain : List ℕ → RecordValue → Bool
+in_chain sequence p = is_publisher p && bytes_eq (cell_named "publisher sequence" p) sequence
+
+-- the first publisher of a chain is an administrator or a sub-publisher
+abbrev pub begins_with_agent : List RecordValue → ℕ → RecordValue → Bool
+begins_with_agent t k r = is_agent r && not (list_any (in_chain (cell_named "publisher sequence" r)) (take k t))
+
+-- a publisher whom the submitter controls, who owns a share in some right
+abbrev pub is_owning_publisher : RecordValue → Bool
+is_owning_publisher r = is_a kinds.Spu r && owns_shares r
+
+-- there is one, and no record says where they collect
+abbrev pub collects_nowhere : List RecordValue → Bool
+collects_nowhere t = list_any is_owning_publisher t && not (list_any (is_a kinds.Spt) t)
+
+-- the records of the writer who stands after k others: those up to the next writer
+abbrev pub records_of_writer : List RecordValue → ℕ → List RecordValue
+records_of_writer t k = take_while (λ r. not (is_writer r)) (drop (k + 1) t)
+
+-- the writer has no publisher, though the work has one whom the submitter controls
+abbrev pub has_no_publisher : List RecordValue → ℕ → RecordValue → Bool
+has_no_publisher t k r = is_a kinds.Swr r && list_any (is_a kinds.Spu) t && not (list_any (is_a kinds.Pwr) (records_of_writer t k))
+
+-- the writer owns shares, and no record says where they are collected
+abbrev pub has_no_territory : List RecordValue → ℕ → RecordValue → Bool
+has_no_territory t k r = is_a kinds.Swr r && owns_shares r && not (list_any (is_a kinds.Swt) (records_of_writer t k))
+
+-- ---- A3: who owns the performing right
+
+-- more than half of it, with the tolerance of the rules V3 to V5
+abbrev pub owns_over_half : RecordValue → Bool
+owns_over_half r = is_publisher r && nat_lt 5006 (share_of "pr share" r)
+
+-- what the writers own of it
+abbrev pub owned_by_writers : List RecordValue → ℕ
+owned_by_writers t = sum_by (share_of "pr share") (filter is_writer t)
+
+-- someone owns some of it, and the writers less than half, with the same tolerance
+abbrev pub writers_own_less : List RecordValue → Bool
+writers_own_less t = nat_lt 0 (ownership "pr share" t) && nat_lt (owned_by_writers t) 4994
+
+-- ---- A6: composite works and versions
+
+-- a composite type, and no component
+abbrev pub lacks_components : List RecordValue → RecordValue → Bool
+lacks_components t r = is_header r && not (is_blank "composite type" r) && not (list_any (is_a kinds.Com) t)
+
+-- the header of a work without a composite type
+abbrev pub has_no_composite_type : RecordValue → Bool
+has_no_composite_type r = is_header r && is_blank "composite type" r
+
+-- a component of a work whose header has none
+abbrev pub is_stray_component : List RecordValue → RecordValue → Bool
+is_stray_component t r = is_a kinds.Com r && list_any has_no_composite_type (take 1 t)
+
+-- a version whose original no record names
+abbrev pub lacks_original : List RecordValue → RecordValue → Bool
+lacks_original t r = is_header r && bytes_eq (cell_named "version type" r) (codes "MOD") && not (list_any (is_a kinds.Ver) t)
+
+-- ---- A4 and A8: cells that are judged by themselves
+
+-- the cell is as the rule asks
+abbrev pub is_right : AdviceRule → List ℕ → Bool
+is_right A4a cell = is_ipi_name cell
+is_right A4b cell = is_ipi_base cell
+is_right A4c cell = is_isrc cell
+is_right A4d cell = is_ean cell
+is_right A8a cell = is_society cell
+is_right A8b cell = is_territory_number cell
+is_right A8c cell = is_language cell
+is_right A8d cell = not (is_zero cell)
+is_right rule cell = true
+
+-- it is filled in, and not so
+abbrev pub is_wrong : AdviceRule → List ℕ → Bool
+is_wrong rule cell = not (is_spaces cell) && not (is_right rule cell)
+
+-- ---- all rules
+
+-- Record r of the transaction t, after k others, breaks the rule, at field j where that judges a cell by itself.
+abbrev pub breaks : AdviceRule → List RecordValue → ℕ → RecordValue → ℕ → Bool
+breaks A1a t k r j = goes_over t k r
+breaks A1b t k r j = stands_twice t k r
+breaks A2a t k r j = begins_with_agent t k r
+breaks A2b t k r j = collects_nowhere t
+breaks A2c t k r j = has_no_publisher t k r
+breaks A2d t k r j = has_no_territory t k r
+breaks A3a t k r j = owns_over_half r
+breaks A3b t k r j = writers_own_less t
+breaks A6a t k r j = lacks_components t r
+breaks A6b t k r j = is_stray_component t r
+breaks A6c t k r j = lacks_original t r
+breaks rule t k r j = is_wrong rule (cell_at r j)
+
+-- the rule, at this field
+abbrev pub at : AdviceRule → ℕ → Asked
+at rule j = record { rule = rule; field = j }
+
+-- What is asked of a record of the kind, in this order: the rule, and the number of the field.
+abbrev pub asked_of : Kind → List Asked
+asked_of kinds.Nwr = at A2b 1 ∷ at A3b 1 ∷ at A6a 14 ∷ at A6c 15 ∷ at A8c 5 ∷ at A8d 11 ∷ []
+asked_of kinds.Rev = at A2b 1 ∷ at A3b 1 ∷ at A6a 14 ∷ at A6c 15 ∷ at A8c 5 ∷ at A8d 11 ∷ []
+asked_of kinds.Spu = at A2a 8 ∷ at A3a 13 ∷ at A4a 10 ∷ at A4b 21 ∷ at A8a 12 ∷ at A8a 14 ∷ at A8a 16 ∷ []
+asked_of kinds.Opu = at A2a 8 ∷ at A3a 13 ∷ at A4a 10 ∷ at A4b 21 ∷ at A8a 12 ∷ at A8a 14 ∷ at A8a 16 ∷ []
+asked_of kinds.Swr = at A2c 1 ∷ at A2d 1 ∷ at A4a 10 ∷ at A4b 21 ∷ at A8a 11 ∷ at A8a 13 ∷ at A8a 15 ∷ []
+asked_of kinds.Owr = at A4a 10 ∷ at A4b 21 ∷ at A8a 11 ∷ at A8a 13 ∷ at A8a 15 ∷ []
+asked_of kinds.Spt = at A1a 10 ∷ at A1b 10 ∷ at A8b 10 ∷ []
+asked_of kinds.Swt = at A1a 9 ∷ at A1b 9 ∷ at A8b 9 ∷ []
+asked_of kinds.Ter = at A8b 5 ∷ []
+asked_of kinds.Ipa = at A4a 5 ∷ at A4b 6 ∷ at A8a 10 ∷ at A8a 12 ∷ at A8a 14 ∷ []
+asked_of kinds.Alt = at A8c 6 ∷ []
+asked_of kinds.Ewt = at A4a 10 ∷ at A4a 14 ∷ at A4b 11 ∷ at A4b 15 ∷ at A8c 6 ∷ []
+asked_of kinds.Ver = at A4a 10 ∷ at A4a 14 ∷ at A4b 11 ∷ at A4b 15 ∷ at A8c 6 ∷ []
+asked_of kinds.Per = at A4a 6 ∷ at A4b 7 ∷ []
+asked_of kinds.Rec = at A4c 12 ∷ at A4d 11 ∷ at A8d 6 ∷ []
+asked_of kinds.Com = at A4a 10 ∷ at A4a 13 ∷ at A4b 14 ∷ at A4b 15 ∷ at A6b 1 ∷ at A8d 7 ∷ []
+asked_of this_kind = []
+
+-- what is usually rejected where the rule is broken
+abbrev pub level_of_rule : AdviceRule → Level
+level_of_rule A1a = T
+level_of_rule A1b = R
+level_of_rule A2a = T
+level_of_rule A2b = T
+level_of_rule A2c = T
+level_of_rule A2d = T
+level_of_rule A3a = T
+level_of_rule A3b = T
+level_of_rule A6a = T
+level_of_rule A6b = R
+level_of_rule A6c = R
+level_of_rule rule = F
+
+-- the advice of what was asked of a record that stands after k others
+abbrev pub advice_of_asked : ℕ → Asked → Advice
+advice_of_asked k asked = record { rec = k; field = asked.field; rule = asked.rule }
+
+-- the advice at a record
+abbrev pub advice_at : List RecordValue → ℕ → RecordValue → List Advice
+advice_at t k r = map (advice_of_asked k) (filter (λ asked. breaks asked.rule t k r asked.field) (asked_of r.kind))
+
+-- an acknowledgement: it comes from a society
+abbrev pub is_acknowledgement : List RecordValue → Bool
+is_acknowledgement t = list_any (is_a kinds.Ack) (take 1 t)
+
+-- the advice on the records of a transaction, whole or only begun: by record, and then as asked; an acknowledgement has none
+unfoldable pub advice_of : List RecordValue → List Advice
+advice_of t = if is_acknowledgement t then [] else flat_map (λ p. advice_at t p.0 p.1) (enumerate_from 0 t)

@@ -1,0 +1,294 @@
+//! What is asked of a record of each kind.
+
+ghost use Rattle.std.specs.Prelude.{◌≡◌};
+ghost use Rattle.cwr_advice.specs.Format.Rules.{asked_of};
+
+use crate::rules::{AdviceRule, Asked};
+use cwr_layouts::Kind;
+
+/// NWR, REV: what is asked of them, in this order.
+static WORK: [Asked; 6] = [
+    Asked {
+        rule: AdviceRule::A2b,
+        field: 1,
+    },
+    Asked {
+        rule: AdviceRule::A3b,
+        field: 1,
+    },
+    Asked {
+        rule: AdviceRule::A6a,
+        field: 14,
+    },
+    Asked {
+        rule: AdviceRule::A6c,
+        field: 15,
+    },
+    Asked {
+        rule: AdviceRule::A8c,
+        field: 5,
+    },
+    Asked {
+        rule: AdviceRule::A8d,
+        field: 11,
+    },
+];
+
+/// SPU, OPU: what is asked of them, in this order.
+static PUBLISHER: [Asked; 7] = [
+    Asked {
+        rule: AdviceRule::A2a,
+        field: 8,
+    },
+    Asked {
+        rule: AdviceRule::A3a,
+        field: 13,
+    },
+    Asked {
+        rule: AdviceRule::A4a,
+        field: 10,
+    },
+    Asked {
+        rule: AdviceRule::A4b,
+        field: 21,
+    },
+    Asked {
+        rule: AdviceRule::A8a,
+        field: 12,
+    },
+    Asked {
+        rule: AdviceRule::A8a,
+        field: 14,
+    },
+    Asked {
+        rule: AdviceRule::A8a,
+        field: 16,
+    },
+];
+
+/// SWR: what is asked of them, in this order.
+static CONTROLLED_WRITER: [Asked; 7] = [
+    Asked {
+        rule: AdviceRule::A2c,
+        field: 1,
+    },
+    Asked {
+        rule: AdviceRule::A2d,
+        field: 1,
+    },
+    Asked {
+        rule: AdviceRule::A4a,
+        field: 10,
+    },
+    Asked {
+        rule: AdviceRule::A4b,
+        field: 21,
+    },
+    Asked {
+        rule: AdviceRule::A8a,
+        field: 11,
+    },
+    Asked {
+        rule: AdviceRule::A8a,
+        field: 13,
+    },
+    Asked {
+        rule: AdviceRule::A8a,
+        field: 15,
+    },
+];
+
+/// OWR: what is asked of them, in this order.
+static OTHER_WRITER: [Asked; 5] = [
+    Asked {
+        rule: AdviceRule::A4a,
+        field: 10,
+    },
+    Asked {
+        rule: AdviceRule::A4b,
+        field: 21,
+    },
+    Asked {
+        rule: AdviceRule::A8a,
+        field: 11,
+    },
+    Asked {
+        rule: AdviceRule::A8a,
+        field: 13,
+    },
+    Asked {
+        rule: AdviceRule::A8a,
+        field: 15,
+    },
+];
+
+/// SPT: what is asked of them, in this order.
+static PUBLISHER_TERRITORY: [Asked; 3] = [
+    Asked {
+        rule: AdviceRule::A1a,
+        field: 10,
+    },
+    Asked {
+        rule: AdviceRule::A1b,
+        field: 10,
+    },
+    Asked {
+        rule: AdviceRule::A8b,
+        field: 10,
+    },
+];
+
+/// SWT: what is asked of them, in this order.
+static WRITER_TERRITORY: [Asked; 3] = [
+    Asked {
+        rule: AdviceRule::A1a,
+        field: 9,
+    },
+    Asked {
+        rule: AdviceRule::A1b,
+        field: 9,
+    },
+    Asked {
+        rule: AdviceRule::A8b,
+        field: 9,
+    },
+];
+
+/// TER: what is asked of them, in this order.
+static TERRITORY: [Asked; 1] = [Asked {
+    rule: AdviceRule::A8b,
+    field: 5,
+}];
+
+/// IPA: what is asked of them, in this order.
+static PARTY: [Asked; 5] = [
+    Asked {
+        rule: AdviceRule::A4a,
+        field: 5,
+    },
+    Asked {
+        rule: AdviceRule::A4b,
+        field: 6,
+    },
+    Asked {
+        rule: AdviceRule::A8a,
+        field: 10,
+    },
+    Asked {
+        rule: AdviceRule::A8a,
+        field: 12,
+    },
+    Asked {
+        rule: AdviceRule::A8a,
+        field: 14,
+    },
+];
+
+/// ALT: what is asked of them, in this order.
+static ALTERNATIVE_TITLE: [Asked; 1] = [Asked {
+    rule: AdviceRule::A8c,
+    field: 6,
+}];
+
+/// EWT, VER: what is asked of them, in this order.
+static OTHER_WORK: [Asked; 5] = [
+    Asked {
+        rule: AdviceRule::A4a,
+        field: 10,
+    },
+    Asked {
+        rule: AdviceRule::A4a,
+        field: 14,
+    },
+    Asked {
+        rule: AdviceRule::A4b,
+        field: 11,
+    },
+    Asked {
+        rule: AdviceRule::A4b,
+        field: 15,
+    },
+    Asked {
+        rule: AdviceRule::A8c,
+        field: 6,
+    },
+];
+
+/// PER: what is asked of them, in this order.
+static PERFORMER: [Asked; 2] = [
+    Asked {
+        rule: AdviceRule::A4a,
+        field: 6,
+    },
+    Asked {
+        rule: AdviceRule::A4b,
+        field: 7,
+    },
+];
+
+/// REC: what is asked of them, in this order.
+static RECORDING: [Asked; 3] = [
+    Asked {
+        rule: AdviceRule::A4c,
+        field: 12,
+    },
+    Asked {
+        rule: AdviceRule::A4d,
+        field: 11,
+    },
+    Asked {
+        rule: AdviceRule::A8d,
+        field: 6,
+    },
+];
+
+/// COM: what is asked of them, in this order.
+static COMPONENT: [Asked; 6] = [
+    Asked {
+        rule: AdviceRule::A4a,
+        field: 10,
+    },
+    Asked {
+        rule: AdviceRule::A4a,
+        field: 13,
+    },
+    Asked {
+        rule: AdviceRule::A4b,
+        field: 14,
+    },
+    Asked {
+        rule: AdviceRule::A4b,
+        field: 15,
+    },
+    Asked {
+        rule: AdviceRule::A6b,
+        field: 1,
+    },
+    Asked {
+        rule: AdviceRule::A8d,
+        field: 7,
+    },
+];
+
+/// What is asked of a record of the kind, in this order: rules, each at a field.
+#[inline(always)]
+pub(crate) fn asked_of(kind: Kind) -> &'static [Asked]
+    ensures { result.now ≡ asked_of kind }
+{
+    match kind {
+        Kind::Nwr | Kind::Rev => &WORK,
+        Kind::Spu | Kind::Opu => &PUBLISHER,
+        Kind::Swr => &CONTROLLED_WRITER,
+        Kind::Owr => &OTHER_WRITER,
+        Kind::Spt => &PUBLISHER_TERRITORY,
+        Kind::Swt => &WRITER_TERRITORY,
+        Kind::Ter => &TERRITORY,
+        Kind::Ipa => &PARTY,
+        Kind::Alt => &ALTERNATIVE_TITLE,
+        Kind::Ewt | Kind::Ver => &OTHER_WORK,
+        Kind::Per => &PERFORMER,
+        Kind::Rec => &RECORDING,
+        Kind::Com => &COMPONENT,
+        _ => &[],
+    }
+}

@@ -1,0 +1,104 @@
+//! What the rules of advice ask of all records of a transaction.
+
+ghost use Rattle.std.specs.Prelude.{◌≡◌, ◌++◌, ◌∷◌, [], List};
+ghost use Rattle.cwr_layouts.specs.Format.Records.{RecordValue};
+ghost use Rattle.cwr_advice.specs.Format.Rules.{has_few_territories, writers_own_less};
+ghost use Rattle.cwr_advice.specs.Steps.Facts.{AreFacts};
+
+use crate::owners::{is_owning_publisher, performing_of_owner, performing_of_writer};
+use crate::territory_cells::count_of_territory;
+use cwr_layouts::{Kind, RecordRef};
+use cwr_levels::is_of;
+use cwr_values::Transaction;
+
+/// Sums over the records of a transaction, as far as 64 bits go, and what kinds of records there are.
+#[derive(Clone, Copy)]
+pub(crate) struct Facts {
+    /// What all owners own of the performing right.
+    pub(crate) owned: u64,
+    /// What the writers own of it.
+    pub(crate) by_writers: u64,
+    /// There is an SPU.
+    pub(crate) has_publisher: bool,
+    /// There is an SPU that owns shares.
+    pub(crate) has_owning_publisher: bool,
+    /// There is an SPT.
+    pub(crate) has_territory: bool,
+    /// How many SPT and SWT there are.
+    pub(crate) territories: u64,
+    /// There is a COM.
+    pub(crate) has_component: bool,
+    /// There is a VER.
+    pub(crate) has_original: bool,
+}
+
+impl Facts {
+    /// Those over no record.
+    #[inline(always)]
+    fn none() -> Facts
+        ensures { AreFacts [] result }
+    {
+        Facts {
+            owned: 0,
+            by_writers: 0,
+            has_publisher: false,
+            has_owning_publisher: false,
+            has_territory: false,
+            territories: 0,
+            has_component: false,
+            has_original: false,
+        }
+    }
+
+    /// With one more record.
+    fn with(self, shown: &RecordRef<'_>) -> Facts
+        ensures { (rs : List RecordValue) → AreFacts rs self → AreFacts (rs ++ shown.now ∷ []) result }
+    {
+        let owned = performing_of_owner(shown);
+        let by_writers = performing_of_writer(shown);
+        let publisher = is_of(shown, Kind::Spu);
+        let owner = is_owning_publisher(shown);
+        let territory = is_of(shown, Kind::Spt);
+        let counted = count_of_territory(shown);
+        let component = is_of(shown, Kind::Com);
+        let original = is_of(shown, Kind::Ver);
+        Facts {
+            owned: self.owned.saturating_add(owned),
+            by_writers: self.by_writers.saturating_add(by_writers),
+            has_publisher: self.has_publisher | publisher,
+            has_owning_publisher: self.has_owning_publisher | owner,
+            has_territory: self.has_territory | territory,
+            territories: self.territories.saturating_add(counted),
+            has_component: self.has_component | component,
+            has_original: self.has_original | original,
+        }
+    }
+
+    /// Those over the records of a transaction.
+    pub(crate) fn of(transaction: &Transaction) -> Facts
+        ensures { AreFacts transaction.now result }
+    {
+        let mut facts = Facts::none();
+        for sequence in 0..transaction.len() {
+            let Some(shown) = transaction.record(sequence) else {
+                return facts;
+            };
+            facts = facts.with(&shown);
+        }
+        facts
+    }
+
+    /// Whether there are so few territories that they are compared with one another.
+    pub(crate) fn has_few_territories(&self) -> bool
+        ensures { (t : List RecordValue) → AreFacts t self.now → result ≡ has_few_territories t }
+    {
+        self.territories <= 200
+    }
+
+    /// Whether someone owns some of the performing right, and the writers less than half.
+    pub(crate) fn writers_own_less(&self) -> bool
+        ensures { (t : List RecordValue) → AreFacts t self.now → result ≡ writers_own_less t }
+    {
+        self.owned > 0 && self.by_writers < 4994
+    }
+}

@@ -1,0 +1,17 @@
+//! Advice on transactions: what a society will send back, though the file is well formed.
+#![tactic(auto)]
+
+mod asking;
+mod checked_cells;
+mod facts;
+mod judging;
+mod numbers;
+mod owners;
+mod rules;
+mod territories;
+mod territory_cells;
+mod walk;
+mod writers;
+
+pub use rules::{Advice, AdviceRule, Asked};
+pub use walk::advice;

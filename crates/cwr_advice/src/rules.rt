@@ -1,0 +1,162 @@
+//! The rules of advice.
+
+ghost use Rattle.std.specs.Prelude.{◌≡◌, ◌≤◌, length};
+ghost use Rattle.cwr_advice.specs.Format.Words.{advice_words, rule_text};
+ghost use Rattle.cwr_advice.specs.Format.Rules.{level_of_rule};
+
+use cwr_shape::Level;
+
+/// A rule of advice: what societies reject though the file is well formed. `docs/ADVICE.md` has their texts.
+#[derive(Clone, Copy, Debug, PartialEq, Eq)]
+pub enum AdviceRule {
+    /// In one territory no more than the whole of a right is collected.
+    A1a,
+    /// A territory stands once for a publisher or a writer.
+    A1b,
+    /// A chain of publishers begins with an original publisher.
+    A2a,
+    /// Publishers who own shares say where they collect.
+    A2b,
+    /// A writer whom the submitter controls has a publisher.
+    A2c,
+    /// Such a writer who owns shares says where they are collected.
+    A2d,
+    /// No publisher owns more than half of the performing right.
+    A3a,
+    /// The writers own half of the performing right or more.
+    A3b,
+    /// An IPI name number has the right check digits.
+    A4a,
+    /// An IPI base number has the right check digit.
+    A4b,
+    /// An ISRC has its form.
+    A4c,
+    /// An EAN has the right check digit.
+    A4d,
+    /// A composite work names its components.
+    A6a,
+    /// A work with components is a composite one.
+    A6b,
+    /// A version names its original.
+    A6c,
+    /// A society's number has three digits.
+    A8a,
+    /// A territory's number has the form of one.
+    A8b,
+    /// A language's code has two letters.
+    A8c,
+    /// A duration isn't zero.
+    A8d,
+}
+
+impl AdviceRule {
+    /// Its name, as it stands in a report line.
+    pub fn name(self) -> &'static str
+        ensures name { result.now ≡ rule_text self }
+        ensures short { length result.now ≤ 3 }
+    {
+        match self {
+            AdviceRule::A1a => "A1a",
+            AdviceRule::A1b => "A1b",
+            AdviceRule::A2a => "A2a",
+            AdviceRule::A2b => "A2b",
+            AdviceRule::A2c => "A2c",
+            AdviceRule::A2d => "A2d",
+            AdviceRule::A3a => "A3a",
+            AdviceRule::A3b => "A3b",
+            AdviceRule::A4a => "A4a",
+            AdviceRule::A4b => "A4b",
+            AdviceRule::A4c => "A4c",
+            AdviceRule::A4d => "A4d",
+            AdviceRule::A6a => "A6a",
+            AdviceRule::A6b => "A6b",
+            AdviceRule::A6c => "A6c",
+            AdviceRule::A8a => "A8a",
+            AdviceRule::A8b => "A8b",
+            AdviceRule::A8c => "A8c",
+            AdviceRule::A8d => "A8d",
+        }
+    }
+
+    /// What is usually rejected where it is broken.
+    pub fn level(self) -> Level
+        ensures { result ≡ level_of_rule self }
+    {
+        match self {
+            AdviceRule::A1a
+            | AdviceRule::A2a
+            | AdviceRule::A2b
+            | AdviceRule::A2c
+            | AdviceRule::A2d
+            | AdviceRule::A3a
+            | AdviceRule::A3b
+            | AdviceRule::A6a => Level::T,
+            AdviceRule::A1b | AdviceRule::A6b | AdviceRule::A6c => Level::R,
+            _ => Level::F,
+        }
+    }
+
+    /// What is wrong where it is broken, and what to do.
+    pub fn words(self) -> &'static str
+        ensures words { result.now ≡ advice_words self }
+        ensures short { length result.now ≤ 200 }
+    {
+        match self {
+            AdviceRule::A1a =>
+                "with this one more than 100 % of a right is collected in this territory: the collection shares of SPT and SWT add up to at most 100",
+            AdviceRule::A1b =>
+                "this territory stands twice for one publisher or writer: leave one of them out",
+            AdviceRule::A2a =>
+                "this chain of publishers begins with an administrator or a sub-publisher: put the original publisher (type E) before it",
+            AdviceRule::A2b =>
+                "publishers (SPU) own shares of this work, and no SPT says where they collect: add the SPT records",
+            AdviceRule::A2c =>
+                "no PWR says which publisher stands for this writer: add one after SWR",
+            AdviceRule::A2d =>
+                "this writer owns shares, and no SWT says where they are collected: add one after SWR",
+            AdviceRule::A3a =>
+                "a publisher owns more than half of the performing right: most societies take at most 50 %",
+            AdviceRule::A3b =>
+                "the writers own less than half of the performing right together: most societies ask for 50 % or more",
+            AdviceRule::A4a =>
+                "this is no IPI name number: it has eleven digits, of which the last two check the others; look it up again",
+            AdviceRule::A4b =>
+                "this is no IPI base number: it is I, nine digits and a check digit, with hyphens between; look it up again",
+            AdviceRule::A4c =>
+                "this is no ISRC: it has two letters, three letters or digits and seven digits, without hyphens",
+            AdviceRule::A4d =>
+                "this is no EAN or UPC: it has at most 13 digits, of which the last one checks the others; look it up again",
+            AdviceRule::A6a =>
+                "the work has a composite type, and no COM names a work that is in it: add the COM records, or leave the type blank",
+            AdviceRule::A6b =>
+                "COM names a work that is in this one, whose composite type is blank: fill in the type, or leave COM out",
+            AdviceRule::A6c =>
+                "the work is a version (MOD), and no VER names its original: add a VER record, or write ORI",
+            AdviceRule::A8a => "this is no number of a society: it has three digits, as 010",
+            AdviceRule::A8b =>
+                "this is no number of a territory: those of countries are 0001 to 0999, those of groups begin with 21, as 2136 for the world",
+            AdviceRule::A8c => "this is no code of a language: it has two letters, as EN",
+            AdviceRule::A8d => "the duration is zero: fill it in, or leave it blank",
+        }
+    }
+}
+
+/// A rule, and the number of a field that it judges, from 1: that of the record type, where it judges more than a cell.
+#[derive(Clone, Copy, Debug, PartialEq, Eq)]
+pub struct Asked {
+    /// The rule.
+    pub rule: AdviceRule,
+    /// The number of the field.
+    pub field: u8,
+}
+
+/// A rule that a record of a transaction breaks.
+#[derive(Clone, Copy, Debug, PartialEq, Eq)]
+pub struct Advice {
+    /// The record's sequence in its transaction, from 0.
+    pub rec: usize,
+    /// The number of the field, from 1.
+    pub field: u8,
+    /// The rule.
+    pub rule: AdviceRule,
+}

@@ -1,0 +1,58 @@
+//! What follows a writer of a work: territories and publishers.
+
+ghost use Rattle.std.specs.Prelude.{◌≡◌, ◌+◌, ◌<◌, ◌^◌, Some, slice_get};
+ghost use Rattle.std.specs.List.{list_any};
+ghost use Rattle.cwr_levels.specs.Format.Findings.{is_a};
+ghost use Rattle.cwr_advice.specs.Format.Rules.{has_no_publisher, has_no_territory, records_of_writer};
+ghost use Rattle.cwr_advice.specs.Steps.Facts.{AreFacts};
+
+use crate::facts::Facts;
+use crate::owners::{is_writer, owns_shares};
+use cwr_layouts::{Kind, RecordRef};
+use cwr_levels::is_of;
+use cwr_values::Transaction;
+
+/// Whether one of the records of the writer that stands after `sequence` others is of the kind.
+fn writer_has(transaction: &Transaction, sequence: usize, kind: Kind) -> bool
+    requires { sequence + 1 < 2 ^ 64 }
+    ensures { result ≡ list_any (is_a kind) (records_of_writer transaction.now sequence) }
+{
+    for at in sequence + 1..transaction.len() {
+        let Some(shown) = transaction.record(at) else {
+            return false;
+        };
+        if is_writer(&shown) {
+            return false;
+        }
+        if is_of(&shown, kind) {
+            return true;
+        }
+    }
+    false
+}
+
+/// Whether a writer whom the submitter controls has no publisher, though the work has one.
+pub(crate) fn has_no_publisher(
+    transaction: &Transaction,
+    facts: &Facts,
+    sequence: usize,
+    shown: &RecordRef<'_>,
+) -> bool
+    requires facts { AreFacts transaction.now facts.now }
+    requires room { sequence + 1 < 2 ^ 64 }
+    ensures { result ≡ has_no_publisher transaction.now sequence shown.now }
+{
+    is_of(shown, Kind::Swr) && facts.has_publisher && !writer_has(transaction, sequence, Kind::Pwr)
+}
+
+/// Whether such a writer owns shares, and no record says where they are collected.
+pub(crate) fn has_no_territory(
+    transaction: &Transaction,
+    sequence: usize,
+    shown: &RecordRef<'_>,
+) -> bool
+    requires { sequence + 1 < 2 ^ 64 }
+    ensures { result ≡ has_no_territory transaction.now sequence shown.now }
+{
+    is_of(shown, Kind::Swr) && owns_shares(shown) && !writer_has(transaction, sequence, Kind::Swt)
+}

@@ -1,0 +1,6 @@
+pub mod TextsAdded
+pub mod TextsPut
+pub mod CellLines
+pub mod AdvicePut
+pub mod LinesOfAdvice
+pub mod AdvisingOn

@@ -1,0 +1,12 @@
+use Rattle.cwr_advise.specs.Format.AdviceLines.{lines_of_advice}
+use Rattle.cwr_tools.proofs.RightReports.{accepted_reports, canonical_reports, judged_text}
+use Rattle.cwr_advise.proofs.running.advise.Goals as goal
+
+pub returns-clause-judged : goal.returns-clause-judged
+returns-clause-judged g c = judged_text lines_of_advice c.args.limits _ _ g.W.Target.contents c.args.writer c.write_report.result.0 c.write_report.result.1 c.write_report.ensures.reported
+
+pub returns-clause-accepted : goal.returns-clause-accepted
+returns-clause-accepted g c = accepted_reports lines_of_advice c.args.limits _ _ g.W.Target.contents c.args.writer c.write_report.result.0 c.write_report.result.1 c.write_report.ensures.reported
+
+pub returns-clause-canonical : goal.returns-clause-canonical
+returns-clause-canonical g c = canonical_reports lines_of_advice c.args.limits _ _ g.W.Target.contents c.args.writer c.write_report.result.0 c.write_report.result.1 c.write_report.ensures.reported

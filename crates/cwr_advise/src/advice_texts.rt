@@ -1,0 +1,180 @@
+//! The lines of advice at a record.
+
+ghost use Rattle.std.specs.Prelude.{◌≡◌, ◌+◌, ◌≤◌, [], ◌++◌, ◌∷◌, Some, codes, decimal, length};
+ghost use Rattle.cwr_layouts.specs.Steps.Views.{field_view};
+ghost use Rattle.cwr_tools.specs.Format.FindingNotes.{noted_line, value_words, where_line};
+ghost use Rattle.cwr_advise.specs.Format.AdviceLines.{advice_line, cell_line, lines_at_record, words_line};
+
+use arrayvec::ArrayVec;
+use cwr_advice::Advice;
+use cwr_fields::{is_spaces, trimmed};
+use cwr_layouts::{Field, Kind, RecordRef, field, letters};
+use itoa::Buffer;
+use std::marker::Model;
+
+/// The most bytes of the lines of advice at a record: none come near.
+const LONGEST: usize = 1500;
+
+/// The lines, while they are put together.
+type Text = ArrayVec<u8, LONGEST>;
+
+/// Appends bytes for which there is room.
+#[inline(always)]
+fn push(text: &mut Text, bytes: &[u8])
+    requires { length text.old.items + length bytes.now ≤ LONGEST }
+    ensures value { text.new.items ≡ text.old.items ++ bytes.now }
+    ensures len { length text.new.items ≡ length text.old.items + length bytes.now }
+{
+    let _fits = text.try_extend_from_slice(bytes);
+}
+
+/// Appends a number in plain decimals.
+#[inline(always)]
+fn push_number(text: &mut Text, number: u64)
+    requires { length text.old.items + 20 ≤ LONGEST }
+    ensures value { text.new.items ≡ text.old.items ++ decimal number }
+    ensures len { length text.new.items ≤ length text.old.items + 20 }
+{
+    push(text, Buffer::new().format(number).as_bytes());
+}
+
+/// Appends what stands in a cell.
+fn push_value(text: &mut Text, cell: &[u8])
+    requires { length text.old.items + length cell.now + 5 ≤ LONGEST }
+    ensures value { text.new.items ≡ text.old.items ++ value_words cell.now }
+    ensures len { length text.new.items ≤ length text.old.items + length cell.now + 5 }
+{
+    if is_spaces(cell) {
+        push(text, b"blank");
+    } else {
+        push(text, trimmed(cell));
+    }
+}
+
+/// Appends the line on a cell of a field, in a record of the kind on that line of the file.
+fn push_note(text: &mut Text, number: u64, kind: Kind, place: &Field, cell: &[u8])
+    requires { length text.old.items + length place.now.name.now + length cell.now + 60 ≤ LONGEST }
+    ensures value { text.new.items ≡ text.old.items ++ noted_line number kind (Some (field_view place.now).1) (Some cell.now) }
+    ensures len { length text.new.items ≤ length text.old.items + length place.now.name.now + length cell.now + 60 }
+{
+    push(text, b"  cell      line ");
+    push_number(text, number);
+    push(text, b", ");
+    push(text, letters(kind));
+    push(text, b" ");
+    push(text, place.name.as_bytes());
+    push(text, b": ");
+    push_value(text, cell);
+    push(text, b"\n");
+}
+
+/// Appends the line on the cell of field `j` of a record on that line of the file, where it carries one.
+fn push_cell(text: &mut Text, number: u64, shown: &RecordRef<'_>, j: u8)
+    requires { length text.old.items + 800 ≤ LONGEST }
+    ensures value { text.new.items ≡ text.old.items ++ cell_line number shown.now j }
+    ensures len { length text.new.items ≤ length text.old.items + 800 }
+{
+    let kind = shown.kind();
+    let Some(cell) = shown.cell(j) else {
+        return;
+    };
+    let Some(place) = field(kind, j) else {
+        return;
+    };
+    push_note(text, number, kind, &place, cell);
+}
+
+/// Appends where a record stands.
+fn push_where(text: &mut Text, number: u64, kind: Kind)
+    requires { length text.old.items + 60 ≤ LONGEST }
+    ensures value { text.new.items ≡ text.old.items ++ where_line number kind }
+    ensures len { length text.new.items ≤ length text.old.items + 60 }
+{
+    push(text, b"  where     line ");
+    push_number(text, number);
+    push(text, b", ");
+    push(text, letters(kind));
+    push(text, b"\n");
+}
+
+/// Appends the advice in words.
+fn push_words(text: &mut Text, advice: &Advice)
+    requires { length text.old.items + 220 ≤ LONGEST }
+    ensures value { text.new.items ≡ text.old.items ++ words_line advice.now }
+{
+    push(text, b"  advice    ");
+    push(text, advice.rule.words().as_bytes());
+    push(text, b"\n");
+}
+
+/// Appends the line of advice in a transaction, whose sequence this is, of the group with this ID.
+fn push_line(text: &mut Text, group: u32, sequence: u32, advice: &Advice)
+    requires { length text.old.items + 200 ≤ LONGEST }
+    ensures value { text.new.items ≡ text.old.items ++ advice_line group sequence advice.now }
+    ensures len { length text.new.items ≤ length text.old.items + 200 }
+{
+    push(text, b"ADVICE group ");
+    push_number(text, group.into());
+    push(text, b" transaction ");
+    push_number(text, sequence.into());
+    push(text, b" record ");
+    push_number(text, advice.rec as u64);
+    push(text, b" field ");
+    push_number(text, advice.field.into());
+    push(text, b" level ");
+    push(text, advice.rule.level().letter().as_bytes());
+    push(text, b" rule ");
+    push(text, advice.rule.name().as_bytes());
+    push(text, b"\n");
+}
+
+/// A buffer for the lines of advice at a record. It takes no memory.
+#[derive(Drop)]
+pub(crate) struct AdviceText {
+    text: Text,
+}
+
+impl Model for AdviceText {
+    ghost use Rattle.std.specs.Prelude.{ℕ, List};
+
+    ghost Value = { List ℕ };
+
+    ghost view = { λ l. l.text.items };
+}
+
+impl AdviceText {
+    /// An empty buffer.
+    pub(crate) fn new() -> Self
+        ensures { result ≡ [] }
+    {
+        AdviceText {
+            text: ArrayVec::new(),
+        }
+    }
+
+    /// The lines that were set.
+    pub(crate) fn as_slice(&self) -> &[u8]
+        ensures { result.now ≡ self.now }
+    {
+        self.text.as_slice()
+    }
+
+    /// Sets the lines of advice at a record on that line of the file, in a transaction, whose sequence this is, of the group with this
+    /// ID.
+    pub(crate) fn set(
+        &mut self,
+        group: u32,
+        sequence: u32,
+        number: u64,
+        advice: &Advice,
+        shown: &RecordRef<'_>,
+    )
+        ensures { self.new ≡ lines_at_record group sequence number advice.now shown.now }
+    {
+        self.text.clear();
+        push_line(&mut self.text, group, sequence, advice);
+        push_where(&mut self.text, number, shown.kind());
+        push_cell(&mut self.text, number, shown, advice.field);
+        push_words(&mut self.text, advice);
+    }
+}

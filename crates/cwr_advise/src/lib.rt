@@ -1,0 +1,8 @@
+//! Advice on CWR 2.1 transmissions, over readers and writers.
+#![tactic(auto)]
+
+mod advice_texts;
+mod item_advice;
+mod running;
+
+pub use running::advise;
