@@ -1,6 +1,6 @@
 //! Several files that are judged one after another.
 
-ghost use Rattle.std.specs.Prelude.{◌≡◌, true, None};
+ghost use Rattle.std.specs.Prelude.{◌≡◌, ◌||◌, true, None};
 
 use crate::endings::Status;
 use crate::faults::{Fault, Name, tell_fault};
