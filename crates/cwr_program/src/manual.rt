@@ -20,7 +20,7 @@ DESCRIPTION
        Where FILE may be left out, standard input is read. So it is where `-`
        stands in the place of a file that is read. Without any word `cwr` is
        `cwr check`. Memory holds one line and one transaction, however large
-       the file is.
+       the file is, but for `cwr acks --sent`.
 
        A word that begins with a hyphen is an option. After `--` it is a file.
 

@@ -276,11 +276,8 @@ pub(crate) fn tell_aside<E: Write>(
     match telling {
         // What follows stands in the explanation.
         Telling::Explained(_) => {}
-        Telling::Findings | Telling::Faults(_) | Telling::Records | Telling::Advice => tell_following(
-            error,
-            name,
-            &judgement.look,
-        ),
+        Telling::Findings | Telling::Faults(_) | Telling::Records | Telling::Advice =>
+            tell_following(error, name, &judgement.look),
         Telling::Data { .. } | Telling::Rows(_) | Telling::Answers => {
             // What standard error doesn't take is lost.
             let _ = put_verdict_line(

@@ -96,7 +96,7 @@ items-preserved-in_ok-put_item-in-Ok-Some g c =
     let two = subst (λ (answers : Answers). IsTelling (facts_if c.args.sent) c.args.limits c.next_item.new.self.decoder (g.R.Source.remaining c.args.reader.now) (g.R.Source.remaining c.next_item.new.self.reader.now) g.W.Target.contents g.W.Target.failures
     (option_map (λ (t : Table). marked_with t c.in-Ok-Some.item) (rows_if c.items.sent)) answers (totals_with c.items.counts c.in-Ok-Some.item) c.args.sink.now c.put_item.new.sink) (sym c.count_answer.ensures) one in
     let three = subst (λ (table : Option Table). IsTelling (facts_if c.args.sent) c.args.limits c.next_item.new.self.decoder (g.R.Source.remaining c.args.reader.now) (g.R.Source.remaining c.next_item.new.self.reader.now) g.W.Target.contents g.W.Target.failures
-        table c.count_answer.new.self (totals_with c.items.counts c.in-Ok-Some.item) c.args.sink.now c.put_item.new.sink) (sym c.mark_with.ensures) two in
+    table c.count_answer.new.self (totals_with c.items.counts c.in-Ok-Some.item) c.args.sink.now c.put_item.new.sink) (sym c.mark_with.ensures) two in
     record {
       telling = subst (λ (counts : Totals). IsTelling (facts_if c.args.sent) c.args.limits c.next_item.new.self.decoder (g.R.Source.remaining c.args.reader.now) (g.R.Source.remaining c.next_item.new.self.reader.now) g.W.Target.contents g.W.Target.failures
           (rows_if c.mark_with.new.sent) c.count_answer.new.self counts c.args.sink.now c.put_item.new.sink) (sym c.count.ensures) three;
@@ -115,7 +115,7 @@ items-preserved g c =
     let two = subst (λ (answers : Answers). IsTelling (facts_if c.args.sent) c.args.limits c.next_item.new.self.decoder (g.R.Source.remaining c.args.reader.now) (g.R.Source.remaining c.next_item.new.self.reader.now) g.W.Target.contents g.W.Target.failures
     (option_map (λ (t : Table). marked_with t c.in-Ok-Some.item) (rows_if c.items.sent)) answers (totals_with c.items.counts c.in-Ok-Some.item) c.args.sink.now c.put_item.new.sink) (sym c.count_answer.ensures) one in
     let three = subst (λ (table : Option Table). IsTelling (facts_if c.args.sent) c.args.limits c.next_item.new.self.decoder (g.R.Source.remaining c.args.reader.now) (g.R.Source.remaining c.next_item.new.self.reader.now) g.W.Target.contents g.W.Target.failures
-        table c.count_answer.new.self (totals_with c.items.counts c.in-Ok-Some.item) c.args.sink.now c.put_item.new.sink) (sym c.mark_with.ensures) two in
+    table c.count_answer.new.self (totals_with c.items.counts c.in-Ok-Some.item) c.args.sink.now c.put_item.new.sink) (sym c.mark_with.ensures) two in
     record {
       telling = subst (λ (counts : Totals). IsTelling (facts_if c.args.sent) c.args.limits c.next_item.new.self.decoder (g.R.Source.remaining c.args.reader.now) (g.R.Source.remaining c.next_item.new.self.reader.now) g.W.Target.contents g.W.Target.failures
           (rows_if c.mark_with.new.sent) c.count_answer.new.self counts c.args.sink.now c.put_item.new.sink) (sym c.count.ensures) three;
