@@ -14,7 +14,8 @@ use Rattle.cwr_tools.specs.declared.verdicts.ToolFault.TheVariants as faults
 use Rattle.cwr_tools.specs.declared.totals.Totals.{Totals}
 use Rattle.cwr_tools.specs.Steps.Reports.{HasPut, PutsLines, PutsReport}
 use Rattle.cwr_tools.specs.Steps.Verdicts.{totals_with}
-use Rattle.cwr_tools.proofs.CountedTotals.{IsCount, HasRoomToCount, count_more, has_room}
+use Rattle.cwr_tools.specs.Steps.Counts.{IsCount, HasRoomToCount}
+use Rattle.cwr_tools.proofs.CountedTotals.{count_more, has_room}
 use Rattle.cwr_acks.specs.declared.counts.Answers.{Answers}
 use Rattle.cwr_acks.specs.Format.AckLines.{ack_lines, lines_of_acks}
 use Rattle.cwr_sent.specs.declared.facts.SentFacts.{SentFacts}

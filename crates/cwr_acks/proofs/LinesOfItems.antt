@@ -12,7 +12,7 @@ use Rattle.cwr_values.specs.declared.items.Item.{Item}
 use Rattle.cwr_values.specs.declared.items.Item.TheVariants as items
 use Rattle.cwr_judge.specs.Format.Items.{is_transaction}
 use Rattle.cwr_tools.specs.declared.totals.Totals.{Totals}
-use Rattle.cwr_tools.proofs.CountedTotals.{HasRoomToCount, IsCount}
+use Rattle.cwr_tools.specs.Steps.Counts.{HasRoomToCount, IsCount}
 use Rattle.cwr_acks.specs.declared.counts.Answers.{Answers}
 use Rattle.cwr_acks.specs.Format.Acknowledgements.{has_status, is_answer}
 use Rattle.cwr_acks.specs.Format.AckLines.{ack_lines, lines_after}

@@ -3,4 +3,3 @@ pub mod TextsPut
 pub mod CellLines
 pub mod AdvicePut
 pub mod LinesOfAdvice
-pub mod AdvisingOn

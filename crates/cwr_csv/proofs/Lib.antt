@@ -1,2 +1,1 @@
 pub mod RowsOfItems
-pub mod TablesOn

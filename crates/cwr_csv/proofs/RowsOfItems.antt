@@ -1,14 +1,11 @@
 -- The rows of items are those of all but the last, and then those of the last.
-use Rattle.std.proofs.Common.{◌≡◌, ℕ, ◌+◌, ◌<◌, cond, List, [], ◌∷◌, ◌++◌, length, take, refl, sym, ap, ap₂, ◌∙◌, arith, append_assoc, append-nil}
-use Rattle.std.specs.List.{enumerate_from, flat_map}
-use Rattle.std.proofs.Math.Seq.{take-append_seam}
-use Rattle.std.proofs.lemmas.Grind.{flat_map-append}
-use Rattle.std.proofs.lemmas.List.{take-append-le}
+use Rattle.std.proofs.Common.{◌≡◌, ℕ, ◌+◌, cond, List, [], ◌∷◌, ◌++◌, sym, ap, ap₂, ◌∙◌, append_assoc, append-nil}
 use Rattle.cwr_layouts.specs.declared.kinds.Kind.{Kind}
 use Rattle.cwr_values.specs.declared.items.Item.{Item}
 use Rattle.cwr_judge.specs.Format.Items.{opens_group}
 use Rattle.cwr_tools.specs.declared.totals.Totals.{Totals}
-use Rattle.cwr_tools.proofs.CountedTotals.{IsCount}
+use Rattle.cwr_tools.specs.Steps.Counts.{IsCount}
+use Rattle.cwr_tools.proofs.LinesOfItems.{lines_from-snoc}
 use Rattle.cwr_tables.specs.declared.places.Place.{Place}
 use Rattle.cwr_tables.specs.Format.RecordTables.{heading, item_rows, place_after, rows_of}
 use Rattle.cwr_tables.specs.Format.WorkTables.{work_heading, work_row, work_rows}
@@ -16,32 +13,6 @@ use Rattle.cwr_csv.specs.declared.tables.Table.{Table}
 use Rattle.cwr_csv.specs.declared.tables.Table.TheVariants.{Records, Works}
 use Rattle.cwr_csv.specs.Format.TableLines.{table_text}
 use Rattle.cwr_csv.specs.Steps.ItemRows.{place_at, rows_at, table_heading}
-
--- the rows of items, which stand at these places of a list, by the items before each
-abbrev rows_from : (List Item → Item → List ℕ) → List Item → ℕ → List Item → List ℕ
-rows_from row all n items = flat_map (λ p. row (take p.0 all) p.1) (enumerate_from n items)
-
--- go by the items before them
-same_fronts : (row : List Item → Item → List ℕ) (items : List Item) (n : ℕ) (all more : List Item) → ((k : ℕ) → k < n + length items → take k all ≡ take k more) → rows_from row all n items ≡ rows_from row more n items
-same_fronts row [] n all more h = refl
-same_fronts row (item ∷ items) n all more h =
-    ap₂ (λ (before : List Item) (l : List ℕ). row before item ++ l) (h n (omega arith)) (same_fronts row items (n + 1) all more (λ k lt. h k (omega (arith, lt))))
-
-enumerate_from-snoc : {X : Type 0} (n : ℕ) (xs : List X) (x : X) → enumerate_from n (xs ++ x ∷ []) ≡ enumerate_from n xs ++ (n + length xs, x) ∷ []
-enumerate_from-snoc {X = X} n [] x = ap (λ (m : ℕ). (m, x) ∷ []) (omega arith)
-enumerate_from-snoc {X = X} n (y ∷ xs) x =
-    ap (λ (l : List (ℕ × X)). (n, y) ∷ l) (enumerate_from-snoc (n + 1) xs x ∙ ap (λ (m : ℕ). enumerate_from (n + 1) xs ++ (m, x) ∷ []) (omega arith))
-
-rows_from-snoc : (row : List Item → Item → List ℕ) (given : List Item) (item : Item) → rows_from row (given ++ item ∷ []) 0 (given ++ item ∷ []) ≡ rows_from row given 0 given ++ row given item
-rows_from-snoc row given item =
-    let all : List Item = given ++ item ∷ [] in
-    let one : (ℕ × Item) → List ℕ = λ p. row (take p.0 all) p.1 in
-    ap (flat_map one) (enumerate_from-snoc 0 given item)
-    ∙ flat_map-append one (enumerate_from 0 given) ((0 + length given, item) ∷ [])
-    ∙ ap₂ (λ (xs ys : List ℕ). xs ++ ys)
-    (same_fronts row given 0 all given (λ k lt. take-append-le k given (item ∷ []) (omega (arith, lt))))
-    (append-nil (row (take (0 + length given) all) item)
-    ∙ ap (λ (before : List Item). row before item) (ap (λ (n : ℕ). take n all) (omega arith) ∙ take-append_seam given (item ∷ [])))
 
 -- where an item stands is told by the numbers of the items before it
 counted_place : (c : Totals) (given : List Item) (item : Item) → IsCount c given → place_after given item ≡ place_at c item
@@ -52,11 +23,11 @@ counted_place c given item k =
 
 rows_of-snoc : (this_kind : Kind) (given : List Item) (item : Item) → rows_of this_kind (given ++ item ∷ []) ≡ rows_of this_kind given ++ item_rows this_kind (place_after given item) item
 unfolding rows_of
-rows_of-snoc this_kind given item = rows_from-snoc (λ (before : List Item) (it : Item). item_rows this_kind (place_after before it) it) given item
+rows_of-snoc this_kind given item = lines_from-snoc (λ (before : List Item) (it : Item). item_rows this_kind (place_after before it) it) given item
 
 work_rows-snoc : (given : List Item) (item : Item) → work_rows (given ++ item ∷ []) ≡ work_rows given ++ work_row (place_after given item) item
 unfolding work_rows
-work_rows-snoc given item = rows_from-snoc (λ (before : List Item) (it : Item). work_row (place_after before it) it) given item
+work_rows-snoc given item = lines_from-snoc (λ (before : List Item) (it : Item). work_row (place_after before it) it) given item
 
 -- no items have a heading alone
 pub table_none : (table : Table) → table_heading table ≡ table_text table []

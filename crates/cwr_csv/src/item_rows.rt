@@ -7,11 +7,12 @@ ghost use Rattle.cwr_tools.specs.Steps.Reports.{PutsLines};
 ghost use Rattle.cwr_csv.specs.Steps.ItemRows.{place_at, rows_at, table_heading};
 
 use crate::tables::Table;
-use cwr_encode::Sink;
+use cwr_encode::{Sink, SinkFault};
 use cwr_fields::Target;
 use cwr_tables::{Place, RowText, put_heading, put_rows, put_work_heading, put_work_row};
-use cwr_tools::{ToolFault, Totals, writer_fault};
+use cwr_tools::{NothingKept, Report, ToolFault, Totals, Verdict, writer_fault};
 use cwr_values::Item;
+use std::alloc::Global;
 
 /// Where an item stands that comes after items with these numbers.
 fn place_at(counts: &Totals, item: &Item) -> Place
@@ -28,7 +29,7 @@ fn place_at(counts: &Totals, item: &Item) -> Place
 }
 
 /// Puts the heading of a table. It is made in the buffer.
-pub(crate) fn put_first<W: Target>(
+fn put_first<W: Target>(
     table: Table,
     text: &mut RowText,
     sink: &mut Sink<W>,
@@ -49,7 +50,7 @@ pub(crate) fn put_first<W: Target>(
 }
 
 /// Puts the rows of an item that comes after items with these numbers. They are made in the buffer.
-pub(crate) fn put_item<W: Target>(
+fn put_item<W: Target>(
     table: Table,
     counts: &Totals,
     item: &Item,
@@ -69,5 +70,60 @@ pub(crate) fn put_item<W: Target>(
             Ok(()) => Ok(()),
             Err(fault) => Err(writer_fault(fault)),
         },
+    }
+}
+
+/// A table of the items, and nothing for the verdict.
+#[derive(Drop)]
+pub(crate) struct TableRows {
+    table: Table,
+    /// In which a row is made.
+    text: RowText,
+}
+
+impl TableRows {
+    /// Before its heading.
+    pub(crate) fn new(table: Table) -> TableRows
+        ensures { result.table ≡ table }
+    {
+        TableRows {
+            table,
+            text: RowText::new(),
+        }
+    }
+}
+
+impl Report for TableRows {
+    ghost use Rattle.std.specs.Prelude.{◌≡◌};
+    ghost use Rattle.cwr_csv.specs.Format.TableLines.{lines_of_table};
+
+    type Works = NothingKept;
+
+    ghost stands = { λ report of given. of ≡ lines_of_table report.table };
+
+    fn works(&self) -> NothingKept {
+        NothingKept
+    }
+
+    fn passes(&self) -> bool {
+        false
+    }
+
+    fn put_first<W: Target>(&mut self, sink: &mut Sink<W>) -> Result<(), ToolFault> {
+        put_first(self.table, &mut self.text, sink)
+    }
+
+    fn put_item<W: Target>(
+        &mut self,
+        _: Global,
+        counts: &Totals,
+        item: &Item,
+        sink: &mut Sink<W>,
+    ) -> Result<(), ToolFault> {
+        put_item(self.table, counts, item, &mut self.text, sink)
+    }
+
+    fn put_verdict<W: Target>(&self, _: &Verdict, _: &mut Sink<W>) -> Result<(), SinkFault> {
+        Ok(())
     }
 }

@@ -1,76 +1,17 @@
 //! Whole runs over a text: the table of its items.
 
-ghost use Rattle.std.specs.Prelude.{◌≡◌, [], true, false, IfOk, OnOk};
-ghost use Rattle.cwr_encode.specs.Steps.Sinks.{HasWritten, has_failed, writer_of};
+ghost use Rattle.std.specs.Prelude.{◌≡◌, true, IfOk, OnOk};
 ghost use Rattle.cwr_tools.specs.Format.Reports.{CountsReaderFault, CountsWriterFault, JudgesAccepted, JudgesCanonical};
 ghost use Rattle.cwr_tools.specs.Format.Verdicts.{JudgesText};
-ghost use Rattle.cwr_tools.specs.Steps.Reports.{PutsReport, Reports};
+ghost use Rattle.cwr_tools.specs.Steps.Reports.{Reports};
 ghost use Rattle.cwr_csv.specs.Format.TableLines.{lines_of_table};
 
-use crate::item_rows::{put_first, put_item};
+use crate::item_rows::TableRows;
 use crate::tables::Table;
-use cwr_decode::Reading;
-use cwr_encode::Sink;
 use cwr_fields::{Source, Target};
 use cwr_shape::Limits;
-use cwr_tables::RowText;
-use cwr_tools::{ToolFault, Totals, Verdict, verdict_of};
+use cwr_tools::{ToolFault, Verdict, write_report};
 use std::alloc::Global;
-
-/// Reads a transmission item by item, up to its end or to where it is refused or ends too early, and puts the table of the items.
-fn put_table<R: Source, W: Target>(
-    table: Table,
-    alloc: Global,
-    limits: Limits,
-    reader: &mut R,
-    sink: &mut Sink<W>,
-) -> Result<Verdict, ToolFault>
-    requires unfailed { has_failed sink.old ≡ false }
-    requires empty { HasWritten W.contents (W.contents (writer_of sink.old)) [] sink.old }
-    ensures puts { PutsReport (lines_of_table table) (λ verdict. []) limits (R.remaining reader.old) (R.remaining reader.new) W.contents W.failures result sink.old sink.new }
-    ensures failures { CountsReaderFault result (R.failures reader.old) (R.failures reader.new) }
-{
-    let mut reading = Reading::new(alloc, limits, reader);
-    let mut counts = Totals::new();
-    let mut text = RowText::new();
-    put_first(table, &mut text, sink)?;
-    'items: loop {
-        match reading.next_item() {
-            Ok(Some(item)) => {
-                put_item(table, &counts, &item, &mut text, sink)?;
-                counts.count(&item);
-            }
-            Ok(None) => return Ok(counts.good()),
-            Err(fault) => return verdict_of(fault),
-        }
-    }
-}
-
-/// Writes the table of a transmission, and has the writer hand it on. The writer comes back.
-fn write_table<R: Source, W: Target>(
-    table: Table,
-    alloc: Global,
-    limits: Limits,
-    reader: &mut R,
-    writer: W,
-) -> (W, Result<Verdict, ToolFault>)
-    ensures reported { Reports (lines_of_table table) limits (R.remaining reader.old) (R.remaining reader.new) W.contents writer result.0 result.1 }
-    ensures reader_failures { CountsReaderFault result.1 (R.failures reader.old) (R.failures reader.new) }
-    ensures writer_failures { CountsWriterFault result.1 (W.failures writer) (W.failures result.0) }
-    ensures handed_on { OnOk result.1 (W.handed_on result.0 ≡ true) }
-{
-    let mut sink = Sink::new(writer);
-    let put = put_table(table, alloc, limits, reader, &mut sink);
-    let written = sink.written();
-    let mut writer = sink.into_inner();
-    match put {
-        Err(fault) => (writer, Err(fault)),
-        Ok(verdict) => match writer.flush() {
-            Ok(()) => (writer, Ok(verdict)),
-            Err(_) => (writer, Err(ToolFault::Writer { written })),
-        },
-    }
-}
 
 /// Writes a table of a transmission, as RFC 4180 has it: reads the transmission up to its end or to where it is refused, and writes a
 /// heading and the rows. Of the verdict nothing is written; it is answered. The writer comes back.
@@ -94,5 +35,7 @@ pub fn csv<R: Source, W: Target + Drop>(
     // All that was written was handed on.
     ensures handed_on { OnOk result.1 (W.handed_on result.0 ≡ true) }
 {
-    write_table(table, alloc, limits, reader, writer)
+    let mut rows = TableRows::new(table);
+    let (writer, outcome, _) = write_report(&mut rows, false, alloc, limits, reader, writer);
+    (writer, outcome)
 }

@@ -16,14 +16,8 @@ use Rattle.cwr_decode.proofs.CountedItems.{all_given, bounded, groups_given, tra
 use Rattle.cwr_tools.specs.declared.verdicts.Verdict.TheVariants.{Good}
 use Rattle.cwr_tools.specs.declared.totals.Totals.{Totals}
 use Rattle.cwr_tools.specs.Format.Texts.{good_verdict}
+use Rattle.cwr_tools.specs.Steps.Counts.{HasRoomToCount, IsCount}
 use Rattle.cwr_tools.specs.Steps.Verdicts.{totals_with}
-
--- the numbers are those of the items
-pub record IsCount (c : Totals) (given : List Item) : Type 0 where
-  pub groups : c.groups ≡ count_by opens_group given
-  pub transactions : c.transactions ≡ count_by is_transaction given
-  pub in_group : c.in_group ≡ count_by is_transaction (after_last opens_group given)
-  pub records : c.records ≡ length (records_in given)
 
 -- none were handed out
 pub counts_none : (c : Totals) → c ≡ record { groups = 0; transactions = 0; in_group = 0; before_group = 0; records = 0 } → IsCount c []
@@ -69,13 +63,6 @@ count_more c given item h = record {
   in_group = in_group_more (opens_group item) given item c.in_group h.in_group ∙ ap (count_by is_transaction) (sym (after_last-snoc opens_group given item));
   records = ap (λ (n : ℕ). n + length (item_records item)) h.records ∙ sym (records_in-snoc given item);
 }
-
--- the numbers have room for more
-pub record HasRoomToCount (c : Totals) : Type 0 where
-  pub groups : c.groups ≤ 199999998
-  pub transactions : c.transactions ≤ 199999998
-  pub in_group : c.in_group ≤ 199999998
-  pub records : c.records ≤ 99999999
 
 pub has_room : (limits : Limits) (d : Standing) (before now : Option (List ℕ)) (c : Totals) (given : List Item) → IsReadingOn limits d before now given → IsCount c given → HasRoomToCount c
 has_room limits d before now c given h k =

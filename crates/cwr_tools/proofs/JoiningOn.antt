@@ -28,7 +28,8 @@ use Rattle.cwr_tools.specs.declared.verdicts.ToolFault.{ToolFault}
 use Rattle.cwr_tools.specs.Steps.Verdicts.{totals_with}
 use Rattle.cwr_tools.specs.Steps.Joined.{AddsItems, AreCounted, FailsOn, HasJoined, IsBarredAfter, JoinsOn, JudgesItem, MayAdd, is_fault_of}
 use Rattle.cwr_tools.proofs.BegunTransmissions.{begins_more}
-use Rattle.cwr_tools.proofs.CountedTotals.{IsCount, count_more}
+use Rattle.cwr_tools.specs.Steps.Counts.{IsCount}
+use Rattle.cwr_tools.proofs.CountedTotals.{count_more}
 use Rattle.cwr_tools.proofs.ItemsAdded.{IsRight, all_first, all_second, few_after, few_items, no_mistake, own_item, records_in-append, records_in_value, right_items}
 
 -- ---- the records of one item more

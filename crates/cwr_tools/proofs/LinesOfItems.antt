@@ -1,5 +1,5 @@
 -- The lines of items are those of all but the last, and then those of the last.
-use Rattle.std.proofs.Common.{◌≡◌, ℕ, ◌+◌, ◌<◌, Bool, true, false, cond, List, [], ◌∷◌, ◌++◌, length, take, Option, Some, refl, sym, ap, ap₂, ◌∙◌, arith, append_assoc, append-nil}
+use Rattle.std.proofs.Common.{◌≡◌, ℕ, ◌+◌, ◌<◌, Bool, true, false, cond, inl, inr, ◌⊎◌, List, [], ◌∷◌, ◌++◌, length, take, Option, Some, refl, sym, ap, ap₂, ◌∙◌, arith, append_assoc, append-nil}
 use Rattle.std.specs.Prelude.{count_by}
 use Rattle.std.specs.List.{after_last, enumerate_from, flat_map}
 use Rattle.std.proofs.Math.Seq.{take-append_seam}
@@ -7,17 +7,20 @@ use Rattle.std.proofs.lemmas.Grind.{flat_map-append}
 use Rattle.std.proofs.lemmas.List.{take-append-le}
 use Rattle.cwr_layouts.specs.Format.Records.{RecordValue}
 use Rattle.cwr_values.specs.declared.items.Item.{Item}
+use Rattle.cwr_values.specs.declared.items.Item.TheVariants as items
 use Rattle.cwr_judge.specs.Format.Items.{is_transaction, item_records, opens_group, records_in}
 use Rattle.cwr_json.specs.declared.notes.Notes.{Notes}
+use Rattle.cwr_levels.specs.declared.rules.Finding.{Finding}
+use Rattle.cwr_levels.specs.Format.Findings.{findings}
+use Rattle.cwr_levels.specs.Format.ReportLines.{finding_line}
 use Rattle.cwr_json.specs.declared.encodings.Encoding.{Encoding}
 use Rattle.cwr_json.specs.Format.Forms.{data_lines, item_line, notes_if}
-use Rattle.cwr_tools.specs.declared.item_lines.Report.{Report}
-use Rattle.cwr_tools.specs.declared.item_lines.Report.TheVariants as reports
 use Rattle.cwr_tools.specs.declared.totals.Totals.{Totals}
 use Rattle.cwr_tools.specs.Format.Texts.{check_lines, finding_lines, finding_lines_in, record_lines, numbered_records, show_lines}
-use Rattle.cwr_tools.specs.Format.FindingNotes.{explained_findings, explained_in, explained_lines}
-use Rattle.cwr_tools.specs.Steps.Reports.{lines_at, lines_in, notes_at}
-use Rattle.cwr_tools.proofs.CountedTotals.{IsCount}
+use Rattle.cwr_tools.specs.Format.FindingNotes.{explained_finding, explained_findings, explained_in, explained_lines}
+use Rattle.cwr_tools.specs.Format.Reports.{has_findings, lines_checked, transaction_lines}
+use Rattle.cwr_tools.specs.Steps.Counts.{IsCount}
+use Rattle.cwr_tools.specs.Steps.Reports.{findings_at, lines_told, notes_at}
 
 -- ---- records
 
@@ -31,7 +34,7 @@ numbered_records-append n (r ∷ records) more =
 -- ---- findings
 
 -- the lines of items, which stand at these places of a list, by the items before each
-abbrev lines_from : (List Item → Item → List ℕ) → List Item → ℕ → List Item → List ℕ
+abbrev pub lines_from : (List Item → Item → List ℕ) → List Item → ℕ → List Item → List ℕ
 lines_from line all n items = flat_map (λ p. line (take p.0 all) p.1) (enumerate_from n items)
 
 -- go by the items before them
@@ -45,7 +48,7 @@ enumerate_from-snoc {X = X} n [] x = ap (λ (m : ℕ). (m, x) ∷ []) (omega ari
 enumerate_from-snoc {X = X} n (y ∷ xs) x =
     ap (λ (l : List (ℕ × X)). (n, y) ∷ l) (enumerate_from-snoc (n + 1) xs x ∙ ap (λ (m : ℕ). enumerate_from (n + 1) xs ++ (m, x) ∷ []) (omega arith))
 
-lines_from-snoc : (line : List Item → Item → List ℕ) (given : List Item) (item : Item) → lines_from line (given ++ item ∷ []) 0 (given ++ item ∷ []) ≡ lines_from line given 0 given ++ line given item
+pub lines_from-snoc : (line : List Item → Item → List ℕ) (given : List Item) (item : Item) → lines_from line (given ++ item ∷ []) 0 (given ++ item ∷ []) ≡ lines_from line given 0 given ++ line given item
 lines_from-snoc line given item =
     let all : List Item = given ++ item ∷ [] in
     let one : (ℕ × Item) → List ℕ = λ p. line (take p.0 all) p.1 in
@@ -85,34 +88,110 @@ counted_notes true c given item k =
 -- ---- all of them
 
 -- no items have no lines
-pub lines_none : (report : Report) → (lines_in report).lines [] ≡ []
-unfolding check_lines data_lines explained_lines show_lines
-lines_none reports.Findings = refl
-lines_none reports.Explained = refl
-lines_none (reports.UpToFault false) = refl
-lines_none (reports.UpToFault true) = refl
-lines_none reports.Records = refl
-lines_none (reports.Data enc noted) = refl
+pub told_none : (explained up_to_fault : Bool) → (lines_told explained up_to_fault).lines [] ≡ []
+unfolding check_lines explained_lines
+told_none false false = refl
+told_none false true = refl
+told_none true false = refl
+told_none true true = refl
 
-pub lines_more : (report : Report) (c : Totals) (given : List Item) (item : Item) → IsCount c given
-    → (lines_in report).lines (given ++ item ∷ []) ≡ (lines_in report).lines given ++ lines_at report c item
+findings_more : (explained : Bool) (c : Totals) (given : List Item) (item : Item) → IsCount c given → (lines_checked explained).lines (given ++ item ∷ []) ≡ (lines_checked explained).lines given ++ findings_at explained c item
+findings_more false c given item k =
+    check_lines-snoc given item
+    ∙ ap₂ (λ (group sequence : ℕ). check_lines given ++ finding_lines_in group sequence item) (sym k.groups) (sym k.in_group)
+findings_more true c given item k =
+    explained_lines-snoc given item
+    ∙ ap₂ (λ (group sequence : ℕ). explained_lines given ++ explained_in group sequence (length (records_in given) + 1) item) (sym k.groups) (sym k.in_group)
+    ∙ ap (λ (n : ℕ). explained_lines given ++ explained_in c.groups c.in_group (n + 1) item) (sym k.records)
+
+pub told_more : (explained up_to_fault : Bool) (c : Totals) (given : List Item) (item : Item) → IsCount c given
+    → (lines_told explained up_to_fault).lines (given ++ item ∷ []) ≡ (lines_told explained up_to_fault).lines given ++ findings_at explained c item
+told_more explained false c given item k = findings_more explained c given item k
+told_more explained true c given item k = findings_more explained c given item k
+
+-- a transaction without findings has no lines
+told_clean : (explained : Bool) (given : List Item) (t : List RecordValue) → findings t ≡ [] → (lines_checked explained).lines (given ++ items.Transaction t ∷ []) ≡ (lines_checked explained).lines given
+told_clean false given t none =
+    check_lines-snoc given (items.Transaction t)
+    ∙ ap (λ (found : List Finding). check_lines given ++ flat_map (finding_line (count_by opens_group given) (count_by is_transaction (after_last opens_group given))) found) none
+    ∙ append-nil (check_lines given)
+told_clean true given t none =
+    explained_lines-snoc given (items.Transaction t)
+    ∙ ap (λ (found : List Finding). explained_lines given ++ flat_map (explained_finding (count_by opens_group given) (count_by is_transaction (after_last opens_group given)) (length (records_in given) + 1) t) found) none
+    ∙ append-nil (explained_lines given)
+
+pub told_passed : (explained up_to_fault : Bool) (given : List Item) (t : List RecordValue) → findings t ≡ []
+    → (lines_told explained up_to_fault).lines (given ++ items.Transaction t ∷ []) ≡ (lines_told explained up_to_fault).lines given
+told_passed explained false given t none = told_clean explained given t none
+told_passed explained true given t none = told_clean explained given t none
+
+-- with a transaction more, which begins after so many records
+pub told_transaction : (explained up_to_fault : Bool) (c : Totals) (given : List Item) (item : Item) (t : List RecordValue) (before : ℕ) → IsCount c given → item ≡ items.Transaction t → before ≡ c.records
+    → (lines_told explained up_to_fault).lines (given ++ item ∷ []) ≡ (lines_told explained up_to_fault).lines given ++ transaction_lines explained c.groups c.in_group (before + 1) t
+told_transaction explained up_to_fault c given item t before k is e =
+    told_more explained up_to_fault c given item k ∙ ap (λ (l : List ℕ). (lines_told explained up_to_fault).lines given ++ l) (by explained)
+  where
+    by : (with_notes : Bool) → findings_at with_notes c item ≡ transaction_lines with_notes c.groups c.in_group (before + 1) t
+    by false = ap (finding_lines_in c.groups c.in_group) is
+    by true = ap₂ (λ (n : ℕ) (it : Item). explained_in c.groups c.in_group (n + 1) it) (sym e) is
+
+-- with any other item, which has no findings
+pub told_other : (explained up_to_fault : Bool) (c : Totals) (given : List Item) (item : Item) → IsCount c given → is_transaction item ≡ false → (lines_told explained up_to_fault).lines (given ++ item ∷ []) ≡ (lines_told explained up_to_fault).lines given ++ []
+told_other explained up_to_fault c given item k other =
+    told_more explained up_to_fault c given item k ∙ ap (λ (l : List ℕ). (lines_told explained up_to_fault).lines given ++ l) (by explained item other)
+  where
+    by : (with_notes : Bool) (it : Item) → is_transaction it ≡ false → findings_at with_notes c it ≡ []
+    by false (items.Transaction t) e = absurd (cc e)
+    by true (items.Transaction t) e = absurd (cc e)
+    by false (items.Opened r) e = refl
+    by true (items.Opened r) e = refl
+    by false (items.GroupOpened r) e = refl
+    by true (items.GroupOpened r) e = refl
+    by false (items.GroupClosed r) e = refl
+    by true (items.GroupClosed r) e = refl
+    by false items.Ended e = refl
+    by true items.Ended e = refl
+
+-- which items are none
+pub no_transaction : (item : Item) → ((r : RecordValue) × (item ≡ items.Opened r)) ⊎ (((r : RecordValue) × (item ≡ items.GroupOpened r)) ⊎ (((r : RecordValue) × (item ≡ items.GroupClosed r)) ⊎ (item ≡ items.Ended))) → is_transaction item ≡ false
+no_transaction item (inl (r, e)) = ap is_transaction e
+no_transaction item (inr (inl (r, e))) = ap is_transaction e
+no_transaction item (inr (inr (inl (r, e)))) = ap is_transaction e
+no_transaction item (inr (inr (inr e))) = ap is_transaction e
+
+-- memory is taken for a transaction with findings
+pub told_memory : (explained up_to_fault : Bool) (item : Item) (t : List RecordValue) → item ≡ items.Transaction t → has_findings (items.Transaction t) ≡ (lines_told explained up_to_fault).take_memory item
+told_memory false false item t is = ap has_findings (sym is)
+told_memory true false item t is = ap has_findings (sym is)
+told_memory false true item t is = ap has_findings (sym is)
+told_memory true true item t is = ap has_findings (sym is)
+
+pub records_none : show_lines [] ≡ []
 unfolding show_lines
-lines_more reports.Findings c given item k =
-    check_lines-snoc given item
-    ∙ ap₂ (λ (group sequence : ℕ). check_lines given ++ finding_lines_in group sequence item) (sym k.groups) (sym k.in_group)
-lines_more reports.Explained c given item k =
-    explained_lines-snoc given item
-    ∙ ap₂ (λ (group sequence : ℕ). explained_lines given ++ explained_in group sequence (length (records_in given) + 1) item) (sym k.groups) (sym k.in_group)
-    ∙ ap (λ (n : ℕ). explained_lines given ++ explained_in c.groups c.in_group (n + 1) item) (sym k.records)
-lines_more (reports.UpToFault false) c given item k =
-    check_lines-snoc given item
-    ∙ ap₂ (λ (group sequence : ℕ). check_lines given ++ finding_lines_in group sequence item) (sym k.groups) (sym k.in_group)
-lines_more (reports.UpToFault true) c given item k =
-    explained_lines-snoc given item
-    ∙ ap₂ (λ (group sequence : ℕ). explained_lines given ++ explained_in group sequence (length (records_in given) + 1) item) (sym k.groups) (sym k.in_group)
-    ∙ ap (λ (n : ℕ). explained_lines given ++ explained_in c.groups c.in_group (n + 1) item) (sym k.records)
-lines_more (reports.Data enc noted) c given item k = data_lines-snoc enc noted given item ∙ ap (λ (n : Option Notes). data_lines enc noted given ++ item_line enc n item) (counted_notes noted c given item k)
-lines_more reports.Records c given item k =
+records_none = refl
+
+pub data_none : (enc : Encoding) (noted : Bool) → data_lines enc noted [] ≡ []
+unfolding data_lines
+data_none enc noted = refl
+
+data_more : (enc : Encoding) (noted : Bool) (c : Totals) (given : List Item) (item : Item) → IsCount c given
+    → data_lines enc noted (given ++ item ∷ []) ≡ data_lines enc noted given ++ item_line enc (notes_at noted c item) item
+data_more enc noted c given item k =
+    data_lines-snoc enc noted given item ∙ ap (λ (n : Option Notes). data_lines enc noted given ++ item_line enc n item) (counted_notes noted c given item k)
+
+-- the same with these notes
+pub noted_more : (enc : Encoding) (noted : Bool) (c : Totals) (given : List Item) (item : Item) (notes : Option Notes) → IsCount c given → notes ≡ notes_at noted c item
+    → data_lines enc noted (given ++ item ∷ []) ≡ data_lines enc noted given ++ item_line enc notes item
+noted_more enc noted c given item notes k e = data_more enc noted c given item k ∙ ap (λ (n : Option Notes). data_lines enc noted given ++ item_line enc n item) (sym e)
+
+records_more : (c : Totals) (given : List Item) (item : Item) → IsCount c given
+    → show_lines (given ++ item ∷ []) ≡ show_lines given ++ numbered_records (c.records + 1) (item_records item)
+unfolding show_lines
+records_more c given item k =
     ap (numbered_records 1) (flat_map-append item_records given (item ∷ []) ∙ ap (λ (l : List RecordValue). records_in given ++ l) (append-nil (item_records item)))
     ∙ numbered_records-append 1 (records_in given) (item_records item)
     ∙ ap (λ (n : ℕ). numbered_records 1 (records_in given) ++ numbered_records n (item_records item)) (omega (arith, k.records))
+
+-- the same from this number
+pub records_from : (c : Totals) (given : List Item) (item : Item) (before : ℕ) → IsCount c given → before ≡ c.records → show_lines (given ++ item ∷ []) ≡ show_lines given ++ numbered_records (before + 1) (item_records item)
+records_from c given item before k e = records_more c given item k ∙ ap (λ (n : ℕ). show_lines given ++ numbered_records (n + 1) (item_records item)) (sym e)

@@ -1,5 +1,5 @@
 -- What a run has put so far continues with each item, up to the verdict or a fault.
-use Rattle.std.proofs.Common.{◌≡◌, ℕ, List, [], ◌∷◌, ◌++◌, length, Option, Some, None, refl, sym, ap, subst, ◌∙◌, inl, inr, false, append-nil}
+use Rattle.std.proofs.Common.{◌≡◌, ℕ, List, [], ◌∷◌, ◌++◌, length, Bool, Option, Some, None, refl, sym, ap, subst, ◌∙◌, inl, inr, false, true≢false, append-nil}
 use Rattle.std.specs.Prelude.{◌⊎◌, Result, Ok, Err, IfSome}
 use Rattle.std.specs.Result.{IsErrAnd}
 use Rattle.std.proofs.KnownBytes.{Consumes-trans}
@@ -17,19 +17,19 @@ use Rattle.cwr_decode.proofs.ItemsMakeOneTransmission.{items_once}
 use Rattle.cwr_decode.proofs.ItemsReadSoFar.{all_items, all_taken, run_reads, run_right, some_read}
 use Rattle.cwr_encode.specs.declared.sinks.Sink.{Sink}
 use Rattle.cwr_fields.specs.Format.Failures.{one_more_failure}
-use Rattle.cwr_encode.specs.Steps.Sinks.{HasWritten, Puts, has_failed, writer_of}
+use Rattle.cwr_encode.specs.Steps.Sinks.{HasWritten, Puts, writer_of}
 use Rattle.cwr_tools.specs.declared.verdicts.Verdict.{Verdict}
 use Rattle.cwr_tools.specs.declared.verdicts.Verdict.TheVariants.{Good}
 use Rattle.cwr_tools.specs.declared.verdicts.ToolFault.{ToolFault}
 use Rattle.cwr_tools.specs.declared.verdicts.ToolFault.TheVariants as tool_faults
-use Rattle.cwr_tools.specs.declared.item_lines.Report.{Report}
 use Rattle.cwr_tools.specs.declared.totals.Totals.{Totals}
 use Rattle.cwr_tools.specs.Format.Verdicts.{IsVerdictOf}
 use Rattle.cwr_tools.specs.Steps.Verdicts.{totals_with, StopsAfter, IsRightVerdict}
-use Rattle.cwr_tools.specs.Format.Reports.{ItemLines}
-use Rattle.cwr_tools.specs.Steps.Reports.{HasPut, PutsLines, PutsReport, lines_at, lines_in}
-use Rattle.cwr_tools.proofs.CountedTotals.{IsCount, HasRoomToCount, count_more, good_count, has_room}
-use Rattle.cwr_tools.proofs.LinesOfItems.{lines_more, lines_none}
+use Rattle.cwr_tools.specs.Format.Reports.{CountsReaderFault, ItemLines}
+use Rattle.cwr_tools.specs.Steps.Counts.{HasRoomToCount, IsCount}
+use Rattle.cwr_tools.specs.Steps.Reports.{HasPut, PutsLines, PutsNext, PutsReport}
+use Rattle.cwr_tools.specs.Steps.Counts.{HasRoomToCount}
+use Rattle.cwr_tools.proofs.CountedTotals.{count_more, good_count, has_room}
 
 -- ---- how a reading stops
 
@@ -72,31 +72,45 @@ stops_decoder limits old new before left after given fault B C h r same = refl
 
 -- ---- what was put so far
 
--- the lines of the items so far were put, and they were counted
-pub record IsReporting {W : Type 0} (report : Report) (limits : Limits) (d : Standing) (before now : Option (List ℕ)) (contents : W → Option (List ℕ)) (failures : W → ℕ) (c : Totals) (old sink : Sink W) : Type 0 where
+-- the lines of the items so far were put, they were counted, and what stands after them stands
+pub record IsReporting {W : Type 0} (of : ItemLines) (stands : List Item → Type 0) (limits : Limits) (d : Standing) (before now : Option (List ℕ)) (contents : W → Option (List ℕ)) (failures : W → ℕ) (c : Totals) (old sink : Sink W) : Type 0 where
   pub given : List Item
   pub reading : IsReadingOn limits d before now given
   pub counts : IsCount c given
-  pub put : HasPut contents failures ((lines_in report).lines given) old sink
+  pub put : HasPut contents failures (of.lines given) old sink
+  pub here : stands given
 
--- nothing was put
-pub reports_nothing : {W : Type 0} (report : Report) (limits : Limits) (d : Standing) (before now : Option (List ℕ)) (contents : W → Option (List ℕ)) (failures : W → ℕ) (c : Totals) (sink : Sink W)
-    → IsReadingOn limits d before now [] → IsCount c [] → has_failed sink ≡ false → HasWritten contents (contents (writer_of sink)) [] sink
-    → IsReporting report limits d before now contents failures c sink sink
-reports_nothing report limits d before now contents failures c sink reading counts unfailed empty = record {
+-- what stands before the items was put
+pub first_put : {W : Type 0} (of : ItemLines) (stands : List Item → Type 0) (limits : Limits) (d : Standing) (before now : Option (List ℕ)) (contents : W → Option (List ℕ)) (failures : W → ℕ) (c : Totals) (u : Unit {0}) (old sink : Sink W)
+    → IsReadingOn limits d before now [] → IsCount c [] → HasWritten contents (contents (writer_of old)) [] old → stands [] → PutsLines contents failures false (of.lines []) (Ok u) old sink
+    → IsReporting of stands limits d before now contents failures c old sink
+first_put of stands limits d before now contents failures c u old sink reading counts empty here p = record {
   given = [];
   reading = reading;
   counts = counts;
-  put = record {
-    written = subst (λ (l : List ℕ). HasWritten contents (contents (writer_of sink)) l sink) (sym (lines_none report)) empty;
-    unfailed = unfailed;
-    quiet = refl;
-  };
+  put = record { written = p.written (contents (writer_of old)) [] empty; unfailed = p.failed; quiet = p.counts };
+  here = here;
 }
 
-pub room_in : {W : Type 0} (report : Report) (limits : Limits) (d : Standing) (before now : Option (List ℕ)) (contents : W → Option (List ℕ)) (failures : W → ℕ) (c : Totals) (old sink : Sink W)
-    → IsReporting report limits d before now contents failures c old sink → HasRoomToCount c
-room_in report limits d before now contents failures c old sink h = has_room limits d before now c h.given h.reading h.counts
+-- the writer failed in it
+pub first_fault : {W : Type 0} (of : ItemLines) (end : Verdict → List ℕ) (limits : Limits) (d : Standing) (before now : Option (List ℕ)) (contents : W → Option (List ℕ)) (failures : W → ℕ) (fault : ToolFault) (old sink : Sink W)
+    → IsReadingOn limits d before now [] → HasWritten contents (contents (writer_of old)) [] old → PutsLines contents failures false (of.lines []) (Err fault) old sink → PutsReport of end limits before now contents failures (Err fault) old sink
+first_fault of end limits d before now contents failures (tool_faults.Writer n) old sink reading empty p = (
+  [],
+  of.lines [],
+  inl ((d, reading.read), refl),
+  record { written = p.0.written (contents (writer_of old)) [] empty; counted = p.1; failed = p.0.counts },
+)
+first_fault of end limits d before now contents failures tool_faults.Memory old sink reading empty p = absurd (true≢false (sym p.0))
+first_fault of end limits d before now contents failures tool_faults.Reader old sink reading empty p = absurd p
+first_fault of end limits d before now contents failures (tool_faults.Refused r) old sink reading empty p = absurd p
+first_fault of end limits d before now contents failures (tool_faults.Truncated r) old sink reading empty p = absurd p
+first_fault of end limits d before now contents failures tool_faults.Output old sink reading empty p = absurd p
+first_fault of end limits d before now contents failures (tool_faults.Limit l) old sink reading empty p = absurd p
+
+pub room_in : {W : Type 0} (of : ItemLines) (stands : List Item → Type 0) (limits : Limits) (d : Standing) (before now : Option (List ℕ)) (contents : W → Option (List ℕ)) (failures : W → ℕ) (c : Totals) (old sink : Sink W)
+    → IsReporting of stands limits d before now contents failures c old sink → HasRoomToCount c
+room_in of stands limits d before now contents failures c old sink h = has_room limits d before now c h.given h.reading h.counts
 
 -- one text more is put
 put_more : {W : Type 0} (contents : W → Option (List ℕ)) (failures : W → ℕ) (text more : List ℕ) (u : Unit {0}) (old mid new : Sink W) → HasPut contents failures text old mid → Puts {E = ToolFault} contents failures more (Ok u) mid new
@@ -108,53 +122,62 @@ put_more contents failures text more u old mid new h p = record {
 }
 
 -- an item more was read
-pub reads_item : {W : Type 0} (report : Report) (limits : Limits) (d new : Standing) (before left after : Option (List ℕ)) (contents : W → Option (List ℕ)) (failures : W → ℕ) (c : Totals) (old sink : Sink W) (reported : Option Item) (item : Item) (B C : Type 0)
-    → reported ≡ Some item → (h : IsReporting report limits d before left contents failures c old sink) → Reads d left (Ok reported) new after → IfSome (again d.state) (λ o. (Some (Ok reported) ≡ answer_of o) × B × C)
+pub reads_item : {W : Type 0} (of : ItemLines) (stands : List Item → Type 0) (limits : Limits) (d new : Standing) (before left after : Option (List ℕ)) (contents : W → Option (List ℕ)) (failures : W → ℕ) (c : Totals) (old sink : Sink W) (reported : Option Item) (item : Item) (B C : Type 0)
+    → reported ≡ Some item → (h : IsReporting of stands limits d before left contents failures c old sink) → Reads d left (Ok reported) new after → IfSome (again d.state) (λ o. (Some (Ok reported) ≡ answer_of o) × B × C)
     → IsReadingOn limits new before after (h.given ++ item ∷ [])
-reads_item report limits d new before left after contents failures c old sink reported item B C e h r same =
+reads_item of stands limits d new before left after contents failures c old sink reported item B C e h r same =
     some_read limits d new before left after h.given reported item B C e h.reading r same
 
 -- and its lines were put
-pub reports_item : {W : Type 0} (report : Report) (limits : Limits) (d new : Standing) (before left after : Option (List ℕ)) (contents : W → Option (List ℕ)) (failures : W → ℕ) (c : Totals) (old sink next : Sink W) (item : Item) (u : Unit {0})
-    → (h : IsReporting report limits d before left contents failures c old sink) → IsReadingOn limits new before after (h.given ++ item ∷ [])
-    → PutsLines contents failures ((lines_in report).take_memory item) (lines_at report c item) (Ok u) sink next
-    → IsReporting report limits new before after contents failures (totals_with c item) old next
-reports_item report limits d new before left after contents failures c old sink next item u h reading p = record {
+pub reports_item : {W : Type 0} (of : ItemLines) (stands more : List Item → Type 0) (limits : Limits) (d new : Standing) (before left after : Option (List ℕ)) (contents : W → Option (List ℕ)) (failures : W → ℕ) (c : Totals) (old sink next : Sink W) (item : Item) (u : Unit {0})
+    → (h : IsReporting of stands limits d before left contents failures c old sink) → IsReadingOn limits new before after (h.given ++ item ∷ [])
+    → PutsNext contents failures of h.given item (Ok u) sink next → more (h.given ++ item ∷ [])
+    → IsReporting of more limits new before after contents failures (totals_with c item) old next
+reports_item of stands more limits d new before left after contents failures c old sink next item u h reading p here = record {
   given = h.given ++ item ∷ [];
   reading = reading;
   counts = count_more c h.given item h.counts;
-  put = subst (λ (l : List ℕ). HasPut contents failures l old next) (sym (lines_more report c h.given item h.counts))
-      (put_more contents failures ((lines_in report).lines h.given) (lines_at report c item) u old sink next h.put p);
+  put = subst (λ (l : List ℕ). HasPut contents failures l old next) (sym p.1) (put_more contents failures (of.lines h.given) p.0 u old sink next h.put p.2);
+  here = here;
 }
 
 -- ---- the ends
 
 -- a fault came while the item's lines were put
-pub item_fault : {W : Type 0} (report : Report) (end : Verdict → List ℕ) (limits : Limits) (d new : Standing) (before left after : Option (List ℕ)) (contents : W → Option (List ℕ)) (failures : W → ℕ) (c : Totals) (old sink next : Sink W) (item : Item) (fault : ToolFault)
-    → (h : IsReporting report limits d before left contents failures c old sink) → IsReadingOn limits new before after (h.given ++ item ∷ [])
-    → PutsLines contents failures ((lines_in report).take_memory item) (lines_at report c item) (Err fault) sink next
-    → PutsReport (lines_in report) end limits before after contents failures (Err fault) old next
-item_fault report end limits d new before left after contents failures c old sink next item tool_faults.Memory h reading p = (
+pub item_fault : {W : Type 0} (of : ItemLines) (stands : List Item → Type 0) (end : Verdict → List ℕ) (limits : Limits) (d new : Standing) (before left after : Option (List ℕ)) (contents : W → Option (List ℕ)) (failures : W → ℕ) (c : Totals) (old sink next : Sink W) (item : Item) (fault : ToolFault)
+    → (h : IsReporting of stands limits d before left contents failures c old sink) → IsReadingOn limits new before after (h.given ++ item ∷ [])
+    → PutsNext contents failures of h.given item (Err fault) sink next → PutsReport of end limits before after contents failures (Err fault) old next
+item_fault of stands end limits d new before left after contents failures c old sink next item tool_faults.Memory h reading p = (
   h.given,
-  inr (item, p.0, (new, reading.read)),
-  subst (λ (s : Sink _). HasPut contents failures ((lines_in report).lines h.given) old s) (sym p.1) h.put,
+  inr (item, p.2.0, (new, reading.read)),
+  subst (λ (s : Sink _). HasPut contents failures (of.lines h.given) old s) (sym p.2.1) h.put,
 )
-item_fault report end limits d new before left after contents failures c old sink next item (tool_faults.Writer n) h reading p = (
+item_fault of stands end limits d new before left after contents failures c old sink next item (tool_faults.Writer n) h reading p = (
   h.given ++ item ∷ [],
-  (lines_in report).lines (h.given ++ item ∷ []),
+  of.lines (h.given ++ item ∷ []),
   inl ((new, reading.read), refl),
   record {
-    written = subst (λ (l : List ℕ). HasWritten contents (contents (writer_of old)) l next) (sym (lines_more report c h.given item h.counts))
-        (p.0.written (contents (writer_of old)) ((lines_in report).lines h.given) h.put.written);
-    counted = p.1;
-    failed = p.0.counts ∙ ap one_more_failure h.put.quiet;
+    written = subst (λ (l : List ℕ). HasWritten contents (contents (writer_of old)) l next) (sym p.1) (p.2.0.written (contents (writer_of old)) (of.lines h.given) h.put.written);
+    counted = p.2.1;
+    failed = p.2.0.counts ∙ ap one_more_failure h.put.quiet;
   },
 )
-item_fault report end limits d new before left after contents failures c old sink next item tool_faults.Reader h reading p = absurd p
-item_fault report end limits d new before left after contents failures c old sink next item (tool_faults.Refused r) h reading p = absurd p
-item_fault report end limits d new before left after contents failures c old sink next item (tool_faults.Truncated r) h reading p = absurd p
-item_fault report end limits d new before left after contents failures c old sink next item tool_faults.Output h reading p = absurd p
-item_fault report end limits d new before left after contents failures c old sink next item (tool_faults.Limit l) h reading p = absurd p
+item_fault of stands end limits d new before left after contents failures c old sink next item tool_faults.Reader h reading p = absurd p.2
+item_fault of stands end limits d new before left after contents failures c old sink next item (tool_faults.Refused r) h reading p = absurd p.2
+item_fault of stands end limits d new before left after contents failures c old sink next item (tool_faults.Truncated r) h reading p = absurd p.2
+item_fault of stands end limits d new before left after contents failures c old sink next item tool_faults.Output h reading p = absurd p.2
+item_fault of stands end limits d new before left after contents failures c old sink next item (tool_faults.Limit l) h reading p = absurd p.2
+
+-- such a fault is none of the reader's
+pub no_reader_fault : {W : Type 0} (contents : W → Option (List ℕ)) (failures : W → ℕ) (take_memory : Bool) (text : List ℕ) (fault : ToolFault) (old new : Sink W) (before after : ℕ) → PutsLines contents failures take_memory text (Err fault) old new → after ≡ before
+    → CountsReaderFault (Err fault) before after
+no_reader_fault contents failures take_memory text tool_faults.Memory old new before after p same = same
+no_reader_fault contents failures take_memory text (tool_faults.Writer n) old new before after p same = same
+no_reader_fault contents failures take_memory text tool_faults.Reader old new before after p same = absurd p
+no_reader_fault contents failures take_memory text (tool_faults.Refused r) old new before after p same = same
+no_reader_fault contents failures take_memory text (tool_faults.Truncated r) old new before after p same = same
+no_reader_fault contents failures take_memory text tool_faults.Output old new before after p same = same
+no_reader_fault contents failures take_memory text (tool_faults.Limit l) old new before after p same = same
 
 pub same_fault : {X : Type 0} (result : Result X ToolFault) (fault : ToolFault) → IsErrAnd result (λ e. e ≡ fault) → result ≡ Err fault
 same_fault (Ok x) fault h = absurd h

@@ -1,5 +1,5 @@
 -- What a whole run has put, and what its writer then has.
-use Rattle.std.proofs.Common.{◌≡◌, ℕ, List, [], ◌++◌, Option, refl, sym, ap, subst, ◌∙◌, inr, append-nil}
+use Rattle.std.proofs.Common.{◌≡◌, ℕ, List, [], ◌++◌, Option, Some, None, refl, sym, ap, subst, ◌∙◌, inr, append-nil}
 use Rattle.std.specs.Prelude.{Result, Ok, Err}
 use Rattle.std.specs.Io.KnownBytes.{Appends, Keeps}
 use Rattle.cwr_fields.specs.Format.Failures.{one_more_failure}
@@ -13,6 +13,7 @@ use Rattle.cwr_levels.specs.Steps.Putting.{PutsText}
 use Rattle.cwr_tools.specs.declared.verdicts.Verdict.{Verdict}
 use Rattle.cwr_tools.specs.declared.verdicts.ToolFault.{ToolFault}
 use Rattle.cwr_tools.specs.declared.verdicts.ToolFault.TheVariants.{Writer}
+use Rattle.cwr_tools.specs.declared.verdicts.ToolFault.TheVariants as faults
 use Rattle.cwr_tools.specs.Format.Reports.{ItemLines}
 use Rattle.cwr_tools.specs.Steps.Reports.{HasPut, PutsReport, Reports}
 use Rattle.cwr_tools.proofs.ReportsOn.{nothing}
@@ -90,3 +91,25 @@ reports_stuck {W = W} of limits before after contents failures verdict writer mi
   inr (verdict, h.1, refl),
   front contents (of.lines h.0 ++ of.last verdict) writer new first sink n same (subst (λ (w : W). Keeps (contents w) (contents new)) out kept) h.2.written counted,
 )
+
+same_bytes : (bytes : Option (List ℕ)) → Keeps bytes bytes
+same_bytes None = tt
+same_bytes (Some text) = refl
+
+-- a run that came to no verdict
+pub reports_failed : {W : Type 0} (of : ItemLines) (limits : Limits) (before after : Option (List ℕ)) (contents : W → Option (List ℕ)) (failures : W → ℕ) (fault : ToolFault) (writer new : W) (first sink : Sink W) → writer_of first ≡ writer → new ≡ writer_of sink
+    → PutsReport of of.last limits before after contents failures (Err fault) first sink → Reports of limits before after contents writer new (Err fault)
+reports_failed {W = W} of limits before after contents failures faults.Reader writer new first sink same out h =
+    (h.0, h.1, appended contents failures (of.lines h.0) writer new first sink same (subst (λ (w : W). Keeps (contents (writer_of sink)) (contents w)) (sym out) (same_bytes (contents (writer_of sink)))) h.2)
+reports_failed {W = W} of limits before after contents failures faults.Memory writer new first sink same out h =
+    (h.0, h.1, appended contents failures (of.lines h.0) writer new first sink same (subst (λ (w : W). Keeps (contents (writer_of sink)) (contents w)) (sym out) (same_bytes (contents (writer_of sink)))) h.2)
+reports_failed {W = W} of limits before after contents failures (Writer n) writer new first sink same out h = (
+  h.0,
+  h.1,
+  h.2,
+  front contents h.1 writer new first sink n same (subst (λ (w : W). Keeps (contents (writer_of sink)) (contents w)) (sym out) (same_bytes (contents (writer_of sink)))) h.3.written h.3.counted,
+)
+reports_failed of limits before after contents failures (faults.Refused r) writer new first sink same out h = absurd h
+reports_failed of limits before after contents failures (faults.Truncated r) writer new first sink same out h = absurd h
+reports_failed of limits before after contents failures faults.Output writer new first sink same out h = absurd h
+reports_failed of limits before after contents failures (faults.Limit l) writer new first sink same out h = absurd h

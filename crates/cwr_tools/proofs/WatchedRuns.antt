@@ -1,7 +1,8 @@
--- What was watched for in a run came in the items before its verdict.
-use Rattle.std.proofs.Common.{◌≡◌, ℕ, List, [], ◌∷◌, ◌++◌, length, drop, Option, Some, None, sym, ap, subst, ◌∙◌}
-use Rattle.std.specs.Prelude.{Result, Ok, Err, IfOk, IfSome, OnOk}
+-- What stands at the end of a run, and what was watched for, came in the items before its verdict.
+use Rattle.std.proofs.Common.{◌≡◌, ℕ, Bool, ◌||◌, List, length, Option, Some, None, sym, ap, subst, ◌∙◌}
+use Rattle.std.specs.Prelude.{Result, Ok, Err, IfOk, OnOk}
 use Rattle.cwr_shape.specs.declared.limits.Limits.{Limits}
+use Rattle.cwr_shape.specs.declared.reasons.Level.{Level}
 use Rattle.cwr_values.specs.declared.items.Item.{Item}
 use Rattle.cwr_values.specs.Format.Values.{TransmissionValue}
 use Rattle.cwr_judge.specs.Format.Ends.{IsAccepted}
@@ -9,12 +10,9 @@ use Rattle.cwr_judge.specs.Format.Items.{value_items}
 use Rattle.cwr_judge.proofs.Accepted.{accepted_once}
 use Rattle.cwr_decode.specs.declared.readings.ReadFault.{ReadFault}
 use Rattle.cwr_decode.specs.declared.readings.ReadFault.TheVariants as read_faults
-use Rattle.cwr_decode.specs.Steps.Machines.{Standing, again}
-use Rattle.cwr_decode.specs.Steps.Readings.{answer_of, Reads}
-use Rattle.cwr_decode.specs.Steps.Runs.{HasReadAll, IsReadingOn}
+use Rattle.cwr_decode.specs.Steps.Runs.{HasReadAll}
 use Rattle.cwr_decode.proofs.ItemsMakeOneTransmission.{items_once}
-use Rattle.cwr_decode.proofs.ItemsReadSoFar.{all_items, all_taken, some_read}
-use Rattle.cwr_tools.specs.declared.item_lines.Report.{Report}
+use Rattle.cwr_decode.proofs.ItemsReadSoFar.{all_items, all_taken}
 use Rattle.cwr_tools.specs.declared.totals.Totals.{Totals}
 use Rattle.cwr_tools.specs.declared.verdicts.Verdict.{Verdict}
 use Rattle.cwr_tools.specs.declared.verdicts.Verdict.TheVariants.{Good, Refused, Truncated}
@@ -22,31 +20,11 @@ use Rattle.cwr_tools.specs.declared.verdicts.ToolFault.{ToolFault}
 use Rattle.cwr_tools.specs.declared.watch.Watch.{Watch}
 use Rattle.cwr_tools.specs.Format.Verdicts.{IsVerdictOf}
 use Rattle.cwr_tools.specs.Format.Watching.{SeesAccepted, watched}
-use Rattle.cwr_tools.specs.Steps.Verdicts.{totals_with, IsRightVerdict, StopsAfter}
-use Rattle.cwr_tools.specs.Steps.Watching.{watched_by}
-use Rattle.cwr_tools.proofs.CountedTotals.{IsCount, count_more, good_count}
-use Rattle.cwr_tools.proofs.FindingsWatched.{by_more, by_none}
-
--- what was watched for so far, in the items that were read
-pub record IsWatching (report : Report) (limits : Limits) (d : Standing) (before now : Option (List ℕ)) (c : Totals) (old new : Watch) : Type 0 where
-  pub given : List Item
-  pub reading : IsReadingOn limits d before now given
-  pub counts : IsCount c given
-  pub watched : new ≡ watched_by report old given
-
-pub watches_nothing : (report : Report) (limits : Limits) (d : Standing) (before now : Option (List ℕ)) (c : Totals) (watch : Watch) → IsReadingOn limits d before now [] → IsCount c [] → IsWatching report limits d before now c watch watch
-watches_nothing report limits d before now c watch reading counts = record { given = []; reading = reading; counts = counts; watched = by_none report watch }
-
--- with an item more
-pub watches_item : (report : Report) (limits : Limits) (d new : Standing) (before left after : Option (List ℕ)) (c : Totals) (old mid next : Watch) (reported : Option Item) (item : Item) (B C : Type 0)
-    → reported ≡ Some item → (h : IsWatching report limits d before left c old mid) → Reads d left (Ok reported) new after → IfSome (again d.state) (λ o. (Some (Ok reported) ≡ answer_of o) × B × C)
-    → next ≡ watched_by report mid (item ∷ []) → IsWatching report limits new before after (totals_with c item) old next
-watches_item report limits d new before left after c old mid next reported item B C e h r same saw = record {
-  given = h.given ++ item ∷ [];
-  reading = some_read limits d new before left after h.given reported item B C e h.reading r same;
-  counts = count_more c h.given item h.counts;
-  watched = saw ∙ ap (λ (w : Watch). watched_by report w (item ∷ [])) h.watched ∙ by_more report old h.given item;
-}
+use Rattle.cwr_tools.specs.Steps.Verdicts.{IsRightVerdict, StopsAfter}
+use Rattle.cwr_tools.specs.Steps.Counts.{IsCount}
+use Rattle.cwr_tools.specs.Steps.Reports.{StandsAfter}
+use Rattle.cwr_tools.specs.Steps.Watching.{IsWorst, is_reached}
+use Rattle.cwr_tools.proofs.CountedTotals.{good_count}
 
 -- the verdict after all items
 pub good_right : (limits : Limits) (before after : Option (List ℕ)) (given : List Item) (c : Totals) (verdict : Verdict) → HasReadAll limits before after given → IsCount c given → verdict ≡ Good c.groups c.transactions c.records
@@ -69,11 +47,11 @@ fault_right limits before after given (read_faults.Refused refusal) result stop 
 fault_right limits before after given (read_faults.Truncated records) result stop e = subst (λ (r : Result Verdict ToolFault). IfOk r (λ verdict. IsRightVerdict limits before verdict after given)) (sym e) stop
 fault_right limits before after given read_faults.Memory result stop e = subst (λ (r : Result Verdict ToolFault). IfOk r (λ verdict. IsRightVerdict limits before verdict after given)) (sym e) tt
 
--- with what was watched for before it
-pub watched_before : (limits : Limits) (before after : Option (List ℕ)) (given : List Item) (P : List Item → Type 0) (result : Result Verdict ToolFault) → IfOk result (λ verdict. IsRightVerdict limits before verdict after given) → P given
-    → IfOk result (λ verdict. (items : List Item) × IsRightVerdict limits before verdict after items × P items)
-watched_before limits before after given P (Ok verdict) right p = (given, right, p)
-watched_before limits before after given P (Err fault) right p = tt
+-- with what stands after the items before it
+pub stands_before : (limits : Limits) (before after : Option (List ℕ)) (given : List Item) (stands : List Item → Type 0) (result : Result Verdict ToolFault) → IfOk result (λ verdict. IsRightVerdict limits before verdict after given) → stands given
+    → IfOk result (StandsAfter stands limits before after)
+stands_before limits before after given stands (Ok verdict) right here = (given, right, here)
+stands_before limits before after given stands (Err fault) right here = tt
 
 -- a fault tells nothing of a verdict
 pub fault_tells : {A E : Type 0} (P : A → Type 0) (result : Result A E) (fault : E) → result ≡ Err fault → IfOk result P
@@ -90,8 +68,12 @@ sees limits (Some text) after old new verdict given right e = λ v n a. by verdi
     by (Refused refusal) v n a t = absurd (t.0.right.ends.unaccepted v n a)
     by (Truncated records) v n a t = absurd (t.0.right.ends.unaccepted v n a)
 
+-- what was told in the run: the watch sees the worst of it
+sees_worst : (old : Watch) (worst : Option Level) (given : List Item) → IsWorst worst given → (record old { found = old.found || is_reached old.from worst }) ≡ watched old given
+sees_worst old worst given is = ap (λ (b : Bool). record old { found = old.found || b }) (is old.from)
+
 -- so it came in the transmission, where the text is accepted
-pub sees_accepted : (limits : Limits) (before after : Option (List ℕ)) (old new : Watch) (result : Result Verdict ToolFault)
-    → IfOk result (λ verdict. (given : List Item) × IsRightVerdict limits before verdict after given × (new ≡ watched old given)) → OnOk result (SeesAccepted limits before old new)
-sees_accepted limits before after old new (Ok verdict) h = sees limits before after old new verdict h.0 h.1 h.2
-sees_accepted limits before after old new (Err fault) h = tt
+pub sees_accepted : (limits : Limits) (before after : Option (List ℕ)) (old new : Watch) (worst : Option Level) (stands : List Item → Type 0) (result : Result Verdict ToolFault) → new ≡ record old { found = old.found || is_reached old.from worst }
+    → ((given : List Item) → stands given → IsWorst worst given) → IfOk result (StandsAfter stands limits before after) → OnOk result (SeesAccepted limits before old new)
+sees_accepted limits before after old new worst stands (Ok verdict) e is h = sees limits before after old new verdict h.0 h.1 (e ∙ sees_worst old worst h.0 (is h.0 h.2))
+sees_accepted limits before after old new worst stands (Err fault) e is h = tt

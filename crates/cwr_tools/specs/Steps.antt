@@ -1,4 +1,5 @@
 -- What the code keeps, and what its calls do to that.
+pub mod Counts
 pub mod FieldLines
 pub mod Joined
 pub mod Joins

@@ -7,8 +7,8 @@ ghost use Rattle.cwr_tools.specs.Steps.Verdicts.{IsReadLast};
 ghost use Rattle.cwr_tools.specs.Format.Reports.{CountsReaderFault, CountsWriterFault, JudgesAccepted, JudgesCanonical, lines_of_explained, lines_of_findings, lines_up_to_fault};
 ghost use Rattle.cwr_tools.specs.Steps.Reports.{Reports};
 
-use crate::item_lines::Report;
-use crate::reporting::write_report;
+use crate::finding_lines::FindingLines;
+use crate::reporting::{Front, write_report};
 use crate::totals::HandedOut;
 use crate::verdicts::{ToolFault, Verdict};
 use crate::watch::Watch;
@@ -63,16 +63,10 @@ pub fn check_watched<R: Source, W: Target + Drop>(
     // All that was written was handed on.
     ensures handed_on { OnOk result.1 (W.handed_on result.0 ≡ true) }
 {
-    write_report(
-        Report::Findings,
-        alloc,
-        limits,
-        reader,
-        watch,
-        &mut None,
-        &mut HandedOut::new(),
-        writer,
-    )
+    let mut lines = FindingLines::new(false, false);
+    let (writer, outcome, _) = write_report(&mut lines, false, alloc, limits, reader, writer);
+    watch.see(lines.told.worst);
+    (writer, outcome)
 }
 
 /// Checks a transmission as `check` does, and writes what that writes, with lines under each finding: where its record stands, the
@@ -96,18 +90,10 @@ pub fn check_explained<R: Source, W: Target + Drop>(
     ensures handed_on { OnOk result.1 (W.handed_on result.0 ≡ true) }
     ensures last { IfOk result.1 (λ verdict. IsSomeAnd result.2 (IsReadLast limits (R.remaining reader.old) (R.remaining reader.new) verdict)) }
 {
-    let mut last = None;
-    let (writer, outcome) = write_report(
-        Report::Explained,
-        alloc,
-        limits,
-        reader,
-        watch,
-        &mut last,
-        &mut HandedOut::new(),
-        writer,
-    );
-    (writer, outcome, last)
+    let mut lines = FindingLines::new(true, false);
+    let (writer, outcome, front) = write_report(&mut lines, true, alloc, limits, reader, writer);
+    watch.see(lines.told.worst);
+    (writer, outcome, front.last)
 }
 
 /// How far a check came.
@@ -137,17 +123,10 @@ pub fn check_up_to_fault<R: Source, W: Target + Drop>(
     ensures handed_on { OnOk result.1 (W.handed_on result.0 ≡ true) }
     ensures last { IfOk result.1 (λ verdict. IsSomeAnd result.2.last (IsReadLast limits (R.remaining reader.old) (R.remaining reader.new) verdict)) }
 {
-    let mut last = None;
-    let mut handed_out = HandedOut::new();
-    let (writer, outcome) = write_report(
-        Report::UpToFault { explained },
-        alloc,
-        limits,
-        reader,
-        &mut Watch::new(None),
-        &mut last,
-        &mut handed_out,
-        writer,
-    );
+    let mut lines = FindingLines::new(explained, true);
+    let (writer, outcome, front) = write_report(&mut lines, true, alloc, limits, reader, writer);
+    let Front { last, totals } = front;
+    let findings = lines.told.findings;
+    let handed_out = HandedOut { totals, findings };
     (writer, outcome, CheckedFront { last, handed_out })
 }

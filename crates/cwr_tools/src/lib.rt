@@ -2,8 +2,8 @@
 #![tactic(auto)]
 
 mod checking;
+mod finding_lines;
 mod finding_notes;
-mod item_lines;
 mod joined;
 mod joining;
 mod json_lines;
@@ -16,7 +16,9 @@ mod passed;
 mod reading_on;
 mod record_lines;
 mod reporting;
+mod reports;
 mod showing;
+mod shown_records;
 mod split_output;
 mod splitting;
 mod totals;
@@ -24,13 +26,14 @@ mod verdicts;
 mod watch;
 
 pub use checking::{CheckedFront, check, check_explained, check_up_to_fault, check_watched};
-pub use item_lines::{put_transaction_findings, writer_fault};
+pub use finding_lines::{put_transaction_findings, writer_fault};
 pub use joining::join;
 pub use json_lines::json;
 pub use note_lines::level_words;
 pub use outcomes::{put_join_outcome, put_split_outcome};
 pub use outputs::{OutputFault, Outputs};
-pub use reporting::{put_verdict_line, verdict_of};
+pub use reporting::{Front, put_unrefused_line, put_verdict_line, verdict_of, write_report};
+pub use reports::{NothingKept, Report};
 pub use showing::show;
 pub use splitting::split;
 pub use totals::{HandedOut, Totals};

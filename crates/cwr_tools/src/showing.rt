@@ -5,11 +5,9 @@ ghost use Rattle.cwr_tools.specs.Format.Verdicts.{JudgesText};
 ghost use Rattle.cwr_tools.specs.Format.Reports.{CountsReaderFault, CountsWriterFault, JudgesAccepted, JudgesCanonical, lines_of_records};
 ghost use Rattle.cwr_tools.specs.Steps.Reports.{Reports};
 
-use crate::item_lines::Report;
 use crate::reporting::write_report;
-use crate::totals::HandedOut;
+use crate::shown_records::ShownRecords;
 use crate::verdicts::{ToolFault, Verdict};
-use crate::watch::Watch;
 use cwr_fields::{Source, Target};
 use cwr_shape::Limits;
 use std::alloc::Global;
@@ -37,14 +35,7 @@ pub fn show<R: Source, W: Target + Drop>(
     // All that was written was handed on.
     ensures handed_on { OnOk result.1 (W.handed_on result.0 ≡ true) }
 {
-    write_report(
-        Report::Records,
-        alloc,
-        limits,
-        reader,
-        &mut Watch::new(None),
-        &mut None,
-        &mut HandedOut::new(),
-        writer,
-    )
+    let mut lines = ShownRecords::new();
+    let (writer, outcome, _) = write_report(&mut lines, false, alloc, limits, reader, writer);
+    (writer, outcome)
 }

@@ -18,16 +18,6 @@ pub struct HandedOut {
     pub findings: u64,
 }
 
-impl HandedOut {
-    /// Nothing was handed out.
-    pub(crate) fn new() -> Self {
-        HandedOut {
-            totals: Totals::new(),
-            findings: 0,
-        }
-    }
-}
-
 /// How many groups, transactions and records were handed out.
 #[derive(Clone, Copy, Debug)]
 pub struct Totals {

@@ -1,8 +1,9 @@
-//! Whether findings of a level, or of a worse one, came.
+//! Which findings were told, and whether those of a level came, or of a worse one.
 
-ghost use Rattle.std.specs.Prelude.{◌≡◌, ℕ, ◌||◌, false};
-ghost use Rattle.std.specs.List.{list_any};
-ghost use Rattle.cwr_tools.specs.Format.Watching.{has_from, is_from, reach};
+ghost use Rattle.std.specs.Prelude.{◌≡◌, ◌||◌, false, None, Option};
+ghost use Rattle.cwr_shape.specs.declared.reasons.Level.{Level};
+ghost use Rattle.cwr_tools.specs.Format.Watching.{has_from, reach};
+ghost use Rattle.cwr_tools.specs.Steps.Watching.{is_reached, is_reached_by};
 
 use cwr_levels::Finding;
 use cwr_shape::Level;
@@ -29,20 +30,6 @@ fn reach(level: Level) -> u8
     }
 }
 
-/// Whether a finding has the level, or a worse one.
-fn has_from(level: Level, found: &[Finding]) -> bool
-    ensures { result ≡ list_any (λ f. is_from level f.level) found.now }
-{
-    let mut i = 0;
-    while let Some(finding) = found.get(i) {
-        if reach(level) <= reach(finding.level) {
-            return true;
-        }
-        i += 1;
-    }
-    false
-}
-
 impl Watch {
     /// No finding came so far.
     pub fn new(from: Option<Level>) -> Watch
@@ -51,12 +38,55 @@ impl Watch {
         Watch { from, found: false }
     }
 
-    /// These findings came.
-    pub(crate) fn see(&mut self, found: &[Finding])
-        ensures { self.new ≡ record self.old { found = self.old.found || has_from self.old.from found.now } }
+    /// Findings came of which this is the worst level.
+    pub(crate) fn see(&mut self, worst: Option<Level>)
+        ensures { self.new ≡ record self.old { found = self.old.found || is_reached self.old.from worst } }
     {
-        if let Some(level) = self.from {
-            self.found = self.found || has_from(level, found);
+        if let (Some(from), Some(worst)) = (self.from, worst) {
+            self.found = self.found || reach(from) <= reach(worst);
+        }
+    }
+}
+
+/// The worse one of two levels.
+fn worse(worst: Option<Level>, level: Level) -> Level
+    ensures { (asked : Option Level) → is_reached asked (Some result) ≡ (is_reached asked worst || is_reached_by asked level) }
+{
+    match worst {
+        Some(worst) if reach(level) <= reach(worst) => worst,
+        _ => level,
+    }
+}
+
+/// The findings that were told.
+#[derive(Clone, Copy, Debug)]
+pub(crate) struct Told {
+    /// How many. It stays at `u64::MAX`.
+    pub(crate) findings: u64,
+    /// The worst level of one.
+    pub(crate) worst: Option<Level>,
+}
+
+impl Told {
+    /// None was.
+    pub(crate) fn new() -> Told
+        ensures { result.worst ≡ None }
+    {
+        Told {
+            findings: 0,
+            worst: None,
+        }
+    }
+
+    /// These are.
+    pub(crate) fn add(&mut self, found: &[Finding])
+        ensures { (asked : Option Level) → is_reached asked self.new.worst ≡ (is_reached asked self.old.worst || has_from asked found.now) }
+    {
+        self.findings = self.findings.saturating_add(found.len() as u64);
+        let mut i = 0;
+        while let Some(finding) = found.get(i) {
+            self.worst = Some(worse(self.worst, finding.level));
+            i += 1;
         }
     }
 }

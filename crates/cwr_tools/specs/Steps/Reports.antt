@@ -3,10 +3,11 @@ use Rattle.std.specs.Prelude.{◌≡◌, ◌⊎◌, ℕ, ◌+◌, Bool, true, fa
 use Rattle.std.specs.Io.KnownBytes.{Appends}
 use Rattle.cwr_fields.specs.Format.Failures.{one_more_failure}
 use Rattle.cwr_shape.specs.declared.limits.Limits.{Limits}
+use Rattle.cwr_layouts.specs.Format.Records.{RecordValue}
 use Rattle.cwr_values.specs.declared.items.Item.{Item}
-use Rattle.cwr_judge.specs.Format.Items.{item_records, opens_group}
+use Rattle.cwr_values.specs.declared.items.Item.TheVariants.{Transaction}
+use Rattle.cwr_judge.specs.Format.Items.{opens_group}
 use Rattle.cwr_json.specs.declared.notes.Notes.{Notes}
-use Rattle.cwr_json.specs.Format.Forms.{item_line}
 use Rattle.cwr_decode.specs.declared.readings.ReadFault.TheVariants as read_faults
 use Rattle.cwr_decode.specs.Steps.Machines.{Standing}
 use Rattle.cwr_decode.specs.Steps.Runs.{HasRead}
@@ -17,12 +18,11 @@ use Rattle.cwr_tools.specs.declared.verdicts.Verdict.{Verdict}
 use Rattle.cwr_tools.specs.declared.verdicts.ToolFault.{ToolFault}
 use Rattle.cwr_tools.specs.declared.verdicts.ToolFault.TheVariants.{Reader, Writer, Memory}
 use Rattle.cwr_tools.specs.declared.totals.Totals.{Totals}
-use Rattle.cwr_tools.specs.declared.item_lines.Report.{Report}
-use Rattle.cwr_tools.specs.declared.item_lines.Report.TheVariants as reports
-use Rattle.cwr_tools.specs.Format.Texts.{finding_lines_in, numbered_records}
+use Rattle.cwr_tools.specs.Format.Texts.{finding_lines_in}
 use Rattle.cwr_tools.specs.Format.FindingNotes.{explained_in}
 use Rattle.cwr_tools.specs.Steps.Verdicts.{StopsAfter, IsRightVerdict}
-use Rattle.cwr_tools.specs.Format.Reports.{ItemLines, lines_of_findings, lines_of_data, lines_of_explained, lines_of_records, lines_up_to_fault, text_on}
+use Rattle.cwr_tools.specs.Format.Reports.{ItemLines, lines_checked, lines_up_to_fault, text_on}
+use Rattle.cwr_tools.specs.Steps.Counts.{IsCount}
 
 -- ---- what a whole run has written
 
@@ -54,33 +54,20 @@ Reports of limits before after contents old new (Err fault) = ⊥
 
 -- ---- the same of its parts, over a sink
 
--- what is written of the items
-abbrev pub lines_in : Report → ItemLines
-lines_in reports.Findings = lines_of_findings
-lines_in reports.Explained = lines_of_explained
-lines_in (reports.UpToFault explained) = lines_up_to_fault explained
-lines_in reports.Records = lines_of_records
-lines_in (reports.Data enc noted) = lines_of_data enc noted
-
--- the last bytes that are read are held
-abbrev pub holds_last : Report → Bool
-holds_last reports.Explained = true
-holds_last (reports.UpToFault explained) = true
-holds_last report = false
+-- the findings, explained or not, up to a fault or with the verdict's line
+abbrev pub lines_told : Bool → Bool → ItemLines
+lines_told explained false = lines_checked explained
+lines_told explained true = lines_up_to_fault explained
 
 -- the notes of an item that comes after items with these numbers
 abbrev pub notes_at : Bool → Totals → Item → Option Notes
 notes_at false counts item = None
 notes_at true counts item = Some (record { group = counts.groups + (if opens_group item then 1 else 0); transaction = counts.in_group; line = counts.records + 1 })
 
--- the lines of one item more, after items with these numbers
-abbrev pub lines_at : Report → Totals → Item → List ℕ
-lines_at reports.Findings counts item = finding_lines_in counts.groups counts.in_group item
-lines_at reports.Explained counts item = explained_in counts.groups counts.in_group (counts.records + 1) item
-lines_at (reports.UpToFault false) counts item = finding_lines_in counts.groups counts.in_group item
-lines_at (reports.UpToFault true) counts item = explained_in counts.groups counts.in_group (counts.records + 1) item
-lines_at reports.Records counts item = numbered_records (counts.records + 1) (item_records item)
-lines_at (reports.Data enc noted) counts item = item_line enc (notes_at noted counts item) item
+-- the lines of the findings in one item more, after items with these numbers
+abbrev pub findings_at : Bool → Totals → Item → List ℕ
+findings_at false counts item = finding_lines_in counts.groups counts.in_group item
+findings_at true counts item = explained_in counts.groups counts.in_group (counts.records + 1) item
 
 -- The lines of an item are put, or the writer fails in them. Where memory for them is refused none of them is put.
 abbrev pub PutsLines : {W : Type 0} → (W → Option (List ℕ)) → (W → ℕ) → Bool → List ℕ → Result (Unit {0}) ToolFault → Sink W → Sink W → Type 0
@@ -88,6 +75,24 @@ PutsLines contents failures takes_memory text (Ok u) old new = Puts {E = ToolFau
 PutsLines contents failures takes_memory text (Err Memory) old new = (takes_memory ≡ true) × (new ≡ old)
 PutsLines contents failures takes_memory text (Err (Writer written)) old new = Puts {E = ToolFault} contents failures text (Err (Writer written)) old new × (written ≡ written_of new)
 PutsLines contents failures takes_memory text (Err fault) old new = ⊥
+
+-- the lines of one item more are put, after those of the items before
+abbrev pub PutsNext : {W : Type 0} → (W → Option (List ℕ)) → (W → ℕ) → ItemLines → List Item → Item → Result (Unit {0}) ToolFault → Sink W → Sink W → Type 0
+PutsNext contents failures of given item result old new =
+    (text : List ℕ) × (of.lines (given ++ item ∷ []) ≡ of.lines given ++ text) × PutsLines contents failures (of.take_memory item) text result old new
+
+-- of a transaction that is so nothing is told, and what stands after the items before it stands after it
+abbrev pub PassesOver : (List RecordValue → Type 0) → ItemLines → (List Item → Type 0) → Type 0
+PassesOver is_so of stands = (given : List Item) (t : List RecordValue) → is_so t → stands given
+    → (of.lines (given ++ Transaction t ∷ []) ≡ of.lines given) × stands (given ++ Transaction t ∷ [])
+
+-- it stands after items with these numbers
+abbrev pub StandsCounted : (ItemLines → List Item → Type 0) → Totals → Type 0
+StandsCounted stands counts = (of : ItemLines) × (given : List Item) × IsCount counts given × stands of given
+
+-- it stands after the items before the verdict
+abbrev pub StandsAfter : (List Item → Type 0) → Limits → Option (List ℕ) → Option (List ℕ) → Verdict → Type 0
+StandsAfter stands limits before after verdict = (given : List Item) × IsRightVerdict limits before verdict after given × stands given
 
 -- after what the writer had, the text is written
 pub record HasPut {W : Type 0} (contents : W → Option (List ℕ)) (failures : W → ℕ) (text : List ℕ) (old new : Sink W) : Type 0 where

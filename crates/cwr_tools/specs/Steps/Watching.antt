@@ -1,22 +1,23 @@
--- What a report watches for in the items that it tells.
-use Rattle.std.specs.Prelude.{◌≡◌, ℕ, ◌||◌, List, Option, IfSome}
-use Rattle.cwr_shape.specs.declared.limits.Limits.{Limits}
+-- What is known of the findings that were told: the worst level of one.
+use Rattle.std.specs.Prelude.{◌≡◌, Bool, false, ◌||◌, List, Option, Some, None}
+use Rattle.cwr_shape.specs.declared.reasons.Level.{Level}
 use Rattle.cwr_values.specs.declared.items.Item.{Item}
-use Rattle.cwr_tools.specs.declared.item_lines.Report.{Report}
-use Rattle.cwr_tools.specs.declared.item_lines.Report.TheVariants as reports
-use Rattle.cwr_tools.specs.declared.verdicts.Verdict.{Verdict}
-use Rattle.cwr_tools.specs.declared.watch.Watch.{Watch}
-use Rattle.cwr_tools.specs.Format.Watching.{watched}
-use Rattle.cwr_tools.specs.Steps.Verdicts.{IsRightVerdict}
+use Rattle.cwr_tools.specs.Format.Watching.{any_from, is_from}
 
--- a report of findings sees those in the items, and any other sees none
-abbrev pub watched_by : Report → Watch → List Item → Watch
-watched_by reports.Findings watch items = watched watch items
-watched_by reports.Explained watch items = watched watch items
-watched_by (reports.UpToFault explained) watch items = watched watch items
-watched_by reports.Records watch items = watch
-watched_by (reports.Data enc noted) watch items = watch
+-- the level is that which is asked for, or a worse one
+abbrev pub is_reached_by : Option Level → Level → Bool
+is_reached_by None level = false
+is_reached_by (Some asked) level = is_from asked level
 
--- the items are those before the verdict
-abbrev pub WatchesRun : Report → Limits → Option (List ℕ) → Option (List ℕ) → Watch → Watch → Verdict → Type 0
-WatchesRun report limits before after old new verdict = (given : List Item) × IsRightVerdict limits before verdict after given × (new ≡ watched_by report old given)
+-- so is the worst one, if there is one
+abbrev pub is_reached : Option Level → Option Level → Bool
+is_reached asked None = false
+is_reached asked (Some worst) = is_reached_by asked worst
+
+-- with the findings in these items
+abbrev pub Sees : Option Level → Option Level → List Item → Type 0
+Sees old new items = (asked : Option Level) → is_reached asked new ≡ (is_reached asked old || any_from asked items)
+
+-- it is the worst of the findings in these items
+abbrev pub IsWorst : Option Level → List Item → Type 0
+IsWorst worst items = (asked : Option Level) → is_reached asked worst ≡ any_from asked items

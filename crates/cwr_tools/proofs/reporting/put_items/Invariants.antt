@@ -1,16 +1,15 @@
-use Rattle.std.proofs.Common.{◌≡◌, ◌+◌, ◌-◌, true}
-use Rattle.cwr_tools.specs.Steps.Reports.{holds_last}
+use Rattle.std.proofs.Common.{◌≡◌, ◌+◌, ◌-◌, [], true}
+use Rattle.cwr_tools.specs.Format.Reports.{ItemLines}
 use Rattle.cwr_tools.proofs.LastReported.{HoldsRead}
 use Rattle.cwr_tools.proofs.ReportsOn.{IsReporting}
-use Rattle.cwr_tools.proofs.WatchedRuns.{IsWatching}
 use Rattle.cwr_tools.proofs.reporting.put_items.Given as goal
 
 abbrev pub invariant-items : goal.invariant-items
 invariant-items g l = record {
-  reporting : IsReporting l.report l.fn.limits l.reading.decoder (g.R.Source.remaining l.fn.reader) (g.R.Source.remaining l.reading.reader.now) g.W.Target.contents g.W.Target.failures l.counts l.fn.sink l.sink;
-  watching : IsWatching l.report l.fn.limits l.reading.decoder (g.R.Source.remaining l.fn.reader) (g.R.Source.remaining l.reading.reader.now) l.counts l.fn.watch l.watch;
+  reporting : (of : ItemLines) → g.L.Report.stands l.fn.lines of [] → IsReporting of (g.L.Report.stands l.lines of) l.fn.limits l.reading.decoder (g.R.Source.remaining l.fn.reader) (g.R.Source.remaining l.reading.reader.now)
+      g.W.Target.contents g.W.Target.failures l.counts l.fn.sink l.sink;
   failures : g.R.Source.failures l.reading.reader.now ≡ g.R.Source.failures l.fn.reader;
-  last : holds_last l.report ≡ true → HoldsRead (g.R.Source.remaining l.fn.reader) (g.R.Source.remaining l.reading.reader.now) l.reading.last;
+  last : l.holds_last ≡ true → HoldsRead (g.R.Source.remaining l.fn.reader) (g.R.Source.remaining l.reading.reader.now) l.reading.last;
   same : l.reading.reader.ghost_name ≡ l.initial.reading.reader.ghost_name;
 }
 

@@ -1,15 +1,16 @@
-use Rattle.cwr_tools.specs.Steps.Reports.{lines_in}
 use Rattle.cwr_tools.proofs.ReportsWhole.{verdict_cut, verdict_put}
 use Rattle.cwr_tools.proofs.reporting.put_report.Goals as goal
 
 pub put_verdict-requires : goal.put_verdict-requires
-put_verdict-requires g c = c.in_ok-verdict.ensures.puts.2.unfailed
+put_verdict-requires g c = (c.in_ok-verdict.ensures.puts c.requires.stands.0 c.requires.stands.1).2.unfailed
 
 pub returns-in-Ok-clause-puts : goal.returns-in-Ok-clause-puts
-returns-in-Ok-clause-puts g c =
-    verdict_put (lines_in c.args.report) c.args.limits _ _ g.W.Target.contents g.W.Target.failures c.in_ok-verdict.verdict tt c.args.sink.now c.put_items.new.sink c.put_verdict.new.sink c.in_ok-verdict.ensures.puts c.in-Ok.ensures
+returns-in-Ok-clause-puts g c = λ of s.
+    let after = c.in_ok-verdict.ensures.stands of s in
+    verdict_put of c.args.limits _ _ g.W.Target.contents g.W.Target.failures c.in_ok-verdict.verdict tt c.args.sink.now c.put_items.new.sink c.put_verdict.new.sink (c.in_ok-verdict.ensures.puts of s) (c.in-Ok.ensures of after.0 after.2)
 
 pub returns-in-Err-clause-puts : goal.returns-in-Err-clause-puts
-returns-in-Err-clause-puts g c =
-    verdict_cut (lines_in c.args.report) c.args.limits _ _ g.W.Target.contents g.W.Target.failures c.in_ok-verdict.verdict c.in-Err.fault c.writer_fault.result c.args.sink.now c.put_items.new.sink c.put_verdict.new.sink
-    c.writer_fault.ensures c.in_ok-verdict.ensures.puts c.in-Err.ensures
+returns-in-Err-clause-puts g c = λ of s.
+    let after = c.in_ok-verdict.ensures.stands of s in
+    verdict_cut of c.args.limits _ _ g.W.Target.contents g.W.Target.failures c.in_ok-verdict.verdict c.in-Err.fault c.writer_fault.result c.args.sink.now c.put_items.new.sink c.put_verdict.new.sink
+    c.writer_fault.ensures (c.in_ok-verdict.ensures.puts of s) (c.in-Err.ensures of after.0 after.2)

@@ -1,4 +1,4 @@
-use Rattle.std.proofs.Common.{◌≡◌, ℕ, List, [], refl, sym, subst, append-nil}
+use Rattle.std.proofs.Common.{ℕ, List, [], refl, sym, subst, append-nil}
 use Rattle.std.specs.Prelude.{Ok}
 use Rattle.cwr_encode.specs.Steps.Sinks.{HasWritten}
 use Rattle.cwr_levels.specs.Steps.Putting.{PutsText}

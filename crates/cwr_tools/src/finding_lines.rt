@@ -1,0 +1,221 @@
+//! The lines of findings, put to a sink.
+
+ghost use Rattle.std.specs.Prelude.{◌≡◌, ◌+◌, ◌≤◌, ◌∷◌, [], length, true, false, IfErr, OnOk};
+ghost use Rattle.std.specs.List.{flat_map};
+ghost use Rattle.cwr_encode.specs.Steps.Sinks.{Puts, has_failed, written_of};
+ghost use Rattle.cwr_judge.specs.Format.Items.{item_records};
+ghost use Rattle.cwr_levels.specs.Format.ReportLines.{finding_line};
+ghost use Rattle.cwr_tools.specs.Format.Reports.{has_findings, transaction_lines};
+ghost use Rattle.cwr_tools.specs.Steps.Watching.{Sees};
+ghost use Rattle.cwr_tools.specs.Steps.Reports.{PutsLines};
+
+use crate::finding_notes::put_all_explained;
+use crate::reporting::{put_unrefused_line, put_verdict_line};
+use crate::reports::Report;
+use crate::totals::Totals;
+use crate::verdicts::{ToolFault, Verdict};
+use crate::watch::Told;
+use cwr_decode::Keeper;
+use cwr_encode::{Sink, SinkFault};
+use cwr_fields::Target;
+use cwr_layouts::RecordRef;
+use cwr_levels::{Finding, Sums, finding_line, findings};
+use cwr_values::{Item, Transaction};
+use std::alloc::Global;
+
+/// The fault of a run whose writer failed.
+pub fn writer_fault(fault: SinkFault) -> ToolFault
+    ensures { result ≡ ToolFault.Writer fault.written }
+{
+    ToolFault::Writer {
+        written: fault.written,
+    }
+}
+
+/// Puts the lines of findings in the transaction of that sequence in the group of that ID.
+fn put_found<W: Target>(
+    group: u32,
+    sequence: u32,
+    found: &[Finding],
+    sink: &mut Sink<W>,
+) -> Result<(), SinkFault>
+    requires { has_failed sink.old ≡ false }
+    ensures puts { Puts W.contents W.failures (flat_map (finding_line group sequence) found.now) result sink.old sink.new }
+    ensures fault { IfErr result (λ f. f.written ≡ written_of sink.new) }
+{
+    let mut i = 0;
+    while let Some(finding) = found.get(i) {
+        finding_line(group, sequence, finding, sink)?;
+        i += 1;
+    }
+    Ok(())
+}
+
+/// Puts the lines of findings in the transaction of that sequence in the group of that ID, and notes that they are told. Where they are
+/// explained, lines follow each, and the transaction's first record is on that line of the file.
+fn put_findings_in<W: Target>(
+    explained: bool,
+    alloc: Global,
+    group: u32,
+    sequence: u32,
+    first: u64,
+    transaction: &Transaction,
+    told: &mut Told,
+    sink: &mut Sink<W>,
+) -> Result<(), ToolFault>
+    requires unfailed { has_failed sink.old ≡ false }
+    requires few { explained ≡ true → first + length transaction.now ≤ 100000000 }
+    ensures puts { PutsLines W.contents W.failures (has_findings (Item.Transaction transaction.now)) (transaction_lines explained group sequence first transaction.now) result sink.old sink.new }
+    ensures seen { OnOk result (Sees told.old.worst told.new.worst (Item.Transaction transaction.now ∷ [])) }
+{
+    let Ok(found) = findings(alloc, transaction) else {
+        return Err(ToolFault::Memory);
+    };
+    told.add(found.as_slice());
+    let put = match explained {
+        true => put_all_explained(group, sequence, first, transaction, found.as_slice(), sink),
+        false => put_found(group, sequence, found.as_slice(), sink),
+    };
+    match put {
+        Ok(()) => Ok(()),
+        Err(fault) => Err(writer_fault(fault)),
+    }
+}
+
+/// Puts the lines of findings in the transaction of that sequence in the group of that ID, and counts them. Where they are explained,
+/// lines follow each, and the transaction's first record is on that line of the file.
+pub fn put_transaction_findings<W: Target>(
+    explained: bool,
+    alloc: Global,
+    group: u32,
+    sequence: u32,
+    first: u64,
+    transaction: &Transaction,
+    count: &mut u64,
+    sink: &mut Sink<W>,
+) -> Result<(), ToolFault>
+    requires unfailed { has_failed sink.old ≡ false }
+    requires few { explained ≡ true → first + length transaction.now ≤ 100000000 }
+    ensures { PutsLines W.contents W.failures (has_findings (Item.Transaction transaction.now)) (transaction_lines explained group sequence first transaction.now) result sink.old sink.new }
+{
+    let mut told = Told::new();
+    let put = put_findings_in(
+        explained,
+        alloc,
+        group,
+        sequence,
+        first,
+        transaction,
+        &mut told,
+        sink,
+    );
+    *count = count.saturating_add(told.findings);
+    put
+}
+
+/// The findings in each transaction, a line each, and the line of the verdict.
+#[derive(Drop)]
+pub(crate) struct FindingLines {
+    /// With the rule under each finding, and the cells that it speaks of.
+    explained: bool,
+    /// Without the line of a refusal: who goes on after it tells it.
+    up_to_fault: bool,
+    /// Those that were told.
+    pub(crate) told: Told,
+}
+
+impl FindingLines {
+    /// Before the first item.
+    pub(crate) fn new(explained: bool, up_to_fault: bool) -> FindingLines
+        ensures explained { result.explained ≡ explained }
+        ensures up_to_fault { result.up_to_fault ≡ up_to_fault }
+        ensures told { result.told.worst ≡ None }
+    {
+        FindingLines {
+            explained,
+            up_to_fault,
+            told: Told::new(),
+        }
+    }
+}
+
+/// Keeps the sums of a work in place of its records, so that works without findings are passed over.
+#[derive(Drop)]
+pub(crate) struct FindingSums(Sums);
+
+impl Keeper for FindingSums {
+    ghost use Rattle.std.specs.Prelude.{◌≡◌, []};
+    ghost use Rattle.cwr_levels.specs.Format.Findings.{findings};
+    ghost use Rattle.cwr_levels.specs.Steps.Sums.{StandFor};
+
+    ghost stands_for = { λ kept records. StandFor kept.0 records };
+
+    ghost are_clean = { λ records. findings records ≡ [] };
+
+    fn begin(&mut self, header: &RecordRef<'_>) -> bool {
+        self.0.begin(header)
+    }
+
+    fn add(&mut self, next: &RecordRef<'_>) -> bool {
+        self.0.add(next)
+    }
+
+    fn is_clean(&self) -> bool {
+        self.0.is_clean()
+    }
+}
+
+impl Report for FindingLines {
+    ghost use Rattle.std.specs.Prelude.{◌≡◌};
+    ghost use Rattle.cwr_tools.specs.Steps.Reports.{lines_told};
+    ghost use Rattle.cwr_tools.specs.Steps.Watching.{IsWorst};
+
+    type Works = FindingSums;
+
+    ghost stands = { λ report of given. (of ≡ lines_told report.explained report.up_to_fault) × IsWorst report.told.worst given };
+
+    fn works(&self) -> FindingSums {
+        FindingSums(Sums::new())
+    }
+
+    fn passes(&self) -> bool {
+        true
+    }
+
+    fn put_first<W: Target>(&mut self, _: &mut Sink<W>) -> Result<(), ToolFault> {
+        Ok(())
+    }
+
+    fn put_item<W: Target>(
+        &mut self,
+        alloc: Global,
+        counts: &Totals,
+        item: &Item,
+        sink: &mut Sink<W>,
+    ) -> Result<(), ToolFault> {
+        match item {
+            Item::Transaction(transaction) => put_findings_in(
+                self.explained,
+                alloc,
+                counts.groups,
+                counts.in_group,
+                u64::from(counts.records) + 1,
+                transaction,
+                &mut self.told,
+                sink,
+            ),
+            Item::Opened(_) | Item::GroupOpened(_) | Item::GroupClosed(_) | Item::Ended => Ok(()),
+        }
+    }
+
+    fn put_verdict<W: Target>(
+        &self,
+        verdict: &Verdict,
+        sink: &mut Sink<W>,
+    ) -> Result<(), SinkFault> {
+        match self.up_to_fault {
+            true => put_unrefused_line(verdict, sink),
+            false => put_verdict_line(verdict, sink),
+        }
+    }
+}

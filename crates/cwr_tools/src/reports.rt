@@ -1,0 +1,88 @@
+//! What a run over a text writes: a report.
+
+ghost use Rattle.std.specs.Prelude.{◌≡◌, ◌+◌, ◌≤◌, ◌∷◌, ◌++◌, [], List, length, IsTrue, OnOk, false};
+ghost use Rattle.cwr_encode.specs.Steps.Sinks.{has_failed};
+ghost use Rattle.cwr_judge.specs.Format.Items.{item_records};
+ghost use Rattle.cwr_layouts.specs.Format.Records.{RecordValue};
+ghost use Rattle.cwr_levels.specs.Steps.Putting.{PutsText};
+ghost use Rattle.cwr_values.specs.declared.items.Item.{Item};
+ghost use Rattle.cwr_tools.specs.Format.Reports.{ItemLines};
+ghost use Rattle.cwr_tools.specs.Steps.Counts.{HasRoomToCount, IsCount};
+ghost use Rattle.cwr_tools.specs.Steps.Reports.{PassesOver, PutsLines, PutsNext, StandsCounted};
+
+use crate::totals::Totals;
+use crate::verdicts::{ToolFault, Verdict};
+use cwr_decode::Keeper;
+use cwr_encode::{Sink, SinkFault};
+use cwr_fields::Target;
+use cwr_layouts::RecordRef;
+use cwr_values::Item;
+use std::alloc::Global;
+
+/// What a run writes of a transmission: the lines of its items, one item after another, and what stands for the verdict.
+pub trait Report {
+    /// What is kept of a transaction of which, if it is clean, nothing is told.
+    type Works: Keeper + Drop;
+
+    // It writes these lines, and is as these items leave it.
+    ghost stands: { Self → ItemLines → List Item → Type 0 };
+
+    /// With nothing kept yet.
+    fn works(&self) -> Self::Works;
+
+    /// Whether transactions that are clean may be passed over.
+    fn passes(&self) -> bool
+        ensures { IsTrue result → (of : ItemLines) → PassesOver Self.Works.are_clean of (stands self.now of) };
+
+    /// Puts what stands before the items.
+    fn put_first<W: Target>(&mut self, sink: &mut Sink<W>) -> Result<(), ToolFault>
+        requires unfailed { has_failed sink.old ≡ false }
+        requires stands { (of : ItemLines) × stands self.old of [] }
+        ensures puts { (of : ItemLines) → stands self.old of [] → PutsLines W.contents W.failures false (of.lines []) result sink.old sink.new }
+        ensures stands { (of : ItemLines) → stands self.old of [] → OnOk result (stands self.new of []) };
+
+    /// Puts the lines of an item that comes after items with these numbers.
+    fn put_item<W: Target>(
+        &mut self,
+        alloc: Global,
+        counts: &Totals,
+        item: &Item,
+        sink: &mut Sink<W>,
+    ) -> Result<(), ToolFault>
+        requires unfailed { has_failed sink.old ≡ false }
+        requires room { HasRoomToCount counts.now }
+        requires few { counts.now.records + length (item_records item.now) ≤ 99999999 }
+        requires stands { StandsCounted (stands self.old) counts.now }
+        ensures puts { (of : ItemLines) (given : List Item) → IsCount counts.now given → stands self.old of given → PutsNext W.contents W.failures of given item.now result sink.old sink.new }
+        ensures stands { (of : ItemLines) (given : List Item) → IsCount counts.now given → stands self.old of given → OnOk result (stands self.new of (given ++ item.now ∷ [])) };
+
+    /// Puts what stands for the verdict.
+    fn put_verdict<W: Target>(&self, verdict: &Verdict, sink: &mut Sink<W>) -> Result<(), SinkFault>
+        requires { has_failed sink.old ≡ false }
+        ensures { (of : ItemLines) (given : List Item) → stands self.now of given → PutsText W.contents W.failures (of.last verdict.now) result sink.old sink.new };
+}
+
+/// Keeps nothing of any transaction: none is passed over.
+#[derive(Drop)]
+pub struct NothingKept;
+
+impl Keeper for NothingKept {
+    ghost use Rattle.std.specs.Prelude.{List};
+    ghost use Rattle.cwr_layouts.specs.Format.Records.{RecordValue};
+
+    ghost stands_for = { λ kept records. Unit {0} };
+
+    ghost are_clean = { λ records. ⊥ };
+
+    fn begin(&mut self, _: &RecordRef<'_>) -> bool {
+        false
+    }
+
+    fn add(&mut self, _: &RecordRef<'_>) -> bool {
+        false
+    }
+
+    fn is_clean(&self) -> bool {
+        false
+    }
+}
