@@ -1,7 +1,7 @@
 use Rattle.std.proofs.Common.{◌≡◌, ◌≤◌, ◌-◌, ◌++◌, ℕ, List, Option, length, take, false}
 use Rattle.cwr_encode.specs.Steps.Sinks.{HasWritten, has_failed, writer_of}
 use Rattle.cwr_acks.specs.Steps.AckSteps.{row_lines}
-use Rattle.cwr_acks.proofs.matching.put_row.Given as goal
+use Rattle.cwr_acks.proofs.unanswered.put_row.Given as goal
 
 abbrev pub invariant-loop-entry : goal.invariant-loop-entry
 invariant-loop-entry g l = record {
@@ -9,7 +9,7 @@ invariant-loop-entry g l = record {
   unfailed : has_failed l.sink ≡ false;
   counts : g.W.Target.failures (writer_of l.sink) ≡ g.W.Target.failures (writer_of l.initial.sink);
   written : (start : Option (List ℕ)) (before : List ℕ) → HasWritten g.W.Target.contents start before l.initial.sink
-      → HasWritten g.W.Target.contents start (before ++ row_lines l.fn.group (take l.sequence l.row)) l.sink;
+      → HasWritten g.W.Target.contents start (before ++ row_lines l.form l.fn.group (take l.sequence l.row)) l.sink;
 }
 
 abbrev pub decreases-loop-entry : goal.decreases-loop-entry
