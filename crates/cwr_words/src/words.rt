@@ -80,6 +80,8 @@ pub enum Work<'a> {
         file: Option<&'a str>,
         /// The name of the file of the transmission that they answer, or none where they are matched with none.
         sent: Option<&'a str>,
+        /// As lines of JSON.
+        as_json: bool,
     },
     /// A transmission is written from lines of JSON.
     Write {
@@ -164,6 +166,9 @@ const ACKS: &str = "acks";
 
 /// The id of the file of the transmission that acknowledgements answer.
 const SENT: &str = "sent";
+
+/// The id of the flag that asks for lines of JSON.
+const AS_JSON: &str = "json";
 
 /// The name of the subcommand that reads JSON.
 const WRITE: &str = "write";
@@ -392,12 +397,18 @@ fn answering<'a>(alloc: Global) -> Result<Command<'a>, AllocError> {
     let sent = Arg::new(alloc, SENT).long(SENT).value_name("SENT").help(
         "The transmission that they answer: tells what of it isn't answered, and what wasn't sent",
     );
+    let as_json = flag(
+        alloc,
+        AS_JSON,
+        "Writes lines of JSON, an object for each acknowledgement",
+    );
     over_one(
         alloc,
         ACKS,
         "Tells what the acknowledgements of a transmission say, and its verdict to standard error",
     )?
-    .arg(sent)
+    .arg(sent)?
+    .arg(as_json)
 }
 
 /// The subcommand that reads JSON.
@@ -500,6 +511,8 @@ With --sent it writes what was never sent, or with another title, or is answered
   RETITLED group G transaction T TYPE ...
   AGAIN group G transaction T TYPE ...
   UNANSWERED group G transaction T TYPE
+
+With --json it writes all this as lines of JSON, an object for each acknowledgement.
 
 `cwr write` writes to standard error:
   WRITTEN lines L bytes B                    the transmission is written
@@ -675,6 +688,7 @@ fn acks_in<'a>(given: &ArgMatches<'a>) -> Work<'a>
     Work::Acks {
         file: given.get_str(FILE),
         sent: given.get_str(SENT),
+        as_json: given.get_flag(AS_JSON),
     }
 }
 
