@@ -104,9 +104,9 @@ with_counts count (this_status ∷ more) = with_number (status_code this_status)
 
 -- how many of the items are acknowledgements, and how many of them have each status
 abbrev pub counts_data : List Item → Json
-counts_data items =
-    object (with_number (codes "acks") (count_by is_answer items)
-    (member (codes "statuses") (object (with_counts (λ this_status. count_by (has_status this_status) items) transaction_statuses)) no_members))
+counts_data given =
+    object (with_number (codes "acks") (count_by is_answer given)
+    (member (codes "statuses") (object (with_counts (λ this_status. count_by (has_status this_status) given) transaction_statuses)) no_members))
 
 -- ---- lines
 

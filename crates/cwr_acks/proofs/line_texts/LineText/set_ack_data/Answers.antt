@@ -4,7 +4,7 @@ use Rattle.cwr_layouts.specs.Format.Records.{cell_named}
 use Rattle.cwr_acks.specs.Steps.DataTexts.{cell_at, cell_member_if, level_member, notes_members, original_members, status_members}
 use Rattle.cwr_acks.proofs.AckFields.{recipient, submitter, title}
 use Rattle.cwr_acks.proofs.NamedParts.{cell_is}
-use Rattle.cwr_acks.proofs.data_texts.LineText.set_ack_data.Goals as goal
+use Rattle.cwr_acks.proofs.line_texts.LineText.set_ack_data.Goals as goal
 
 pub returns : goal.returns
 returns c =

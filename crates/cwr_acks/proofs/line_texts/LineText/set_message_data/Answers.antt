@@ -5,7 +5,7 @@ use Rattle.cwr_acks.specs.Format.AckTexts.{number_part}
 use Rattle.cwr_acks.specs.Steps.DataTexts.{cell_at, cell_member, cell_member_if, comma_if}
 use Rattle.cwr_acks.proofs.AckFields.{level, message_text, message_type, record_number, record_type, validation}
 use Rattle.cwr_acks.proofs.NamedParts.{cell_is, cell_long}
-use Rattle.cwr_acks.proofs.data_texts.LineText.set_message_data.Goals as goal
+use Rattle.cwr_acks.proofs.line_texts.LineText.set_message_data.Goals as goal
 
 pub push_number_part-requires-clause-short : goal.push_number_part-requires-clause-short
 push_number_part-requires-clause-short c = let h = cell_long "original record sequence" c.args.shown.now 5 8 c.cell.result.now c.cell.ensures.value (record_number c.args.shown.now c.requires) c.cell.ensures.fits in omega (arith, h)

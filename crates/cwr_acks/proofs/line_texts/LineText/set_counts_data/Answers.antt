@@ -4,7 +4,7 @@ use Rattle.std.proofs.lemmas.Option.{slice_get-get_or}
 use Rattle.cwr_fields.specs.Format.MessageCodes.{status_code, transaction_statuses}
 use Rattle.cwr_acks.specs.Steps.DataTexts.{count_member}
 use Rattle.cwr_acks.proofs.Statuses.{counts_more, counts_to, counts_whole}
-use Rattle.cwr_acks.proofs.data_texts.LineText.set_counts_data.Goals as goal
+use Rattle.cwr_acks.proofs.line_texts.LineText.set_counts_data.Goals as goal
 
 pub loop-i-init : goal.loop-i-init
 loop-i-init c = record {
@@ -24,9 +24,10 @@ loop-i-preserved c =
     let head : List ℕ = codes "{\"acks\":" ++ decimal c.args.answers.now.all ++ codes ",\"statuses\":{" in
     let next : suc i ≡ i + 1 = omega arith in
     let within : i < length ns = omega (arith, c.requires, c.loop-i-test.true) in
-    let part : List ℕ = count_member (nat_lt 0 i) (status_code (get_or transaction_statuses i _)) (get_or ns i 0) in
     record {
-      value = c.push_count_data.ensures.value ∙ ap (λ (l : List ℕ). l ++ part) c.loop-i.invariant.value ∙ append_assoc head (counts_to i ns) part
+      value = c.push_count_data.ensures.value
+          ∙ ap (λ (l : List ℕ). l ++ count_member (nat_lt 0 i) (status_code (get_or transaction_statuses i _)) (get_or ns i 0)) c.loop-i.invariant.value
+          ∙ append_assoc head (counts_to i ns) (count_member (nat_lt 0 i) (status_code (get_or transaction_statuses i _)) (get_or ns i 0))
           ∙ ap (λ (l : List ℕ). head ++ l) (sym (counts_more ns i _ (slice_get-get_or transaction_statuses i _ c.loop-i-test.true) within) ∙ ap (λ (n : ℕ). counts_to n ns) next);
       len = omega (arith, c.push_count_data.ensures.len, c.loop-i.invariant.len);
     }
