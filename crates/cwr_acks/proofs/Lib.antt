@@ -2,6 +2,8 @@ pub mod NothingPut
 pub mod NamedParts
 pub mod AckFields
 pub mod Statuses
+pub mod PrintedParts
+pub mod PrintedAcks
 pub mod LinesOfItems
 pub mod AcksOn
 pub mod AnswerLines

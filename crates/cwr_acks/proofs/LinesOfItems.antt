@@ -15,15 +15,19 @@ use Rattle.cwr_tools.specs.declared.totals.Totals.{Totals}
 use Rattle.cwr_tools.specs.Steps.Counts.{HasRoomToCount, IsCount}
 use Rattle.cwr_acks.specs.declared.counts.Answers.{Answers}
 use Rattle.cwr_acks.specs.Format.Acknowledgements.{has_status, is_answer}
-use Rattle.cwr_acks.specs.Format.AckLines.{ack_lines, lines_after}
-use Rattle.cwr_acks.specs.Format.AckTexts.{answer_lines, counts_line, status_part}
+use Rattle.cwr_acks.specs.declared.forms.Form.{Form}
+use Rattle.cwr_acks.specs.declared.forms.Form.TheVariants as forms
+use Rattle.cwr_acks.specs.Format.AckLines.{ack_lines, counts_after, lines_after}
+use Rattle.cwr_acks.specs.Format.AckTexts.{counts_line, status_part}
 use Rattle.cwr_sent.specs.declared.facts.SentFacts.{SentFacts}
 use Rattle.cwr_sent.specs.declared.tables.Sent.{Sent}
 use Rattle.cwr_sent.specs.Format.SentRows.{facts_in_rows, rows}
 use Rattle.cwr_acks.specs.Format.SentAnswers.{is_answered}
-use Rattle.cwr_acks.proofs.Matched.{fresh_is, marks_are, note_is, rows_from, unanswered_are}
+use Rattle.cwr_acks.proofs.Matched.{fresh_is, marks_are, rows_from, transaction_is, unanswered_are}
+use Rattle.cwr_acks.proofs.PrintedAcks.{counts_shown}
 use Rattle.cwr_acks.specs.Format.SentAnswers.{IsFresh, facts_if}
-use Rattle.cwr_acks.specs.Steps.AckSteps.{Table, marked_with, rows_if, HasRoom, answers_with, counts_text, lines_at, no_answers, one_more_if}
+use Rattle.cwr_acks.specs.Steps.AckSteps.{Table, marked_with, rows_if, HasRoom, answers_with, counts_in, counts_text, lines_at, no_answers, one_more_if}
+use Rattle.cwr_acks.specs.Steps.DataTexts.{counts_data_text}
 
 -- ---- by the items before
 
@@ -131,10 +135,11 @@ parts_are : (f : TransactionStatus → ℕ) (ss : List TransactionStatus) → fl
 parts_are f [] = refl
 parts_are f (s ∷ ss) = ap (λ (l : List ℕ). status_part (status_code s) (f s) ++ l) (parts_are f ss)
 
-counts_are : (answers : Answers) (given : List Item) → IsAnswers answers given → counts_text answers ≡ counts_line given
-counts_are answers given h =
+counts_are : (form : Form) (answers : Answers) (given : List Item) → IsAnswers answers given → counts_in form answers ≡ counts_after form given
+counts_are forms.Words answers given h =
     ap₂ (λ (n : ℕ) (ns : List ℕ). codes "ACKS " ++ decimal n ++ flat_map (λ (p : TransactionStatus × ℕ). status_part (status_code p.0) p.1) (zip transaction_statuses ns) ++ codes "\n") h.all h.each
     ∙ ap (λ (l : List ℕ). codes "ACKS " ++ decimal (count_by is_answer given) ++ l ++ codes "\n") (parts_are (λ s. count_by (has_status s) given) transaction_statuses)
+counts_are forms.Json answers given h = ap₂ counts_data_text h.all h.each ∙ counts_shown given
 
 -- ---- what was sent
 
@@ -153,22 +158,23 @@ matched_more table (Some s) given item h = ap (option_map (λ (t : Table). marke
 
 -- ---- all lines
 
-lines_of : (sent : Option (List (List SentFacts))) (answers : Answers) (given : List Item) (item : Item) → IsAnswers answers given → lines_after sent given item ≡ lines_at (option_map (rows_from 1 (is_answered given)) sent) answers item
-lines_of None answers given (items.Transaction t) h = refl
-lines_of None answers given items.Ended h = sym (counts_are answers given h)
-lines_of (Some s) answers given (items.Transaction t) h = ap (λ (l : List ℕ). answer_lines t ++ l) (sym (note_is s given t))
-lines_of (Some s) answers given items.Ended h = ap₂ (λ (l m : List ℕ). l ++ m) (sym (unanswered_are s given)) (sym (counts_are answers given h))
-lines_of sent answers given (items.Opened r) h = refl
-lines_of sent answers given (items.GroupOpened r) h = refl
-lines_of sent answers given (items.GroupClosed r) h = refl
+lines_of : (form : Form) (sent : Option (List (List SentFacts))) (answers : Answers) (given : List Item) (item : Item) → IsAnswers answers given
+    → lines_after form sent given item ≡ lines_at form (option_map (rows_from 1 (is_answered given)) sent) answers item
+lines_of form sent answers given (items.Transaction t) h = sym (transaction_is form sent given t)
+lines_of form None answers given items.Ended h = sym (counts_are form answers given h)
+lines_of form (Some s) answers given items.Ended h = ap₂ (λ (l m : List ℕ). l ++ m) (sym (unanswered_are form s given)) (sym (counts_are form answers given h))
+lines_of form sent answers given (items.Opened r) h = refl
+lines_of form sent answers given (items.GroupOpened r) h = refl
+lines_of form sent answers given (items.GroupClosed r) h = refl
 
 -- without items there are none
-pub lines_none : (sent : Option (List (List SentFacts))) → ack_lines sent [] ≡ []
+pub lines_none : (form : Form) (sent : Option (List (List SentFacts))) → ack_lines form sent [] ≡ []
 unfolding ack_lines
-lines_none sent = refl
+lines_none form sent = refl
 
-pub lines_more : (table : Option Table) (sent : Option (List (List SentFacts))) (answers : Answers) (given : List Item) (item : Item) → IsAnswers answers given → IsMatched table sent given → ack_lines sent (given ++ item ∷ []) ≡ ack_lines sent given ++ lines_at table answers item
+pub lines_more : (form : Form) (table : Option Table) (sent : Option (List (List SentFacts))) (answers : Answers) (given : List Item) (item : Item) → IsAnswers answers given → IsMatched table sent given
+    → ack_lines form sent (given ++ item ∷ []) ≡ ack_lines form sent given ++ lines_at form table answers item
 unfolding ack_lines
-lines_more table sent answers given item h k =
-    lines_from-snoc (lines_after sent) given item
-    ∙ ap (λ (l : List ℕ). ack_lines sent given ++ l) (lines_of sent answers given item h ∙ ap (λ (o : Option Table). lines_at o answers item) (sym k))
+lines_more form table sent answers given item h k =
+    lines_from-snoc (lines_after form sent) given item
+    ∙ ap (λ (l : List ℕ). ack_lines form sent given ++ l) (lines_of form sent answers given item h ∙ ap (λ (o : Option Table). lines_at form o answers item) (sym k))

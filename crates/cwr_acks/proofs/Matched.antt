@@ -19,8 +19,12 @@ use Rattle.cwr_sent.specs.Format.SentFacts.{facts_at}
 use Rattle.cwr_sent.specs.Format.SentRows.{fresh, fresh_rows}
 use Rattle.cwr_sent.specs.Steps.SentTables.{entry_at, mark_in, mark_row, marked}
 use Rattle.cwr_acks.specs.Format.Acknowledgements.{is_ack}
-use Rattle.cwr_acks.specs.Format.SentAnswers.{answers, group_of, is_answered, names, note_after, note_on, sequence_of, unanswered_line, unanswered_lines}
-use Rattle.cwr_acks.specs.Steps.AckSteps.{Table, entry_for, entry_line, if_wanted, marked_by, marked_with, note_by, note_in, numbered, row_lines, row_of, table_lines}
+use Rattle.cwr_acks.specs.declared.forms.Form.{Form}
+use Rattle.cwr_acks.specs.declared.matching.Notes.{Notes}
+use Rattle.cwr_acks.specs.Format.AckLines.{answer_in, transaction_after, unanswered_line, unanswered_lines}
+use Rattle.cwr_acks.specs.Format.SentAnswers.{answers, group_of, is_answered, notes_if, notes_on, sequence_of}
+use Rattle.cwr_acks.proofs.NamedParts.{or_false, or_true}
+use Rattle.cwr_acks.specs.Steps.AckSteps.{Table, entry_line, if_wanted, marked_by, marked_with, notes_by, notes_in, numbered, row_lines, row_of, table_lines, transaction_at}
 
 -- the entries of facts of one group, of which these are answered
 abbrev entries_from : ℕ → ℕ → (ℕ → ℕ → Bool) → List SentFacts → List Entry
@@ -65,48 +69,49 @@ entry_is a n (suc i) t (row ∷ rest) =
 abbrev facts_wanted : SentFacts → Option SentFacts
 facts_wanted f = cond (bytes_eq (letters f.kind) (letters kinds.Ack)) None (Some f)
 
-wanted_by : (a : Bool) (r : RecordValue) (f : SentFacts) (b : Bool) → note_by (cond (not b) (Some (made a f)) None) r ≡ note_on (cond b None (Some f)) a r
+wanted_by : (a : Bool) (r : RecordValue) (f : SentFacts) (b : Bool) → notes_by (cond (not b) (Some (made a f)) None) r ≡ notes_on (cond b None (Some f)) a r
 wanted_by a r f true = refl
 wanted_by a r f false = refl
 
-note_of : (a : Bool) (r : RecordValue) (o : Option SentFacts) → note_by (option_and_then if_wanted (option_map (made a) o)) r ≡ note_on (option_and_then facts_wanted o) a r
-note_of a r None = refl
-note_of a r (Some f) = wanted_by a r f (bytes_eq (letters f.kind) (letters kinds.Ack))
+notes_of : (a : Bool) (r : RecordValue) (o : Option SentFacts) → notes_by (option_and_then if_wanted (option_map (made a) o)) r ≡ notes_on (option_and_then facts_wanted o) a r
+notes_of a r None = refl
+notes_of a r (Some f) = wanted_by a r f (bytes_eq (letters f.kind) (letters kinds.Ack))
 
-note_at : (a : ℕ → ℕ → Bool) (sent : List (List SentFacts)) (r : RecordValue) (g t : ℕ)
-    → note_by (option_and_then if_wanted (cond (g == 0) None (entry_at (rows_from 1 a sent) (g - 1) t))) r
-    ≡ note_on (option_and_then facts_wanted (option_and_then (λ (row : List SentFacts). slice_get row t) (cond (g == 0) None (slice_get sent (g - 1))))) (a g t) r
-note_at a sent r zero t = refl
-note_at a sent r (suc g) t =
-    ap (λ (b : Bool). note_by (option_and_then if_wanted (cond b None (entry_at (rows_from 1 a sent) (suc g - 1) t))) r) (eqb-suc-zero g)
-    ∙ ap (λ (o : Option Entry). note_by (option_and_then if_wanted o) r) (entry_is a 1 (suc g - 1) t sent)
-    ∙ ap (λ (n : ℕ). note_by (option_and_then if_wanted (option_map (made (a n t)) (option_and_then (λ (row : List SentFacts). slice_get row t) (slice_get sent (suc g - 1))))) r) (omega arith)
-    ∙ note_of (a (suc g) t) r (option_and_then (λ (row : List SentFacts). slice_get row t) (slice_get sent (suc g - 1)))
-    ∙ sym (ap (λ (b : Bool). note_on (option_and_then facts_wanted (option_and_then (λ (row : List SentFacts). slice_get row t) (cond b None (slice_get sent (suc g - 1))))) (a (suc g) t) r) (eqb-suc-zero g))
+notes_at : (a : ℕ → ℕ → Bool) (sent : List (List SentFacts)) (r : RecordValue) (g t : ℕ)
+    → notes_by (option_and_then if_wanted (cond (g == 0) None (entry_at (rows_from 1 a sent) (g - 1) t))) r
+    ≡ notes_on (option_and_then facts_wanted (option_and_then (λ (row : List SentFacts). slice_get row t) (cond (g == 0) None (slice_get sent (g - 1))))) (a g t) r
+notes_at a sent r zero t = refl
+notes_at a sent r (suc g) t =
+    ap (λ (b : Bool). notes_by (option_and_then if_wanted (cond b None (entry_at (rows_from 1 a sent) (suc g - 1) t))) r) (eqb-suc-zero g)
+    ∙ ap (λ (o : Option Entry). notes_by (option_and_then if_wanted o) r) (entry_is a 1 (suc g - 1) t sent)
+    ∙ ap (λ (n : ℕ). notes_by (option_and_then if_wanted (option_map (made (a n t)) (option_and_then (λ (row : List SentFacts). slice_get row t) (slice_get sent (suc g - 1))))) r) (omega arith)
+    ∙ notes_of (a (suc g) t) r (option_and_then (λ (row : List SentFacts). slice_get row t) (slice_get sent (suc g - 1)))
+    ∙ sym (ap (λ (b : Bool). notes_on (option_and_then facts_wanted (option_and_then (λ (row : List SentFacts). slice_get row t) (cond b None (slice_get sent (suc g - 1))))) (a (suc g) t) r) (eqb-suc-zero g))
 
-note_if_ack : (sent : List (List SentFacts)) (before : List Item) (head : RecordValue) (b : Bool)
-    → cond b (note_by (entry_for (rows_from 1 (is_answered before) sent) head) head) [] ≡ cond b (note_on (facts_at sent (group_of head) (sequence_of head)) (is_answered before (group_of head) (sequence_of head)) head) []
-note_if_ack sent before head true = note_at (is_answered before) sent head (group_of head) (sequence_of head)
-note_if_ack sent before head false = refl
+notes_are : (sent : Option (List (List SentFacts))) (before : List Item) (a : RecordValue) → notes_in (option_map (rows_from 1 (is_answered before)) sent) a ≡ notes_if sent before a
+notes_are None before a = refl
+notes_are (Some facts) before a = notes_at (is_answered before) facts a (group_of a) (sequence_of a)
 
-pub note_is : (sent : List (List SentFacts)) (before : List Item) (t : List RecordValue) → note_in (rows_from 1 (is_answered before) sent) t ≡ note_after sent before t
-note_is sent before [] = refl
-note_is sent before (head ∷ rest) = note_if_ack sent before head (is_ack head)
+-- the lines of a transaction
+pub transaction_is : (form : Form) (sent : Option (List (List SentFacts))) (before : List Item) (t : List RecordValue)
+    → transaction_at form (option_map (rows_from 1 (is_answered before)) sent) t ≡ transaction_after form sent before t
+transaction_is form sent before [] = refl
+transaction_is form sent before (a ∷ rest) = ap (λ (n : Notes). cond (is_ack a) (answer_in form n a (a ∷ rest)) []) (notes_are sent before a)
 
 -- ---- what isn't answered
 
-entries_told : (a : ℕ → ℕ → Bool) (g t : ℕ) (fs : List SentFacts)
-    → numbered (entry_line g) t (entries_from g t a fs) ≡ flat_map (λ (q : ℕ × SentFacts). unanswered_line g q.0 q.1 (a g q.0)) (enumerate_from t fs)
-entries_told a g t [] = refl
-entries_told a g t (f ∷ fs) = ap (λ (l : List ℕ). unanswered_line g t f (a g t) ++ l) (entries_told a g (t + 1) fs)
+entries_told : (form : Form) (a : ℕ → ℕ → Bool) (g t : ℕ) (fs : List SentFacts)
+    → numbered (entry_line form g) t (entries_from g t a fs) ≡ flat_map (λ (q : ℕ × SentFacts). unanswered_line form g q.0 q.1 (a g q.0)) (enumerate_from t fs)
+entries_told form a g t [] = refl
+entries_told form a g t (f ∷ fs) = ap (λ (l : List ℕ). unanswered_line form g t f (a g t) ++ l) (entries_told form a g (t + 1) fs)
 
-rows_told : (a : ℕ → ℕ → Bool) (n : ℕ) (sent : List (List SentFacts))
-    → numbered row_lines n (rows_from n a sent) ≡ flat_map (λ (p : ℕ × List SentFacts). flat_map (λ (q : ℕ × SentFacts). unanswered_line p.0 q.0 q.1 (a p.0 q.0)) (enumerate_from 0 p.1)) (enumerate_from n sent)
-rows_told a n [] = refl
-rows_told a n (row ∷ rest) = ap₂ (λ (x l : List ℕ). x ++ l) (entries_told a n 0 row) (rows_told a (n + 1) rest)
+rows_told : (form : Form) (a : ℕ → ℕ → Bool) (n : ℕ) (sent : List (List SentFacts))
+    → numbered (row_lines form) n (rows_from n a sent) ≡ flat_map (λ (p : ℕ × List SentFacts). flat_map (λ (q : ℕ × SentFacts). unanswered_line form p.0 q.0 q.1 (a p.0 q.0)) (enumerate_from 0 p.1)) (enumerate_from n sent)
+rows_told form a n [] = refl
+rows_told form a n (row ∷ rest) = ap₂ (λ (x l : List ℕ). x ++ l) (entries_told form a n 0 row) (rows_told form a (n + 1) rest)
 
-pub unanswered_are : (sent : List (List SentFacts)) (before : List Item) → table_lines (rows_from 1 (is_answered before) sent) ≡ unanswered_lines sent before
-unanswered_are sent before = rows_told (is_answered before) 1 sent
+pub unanswered_are : (form : Form) (sent : List (List SentFacts)) (before : List Item) → table_lines form (rows_from 1 (is_answered before) sent) ≡ unanswered_lines form sent before
+unanswered_are form sent before = rows_told form (is_answered before) 1 sent
 
 -- ---- marks
 
@@ -152,10 +157,6 @@ mark_rows a b n (suc i) t here others (row ∷ rest) =
     (same_entries a b n 0 (λ u le. others n u (λ e f. absurd (omega (arith, e)))) row)
     (mark_rows a b (n + 1) i t (ap (λ (g : ℕ). b g t) (omega arith) ∙ here) (λ g u ne. others g u (λ e f. ne (omega (arith, e)) f)) rest)
 
-or_false : (a : Bool) → (a || false) ≡ a
-or_false true = refl
-or_false false = refl
-
 -- with one item more
 answered_more : (before : List Item) (item : Item) (g t : ℕ) → is_answered (before ++ item ∷ []) g t ≡ (is_answered before g t || answers g t item)
 answered_more before item g t = list_any-append (answers g t) before (item ∷ []) ∙ ap (λ (b : Bool). is_answered before g t || b) (or_false (answers g t item))
@@ -195,10 +196,6 @@ differs a b ne = by (eqb_tells a b)
     by : Tells a b → eqb a b ≡ false
     by (inl p) = absurd (ne p.1)
     by (inr p) = p.0
-
-or_true : (a : Bool) → (a || true) ≡ true
-or_true true = refl
-or_true false = refl
 
 pub marks_are : (sent : List (List SentFacts)) (before : List Item) (item : Item) → marked_with (rows_from 1 (is_answered before) sent) item ≡ rows_from 1 (is_answered (before ++ item ∷ [])) sent
 marks_are sent before (items.Opened r) = unmarked sent before (items.Opened r) (λ g t le. refl)
@@ -261,12 +258,6 @@ unmarked_is table (x ∷ rest) head n e g h =
     nothing : (b : Bool) → cond (b && not true) (marked table (group_of x - 1) (sequence_of x)) table ≡ table
     nothing true = refl
     nothing false = refl
-
-pub note_in_is : (table : Table) (t : List RecordValue) (head : RecordValue) → Some head ≡ slice_get t 0 → is_ack head ≡ true → note_by (entry_for table head) head ≡ note_in table t
-note_in_is table [] head e ack = absurd (cc e)
-note_in_is table (x ∷ rest) head e ack =
-    let same : x ≡ head = cc e in
-    ap (λ (r : RecordValue). note_by (entry_for table r) r) (sym same) ∙ sym (ap (λ (b : Bool). cond b (note_by (entry_for table x) x) []) (ap is_ack same ∙ ack))
 
 -- a group that is there
 pub row_there : (table : Table) (g : ℕ) → g < length table → Some (row_of table g) ≡ slice_get table g

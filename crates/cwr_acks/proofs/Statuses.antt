@@ -1,6 +1,6 @@
 -- The status that a header names, and the counts of statuses with one item more.
-use Rattle.std.proofs.Common.{◌≡◌, ℕ, zero, suc, ◌+◌, ◌<◌, ◌≤◌, Bool, true, false, List, [], ◌∷◌, ◌++◌, length, take, drop, Option, Some, None, refl, sym, ap, ap₂, subst, ◌∙◌, arith, append-nil}
-use Rattle.std.specs.Prelude.{IsSomeAnd, map, slice_get, slice_index, slice_set, unwrap_or, zip}
+use Rattle.std.proofs.Common.{◌≡◌, ℕ, zero, suc, ◌+◌, ◌<◌, ◌≤◌, Bool, true, false, List, [], ◌∷◌, ◌++◌, length, take, drop, Option, Some, None, refl, sym, ap, ap₂, subst, ◌∙◌, arith, append-nil, append_assoc, lt-ltb}
+use Rattle.std.specs.Prelude.{◌||◌, IsSomeAnd, nat_lt, map, slice_get, slice_index, slice_set, unwrap_or, zip}
 use Rattle.std.specs.List.{AllZip, flat_map}
 use Rattle.std.proofs.lemmas.Grind.{flat_map-append}
 use Rattle.std.proofs.lemmas.List.{drop_all, take_all}
@@ -24,7 +24,8 @@ use Rattle.cwr_acks.specs.declared.counts.Answers.{Answers}
 use Rattle.cwr_acks.specs.Format.Acknowledgements.{has_status, is_ack, is_answer, status_in}
 use Rattle.cwr_acks.specs.Format.AckTexts.{status_part}
 use Rattle.cwr_acks.specs.Steps.AckSteps.{answers_with, one_more_if}
-use Rattle.cwr_acks.proofs.NamedParts.{cell_is}
+use Rattle.cwr_acks.specs.Steps.DataTexts.{count_member, count_members}
+use Rattle.cwr_acks.proofs.NamedParts.{cell_is, or_false, or_true}
 use Rattle.cwr_acks.proofs.AckFields.{status as status_field}
 
 -- ---- the status of a header
@@ -120,3 +121,35 @@ pub parts_whole : (i : ℕ) (ns : List ℕ) → length ns ≡ 10 → 10 ≤ i �
 parts_whole i ns long least most =
     ap (λ (n : ℕ). parts_to n ns) (ten_of i least most)
     ∙ ap (λ (l : List ℕ). flat_map (λ (p : TransactionStatus × ℕ). status_part (status_code p.0) p.1) (zip transaction_statuses l)) (take_all 10 ns (omega (arith, long)))
+
+-- ---- the same as JSON
+
+abbrev some_in : {X : Type 0} → List X → Bool
+some_in [] = false
+some_in (x ∷ xs) = true
+
+members_more : (b : Bool) (xs : List (TransactionStatus × ℕ)) (x : TransactionStatus × ℕ) → count_members b (xs ++ x ∷ []) ≡ count_members b xs ++ count_member (b || some_in xs) (status_code x.0) x.1
+members_more b [] x = append-nil (count_member b (status_code x.0) x.1) ∙ ap (λ (later : Bool). count_member later (status_code x.0) x.1) (sym (or_false b))
+members_more b (y ∷ ys) x =
+    ap (λ (l : List ℕ). count_member b (status_code y.0) y.1 ++ l) (members_more true ys x)
+    ∙ sym (append_assoc (count_member b (status_code y.0) y.1) (count_members true ys) (count_member true (status_code x.0) x.1))
+    ∙ ap (λ (later : Bool). (count_member b (status_code y.0) y.1 ++ count_members true ys) ++ count_member later (status_code x.0) x.1) (sym (or_true b))
+
+some_before : (ns : List ℕ) (i : ℕ) → i < length ns → some_in (zip (take i transaction_statuses) (take i ns)) ≡ nat_lt 0 i
+some_before [] i k = absurd (omega (arith, k))
+some_before (n ∷ ns) zero k = refl
+some_before (n ∷ ns) (suc i) k = sym (lt-ltb 0 (suc i) (omega arith))
+
+abbrev pub counts_to : ℕ → List ℕ → List ℕ
+counts_to i ns = count_members false (zip (take i transaction_statuses) (take i ns))
+
+pub counts_more : (ns : List ℕ) (i : ℕ) (s : TransactionStatus) → slice_get transaction_statuses i ≡ Some s → i < length ns → counts_to (suc i) ns ≡ counts_to i ns ++ count_member (nat_lt 0 i) (status_code s) (slice_index ns i)
+counts_more ns i s e k =
+    ap (count_members false) (zip_more transaction_statuses ns i s e k)
+    ∙ members_more false (zip (take i transaction_statuses) (take i ns)) (s, slice_index ns i)
+    ∙ ap (λ (later : Bool). counts_to i ns ++ count_member later (status_code s) (slice_index ns i)) (some_before ns i k)
+
+pub counts_whole : (i : ℕ) (ns : List ℕ) → length ns ≡ 10 → 10 ≤ i → i ≤ 10 → counts_to i ns ≡ count_members false (zip transaction_statuses ns)
+counts_whole i ns long least most =
+    ap (λ (n : ℕ). counts_to n ns) (ten_of i least most)
+    ∙ ap (λ (l : List ℕ). count_members false (zip transaction_statuses l)) (take_all 10 ns (omega (arith, long)))

@@ -1,5 +1,6 @@
 -- What is promised, in the words of the format.
 pub mod Acknowledgements
-pub mod AckTexts
 pub mod SentAnswers
+pub mod AckTexts
+pub mod AckData
 pub mod AckLines

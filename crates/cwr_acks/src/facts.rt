@@ -1,4 +1,4 @@
-//! What an acknowledgement says: its status, and the levels of its messages.
+//! What an acknowledgement says: what it answers, its status, and the levels of its messages.
 
 ghost use Rattle.std.specs.Prelude.{◌≡◌, Some, true};
 ghost use Rattle.std.specs.List.{list_any};
@@ -6,10 +6,12 @@ ghost use Rattle.cwr_layouts.specs.Format.Records.{cell_named};
 ghost use Rattle.cwr_fields.specs.Format.MessageCodes.{status_code};
 ghost use Rattle.cwr_values.specs.declared.items.Item.TheVariants as items;
 ghost use Rattle.cwr_acks.specs.Format.Acknowledgements.{has_status, is_ack, is_ack_of, is_answer, is_message, is_message_of, status_in, worst_level};
+ghost use Rattle.cwr_acks.specs.Format.SentAnswers.{group_of, named_check, sequence_of};
 
-use cwr_fields::{Cell, Coded, MessageLevel, TransactionStatus};
+use cwr_fields::{Cell, Coded, MessageLevel, TransactionStatus, trimmed};
 use cwr_layouts::{Kind, RecordRef};
-use cwr_levels::{cell, is_of};
+use cwr_levels::{cell, is_of, number_of};
+use cwr_sent::title_check;
 use cwr_values::Transaction;
 
 /// ACK: original group ID.
@@ -63,6 +65,30 @@ pub(crate) fn is_message(shown: &RecordRef<'_>) -> bool
     ensures { result ≡ is_message shown.now }
 {
     is_of(shown, Kind::Msg)
+}
+
+/// The group of the transaction that an acknowledgement answers, from 1.
+pub(crate) fn group_of(head: &RecordRef<'_>) -> usize
+    requires { is_ack head.now ≡ true }
+    ensures { result ≡ group_of head.now }
+{
+    number_of(cell(head, GROUP)) as usize
+}
+
+/// The sequence of that transaction, from 0.
+pub(crate) fn sequence_of(head: &RecordRef<'_>) -> usize
+    requires { is_ack head.now ≡ true }
+    ensures { result ≡ sequence_of head.now }
+{
+    number_of(cell(head, SEQUENCE)) as usize
+}
+
+/// The check of the title that an acknowledgement names.
+pub(crate) fn named_check(head: &RecordRef<'_>) -> u32
+    requires { is_ack head.now ≡ true }
+    ensures { result ≡ named_check head.now }
+{
+    title_check(trimmed(cell(head, TITLE)))
 }
 
 /// The status that an acknowledgement's header names.

@@ -2,10 +2,14 @@
 #![tactic(auto)]
 
 mod counts;
+mod data_texts;
 mod facts;
+mod forms;
 mod item_lines;
 mod line_texts;
 mod matching;
 mod running;
+mod unanswered;
 
+pub use forms::Form;
 pub use running::acks;

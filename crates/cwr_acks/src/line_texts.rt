@@ -1,9 +1,8 @@
-//! The text of a line, part by part.
+//! The text of a line for people, part by part.
 
 ghost use Rattle.std.specs.Prelude.{◌≡◌, ◌+◌, ◌≤◌, [], ◌++◌, decimal, length, true};
 ghost use Rattle.cwr_acks.specs.Format.Acknowledgements.{is_ack, is_message};
-ghost use Rattle.cwr_acks.specs.Format.AckTexts.{ack_line, cell_part, level_part, message_line, number_part, original_text, status_part, status_text, words_of};
-ghost use Rattle.cwr_acks.specs.Format.SentAnswers.{marked_line, unanswered_text};
+ghost use Rattle.cwr_acks.specs.Format.AckTexts.{ack_line, cell_part, level_part, marked_line, message_line, number_part, original_text, status_part, status_text, unanswered_text, words_of};
 ghost use Rattle.cwr_acks.specs.Steps.AckSteps.{counts_text};
 ghost use Rattle.cwr_fields.specs.Format.MessageCodes.{status_code};
 
@@ -19,8 +18,11 @@ use cwr_levels::{cell, number_of};
 use itoa::Buffer;
 use std::marker::Model;
 
+/// The most bytes of a cell and its key in JSON: none comes near.
+pub(crate) const LONGEST_MEMBER: usize = 1500;
+
 /// The most bytes of a line.
-pub(crate) const LONGEST: usize = 1000;
+pub(crate) const LONGEST: usize = 10 * LONGEST_MEMBER;
 
 /// The text of a line.
 pub(crate) type Text = ArrayVec<u8, LONGEST>;
@@ -57,7 +59,7 @@ fn push_cell_part(text: &mut Text, word: &[u8], cell: &[u8])
 }
 
 /// Appends a number after a word, unless it is blank.
-fn push_number_part(text: &mut Text, word: &[u8], cell: &[u8])
+pub(crate) fn push_number_part(text: &mut Text, word: &[u8], cell: &[u8])
     requires room { length text.old.items + length word.now + 20 ≤ LONGEST }
     requires short { length cell.now ≤ 8 }
     ensures value { text.new.items ≡ text.old.items ++ number_part word.now cell.now }
@@ -71,7 +73,7 @@ fn push_number_part(text: &mut Text, word: &[u8], cell: &[u8])
 }
 
 /// The words of a status.
-fn words_of(status: TransactionStatus) -> &'static [u8]
+pub(crate) fn words_of(status: TransactionStatus) -> &'static [u8]
     ensures value { result.now ≡ words_of status }
     ensures len { length result.now ≤ 60 }
 {
@@ -145,7 +147,7 @@ fn push_count(text: &mut Text, status: TransactionStatus, count: u32)
 /// A buffer for the text of one line. It takes no memory.
 #[derive(Drop)]
 pub(crate) struct LineText {
-    text: Text,
+    pub(crate) text: Text,
 }
 
 impl Model for LineText {

@@ -9,6 +9,7 @@ ghost use Rattle.cwr_acks.specs.Format.AckLines.{lines_of_acks};
 ghost use Rattle.cwr_acks.specs.Format.SentAnswers.{IsFresh, facts_if};
 
 use crate::counts::Answers;
+use crate::forms::Form;
 use crate::item_lines::put_item;
 use crate::line_texts::LineText;
 use crate::matching::mark_with;
@@ -24,6 +25,7 @@ use std::alloc::Global;
 fn put_acks<R: Source, W: Target>(
     alloc: Global,
     limits: Limits,
+    form: Form,
     mut sent: Option<Sent>,
     reader: &mut R,
     sink: &mut Sink<W>,
@@ -31,7 +33,7 @@ fn put_acks<R: Source, W: Target>(
     requires fresh { IfSome sent IsFresh }
     requires unfailed { has_failed sink.old ≡ false }
     requires empty { HasWritten W.contents (W.contents (writer_of sink.old)) [] sink.old }
-    ensures puts { PutsReport (lines_of_acks (facts_if sent)) (λ verdict. []) limits (R.remaining reader.old) (R.remaining reader.new) W.contents W.failures result sink.old sink.new }
+    ensures puts { PutsReport (lines_of_acks form (facts_if sent)) (λ verdict. []) limits (R.remaining reader.old) (R.remaining reader.new) W.contents W.failures result sink.old sink.new }
     ensures failures { CountsReaderFault result (R.failures reader.old) (R.failures reader.new) }
 {
     let mut reading = Reading::new(alloc, limits, reader);
@@ -41,7 +43,7 @@ fn put_acks<R: Source, W: Target>(
     'items: loop {
         match reading.next_item() {
             Ok(Some(item)) => {
-                put_item(&sent, &answers, &item, &mut text, sink)?;
+                put_item(form, &sent, &answers, &item, &mut text, sink)?;
                 answers.count_answer(&item);
                 mark_with(&mut sent, &item);
                 counts.count(&item);
@@ -56,18 +58,19 @@ fn put_acks<R: Source, W: Target>(
 fn write_acks<R: Source, W: Target>(
     alloc: Global,
     limits: Limits,
+    form: Form,
     sent: Option<Sent>,
     reader: &mut R,
     writer: W,
 ) -> (W, Result<Verdict, ToolFault>)
     requires { IfSome sent IsFresh }
-    ensures reported { Reports (lines_of_acks (facts_if sent)) limits (R.remaining reader.old) (R.remaining reader.new) W.contents writer result.0 result.1 }
+    ensures reported { Reports (lines_of_acks form (facts_if sent)) limits (R.remaining reader.old) (R.remaining reader.new) W.contents writer result.0 result.1 }
     ensures reader_failures { CountsReaderFault result.1 (R.failures reader.old) (R.failures reader.new) }
     ensures writer_failures { CountsWriterFault result.1 (W.failures writer) (W.failures result.0) }
     ensures handed_on { OnOk result.1 (W.handed_on result.0 ≡ true) }
 {
     let mut sink = Sink::new(writer);
-    let put = put_acks(alloc, limits, sent, reader, &mut sink);
+    let put = put_acks(alloc, limits, form, sent, reader, &mut sink);
     let written = sink.written();
     let mut writer = sink.into_inner();
     match put {
@@ -79,29 +82,30 @@ fn write_acks<R: Source, W: Target>(
     }
 }
 
-/// Writes what the acknowledgements of a transmission say, a line for each and one for each of its messages: reads the transmission up
-/// to its end or to where it is refused. Where it is whole a line with their counts is last. Of the verdict nothing is written; it is
-/// answered. The writer comes back.
+/// Writes what the acknowledgements of a transmission say: a line for each and one for each of its messages, or an object of JSON for
+/// each. It reads the transmission up to its end or to where it is refused. Where it is whole a line with their counts is last. Of the
+/// verdict nothing is written; it is answered. The writer comes back.
 ///
 /// The verdict and the faults are those of a check. Where the text is refused or ends too early, the lines are those of the items
 /// before. It holds one transaction and the text of one line, whatever the input.
 pub fn acks<R: Source, W: Target + Drop>(
     alloc: Global,
     limits: Limits,
+    form: Form,
     sent: Option<Sent>,
     reader: &mut R,
     writer: W,
 ) -> (W, Result<Verdict, ToolFault>)
     requires { IfSome sent IsFresh }
-    ensures reported { Reports (lines_of_acks (facts_if sent)) limits (R.remaining reader.old) (R.remaining reader.new) W.contents writer result.0 result.1 }
+    ensures reported { Reports (lines_of_acks form (facts_if sent)) limits (R.remaining reader.old) (R.remaining reader.new) W.contents writer result.0 result.1 }
     ensures judged { JudgesText limits (R.remaining reader.old) result.1 }
-    ensures accepted { IfOk result.1 (JudgesAccepted (lines_of_acks (facts_if sent)) limits (R.remaining reader.old) (R.remaining reader.new) W.contents writer result.0) }
-    ensures canonical { IfOk result.1 (JudgesCanonical (lines_of_acks (facts_if sent)) limits (R.remaining reader.old) (R.remaining reader.new) W.contents writer result.0) }
+    ensures accepted { IfOk result.1 (JudgesAccepted (lines_of_acks form (facts_if sent)) limits (R.remaining reader.old) (R.remaining reader.new) W.contents writer result.0) }
+    ensures canonical { IfOk result.1 (JudgesCanonical (lines_of_acks form (facts_if sent)) limits (R.remaining reader.old) (R.remaining reader.new) W.contents writer result.0) }
     // No failure is passed over: a device failed only where that is the answer.
     ensures reader_failures { CountsReaderFault result.1 (R.failures reader.old) (R.failures reader.new) }
     ensures writer_failures { CountsWriterFault result.1 (W.failures writer) (W.failures result.0) }
     // All that was written was handed on.
     ensures handed_on { OnOk result.1 (W.handed_on result.0 ≡ true) }
 {
-    write_acks(alloc, limits, sent, reader, writer)
+    write_acks(alloc, limits, form, sent, reader, writer)
 }

@@ -11,6 +11,8 @@ mod outputs;
 #[cfg(test)]
 mod runs;
 #[cfg(test)]
+mod sent;
+#[cfg(test)]
 mod values;
 #[cfg(test)]
 mod works;

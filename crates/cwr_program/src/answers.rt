@@ -5,11 +5,11 @@ ghost use Rattle.cwr_acks.specs.Format.SentAnswers.{IsFresh};
 
 use crate::endings::Status;
 use crate::faults::{Fault, Name, Told};
-use crate::inputs::open_input;
+use crate::inputs::{is_standard, open_input};
 use crate::outputs::{gathered, told_of};
 use crate::progress::Pace;
 use crate::reports::{Asked, Telling, judgement_of, look_after, tell_aside};
-use cwr_acks::acks;
+use cwr_acks::{Form, acks};
 use cwr_encode::Sink;
 use cwr_fields::Counted;
 use cwr_sent::{Sent, read_sent};
@@ -52,7 +52,18 @@ fn sent_of<'a, R: Files + AllocGlobal, I: Read + Drop, P: Pace, E: Write>(
     }
 }
 
-/// Tells what the acknowledgements of a file or of standard input say, matched with the transmission of the file `sent`.
+/// Acknowledgements, and what they answer.
+#[derive(Clone, Copy, Debug)]
+pub(crate) struct Answering<'a> {
+    /// How it is told what they say.
+    pub(crate) form: Form,
+    /// The name of their transmission's file, or none for that on standard input.
+    pub(crate) file: Option<&'a str>,
+    /// The name of the file of the transmission that they answer.
+    pub(crate) sent: &'a str,
+}
+
+/// Tells what acknowledgements say, matched with the transmission that they answer. Only one of the two can be on standard input.
 pub(crate) fn match_answers<
     'a,
     R: Files + AllocGlobal,
@@ -63,27 +74,36 @@ pub(crate) fn match_answers<
 >(
     rt: &R,
     asked: &Asked,
-    file: Option<&'a str>,
-    sent: &'a str,
+    files: &Answering<'a>,
     standard: I,
     pace: &mut P,
     output: O,
     error: &mut E,
 ) -> Result<Status, Fault<'a>> {
+    if is_standard(files.file) && is_standard(Some(files.sent)) {
+        return Err(Fault::IsTwice(Name::StandardInput));
+    }
     let mut standard = Some(standard);
-    let sent = match sent_of(rt, asked, sent, &mut standard, &mut *pace, error)? {
+    let sent = match sent_of(rt, asked, files.sent, &mut standard, &mut *pace, error)? {
         Ok(sent) => sent,
         Err(status) => return Ok(status),
     };
-    let input = open_input(rt, file, &mut standard, &mut *pace)?;
+    let input = open_input(rt, files.file, &mut standard, &mut *pace)?;
     let lines = gathered(asked.alloc, output, Name::StandardOutput).map_err(|_| Fault::Memory)?;
     let mut reader = Counted::new(input);
-    let (lines, outcome) = acks(asked.alloc, asked.limits, Some(sent), &mut reader, lines);
+    let (lines, outcome) = acks(
+        asked.alloc,
+        asked.limits,
+        files.form,
+        Some(sent),
+        &mut reader,
+        lines,
+    );
     let look = look_after(&mut reader, &outcome);
     let told = reader.into_inner().told();
     match judgement_of(asked.wanted, outcome, look, false) {
         Ok(judgement) => {
-            tell_aside(error, Telling::Answers, told.name, &judgement);
+            tell_aside(error, Telling::Answers(files.form), told.name, &judgement);
             Ok(judgement.status)
         }
         Err(ToolFault::Reader) => Err(Fault::Read(told)),

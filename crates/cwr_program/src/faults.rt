@@ -97,6 +97,9 @@ pub enum Fault<'a> {
     /// What was to be written is there already, and may not be replaced.
     #[error("{0} is there already")]
     IsThere(Name<'a>),
+    /// What is there once was to be read twice.
+    #[error("{0} can't be read twice")]
+    IsTwice(Name<'a>),
     /// There was no memory.
     #[error("out of memory")]
     Memory,
@@ -150,7 +153,11 @@ fn put_lines<E: io::Write>(error: &mut E, fault: &Fault<'_>) -> io::Result<()> {
             put_device(error, *name, Some(*reason), None)
         }
         Fault::Output(name, None) => put_device(error, *name, None, None),
-        Fault::Open(_, None) | Fault::IsInput(_) | Fault::IsThere(_) | Fault::Memory => Ok(()),
+        Fault::Open(_, None)
+        | Fault::IsInput(_)
+        | Fault::IsThere(_)
+        | Fault::IsTwice(_)
+        | Fault::Memory => Ok(()),
     }
 }
 

@@ -130,7 +130,16 @@ COMMANDS
               and sequence. It is read first. Where it is refused or cut off,
               its verdict goes to standard error, and nothing else is told.
               What is told of a match stands under Output. Memory holds a few
-              bytes of each of its transactions.
+              bytes of each of its transactions. With `-` as SENT another file
+              is to be named as FILE.
+
+       --json
+              Writes lines of JSON. Each acknowledgement is an object with
+              `status`, `words`, `group`, `transaction`, `type` and its list
+              of `messages`, and with `level`, `submitter`, `recipient` and
+              `title` where there are any. Cells are shown as by `cwr json`.
+              The lines of `--sent` and of counts stand under Output. All keys
+              are in docs/ACKS.md of the repository.
 
    cwr write [OPTIONS] [FILE]
        Writes the transmission that lines of JSON are, with all its numbers.
@@ -308,6 +317,11 @@ OUTPUT
               works SENT` has the title of each work by its group and
               transaction.
 
+       With `--json` the first three are `\"unsent\":true`, `\"retitled\":true`
+       and `\"again\":true` in the object of the acknowledgement. What isn't
+       answered is `{\"unanswered\":{\"group\":G,\"transaction\":T,\"type\":TYPE}}`,
+       and the counts are `{\"acks\":N,\"statuses\":{\"CO\":C,\"DU\":D,...}}`.
+
        `cwr write` writes one of these to standard error:
 
        WRITTEN lines L bytes B
@@ -360,7 +374,8 @@ EXIT STATUS
               `--fail-on` ask for.
 
        2      A wrong command line, or help; or a file that may not be
-              written: an input, or with `--new` one that is there.
+              written: an input, or with `--new` one that is there; or
+              standard input that would be read twice.
 
        3      A file, a device or memory failed. Standard error says which in
               a line that begins with `cwr: `, and on a second one why, with
@@ -444,6 +459,14 @@ EXAMPLES
            $ cwr acks answers.cwr --sent works.cwr 2> /dev/null | grep '^UN'
            UNSENT group 7 transaction 3 NWR submitter W0900 title OLD SONG
            UNANSWERED group 2 transaction 1 REV
+
+       The same as lines of JSON, without those of the second, third and
+       fourth acknowledgement:
+
+           $ cwr acks --json answers.cwr --sent works.cwr 2> /dev/null | sed 2,4d
+           {\"status\":\"AS\",\"words\":\"registration accepted\",\"group\":1,\"transaction\":0,\"type\":\"NWR\",\"submitter\":\"W0001\",\"recipient\":\"T1000001\",\"title\":\"BLUE RIVER\",\"messages\":[]}
+           {\"unanswered\":{\"group\":2,\"transaction\":1,\"type\":\"REV\"}}
+           {\"acks\":4,\"statuses\":{\"CO\":1,\"DU\":0,\"RA\":0,\"AS\":1,\"AC\":1,\"SR\":0,\"CR\":0,\"RJ\":1,\"NP\":0,\"RC\":0}}
 
        A file from which a work was cut out by hand:
 

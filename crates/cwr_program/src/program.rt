@@ -6,7 +6,7 @@ ghost use Rattle.cwr_program.specs.Format.Endings.{EndsOnInput, IsOfInput, fault
 ghost use Rattle.cwr_program.specs.Format.Inputs.{are_standard};
 ghost use Rattle.cwr_program.specs.Format.Tables.{table_of};
 
-use crate::answers::match_answers;
+use crate::answers::{Answering, match_answers};
 use crate::endings::{Status, Wanted};
 use crate::faults::{Fault, tell_fault};
 use crate::imports::{Import, import_file, import_input};
@@ -19,6 +19,7 @@ use crate::reports::{Asked, Telling, report_input, telling_of};
 use crate::several::report_several;
 use crate::splits::{Cut, split_file};
 use clap::error::ErrorKind;
+use cwr_acks::Form;
 use cwr_csv::Table;
 use cwr_json::Encoding;
 use cwr_shape::Limits;
@@ -102,13 +103,14 @@ fn answer_words<E: Write + Drop>(mut error: E, answer: &clap::Error, file: Optio
     Status::CommandLine
 }
 
-/// Tells of a fault. The status is that of a wrong command line where what was to be written may not be.
+/// Tells of a fault. The status is that of a wrong command line where what was to be written may not be, or what was to be read is there
+/// once.
 fn report<E: Write>(error: &mut E, fault: &Fault<'_>) -> Status
     ensures { result ≡ fault_status fault.now }
 {
     tell_fault(error, fault);
     match fault {
-        Fault::IsInput(_) | Fault::IsThere(_) => Status::CommandLine,
+        Fault::IsInput(_) | Fault::IsThere(_) | Fault::IsTwice(_) => Status::CommandLine,
         Fault::Open(..) | Fault::Read(_) | Fault::Write(_) | Fault::Output(..) | Fault::Memory =>
             Status::Fault,
     }
@@ -145,6 +147,13 @@ fn encoding_of(utf8: bool) -> Encoding
     } else {
         Encoding::Latin1
     }
+}
+
+/// How it is told what acknowledgements say.
+fn form_of(as_json: bool) -> Form
+    ensures { result ≡ (if as_json then Form.Json else Form.Words) }
+{
+    if as_json { Form::Json } else { Form::Words }
 }
 
 /// Judges the transmissions of files, or the one on standard input.
@@ -241,12 +250,22 @@ fn perform<'a, R: Files + AllocGlobal, I: Read + Drop, P: Pace, O: Write + Drop,
             let input = open_input(rt, *file, &mut Some(standard), &mut *pace)?;
             return report_input(&asked, telling, input, output, error);
         }
-        Work::Acks { file, sent } => {
+        Work::Acks {
+            file,
+            sent,
+            as_json,
+        } => {
+            let form = form_of(*as_json);
             if let Some(sent) = *sent {
-                return match_answers(rt, &asked, *file, sent, standard, &mut *pace, output, error);
+                let files = Answering {
+                    form,
+                    file: *file,
+                    sent,
+                };
+                return match_answers(rt, &asked, &files, standard, &mut *pace, output, error);
             }
             let input = open_input(rt, *file, &mut Some(standard), &mut *pace)?;
-            return report_input(&asked, Telling::Answers, input, output, error);
+            return report_input(&asked, Telling::Answers(form), input, output, error);
         }
         Work::Write {
             file,

@@ -15,7 +15,7 @@ use crate::file_lines::FileLines;
 use crate::inputs::{Input, shown_name};
 use crate::outputs::{Gathered, gathered, told_of};
 use crate::progress::Pace;
-use cwr_acks::acks;
+use cwr_acks::{Form, acks};
 use cwr_advise::advise;
 use cwr_csv::{Table, csv};
 use cwr_encode::{Sink, SinkFault};
@@ -49,8 +49,8 @@ pub(crate) enum Telling<'a> {
     },
     /// A table, and the verdict to standard error.
     Rows(Table),
-    /// What the acknowledgements say, and the verdict to standard error.
-    Answers,
+    /// What the acknowledgements say, in that form, and the verdict to standard error.
+    Answers(Form),
     /// The findings with what explains them, the advice, and the verdict.
     Advice,
 }
@@ -172,8 +172,8 @@ fn tell<R: Source, W: Target + Drop>(
             let look = look_after(reader, &outcome);
             (writer, outcome, look)
         }
-        Telling::Answers => {
-            let (writer, outcome) = acks(alloc, limits, None, reader, writer);
+        Telling::Answers(form) => {
+            let (writer, outcome) = acks(alloc, limits, form, None, reader, writer);
             let look = look_after(reader, &outcome);
             (writer, outcome, look)
         }
@@ -278,7 +278,7 @@ pub(crate) fn tell_aside<E: Write>(
         Telling::Explained(_) => {}
         Telling::Findings | Telling::Faults(_) | Telling::Records | Telling::Advice =>
             tell_following(error, name, &judgement.look),
-        Telling::Data { .. } | Telling::Rows(_) | Telling::Answers => {
+        Telling::Data { .. } | Telling::Rows(_) | Telling::Answers(_) => {
             // What standard error doesn't take is lost.
             let _ = put_verdict_line(
                 &judgement.verdict,

@@ -20,7 +20,7 @@ fn asked(rt: &(impl Abort + AllocGlobal), words: &[&str]) -> Option<(String, Lim
 
 /// Words, what they ask for, and its limits.
 #[rattlefmt::skip]
-static ASKED: [(&[&str], &str, Numbers); 25] = [
+static ASKED: [(&[&str], &str, Numbers); 26] = [
     (&["cwr"], "Check(Judging { files: [], quiet: false, fail_on: None })", LARGEST),
     (&["cwr", "check"], "Check(Judging { files: [], quiet: false, fail_on: None })", LARGEST),
     (&["cwr", "show"], "Show(None)", LARGEST),
@@ -35,8 +35,9 @@ static ASKED: [(&[&str], &str, Numbers); 25] = [
     (&["cwr", "json", "--utf8", "a.cwr"], "Json { file: Some(\"a.cwr\"), numbers: false, utf8: true }", LARGEST),
     (&["cwr", "csv", "SWR"], "Csv { rows: Records(Swr), file: None }", LARGEST),
     (&["cwr", "csv", "works", "a.cwr"], "Csv { rows: Works, file: Some(\"a.cwr\") }", LARGEST),
-    (&["cwr", "acks"], "Acks { file: None, sent: None }", LARGEST),
-    (&["cwr", "acks", "a.cwr", "--sent", "b.cwr"], "Acks { file: Some(\"a.cwr\"), sent: Some(\"b.cwr\") }", LARGEST),
+    (&["cwr", "acks"], "Acks { file: None, sent: None, as_json: false }", LARGEST),
+    (&["cwr", "acks", "a.cwr", "--sent", "b.cwr"], "Acks { file: Some(\"a.cwr\"), sent: Some(\"b.cwr\"), as_json: false }", LARGEST),
+    (&["cwr", "acks", "--json", "a.cwr"], "Acks { file: Some(\"a.cwr\"), sent: None, as_json: true }", LARGEST),
     (&["cwr", "write", "--utf8", "-o", "b.cwr", "--line=9", "a.jsonl"], "Write { file: Some(\"a.jsonl\"), out: Some(\"b.cwr\"), line: 9, utf8: true }", LARGEST),
     (&["cwr", "show", "--groups", "3"], "Show(None)", (99_999_999, 3, 999_999)),
     (&["cwr", "split", "-n", "1", "a.cwr", "part-"], "Split { transactions: 1, file: \"a.cwr\", prefix: \"part-\", only_new: false }", LARGEST),

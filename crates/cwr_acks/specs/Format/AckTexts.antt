@@ -1,15 +1,17 @@
 -- What is written of acknowledgements, for people.
-use Rattle.std.specs.Prelude.{ℕ, List, [], ◌∷◌, ◌++◌, codes, count_by, decimal, take, Option, Some, None, option_map, unwrap_or, if◌then◌else◌}
-use Rattle.std.specs.List.{enumerate_from, flat_map}
+use Rattle.std.specs.Prelude.{ℕ, Bool, List, [], ◌++◌, codes, count_by, decimal, Option, Some, None, option_map, unwrap_or, if◌then◌else◌}
+use Rattle.std.specs.List.{flat_map}
 use Rattle.cwr_fields.specs.declared.message_codes.TransactionStatus.{TransactionStatus}
 use Rattle.cwr_fields.specs.declared.message_codes.TransactionStatus.TheVariants as status
 use Rattle.cwr_fields.specs.declared.message_codes.MessageLevel.{MessageLevel}
 use Rattle.cwr_fields.specs.Format.Bytes.{is_spaces, number_of, trimmed}
 use Rattle.cwr_fields.specs.Format.MessageCodes.{level_code, status_code, transaction_statuses}
+use Rattle.cwr_layouts.specs.declared.kinds.Kind.{Kind}
+use Rattle.cwr_layouts.specs.Format.Kinds.{letters}
 use Rattle.cwr_layouts.specs.Format.Records.{RecordValue, cell_named}
 use Rattle.cwr_values.specs.declared.items.Item.{Item}
-use Rattle.cwr_values.specs.declared.items.Item.TheVariants.{Transaction, Ended}
-use Rattle.cwr_acks.specs.Format.Acknowledgements.{has_status, is_ack, is_answer, is_message, status_in, worst_level}
+use Rattle.cwr_acks.specs.declared.matching.Notes.{Notes}
+use Rattle.cwr_acks.specs.Format.Acknowledgements.{has_status, is_answer, is_message, status_in}
 
 -- ---- parts of lines
 
@@ -79,10 +81,24 @@ message_text r = if is_message r then message_line r else []
 abbrev pub message_lines : List RecordValue → List ℕ
 message_lines t = flat_map message_text t
 
--- the lines of a transaction, where that is an acknowledgement
-abbrev pub answer_lines : List RecordValue → List ℕ
-answer_lines [] = []
-answer_lines (a ∷ rest) = if is_ack a then ack_line a (worst_level (a ∷ rest)) ++ message_lines (a ∷ rest) else []
+-- a word on an acknowledgement, where it is to be told
+abbrev pub marked_line : List ℕ → RecordValue → List ℕ
+marked_line word a =
+    word ++ original_text a ++ cell_part (codes " submitter ") (cell_named "submitter creation number" a) ++ cell_part (codes " title ") (cell_named "creation title" a) ++ codes "\n"
+
+abbrev pub marked_if : Bool → List ℕ → RecordValue → List ℕ
+marked_if told word a = if told then marked_line word a else []
+
+-- the lines on a transaction that was sent, and those on any
+abbrev pub sent_lines : Notes → RecordValue → List ℕ
+sent_lines notes a = marked_if notes.retitled (codes "RETITLED ") a ++ marked_if notes.again (codes "AGAIN ") a
+
+abbrev pub note_lines : Notes → RecordValue → List ℕ
+note_lines notes a = marked_if notes.unsent (codes "UNSENT ") a ++ sent_lines notes a
+
+-- transaction t, from 0, of group g, from 1, of that kind isn't answered
+abbrev pub unanswered_text : ℕ → ℕ → Kind → List ℕ
+unanswered_text g t this_kind = codes "UNANSWERED group " ++ decimal g ++ codes " transaction " ++ decimal t ++ codes " " ++ letters this_kind ++ codes "\n"
 
 -- a status, and how many acknowledgements have it
 abbrev pub status_part : List ℕ → ℕ → List ℕ

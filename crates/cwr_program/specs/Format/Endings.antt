@@ -81,8 +81,8 @@ IsOfInput (Explain judging) = are_standard (map (λ name. name.now) judging.file
 IsOfInput (Show file) = is_standard (option_map (λ name. name.now) file) ≡ true
 IsOfInput (Json file numbers utf8) = is_standard (option_map (λ name. name.now) file) ≡ true
 IsOfInput (Csv rows file) = is_standard (option_map (λ name. name.now) file) ≡ true
-IsOfInput (Acks file None) = is_standard (option_map (λ name. name.now) file) ≡ true
-IsOfInput (Acks file (Some sent)) = ⊥
+IsOfInput (Acks file None as_json) = is_standard (option_map (λ name. name.now) file) ≡ true
+IsOfInput (Acks file (Some sent) as_json) = ⊥
 IsOfInput (Lint files quiet explained) = are_standard (map (λ name. name.now) files.items) ≡ true
 IsOfInput (Advise files) = are_standard (map (λ name. name.now) files.items) ≡ true
 IsOfInput work = ⊥
@@ -95,8 +95,9 @@ wanted_in whole (Lint files quiet explained) = record { whole = whole; fail_on =
 wanted_in whole (Advise files) = record { whole = whole; fail_on = None }
 wanted_in whole work = record { whole = whole; fail_on = None }
 
--- the status of a fault: what was to be written may not be, or a file, a device or memory failed
+-- the status of a fault: what was to be written may not be, or what was to be read can't be, or a file, a device or memory failed
 abbrev pub fault_status : Fault → Status
 fault_status (faults.IsInput name) = statuses.CommandLine
 fault_status (faults.IsThere name) = statuses.CommandLine
+fault_status (faults.IsTwice name) = statuses.CommandLine
 fault_status fault = statuses.Fault

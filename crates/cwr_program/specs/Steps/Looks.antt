@@ -68,7 +68,7 @@ tells_findings (tellings.Faults name) = false
 tells_findings tellings.Records = false
 tells_findings (tellings.Data encoding numbers) = false
 tells_findings (tellings.Rows table) = false
-tells_findings tellings.Answers = false
+tells_findings (tellings.Answers form) = false
 tells_findings tellings.Advice = false
 
 -- an input whose bytes are known has the status on them, or a device or memory failed

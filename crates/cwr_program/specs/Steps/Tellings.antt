@@ -28,7 +28,7 @@ TellsUpTo (tellings.Faults name) limits before after contents old new outcome =
 TellsUpTo tellings.Records limits before after contents old new outcome = Reports lines_of_records limits before after contents old new outcome
 TellsUpTo (tellings.Data encoding numbers) limits before after contents old new outcome = Reports (lines_of_data encoding numbers) limits before after contents old new outcome
 TellsUpTo (tellings.Rows table) limits before after contents old new outcome = Reports (lines_of_table table) limits before after contents old new outcome
-TellsUpTo tellings.Answers limits before after contents old new outcome = Reports (lines_of_acks None) limits before after contents old new outcome
+TellsUpTo (tellings.Answers form) limits before after contents old new outcome = Reports (lines_of_acks form None) limits before after contents old new outcome
 TellsUpTo tellings.Advice limits before after contents old new outcome = Reports lines_of_advice limits before after contents old new outcome
 
 -- so it was, before what follows the transmission was looked at

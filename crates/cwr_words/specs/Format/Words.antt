@@ -61,7 +61,7 @@ IsSplitOf found (Lint files quiet explained) = ⊥
 IsSplitOf found (Advise files) = ⊥
 IsSplitOf found (Json file numbers utf8) = ⊥
 IsSplitOf found (Csv rows file) = ⊥
-IsSplitOf found (Acks file sent) = ⊥
+IsSplitOf found (Acks file sent as_json) = ⊥
 IsSplitOf found (Write file out line utf8) = ⊥
 IsSplitOf found (Split transactions file prefix only_new) =
     ((text : List ℕ) → one_text found (codes "N") ≡ Some text → non_zero_u32_get transactions ≡ digits_value 10 (without_leading_plus text))
@@ -94,9 +94,10 @@ abbrev pub IsTableOf : Found → Work → Type 0
 IsTableOf found (Csv rows file) = (option_and_then rows_named (first_value found (codes "KIND")) ≡ Some rows) × (option_map (λ f. f.now) file ≡ first_value found (codes "FILE"))
 IsTableOf found work = ⊥
 
--- what the acknowledgements of the file FILE say, matched with the transmission of the file that the option names, if it does
+-- what the acknowledgements of the file FILE say, matched with the transmission of the file that the option names, if it does, as JSON where that flag is
+-- given
 abbrev pub IsAcksOf : Found → Work → Type 0
-IsAcksOf found (Acks file sent) = (option_map (λ f. f.now) file ≡ first_value found (codes "FILE")) × (option_map (λ f. f.now) sent ≡ first_value found (codes "sent"))
+IsAcksOf found (Acks file sent as_json) = (option_map (λ f. f.now) file ≡ first_value found (codes "FILE")) × (option_map (λ f. f.now) sent ≡ first_value found (codes "sent")) × IsFlagOf found (codes "json") as_json
 IsAcksOf found work = ⊥
 
 -- a transmission from the lines of the file FILE to the file OUT, where lines may have so many bytes as that option says, in UTF-8 where that flag
@@ -131,7 +132,7 @@ IsWorkOf name found (Lint files quiet explained) = (bytes_eq name (codes "lint")
 IsWorkOf name found (Advise files) = (bytes_eq name (codes "advise") ≡ true) × IsAdviceOf found (Advise files)
 IsWorkOf name found (Json file numbers utf8) = (bytes_eq name (codes "json") ≡ true) × IsExportOf found (Json file numbers utf8)
 IsWorkOf name found (Csv rows file) = (bytes_eq name (codes "csv") ≡ true) × IsTableOf found (Csv rows file)
-IsWorkOf name found (Acks file sent) = (bytes_eq name (codes "acks") ≡ true) × IsAcksOf found (Acks file sent)
+IsWorkOf name found (Acks file sent as_json) = (bytes_eq name (codes "acks") ≡ true) × IsAcksOf found (Acks file sent as_json)
 IsWorkOf name found (Write file out line utf8) = (bytes_eq name (codes "write") ≡ true) × IsImportOf found (Write file out line utf8)
 IsWorkOf name found (Split transactions file prefix only_new) = (bytes_eq name (codes "split") ≡ true) × IsSplitOf found (Split transactions file prefix only_new)
 IsWorkOf name found (Join out files only_new) = (bytes_eq name (codes "join") ≡ true) × IsJoinOf found (Join out files only_new)

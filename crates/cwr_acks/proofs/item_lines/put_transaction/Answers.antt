@@ -1,14 +1,14 @@
-use Rattle.cwr_encode.proofs.Numbered.{puts_both, puts_cut}
-use Rattle.cwr_acks.specs.Format.AckTexts.{answer_lines}
-use Rattle.cwr_acks.specs.Steps.AckSteps.{note_in_if, rows_if}
+use Rattle.std.proofs.Common.{sym, ap, ◌∙◌}
+use Rattle.cwr_encode.proofs.Numbered.{puts_as}
+use Rattle.cwr_acks.specs.declared.matching.Notes.{Notes}
+use Rattle.cwr_acks.specs.Format.AckLines.{answer_in}
+use Rattle.cwr_acks.specs.Steps.AckSteps.{rows_if}
+use Rattle.cwr_acks.proofs.AnswerLines.{lines_of_answer}
 use Rattle.cwr_acks.proofs.item_lines.put_transaction.Goals as goal
-
-pub returns-in_err-put_if_answer-clause-puts : goal.returns-in_err-put_if_answer-clause-puts
-returns-in_err-put_if_answer-clause-puts g c =
-    puts_cut g.W.Target.contents g.W.Target.failures (answer_lines c.args.transaction.now) (note_in_if (rows_if c.args.sent.now) c.args.transaction.now) c.args.sink.now c.put_if_answer.new.sink
-    c.in_err-put_if_answer.field-0.0 c.from_residual.result c.from_residual.ensures.0 c.in_err-put_if_answer.ensures.puts
 
 pub returns-clause-puts : goal.returns-clause-puts
 returns-clause-puts g c =
-    puts_both g.W.Target.contents g.W.Target.failures (answer_lines c.args.transaction.now) (note_in_if (rows_if c.args.sent.now) c.args.transaction.now) c.args.sink.now c.put_if_answer.new.sink c.put_note_if.new.sink
-    tt c.put_note_if.result c.in_ok-put_if_answer.ensures.puts c.put_note_if.ensures.puts
+    puts_as g.W.Target.contents g.W.Target.failures _ _ _ _ _
+    (ap (λ (n : Notes). answer_in c.args.form n c.in-Some.head c.args.transaction.now) c.notes_of-notes.ensures
+    ∙ lines_of_answer c.args.form (rows_if c.args.sent.now) c.args.transaction.now c.in-Some.head c.in-Some.ensures.value (sym c.is_ack.ensures ∙ c.if-not-is_ack.false))
+    c.put_answer.ensures.puts

@@ -23,7 +23,7 @@ items-init g c =
     let new = c.new-reading.ensures in
     let reading = nothing_read_yet c.args.limits c.new-reading.result.decoder (g.R.Source.remaining c.args.reader.now) (g.R.Source.remaining c.new-reading.result.reader.now) new.represents new.limits new.open new.fresh (ap g.R.Source.remaining new.kept) in
     record {
-      telling = tells_nothing (facts_if c.args.sent) c.args.limits c.new-reading.result.decoder (g.R.Source.remaining c.args.reader.now) (g.R.Source.remaining c.new-reading.result.reader.now) g.W.Target.contents g.W.Target.failures
+      telling = tells_nothing c.args.form (facts_if c.args.sent) c.args.limits c.new-reading.result.decoder (g.R.Source.remaining c.args.reader.now) (g.R.Source.remaining c.new-reading.result.reader.now) g.W.Target.contents g.W.Target.failures
           (rows_if c.args.sent) c.new-answers.result c.new-counts.result c.args.sink.now reading (matched_none c.args.sent c.requires.fresh) c.new-answers.ensures (counts_none c.new-counts.result c.new-counts.ensures) c.requires.unfailed c.requires.empty;
       failures = ap g.R.Source.failures new.kept;
       same = refl;
@@ -33,19 +33,19 @@ pub put_item-requires-clause-unfailed : goal.put_item-requires-clause-unfailed
 put_item-requires-clause-unfailed g c = c.items.invariant.telling.put.unfailed
 
 pub put_item-requires-clause-ten : goal.put_item-requires-clause-ten
-put_item-requires-clause-ten g c = (answers_in (facts_if c.args.sent) c.args.limits _ _ _ g.W.Target.contents g.W.Target.failures (rows_if c.items.sent) c.items.answers c.items.counts c.args.sink.now c.items.sink c.items.invariant.telling).ten
+put_item-requires-clause-ten g c = (answers_in c.args.form (facts_if c.args.sent) c.args.limits _ _ _ g.W.Target.contents g.W.Target.failures (rows_if c.items.sent) c.items.answers c.items.counts c.args.sink.now c.items.sink c.items.invariant.telling).ten
 
 pub count_answer-requires : goal.count_answer-requires
-count_answer-requires g c = answers_in (facts_if c.args.sent) c.args.limits _ _ _ g.W.Target.contents g.W.Target.failures (rows_if c.items.sent) c.items.answers c.items.counts c.args.sink.now c.items.sink c.items.invariant.telling
+count_answer-requires g c = answers_in c.args.form (facts_if c.args.sent) c.args.limits _ _ _ g.W.Target.contents g.W.Target.failures (rows_if c.items.sent) c.items.answers c.items.counts c.args.sink.now c.items.sink c.items.invariant.telling
 
 pub count-requires-clause-groups : goal.count-requires-clause-groups
-count-requires-clause-groups g c = (room_in (facts_if c.args.sent) c.args.limits _ _ _ g.W.Target.contents g.W.Target.failures (rows_if c.items.sent) c.items.answers c.items.counts c.args.sink.now c.items.sink c.items.invariant.telling).groups
+count-requires-clause-groups g c = (room_in c.args.form (facts_if c.args.sent) c.args.limits _ _ _ g.W.Target.contents g.W.Target.failures (rows_if c.items.sent) c.items.answers c.items.counts c.args.sink.now c.items.sink c.items.invariant.telling).groups
 
 pub count-requires-clause-transactions : goal.count-requires-clause-transactions
-count-requires-clause-transactions g c = (room_in (facts_if c.args.sent) c.args.limits _ _ _ g.W.Target.contents g.W.Target.failures (rows_if c.items.sent) c.items.answers c.items.counts c.args.sink.now c.items.sink c.items.invariant.telling).transactions
+count-requires-clause-transactions g c = (room_in c.args.form (facts_if c.args.sent) c.args.limits _ _ _ g.W.Target.contents g.W.Target.failures (rows_if c.items.sent) c.items.answers c.items.counts c.args.sink.now c.items.sink c.items.invariant.telling).transactions
 
 pub count-requires-clause-in_group : goal.count-requires-clause-in_group
-count-requires-clause-in_group g c = (room_in (facts_if c.args.sent) c.args.limits _ _ _ g.W.Target.contents g.W.Target.failures (rows_if c.items.sent) c.items.answers c.items.counts c.args.sink.now c.items.sink c.items.invariant.telling).in_group
+count-requires-clause-in_group g c = (room_in c.args.form (facts_if c.args.sent) c.args.limits _ _ _ g.W.Target.contents g.W.Target.failures (rows_if c.items.sent) c.items.answers c.items.counts c.args.sink.now c.items.sink c.items.invariant.telling).in_group
 
 pub count-requires-clause-records : goal.count-requires-clause-records
 count-requires-clause-records g c =
@@ -89,16 +89,16 @@ pub items-preserved-in_ok-put_item-in-Ok-Some : goal.items-preserved-in_ok-put_i
 items-preserved-in_ok-put_item-in-Ok-Some g c =
     let reading = some_read c.args.limits c.items.reading.decoder c.next_item.new.self.decoder (g.R.Source.remaining c.args.reader.now) _ _ c.items.invariant.telling.given c.in-Ok-Some.field-0 c.in-Ok-Some.item _ _ c.in-Ok-Some.field-0-is
     c.items.invariant.telling.reading c.in-Ok-Some.ensures.reads c.in-Ok-Some.ensures.again in
-    let one : IsTelling (facts_if c.args.sent) c.args.limits c.next_item.new.self.decoder (g.R.Source.remaining c.args.reader.now) (g.R.Source.remaining c.next_item.new.self.reader.now) g.W.Target.contents g.W.Target.failures
+    let one : IsTelling c.args.form (facts_if c.args.sent) c.args.limits c.next_item.new.self.decoder (g.R.Source.remaining c.args.reader.now) (g.R.Source.remaining c.next_item.new.self.reader.now) g.W.Target.contents g.W.Target.failures
     (option_map (λ (t : Table). marked_with t c.in-Ok-Some.item) (rows_if c.items.sent)) (answers_with c.items.answers c.in-Ok-Some.item) (totals_with c.items.counts c.in-Ok-Some.item) c.args.sink.now c.put_item.new.sink
-    = tells_item (facts_if c.args.sent) c.args.limits c.items.reading.decoder c.next_item.new.self.decoder (g.R.Source.remaining c.args.reader.now) _ _ g.W.Target.contents g.W.Target.failures (rows_if c.items.sent) c.items.answers c.items.counts c.args.sink.now c.items.sink c.put_item.new.sink
+    = tells_item c.args.form (facts_if c.args.sent) c.args.limits c.items.reading.decoder c.next_item.new.self.decoder (g.R.Source.remaining c.args.reader.now) _ _ g.W.Target.contents g.W.Target.failures (rows_if c.items.sent) c.items.answers c.items.counts c.args.sink.now c.items.sink c.put_item.new.sink
     c.in-Ok-Some.item tt c.items.invariant.telling reading c.in_ok-put_item-in-Ok-Some.ensures in
-    let two = subst (λ (answers : Answers). IsTelling (facts_if c.args.sent) c.args.limits c.next_item.new.self.decoder (g.R.Source.remaining c.args.reader.now) (g.R.Source.remaining c.next_item.new.self.reader.now) g.W.Target.contents g.W.Target.failures
+    let two = subst (λ (answers : Answers). IsTelling c.args.form (facts_if c.args.sent) c.args.limits c.next_item.new.self.decoder (g.R.Source.remaining c.args.reader.now) (g.R.Source.remaining c.next_item.new.self.reader.now) g.W.Target.contents g.W.Target.failures
     (option_map (λ (t : Table). marked_with t c.in-Ok-Some.item) (rows_if c.items.sent)) answers (totals_with c.items.counts c.in-Ok-Some.item) c.args.sink.now c.put_item.new.sink) (sym c.count_answer.ensures) one in
-    let three = subst (λ (table : Option Table). IsTelling (facts_if c.args.sent) c.args.limits c.next_item.new.self.decoder (g.R.Source.remaining c.args.reader.now) (g.R.Source.remaining c.next_item.new.self.reader.now) g.W.Target.contents g.W.Target.failures
+    let three = subst (λ (table : Option Table). IsTelling c.args.form (facts_if c.args.sent) c.args.limits c.next_item.new.self.decoder (g.R.Source.remaining c.args.reader.now) (g.R.Source.remaining c.next_item.new.self.reader.now) g.W.Target.contents g.W.Target.failures
     table c.count_answer.new.self (totals_with c.items.counts c.in-Ok-Some.item) c.args.sink.now c.put_item.new.sink) (sym c.mark_with.ensures) two in
     record {
-      telling = subst (λ (counts : Totals). IsTelling (facts_if c.args.sent) c.args.limits c.next_item.new.self.decoder (g.R.Source.remaining c.args.reader.now) (g.R.Source.remaining c.next_item.new.self.reader.now) g.W.Target.contents g.W.Target.failures
+      telling = subst (λ (counts : Totals). IsTelling c.args.form (facts_if c.args.sent) c.args.limits c.next_item.new.self.decoder (g.R.Source.remaining c.args.reader.now) (g.R.Source.remaining c.next_item.new.self.reader.now) g.W.Target.contents g.W.Target.failures
           (rows_if c.mark_with.new.sent) c.count_answer.new.self counts c.args.sink.now c.put_item.new.sink) (sym c.count.ensures) three;
       failures = c.in-Ok-Some.ensures.failures ∙ c.items.invariant.failures;
       same = c.in-Ok-Some.ensures.same_reference ∙ c.items.invariant.same;
@@ -108,16 +108,16 @@ pub items-preserved : goal.items-preserved
 items-preserved g c =
     let reading = some_read c.args.limits c.items.reading.decoder c.next_item.new.self.decoder (g.R.Source.remaining c.args.reader.now) _ _ c.items.invariant.telling.given c.in-Ok-Some.field-0 c.in-Ok-Some.item _ _ c.in-Ok-Some.field-0-is
     c.items.invariant.telling.reading c.in-Ok-Some.ensures.reads c.in-Ok-Some.ensures.again in
-    let one : IsTelling (facts_if c.args.sent) c.args.limits c.next_item.new.self.decoder (g.R.Source.remaining c.args.reader.now) (g.R.Source.remaining c.next_item.new.self.reader.now) g.W.Target.contents g.W.Target.failures
+    let one : IsTelling c.args.form (facts_if c.args.sent) c.args.limits c.next_item.new.self.decoder (g.R.Source.remaining c.args.reader.now) (g.R.Source.remaining c.next_item.new.self.reader.now) g.W.Target.contents g.W.Target.failures
     (option_map (λ (t : Table). marked_with t c.in-Ok-Some.item) (rows_if c.items.sent)) (answers_with c.items.answers c.in-Ok-Some.item) (totals_with c.items.counts c.in-Ok-Some.item) c.args.sink.now c.put_item.new.sink
-    = tells_item (facts_if c.args.sent) c.args.limits c.items.reading.decoder c.next_item.new.self.decoder (g.R.Source.remaining c.args.reader.now) _ _ g.W.Target.contents g.W.Target.failures (rows_if c.items.sent) c.items.answers c.items.counts c.args.sink.now c.items.sink c.put_item.new.sink
+    = tells_item c.args.form (facts_if c.args.sent) c.args.limits c.items.reading.decoder c.next_item.new.self.decoder (g.R.Source.remaining c.args.reader.now) _ _ g.W.Target.contents g.W.Target.failures (rows_if c.items.sent) c.items.answers c.items.counts c.args.sink.now c.items.sink c.put_item.new.sink
     c.in-Ok-Some.item tt c.items.invariant.telling reading c.in_ok-put_item-in-Ok-Some.ensures in
-    let two = subst (λ (answers : Answers). IsTelling (facts_if c.args.sent) c.args.limits c.next_item.new.self.decoder (g.R.Source.remaining c.args.reader.now) (g.R.Source.remaining c.next_item.new.self.reader.now) g.W.Target.contents g.W.Target.failures
+    let two = subst (λ (answers : Answers). IsTelling c.args.form (facts_if c.args.sent) c.args.limits c.next_item.new.self.decoder (g.R.Source.remaining c.args.reader.now) (g.R.Source.remaining c.next_item.new.self.reader.now) g.W.Target.contents g.W.Target.failures
     (option_map (λ (t : Table). marked_with t c.in-Ok-Some.item) (rows_if c.items.sent)) answers (totals_with c.items.counts c.in-Ok-Some.item) c.args.sink.now c.put_item.new.sink) (sym c.count_answer.ensures) one in
-    let three = subst (λ (table : Option Table). IsTelling (facts_if c.args.sent) c.args.limits c.next_item.new.self.decoder (g.R.Source.remaining c.args.reader.now) (g.R.Source.remaining c.next_item.new.self.reader.now) g.W.Target.contents g.W.Target.failures
+    let three = subst (λ (table : Option Table). IsTelling c.args.form (facts_if c.args.sent) c.args.limits c.next_item.new.self.decoder (g.R.Source.remaining c.args.reader.now) (g.R.Source.remaining c.next_item.new.self.reader.now) g.W.Target.contents g.W.Target.failures
     table c.count_answer.new.self (totals_with c.items.counts c.in-Ok-Some.item) c.args.sink.now c.put_item.new.sink) (sym c.mark_with.ensures) two in
     record {
-      telling = subst (λ (counts : Totals). IsTelling (facts_if c.args.sent) c.args.limits c.next_item.new.self.decoder (g.R.Source.remaining c.args.reader.now) (g.R.Source.remaining c.next_item.new.self.reader.now) g.W.Target.contents g.W.Target.failures
+      telling = subst (λ (counts : Totals). IsTelling c.args.form (facts_if c.args.sent) c.args.limits c.next_item.new.self.decoder (g.R.Source.remaining c.args.reader.now) (g.R.Source.remaining c.next_item.new.self.reader.now) g.W.Target.contents g.W.Target.failures
           (rows_if c.mark_with.new.sent) c.count_answer.new.self counts c.args.sink.now c.put_item.new.sink) (sym c.count.ensures) three;
       failures = c.in-Ok-Some.ensures.failures ∙ c.items.invariant.failures;
       same = c.in-Ok-Some.ensures.same_reference ∙ c.items.invariant.same;
@@ -127,10 +127,10 @@ pub returns-in_err-put_item-in-Ok-Some-clause-puts : goal.returns-in_err-put_ite
 returns-in_err-put_item-in-Ok-Some-clause-puts g c =
     let reading = some_read c.args.limits c.items.reading.decoder c.next_item.new.self.decoder (g.R.Source.remaining c.args.reader.now) _ _ c.items.invariant.telling.given c.in-Ok-Some.field-0 c.in-Ok-Some.item _ _ c.in-Ok-Some.field-0-is
     c.items.invariant.telling.reading c.in-Ok-Some.ensures.reads c.in-Ok-Some.ensures.again in
-    let faulty : PutsReport (lines_of_acks (facts_if c.args.sent)) nothing c.args.limits (g.R.Source.remaining c.args.reader.now) (g.R.Source.remaining c.next_item.new.self.reader.now) g.W.Target.contents g.W.Target.failures c.from_residual.result c.args.sink.now c.put_item.new.sink
-    = subst (λ (r : Result Verdict ToolFault). PutsReport (lines_of_acks (facts_if c.args.sent)) nothing c.args.limits (g.R.Source.remaining c.args.reader.now) (g.R.Source.remaining c.next_item.new.self.reader.now) g.W.Target.contents g.W.Target.failures r c.args.sink.now c.put_item.new.sink)
+    let faulty : PutsReport (lines_of_acks c.args.form (facts_if c.args.sent)) nothing c.args.limits (g.R.Source.remaining c.args.reader.now) (g.R.Source.remaining c.next_item.new.self.reader.now) g.W.Target.contents g.W.Target.failures c.from_residual.result c.args.sink.now c.put_item.new.sink
+    = subst (λ (r : Result Verdict ToolFault). PutsReport (lines_of_acks c.args.form (facts_if c.args.sent)) nothing c.args.limits (g.R.Source.remaining c.args.reader.now) (g.R.Source.remaining c.next_item.new.self.reader.now) g.W.Target.contents g.W.Target.failures r c.args.sink.now c.put_item.new.sink)
     (sym (same_fault c.from_residual.result c.in_err-put_item-in-Ok-Some.field-0.0 c.from_residual.ensures.1))
-    (item_fault (facts_if c.args.sent) nothing c.args.limits c.items.reading.decoder c.next_item.new.self.decoder (g.R.Source.remaining c.args.reader.now) _ _ g.W.Target.contents g.W.Target.failures (rows_if c.items.sent) c.items.answers c.items.counts c.args.sink.now c.items.sink c.put_item.new.sink
+    (item_fault c.args.form (facts_if c.args.sent) nothing c.args.limits c.items.reading.decoder c.next_item.new.self.decoder (g.R.Source.remaining c.args.reader.now) _ _ g.W.Target.contents g.W.Target.failures (rows_if c.items.sent) c.items.answers c.items.counts c.args.sink.now c.items.sink c.put_item.new.sink
     c.in-Ok-Some.item c.in_err-put_item-in-Ok-Some.field-0.0 c.items.invariant.telling reading c.in_err-put_item-in-Ok-Some.ensures) in
     search rules
 
@@ -139,8 +139,8 @@ returns-in-Ok-None-clause-puts g c =
     let all : HasReadAll c.args.limits (g.R.Source.remaining c.args.reader.now) (g.R.Source.remaining c.next_item.new.self.reader.now) c.items.invariant.telling.given
     = none_read c.args.limits c.items.reading.decoder c.next_item.new.self.decoder (g.R.Source.remaining c.args.reader.now) _ _ c.items.invariant.telling.given c.in-Ok-None.field-0 _ c.in-Ok-None.field-0-is
     c.items.invariant.telling.reading c.in-Ok-None.ensures.reads c.in-Ok-None.ensures.again (λ e. ap g.R.Source.remaining e) in
-    let good : PutsReport (lines_of_acks (facts_if c.args.sent)) nothing c.args.limits (g.R.Source.remaining c.args.reader.now) (g.R.Source.remaining c.next_item.new.self.reader.now) g.W.Target.contents g.W.Target.failures (Ok c.good.result) c.args.sink.now c.items.sink
-    = good_reported (lines_of_acks (facts_if c.args.sent)) c.args.limits _ _ g.W.Target.contents g.W.Target.failures c.args.sink.now c.items.sink c.items.invariant.telling.given c.items.counts c.good.result all
+    let good : PutsReport (lines_of_acks c.args.form (facts_if c.args.sent)) nothing c.args.limits (g.R.Source.remaining c.args.reader.now) (g.R.Source.remaining c.next_item.new.self.reader.now) g.W.Target.contents g.W.Target.failures (Ok c.good.result) c.args.sink.now c.items.sink
+    = good_reported (lines_of_acks c.args.form (facts_if c.args.sent)) c.args.limits _ _ g.W.Target.contents g.W.Target.failures c.args.sink.now c.items.sink c.items.invariant.telling.given c.items.counts c.good.result all
     c.items.invariant.telling.counts c.items.invariant.telling.put c.good.ensures in
     search rules
 
@@ -149,7 +149,7 @@ returns-in-Err-clause-puts g c =
     let stop : StopsAfter c.args.limits c.in-Err.fault (g.R.Source.remaining c.args.reader.now) (g.R.Source.remaining c.next_item.new.self.reader.now) c.items.invariant.telling.given
     = stops_after c.args.limits c.items.reading.decoder c.next_item.new.self.decoder (g.R.Source.remaining c.args.reader.now) _ _ c.items.invariant.telling.given c.in-Err.fault _ _
     c.items.invariant.telling.reading c.in-Err.ensures.reads c.in-Err.ensures.again in
-    let stopped : PutsReport (lines_of_acks (facts_if c.args.sent)) nothing c.args.limits (g.R.Source.remaining c.args.reader.now) (g.R.Source.remaining c.next_item.new.self.reader.now) g.W.Target.contents g.W.Target.failures c.verdict_of.result c.args.sink.now c.items.sink
-    = fault_reported (lines_of_acks (facts_if c.args.sent)) c.args.limits _ _ g.W.Target.contents g.W.Target.failures c.args.sink.now c.items.sink c.items.invariant.telling.given c.in-Err.fault c.verdict_of.result stop
+    let stopped : PutsReport (lines_of_acks c.args.form (facts_if c.args.sent)) nothing c.args.limits (g.R.Source.remaining c.args.reader.now) (g.R.Source.remaining c.next_item.new.self.reader.now) g.W.Target.contents g.W.Target.failures c.verdict_of.result c.args.sink.now c.items.sink
+    = fault_reported (lines_of_acks c.args.form (facts_if c.args.sent)) c.args.limits _ _ g.W.Target.contents g.W.Target.failures c.args.sink.now c.items.sink c.items.invariant.telling.given c.in-Err.fault c.verdict_of.result stop
     c.items.invariant.telling.put c.verdict_of.ensures in
     search rules

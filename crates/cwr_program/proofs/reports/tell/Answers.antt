@@ -104,7 +104,7 @@ returns-in-Answers-clause-seen g c = sees_nothing c.args.limits (g.R.Source.rema
 
 pub returns-in-Answers-clause-looks : goal.returns-in-Answers-clause-looks
 returns-in-Answers-clause-looks g c =
-    looks_after (lines_of_acks None) c.args.limits (g.R.Source.remaining c.args.reader.now) (g.R.Source.remaining c.acks-writer.new.reader) (g.R.Source.remaining c.look_after-look-in-Answers.new.reader) g.W.Target.contents
+    looks_after (lines_of_acks c.in-Answers.form None) c.args.limits (g.R.Source.remaining c.args.reader.now) (g.R.Source.remaining c.acks-writer.new.reader) (g.R.Source.remaining c.look_after-look-in-Answers.new.reader) g.W.Target.contents
     c.args.writer c.acks-writer.result.0 c.acks-writer.result.1 c.look_after-look-in-Answers.result c.acks-writer.ensures.accepted c.look_after-look-in-Answers.ensures.looks
 
 pub returns-in-Answers-clause-told : goal.returns-in-Answers-clause-told

@@ -1,0 +1,21 @@
+use Rattle.std.proofs.Common.{ℕ, List, ◌++◌, length, take, get_or, ap, sym, ◌∙◌, arith, append_assoc}
+use Rattle.std.proofs.lemmas.List.{take_all}
+use Rattle.cwr_json.specs.declared.encodings.Encoding.TheVariants.{Latin1}
+use Rattle.cwr_json.specs.Steps.FormTexts.{spelled_byte, spelled_bytes}
+use Rattle.cwr_json.proofs.Spelled.{high_at, spelled_more}
+use Rattle.cwr_acks.proofs.data_texts.push_spelled.Goals as goal
+
+pub push_character-requires-clause-high : goal.push_character-requires-clause-high
+push_character-requires-clause-high c = high_at c.args.bytes.now c.loop-b.b-index c.requires.high c.loop-b-test.true
+
+pub loop-b-preserved : goal.loop-b-preserved
+loop-b-preserved c =
+    let i : ℕ = c.loop-b.b-index in
+    let bytes : List ℕ = c.args.bytes.now in
+    let old : List ℕ = c.args.text.now.items in
+    record {
+      value = c.push_character.ensures.value ∙ ap (λ (l : List ℕ). l ++ spelled_byte Latin1 (get_or bytes i 0)) c.loop-b.invariant.value
+          ∙ append_assoc old (spelled_bytes Latin1 (take i bytes)) (spelled_byte Latin1 (get_or bytes i 0))
+          ∙ ap (λ (l : List ℕ). old ++ l) (sym (spelled_more Latin1 bytes i c.loop-b-test.true));
+      len = omega (arith, c.push_character.ensures.len, c.loop-b.invariant.len);
+    }

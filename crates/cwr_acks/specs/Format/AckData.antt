@@ -1,0 +1,115 @@
+-- What is written of acknowledgements as JSON: the data of each line.
+use Rattle.std.specs.Prelude.{ℕ, Bool, true, List, [], ◌∷◌, ◌++◌, codes, count_by, decimal, Option, Some, None, if◌then◌else◌}
+use Rattle.json.specs.Json.{Json, boolean, number, string, array, object, Items, no_items, item, Members, no_members, member}
+use Rattle.json.specs.Tree.{json_tokens}
+use Rattle.json.specs.Print.{print}
+use Rattle.cwr_fields.specs.declared.message_codes.TransactionStatus.{TransactionStatus}
+use Rattle.cwr_fields.specs.declared.message_codes.MessageLevel.{MessageLevel}
+use Rattle.cwr_fields.specs.Format.Bytes.{is_spaces, number_of, trimmed}
+use Rattle.cwr_fields.specs.Format.MessageCodes.{level_code, status_code, transaction_statuses}
+use Rattle.cwr_layouts.specs.declared.kinds.Kind.{Kind}
+use Rattle.cwr_layouts.specs.Format.Kinds.{letters}
+use Rattle.cwr_layouts.specs.Format.Records.{RecordValue, cell_named}
+use Rattle.cwr_values.specs.declared.items.Item.{Item}
+use Rattle.cwr_json.specs.declared.encodings.Encoding.TheVariants.{Latin1}
+use Rattle.cwr_json.specs.Format.Encodings.{characters}
+use Rattle.cwr_acks.specs.declared.matching.Notes.{Notes}
+use Rattle.cwr_acks.specs.Format.Acknowledgements.{has_status, is_answer, is_message, status_in, worst_level}
+use Rattle.cwr_acks.specs.Format.AckTexts.{status_words}
+use Rattle.cwr_acks.specs.Format.SentAnswers.{group_of, sequence_of}
+
+-- ---- members by their keys
+
+-- a text
+abbrev pub with_text : List ℕ → List ℕ → Members → Members
+with_text key text more = member key (string text) more
+
+-- a number
+abbrev pub with_number : List ℕ → ℕ → Members → Members
+with_number key n more = member key (number (decimal n)) more
+
+-- a cell without trailing spaces, each byte from 128 on as one character
+abbrev pub with_cell : List ℕ → List ℕ → Members → Members
+with_cell key cell more = with_text key (characters Latin1 (trimmed cell)) more
+
+-- a blank one is left out
+abbrev pub with_cell_if : List ℕ → List ℕ → Members → Members
+with_cell_if key cell more = if is_spaces cell then more else with_cell key cell more
+
+-- so is the number of one
+abbrev pub with_number_if : List ℕ → List ℕ → Members → Members
+with_number_if key cell more = if is_spaces cell then more else with_number key (number_of cell) more
+
+-- a mark, where it is there
+abbrev pub with_mark : List ℕ → Bool → Members → Members
+with_mark key there more = if there then member key (boolean true) more else more
+
+-- the worst level of messages, if there are any
+abbrev pub with_level : Option MessageLevel → Members → Members
+with_level None more = more
+with_level (Some this_level) more = with_text (codes "level") (level_code this_level) more
+
+-- what is told of an acknowledgement beside what it says
+abbrev pub with_notes : Notes → Members → Members
+with_notes notes more = with_mark (codes "unsent") notes.unsent (with_mark (codes "retitled") notes.retitled (with_mark (codes "again") notes.again more))
+
+-- ---- an acknowledgement
+
+-- a message
+abbrev pub message_data : RecordValue → Json
+message_data m =
+    object (with_cell (codes "level") (cell_named "message level" m)
+    (with_cell (codes "type") (cell_named "message type" m)
+    (with_number_if (codes "record") (cell_named "original record sequence" m)
+    (with_cell_if (codes "record_type") (cell_named "message record type" m)
+    (with_cell_if (codes "validation") (cell_named "validation number" m)
+    (with_cell (codes "text") (cell_named "message text" m) no_members))))))
+
+-- the messages among records
+abbrev pub with_message : RecordValue → Items → Items
+with_message r more = if is_message r then item (message_data r) more else more
+
+abbrev pub message_items : List RecordValue → Items
+message_items [] = no_items
+message_items (r ∷ rs) = with_message r (message_items rs)
+
+-- an acknowledgement by its header and its records
+abbrev pub ack_data : Notes → RecordValue → List RecordValue → Json
+ack_data notes a t =
+    object (with_cell (codes "status") (cell_named "transaction status" a)
+    (with_text (codes "words") (status_words (status_in a))
+    (with_number (codes "group") (group_of a)
+    (with_number (codes "transaction") (sequence_of a)
+    (with_cell (codes "type") (cell_named "original transaction type" a)
+    (with_level (worst_level t)
+    (with_cell_if (codes "submitter") (cell_named "submitter creation number" a)
+    (with_cell_if (codes "recipient") (cell_named "recipient creation number" a)
+    (with_cell_if (codes "title") (cell_named "creation title" a)
+    (with_notes notes
+    (member (codes "messages") (array (message_items t)) no_members)))))))))))
+
+-- ---- the end
+
+-- transaction t, from 0, of group g, from 1, of that kind isn't answered
+abbrev pub place_data : ℕ → ℕ → Kind → Json
+place_data g t this_kind = object (with_number (codes "group") g (with_number (codes "transaction") t (with_text (codes "type") (letters this_kind) no_members)))
+
+abbrev pub unanswered_data : ℕ → ℕ → Kind → Json
+unanswered_data g t this_kind = object (member (codes "unanswered") (place_data g t this_kind) no_members)
+
+-- a number for each status
+abbrev pub with_counts : (TransactionStatus → ℕ) → List TransactionStatus → Members
+with_counts count [] = no_members
+with_counts count (this_status ∷ more) = with_number (status_code this_status) (count this_status) (with_counts count more)
+
+-- how many of the items are acknowledgements, and how many of them have each status
+abbrev pub counts_data : List Item → Json
+counts_data given =
+    object (with_number (codes "acks") (count_by is_answer given)
+    (member (codes "statuses") (object (with_counts (λ this_status. count_by (has_status this_status) given) transaction_statuses)) no_members))
+
+-- ---- lines
+
+-- data with no space, and a line feed
+abbrev pub data_line : Json → List ℕ
+data_line j = print (json_tokens j) ++ 10 ∷ []

@@ -1,0 +1,97 @@
+-- The text of a line of JSON, part by part.
+use Rattle.std.specs.Prelude.{ℕ, Bool, true, false, List, [], ◌∷◌, ◌++◌, codes, decimal, Option, Some, None, unwrap_or, zip, if◌then◌else◌}
+use Rattle.cwr_fields.specs.declared.message_codes.TransactionStatus.{TransactionStatus}
+use Rattle.cwr_fields.specs.declared.message_codes.MessageLevel.{MessageLevel}
+use Rattle.cwr_fields.specs.Format.Bytes.{is_spaces, trimmed}
+use Rattle.cwr_fields.specs.Format.MessageCodes.{level_code, status_code, transaction_statuses}
+use Rattle.cwr_layouts.specs.declared.kinds.Kind.{Kind}
+use Rattle.cwr_layouts.specs.Format.Kinds.{letters}
+use Rattle.cwr_layouts.specs.Format.Records.{RecordValue, cell_named}
+use Rattle.cwr_layouts.specs.Format.Carried.{record_cell}
+use Rattle.cwr_json.specs.declared.encodings.Encoding.TheVariants.{Latin1}
+use Rattle.cwr_json.specs.Steps.FormTexts.{spelled_bytes}
+use Rattle.cwr_acks.specs.declared.matching.Notes.{Notes}
+use Rattle.cwr_acks.specs.Format.Acknowledgements.{status_in}
+use Rattle.cwr_acks.specs.Format.AckTexts.{number_part, status_words}
+use Rattle.cwr_acks.specs.Format.SentAnswers.{group_of, sequence_of}
+
+-- ---- members after others; a key stands with the comma before it and the colon
+
+-- the record's cell of field j, and no bytes where it has none
+abbrev pub cell_at : RecordValue → ℕ → List ℕ
+cell_at r j = unwrap_or (record_cell r j) []
+
+-- a cell between quotes, without trailing spaces
+abbrev pub shown_cell : List ℕ → List ℕ
+shown_cell cell = codes "\"" ++ spelled_bytes Latin1 (trimmed cell) ++ codes "\""
+
+abbrev pub cell_member : List ℕ → List ℕ → List ℕ
+cell_member key cell = key ++ shown_cell cell
+
+-- a blank one is left out
+abbrev pub cell_member_if : List ℕ → List ℕ → List ℕ
+cell_member_if key cell = if is_spaces cell then [] else cell_member key cell
+
+abbrev pub level_member : Option MessageLevel → List ℕ
+level_member None = []
+level_member (Some this_level) = codes ",\"level\":\"" ++ level_code this_level ++ codes "\""
+
+-- a mark, where it is there
+abbrev pub mark_part : List ℕ → Bool → List ℕ
+mark_part mark there = if there then mark else []
+
+abbrev pub notes_members : Notes → List ℕ
+notes_members notes = mark_part (codes ",\"unsent\":true") notes.unsent ++ mark_part (codes ",\"retitled\":true") notes.retitled ++ mark_part (codes ",\"again\":true") notes.again
+
+abbrev pub comma_if : Bool → List ℕ
+comma_if later = if later then codes "," else []
+
+-- ---- an acknowledgement
+
+abbrev pub status_members : RecordValue → List ℕ
+status_members a = cell_member (codes "{\"status\":") (cell_named "transaction status" a) ++ codes ",\"words\":\"" ++ status_words (status_in a) ++ codes "\""
+
+abbrev pub original_members : RecordValue → List ℕ
+original_members a =
+    codes ",\"group\":" ++ decimal (group_of a) ++ codes ",\"transaction\":" ++ decimal (sequence_of a)
+    ++ cell_member (codes ",\"type\":") (cell_named "original transaction type" a)
+
+-- what stands before the messages
+abbrev pub ack_opening : Notes → RecordValue → Option MessageLevel → List ℕ
+ack_opening notes a worst =
+    status_members a ++ original_members a ++ level_member worst
+    ++ cell_member_if (codes ",\"submitter\":") (cell_named "submitter creation number" a)
+    ++ cell_member_if (codes ",\"recipient\":") (cell_named "recipient creation number" a)
+    ++ cell_member_if (codes ",\"title\":") (cell_named "creation title" a) ++ notes_members notes ++ codes ",\"messages\":["
+
+-- a message that comes after others, or is the first
+abbrev pub message_part : Bool → RecordValue → List ℕ
+message_part later m =
+    comma_if later ++ cell_member (codes "{\"level\":") (cell_named "message level" m)
+    ++ cell_member (codes ",\"type\":") (cell_named "message type" m)
+    ++ number_part (codes ",\"record\":") (cell_named "original record sequence" m)
+    ++ cell_member_if (codes ",\"record_type\":") (cell_named "message record type" m)
+    ++ cell_member_if (codes ",\"validation\":") (cell_named "validation number" m)
+    ++ cell_member (codes ",\"text\":") (cell_named "message text" m) ++ codes "}"
+
+-- ---- the end
+
+abbrev pub unanswered_data_text : ℕ → ℕ → Kind → List ℕ
+unanswered_data_text g t this_kind =
+    codes "{\"unanswered\":{\"group\":" ++ decimal g ++ codes ",\"transaction\":" ++ decimal t ++ codes ",\"type\":\"" ++ letters this_kind ++ codes "\"}}\n"
+
+-- the key of a status, after others or as the first
+abbrev pub count_key : Bool → List ℕ → List ℕ
+count_key later code = comma_if later ++ codes "\"" ++ code ++ codes "\":"
+
+abbrev pub count_member : Bool → List ℕ → ℕ → List ℕ
+count_member later code count = count_key later code ++ decimal count
+
+-- statuses with their numbers
+abbrev pub count_members : Bool → List (TransactionStatus × ℕ) → List ℕ
+count_members later [] = []
+count_members later (p ∷ more) = count_member later (status_code p.0) p.1 ++ count_members true more
+
+-- the line of counts
+abbrev pub counts_data_text : ℕ → List ℕ → List ℕ
+counts_data_text all by_status = codes "{\"acks\":" ++ decimal all ++ codes ",\"statuses\":{" ++ count_members false (zip transaction_statuses by_status) ++ codes "}}\n"
