@@ -15,7 +15,8 @@ returns-in_err-put_message-clause-puts g c =
     let part : ℕ → RecordValue → List ℕ = λ n r. message_in c.args.form (list_any is_message (take n t)) r in
     steps_refused g.W.Target.contents g.W.Target.failures part 0 c.loop-shown.i c.loop-shown.i t c.in-Some.shown c.args.sink.now c.loop-shown.sink c.put_message.new.sink
     c.in_err-put_message.field-0.0 c.from_residual.result c.in-Some.ensures.value (omega arith) c.from_residual.ensures.0 c.loop-shown.invariant.counts c.loop-shown.invariant.written
-    (puts_as g.W.Target.contents g.W.Target.failures _ _ _ _ _ (ap (λ (b : Bool). message_in c.args.form b c.in-Some.shown) c.loop-shown.invariant.later) c.in_err-put_message.ensures.puts)
+    (puts_as g.W.Target.contents g.W.Target.failures (message_in c.args.form c.loop-shown.later c.in-Some.shown) (part c.loop-shown.i c.in-Some.shown) c.loop-shown.sink c.put_message.new.sink _
+    (ap (λ (b : Bool). message_in c.args.form b c.in-Some.shown) c.loop-shown.invariant.later) c.in_err-put_message.ensures.puts)
 
 pub loop-shown-smaller : goal.loop-shown-smaller
 loop-shown-smaller g c = let h = found_within c.args.transaction.now c.loop-shown.i c.in-Some.shown c.in-Some.ensures.value in omega (arith, h)
@@ -24,7 +25,8 @@ pub loop-shown-preserved : goal.loop-shown-preserved
 loop-shown-preserved g c =
     let t : List RecordValue = c.args.transaction.now in
     let part : ℕ → RecordValue → List ℕ = λ n r. message_in c.args.form (list_any is_message (take n t)) r in
-    let put = puts_as g.W.Target.contents g.W.Target.failures _ _ _ _ _ (ap (λ (b : Bool). message_in c.args.form b c.in-Some.shown) c.loop-shown.invariant.later) c.in_ok-put_message.ensures.puts in
+    let put = puts_as g.W.Target.contents g.W.Target.failures (message_in c.args.form c.loop-shown.later c.in-Some.shown) (part c.loop-shown.i c.in-Some.shown) c.loop-shown.sink c.put_message.new.sink _
+    (ap (λ (b : Bool). message_in c.args.form b c.in-Some.shown) c.loop-shown.invariant.later) c.in_ok-put_message.ensures.puts in
     record {
       within = let h = found_within t c.loop-shown.i c.in-Some.shown c.in-Some.ensures.value in omega (arith, h);
       later = ap (λ (b : Bool). c.loop-shown.later || b) c.is_message-later.ensures ∙ ap (λ (b : Bool). b || is_message c.in-Some.shown) c.loop-shown.invariant.later
