@@ -5,6 +5,5 @@ pub mod Statuses
 pub mod PrintedParts
 pub mod PrintedAcks
 pub mod LinesOfItems
-pub mod AcksOn
 pub mod AnswerLines
 pub mod Matched

@@ -13,6 +13,7 @@ use Rattle.cwr_values.specs.declared.items.Item.TheVariants as items
 use Rattle.cwr_judge.specs.Format.Items.{is_transaction}
 use Rattle.cwr_tools.specs.declared.totals.Totals.{Totals}
 use Rattle.cwr_tools.specs.Steps.Counts.{HasRoomToCount, IsCount}
+use Rattle.cwr_tools.proofs.LinesOfItems.{lines_from-snoc}
 use Rattle.cwr_acks.specs.declared.counts.Answers.{Answers}
 use Rattle.cwr_acks.specs.Format.Acknowledgements.{has_status, is_answer}
 use Rattle.cwr_acks.specs.declared.forms.Form.{Form}
@@ -23,46 +24,13 @@ use Rattle.cwr_sent.specs.declared.facts.SentFacts.{SentFacts}
 use Rattle.cwr_sent.specs.declared.tables.Sent.{Sent}
 use Rattle.cwr_sent.specs.Format.SentRows.{facts_in_rows, rows}
 use Rattle.cwr_acks.specs.Format.SentAnswers.{is_answered}
-use Rattle.cwr_acks.proofs.Matched.{fresh_is, marks_are, rows_from, transaction_is, unanswered_are}
+use Rattle.cwr_acks.proofs.Matched.{fresh_is, marks_are, transaction_is, unanswered_are}
 use Rattle.cwr_acks.proofs.PrintedAcks.{counts_shown}
 use Rattle.cwr_acks.specs.Format.SentAnswers.{IsFresh, facts_if}
-use Rattle.cwr_acks.specs.Steps.AckSteps.{Table, marked_with, rows_if, HasRoom, answers_with, counts_in, counts_text, lines_at, no_answers, one_more_if}
+use Rattle.cwr_acks.specs.Steps.AckSteps.{HasRoom, IsAnswers, IsMatched, Table, answers_with, counts_in, counts_text, lines_at, marked_with, no_answers, one_more_if, rows_from, rows_if}
 use Rattle.cwr_acks.specs.Steps.DataTexts.{counts_data_text}
 
--- ---- by the items before
-
--- the lines of items, which stand at these places of a list, by the items before each
-abbrev lines_from : (List Item → Item → List ℕ) → List Item → ℕ → List Item → List ℕ
-lines_from line all n items = flat_map (λ p. line (take p.0 all) p.1) (enumerate_from n items)
-
--- go by the items before them
-same_fronts : (line : List Item → Item → List ℕ) (items : List Item) (n : ℕ) (all more : List Item) → ((k : ℕ) → k < n + length items → take k all ≡ take k more) → lines_from line all n items ≡ lines_from line more n items
-same_fronts line [] n all more h = refl
-same_fronts line (item ∷ items) n all more h =
-    ap₂ (λ (before : List Item) (l : List ℕ). line before item ++ l) (h n (omega arith)) (same_fronts line items (n + 1) all more (λ k lt. h k (omega (arith, lt))))
-
-enumerate_from-snoc : {X : Type 0} (n : ℕ) (xs : List X) (x : X) → enumerate_from n (xs ++ x ∷ []) ≡ enumerate_from n xs ++ (n + length xs, x) ∷ []
-enumerate_from-snoc {X = X} n [] x = ap (λ (m : ℕ). (m, x) ∷ []) (omega arith)
-enumerate_from-snoc {X = X} n (y ∷ xs) x =
-    ap (λ (l : List (ℕ × X)). (n, y) ∷ l) (enumerate_from-snoc (n + 1) xs x ∙ ap (λ (m : ℕ). enumerate_from (n + 1) xs ++ (m, x) ∷ []) (omega arith))
-
-lines_from-snoc : (line : List Item → Item → List ℕ) (given : List Item) (item : Item) → lines_from line (given ++ item ∷ []) 0 (given ++ item ∷ []) ≡ lines_from line given 0 given ++ line given item
-lines_from-snoc line given item =
-    let all : List Item = given ++ item ∷ [] in
-    let one : (ℕ × Item) → List ℕ = λ p. line (take p.0 all) p.1 in
-    ap (flat_map one) (enumerate_from-snoc 0 given item)
-    ∙ flat_map-append one (enumerate_from 0 given) ((0 + length given, item) ∷ [])
-    ∙ ap₂ (λ (xs ys : List ℕ). xs ++ ys)
-    (same_fronts line given 0 all given (λ k lt. take-append-le k given (item ∷ []) (omega (arith, lt))))
-    (append-nil (line (take (0 + length given) all) item)
-    ∙ ap (λ (before : List Item). line before item) (ap (λ (n : ℕ). take n all) (omega arith) ∙ take-append_seam given (item ∷ [])))
-
 -- ---- counts
-
--- the numbers are those of the items
-pub record IsAnswers (answers : Answers) (given : List Item) : Type 0 where
-  pub all : answers.all ≡ count_by is_answer given
-  pub each : answers.by_status ≡ map (λ s. count_by (has_status s) given) transaction_statuses
 
 -- without items there are none
 pub answers_none : IsAnswers no_answers []
@@ -142,10 +110,6 @@ counts_are forms.Words answers given h =
 counts_are forms.Json answers given h = ap₂ counts_data_text h.all h.each ∙ counts_shown given
 
 -- ---- what was sent
-
--- the table is that of what was sent, marked by the items
-abbrev pub IsMatched : Option Table → Option (List (List SentFacts)) → List Item → Type 0
-IsMatched table sent given = table ≡ option_map (rows_from 1 (is_answered given)) sent
 
 -- without items none is marked
 pub matched_none : (sent : Option Sent) → IfSome sent IsFresh → IsMatched (rows_if sent) (facts_if sent) []

@@ -24,17 +24,7 @@ use Rattle.cwr_acks.specs.declared.matching.Notes.{Notes}
 use Rattle.cwr_acks.specs.Format.AckLines.{answer_in, transaction_after, unanswered_line, unanswered_lines}
 use Rattle.cwr_acks.specs.Format.SentAnswers.{answers, group_of, is_answered, notes_if, notes_on, sequence_of}
 use Rattle.cwr_acks.proofs.NamedParts.{or_false, or_true}
-use Rattle.cwr_acks.specs.Steps.AckSteps.{Table, entry_line, if_wanted, marked_by, marked_with, notes_by, notes_in, numbered, row_lines, row_of, table_lines, transaction_at}
-
--- the entries of facts of one group, of which these are answered
-abbrev entries_from : ℕ → ℕ → (ℕ → ℕ → Bool) → List SentFacts → List Entry
-entries_from g t a [] = []
-entries_from g t a (f ∷ fs) = record { facts = f; answered = a g t } ∷ entries_from g (t + 1) a fs
-
--- those of all groups
-abbrev pub rows_from : ℕ → (ℕ → ℕ → Bool) → List (List SentFacts) → Table
-rows_from g a [] = []
-rows_from g a (row ∷ rest) = entries_from g 0 a row ∷ rows_from (g + 1) a rest
+use Rattle.cwr_acks.specs.Steps.AckSteps.{Table, entries_from, entry_line, if_wanted, marked_by, marked_with, notes_by, notes_in, numbered, row_lines, row_of, rows_from, table_lines, transaction_at}
 
 -- ---- none is answered
 

@@ -1,10 +1,9 @@
 //! Whole runs over a text: its acknowledgements.
 
-ghost use Rattle.std.specs.Prelude.{◌≡◌, [], true, false, IfOk, IfSome, OnOk};
-ghost use Rattle.cwr_encode.specs.Steps.Sinks.{HasWritten, has_failed, writer_of};
+ghost use Rattle.std.specs.Prelude.{◌≡◌, true, IfOk, IfSome, OnOk};
 ghost use Rattle.cwr_tools.specs.Format.Reports.{CountsReaderFault, CountsWriterFault, JudgesAccepted, JudgesCanonical};
 ghost use Rattle.cwr_tools.specs.Format.Verdicts.{JudgesText};
-ghost use Rattle.cwr_tools.specs.Steps.Reports.{PutsReport, Reports};
+ghost use Rattle.cwr_tools.specs.Steps.Reports.{Reports};
 ghost use Rattle.cwr_acks.specs.Format.AckLines.{lines_of_acks};
 ghost use Rattle.cwr_acks.specs.Format.SentAnswers.{IsFresh, facts_if};
 
@@ -13,72 +12,70 @@ use crate::forms::Form;
 use crate::item_lines::put_item;
 use crate::line_texts::LineText;
 use crate::matching::mark_with;
-use cwr_decode::Reading;
-use cwr_encode::Sink;
+use cwr_encode::{Sink, SinkFault};
 use cwr_fields::{Source, Target};
 use cwr_sent::Sent;
 use cwr_shape::Limits;
-use cwr_tools::{ToolFault, Totals, Verdict, verdict_of};
+use cwr_tools::{NothingKept, Report, ToolFault, Totals, Verdict, write_report};
+use cwr_values::Item;
 use std::alloc::Global;
 
-/// Reads a transmission item by item, up to its end or to where it is refused or ends too early, and puts the lines of its acknowledgements.
-fn put_acks<R: Source, W: Target>(
-    alloc: Global,
-    limits: Limits,
+/// The lines of acknowledgements, and nothing for the verdict.
+#[derive(Drop)]
+struct AnswerLines {
     form: Form,
-    mut sent: Option<Sent>,
-    reader: &mut R,
-    sink: &mut Sink<W>,
-) -> Result<Verdict, ToolFault>
-    requires fresh { IfSome sent IsFresh }
-    requires unfailed { has_failed sink.old ≡ false }
-    requires empty { HasWritten W.contents (W.contents (writer_of sink.old)) [] sink.old }
-    ensures puts { PutsReport (lines_of_acks form (facts_if sent)) (λ verdict. []) limits (R.remaining reader.old) (R.remaining reader.new) W.contents W.failures result sink.old sink.new }
-    ensures failures { CountsReaderFault result (R.failures reader.old) (R.failures reader.new) }
-{
-    let mut reading = Reading::new(alloc, limits, reader);
-    let mut counts = Totals::new();
-    let mut answers = Answers::new();
-    let mut text = LineText::new();
-    'items: loop {
-        match reading.next_item() {
-            Ok(Some(item)) => {
-                put_item(form, &sent, &answers, &item, &mut text, sink)?;
-                answers.count_answer(&item);
-                mark_with(&mut sent, &item);
-                counts.count(&item);
-            }
-            Ok(None) => return Ok(counts.good()),
-            Err(fault) => return verdict_of(fault),
-        }
-    }
+    /// What was sent, marked by the acknowledgements so far.
+    sent: Option<Sent>,
+    /// How many there were.
+    answers: Answers,
+    /// In which a line is made.
+    text: LineText,
 }
 
-/// Writes what the acknowledgements of a transmission say, and has the writer hand it on. The writer comes back.
-fn write_acks<R: Source, W: Target>(
-    alloc: Global,
-    limits: Limits,
-    form: Form,
-    sent: Option<Sent>,
-    reader: &mut R,
-    writer: W,
-) -> (W, Result<Verdict, ToolFault>)
-    requires { IfSome sent IsFresh }
-    ensures reported { Reports (lines_of_acks form (facts_if sent)) limits (R.remaining reader.old) (R.remaining reader.new) W.contents writer result.0 result.1 }
-    ensures reader_failures { CountsReaderFault result.1 (R.failures reader.old) (R.failures reader.new) }
-    ensures writer_failures { CountsWriterFault result.1 (W.failures writer) (W.failures result.0) }
-    ensures handed_on { OnOk result.1 (W.handed_on result.0 ≡ true) }
-{
-    let mut sink = Sink::new(writer);
-    let put = put_acks(alloc, limits, form, sent, reader, &mut sink);
-    let written = sink.written();
-    let mut writer = sink.into_inner();
-    match put {
-        Err(fault) => (writer, Err(fault)),
-        Ok(verdict) => match writer.flush() {
-            Ok(()) => (writer, Ok(verdict)),
-            Err(_) => (writer, Err(ToolFault::Writer { written })),
-        },
+impl Report for AnswerLines {
+    ghost use Rattle.std.specs.Prelude.{◌≡◌, List, Option};
+    ghost use Rattle.cwr_sent.specs.declared.facts.SentFacts.{SentFacts};
+    ghost use Rattle.cwr_acks.specs.Format.AckLines.{lines_of_acks};
+    ghost use Rattle.cwr_acks.specs.Steps.AckSteps.{IsAnswers, IsMatched, rows_if};
+
+    type Works = NothingKept;
+
+    ghost stands = { λ report of given. (facts : Option (List (List SentFacts))) × (of ≡ lines_of_acks report.form facts) × IsMatched (rows_if report.sent) facts given × IsAnswers report.answers given };
+
+    fn works(&self) -> NothingKept {
+        NothingKept
+    }
+
+    fn passes(&self) -> bool {
+        false
+    }
+
+    fn put_first<W: Target>(&mut self, _: &mut Sink<W>) -> Result<(), ToolFault> {
+        Ok(())
+    }
+
+    fn put_item<W: Target>(
+        &mut self,
+        _: Global,
+        _: &Totals,
+        item: &Item,
+        sink: &mut Sink<W>,
+    ) -> Result<(), ToolFault> {
+        put_item(
+            self.form,
+            &self.sent,
+            &self.answers,
+            item,
+            &mut self.text,
+            sink,
+        )?;
+        self.answers.count_answer(item);
+        mark_with(&mut self.sent, item);
+        Ok(())
+    }
+
+    fn put_verdict<W: Target>(&self, _: &Verdict, _: &mut Sink<W>) -> Result<(), SinkFault> {
+        Ok(())
     }
 }
 
@@ -107,5 +104,12 @@ pub fn acks<R: Source, W: Target + Drop>(
     // All that was written was handed on.
     ensures handed_on { OnOk result.1 (W.handed_on result.0 ≡ true) }
 {
-    write_acks(alloc, limits, form, sent, reader, writer)
+    let mut lines = AnswerLines {
+        form,
+        sent,
+        answers: Answers::new(),
+        text: LineText::new(),
+    };
+    let (writer, outcome, _) = write_report(&mut lines, false, alloc, limits, reader, writer);
+    (writer, outcome)
 }

@@ -5,7 +5,8 @@ use cwr_decode::{ReadFault, read_all};
 use cwr_encode::encode;
 use cwr_fields::Counted;
 use cwr_shape::Limits;
-use cwr_tools::{JoinReport, SplitReport, ToolFault, Verdict, check, join, show, split};
+use cwr_parts::{join, split};
+use cwr_tools::{JoinReport, SplitReport, ToolFault, Verdict, check, show};
 use std::alloc::{AllocError, AllocFailed, Global};
 
 /// What is wrong with an answer, or that there was no memory to ask for it.

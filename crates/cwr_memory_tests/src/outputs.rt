@@ -3,7 +3,7 @@
 ghost use Rattle.std.specs.Prelude.{None};
 
 use cwr_fields::Counted;
-use cwr_tools::{OutputFault, Outputs};
+use cwr_parts::{OutputFault, Outputs};
 use std::io::{self, Write};
 
 /// A writer that keeps nothing.

@@ -12,7 +12,7 @@ use crate::splits::hand_on;
 use cwr_encode::Sink;
 use cwr_fields::{Counted, Source};
 use cwr_shape::Limits;
-use cwr_tools::{join, put_join_outcome};
+use cwr_parts::{join, put_join_outcome};
 use std::alloc::Global;
 use std::io::{Read, Write};
 use std::rt::Files;

@@ -11,9 +11,9 @@ use Rattle.cwr_tools.specs.declared.verdicts.JoinFault.{JoinFault}
 use Rattle.cwr_tools.specs.declared.verdicts.JoinReport.{JoinReport}
 use Rattle.cwr_tools.specs.declared.verdicts.ToolFault.{ToolFault}
 use Rattle.cwr_tools.specs.declared.verdicts.ToolFault.TheVariants as faults
-use Rattle.cwr_tools.specs.Format.Joins.{AreJoined, CountsJoinWriter, IsOfDevice, JoinsAccepted, JoinsAll, TakeInputs, join_report}
-use Rattle.cwr_tools.specs.Format.Splits.{join_of}
-use Rattle.cwr_tools.specs.Steps.Joins.{Joins, StopsBy, StopsJoin}
+use Rattle.cwr_parts.specs.Format.Joins.{AreJoined, CountsJoinWriter, IsOfDevice, JoinsAccepted, JoinsAll, TakeInputs, join_report}
+use Rattle.cwr_parts.specs.Format.Splits.{join_of}
+use Rattle.cwr_parts.specs.Steps.Joins.{Joins, StopsBy, StopsJoin}
 use Rattle.cwr_renumber.specs.Steps.Renumbered.{renumbered_text}
 use Rattle.cwr_renumber.specs.Steps.Renumberings.{CountsWriter, Renumbers, RenumbersAccepted, of_one}
 

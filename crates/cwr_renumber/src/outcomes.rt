@@ -7,7 +7,8 @@ ghost use Rattle.cwr_renumber.specs.Format.Outcomes.{renumber_outcome};
 use cwr_encode::{Sink, SinkFault};
 use cwr_fields::Target;
 use cwr_levels::good_line;
-use cwr_tools::{JoinReport, SplitReport, ToolFault, put_split_outcome};
+use cwr_parts::put_split_outcome;
+use cwr_tools::{JoinReport, SplitReport, ToolFault};
 
 /// Puts the line that says how a renumbering ended, to a sink that hasn't failed: `GOOD` with the numbers of what was written, or what
 /// became of the input. Where a device or memory failed it puts nothing.

@@ -1,17 +1,13 @@
-//! Whole runs over CWR 2.1 transmissions: check, show, JSON, split and join.
+//! Whole runs over CWR 2.1 transmissions: check, show and JSON.
 #![tactic(auto)]
 
 mod checking;
 mod finding_lines;
 mod finding_notes;
-mod joined;
-mod joining;
 mod json_lines;
 pub mod laws;
 mod note_lines;
 mod other_records;
-mod outcomes;
-mod outputs;
 mod passed;
 mod reading_on;
 mod record_lines;
@@ -19,23 +15,17 @@ mod reporting;
 mod reports;
 mod showing;
 mod shown_records;
-mod split_output;
-mod splitting;
 mod totals;
 mod verdicts;
 mod watch;
 
 pub use checking::{CheckedFront, check, check_explained, check_up_to_fault, check_watched};
 pub use finding_lines::{put_transaction_findings, writer_fault};
-pub use joining::join;
 pub use json_lines::json;
 pub use note_lines::level_words;
-pub use outcomes::{put_join_outcome, put_split_outcome};
-pub use outputs::{OutputFault, Outputs};
 pub use reporting::{Front, put_unrefused_line, put_verdict_line, verdict_of, write_report};
 pub use reports::{NothingKept, Report};
 pub use showing::show;
-pub use splitting::split;
 pub use totals::{HandedOut, Totals};
 pub use verdicts::{JoinFault, JoinReport, SplitReport, ToolFault, Verdict};
 pub use watch::Watch;

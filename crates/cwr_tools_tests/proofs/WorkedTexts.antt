@@ -19,7 +19,7 @@ use Rattle.cwr_values.specs.declared.items.Item.TheVariants.{Opened, GroupOpened
 use Rattle.cwr_judge.specs.Format.Items.{items, items_after}
 use Rattle.cwr_levels.specs.Format.Findings.{findings, findings_after}
 use Rattle.cwr_tools.specs.Format.Texts.{check_text, check_lines, show_text, cell_lines, show_lines, good_verdict}
-use Rattle.cwr_tools.specs.Format.Splits.{split_of, join_of}
+use Rattle.cwr_parts.specs.Format.Splits.{split_of, join_of}
 use Rattle.cwr_tools_tests.proofs.Samples
 
 -- the widths of the kinds, from HDR to XRF

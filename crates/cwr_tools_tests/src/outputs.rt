@@ -7,7 +7,7 @@ use crate::checks::check_equal;
 use crate::devices::{Bounded, WIDE, Width};
 use crate::works::{Worked, text_of};
 use cwr_fields::Counted;
-use cwr_tools::{OutputFault, Outputs};
+use cwr_parts::{OutputFault, Outputs};
 use std::alloc::Global;
 use std::process::Abort;
 

@@ -1,5 +1,5 @@
 -- How many acknowledgements there were, which entries of what was sent they marked, and the lines of one item more.
-use Rattle.std.specs.Prelude.{◌≡◌, ℕ, ◌+◌, ◌-◌, ◌≤◌, Bool, false, not, ◌&&◌, ◌==◌, List, [], ◌∷◌, ◌++◌, codes, decimal, length, map, Option, Some, None, option_map, replicate, slice_get, slice_index, take, unwrap_or, zip, if◌then◌else◌}
+use Rattle.std.specs.Prelude.{◌≡◌, ℕ, ◌+◌, ◌-◌, ◌≤◌, Bool, false, not, ◌&&◌, ◌==◌, List, [], ◌∷◌, ◌++◌, codes, count_by, decimal, length, map, Option, Some, None, option_map, replicate, slice_get, slice_index, take, unwrap_or, zip, if◌then◌else◌}
 use Rattle.std.specs.List.{enumerate_from, flat_map, list_any}
 use Rattle.std.specs.Option.{option_and_then}
 use Rattle.cwr_layouts.specs.Format.Records.{RecordValue}
@@ -19,7 +19,7 @@ use Rattle.cwr_acks.specs.declared.matching.Notes.{Notes}
 use Rattle.cwr_acks.specs.Format.Acknowledgements.{has_status, is_ack, is_answer, is_message}
 use Rattle.cwr_acks.specs.Format.AckTexts.{ack_line, message_line, note_lines, status_part}
 use Rattle.cwr_acks.specs.Format.AckLines.{answer_in, unanswered_line}
-use Rattle.cwr_acks.specs.Format.SentAnswers.{group_of, no_notes, notes_on, sequence_of, wants_answer}
+use Rattle.cwr_acks.specs.Format.SentAnswers.{group_of, is_answered, no_notes, notes_on, sequence_of, wants_answer}
 use Rattle.cwr_acks.specs.Steps.DataTexts.{ack_opening, counts_data_text, message_part}
 
 -- none
@@ -140,3 +140,24 @@ abbrev pub lines_at : Form → Option Table → Answers → Item → List ℕ
 lines_at form table answers (Transaction t) = transaction_at form table t
 lines_at form table answers Ended = table_lines_if form table ++ counts_in form answers
 lines_at form table answers item = []
+
+-- ---- what stands after items
+
+-- the numbers are those of the items
+pub record IsAnswers (answers : Answers) (given : List Item) : Type 0 where
+  pub all : answers.all ≡ count_by is_answer given
+  pub each : answers.by_status ≡ map (λ s. count_by (has_status s) given) transaction_statuses
+
+-- the entries of facts of one group, of which these are answered
+abbrev pub entries_from : ℕ → ℕ → (ℕ → ℕ → Bool) → List SentFacts → List Entry
+entries_from g t a [] = []
+entries_from g t a (f ∷ fs) = record { facts = f; answered = a g t } ∷ entries_from g (t + 1) a fs
+
+-- those of all groups
+abbrev pub rows_from : ℕ → (ℕ → ℕ → Bool) → List (List SentFacts) → Table
+rows_from g a [] = []
+rows_from g a (row ∷ rest) = entries_from g 0 a row ∷ rows_from (g + 1) a rest
+
+-- the table is that of what was sent, marked by the items
+abbrev pub IsMatched : Option Table → Option (List (List SentFacts)) → List Item → Type 0
+IsMatched table sent given = table ≡ option_map (rows_from 1 (is_answered given)) sent

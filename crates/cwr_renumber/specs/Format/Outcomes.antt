@@ -3,7 +3,7 @@ use Rattle.std.specs.Prelude.{ℕ, List, Result, Ok, Err}
 use Rattle.cwr_levels.specs.Format.ReportLines.{good_line}
 use Rattle.cwr_tools.specs.declared.verdicts.JoinReport.{JoinReport}
 use Rattle.cwr_tools.specs.declared.verdicts.ToolFault.{ToolFault}
-use Rattle.cwr_tools.specs.Format.Outcomes.{input_line}
+use Rattle.cwr_parts.specs.Format.Outcomes.{input_line}
 
 -- the verdict on what was written, or the line on the input
 abbrev pub renumber_outcome : Result JoinReport ToolFault → List ℕ

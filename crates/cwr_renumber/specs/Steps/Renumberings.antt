@@ -9,7 +9,7 @@ use Rattle.cwr_tools.specs.declared.verdicts.JoinFault.{JoinFault}
 use Rattle.cwr_tools.specs.declared.verdicts.JoinReport.{JoinReport}
 use Rattle.cwr_tools.specs.declared.verdicts.ToolFault.{ToolFault}
 use Rattle.cwr_tools.specs.declared.verdicts.ToolFault.TheVariants.{Output, Refused, Truncated}
-use Rattle.cwr_tools.specs.Format.Joins.{CountsOutputFault, IsOfDevice, join_report}
+use Rattle.cwr_parts.specs.Format.Joins.{CountsOutputFault, IsOfDevice, join_report}
 use Rattle.cwr_renumber.specs.Steps.Renumbered.{renumbered_text}
 
 -- Where the text with its numbers put right is accepted as a transmission, the canonical text of that one is written, and the report

@@ -1,0 +1,29 @@
+use Rattle.std.proofs.Common.{rules, ap, arith}
+use Rattle.std.specs.Prelude.{Ok, Err}
+use Rattle.cwr_parts.specs.declared.splitting.Splitting.{Splitting}
+use Rattle.cwr_parts.specs.Steps.SplitSteps.{open_outputs}
+use Rattle.cwr_parts.specs.Steps.Splitting.{Splits}
+use Rattle.cwr_parts.proofs.AcceptedSplits.{splits_accepted}
+use Rattle.cwr_parts.proofs.splitting.split.Goals as goal
+
+pub returns-in-Ok-clause-accepted : goal.returns-in-Ok-clause-accepted
+returns-in-Ok-clause-accepted g c =
+    let splits : Splits c.args.limits c.args.n (g.R.Source.remaining c.args.reader.now) (g.R.Source.remaining c.split_items.new.reader) (g.O.Outputs.texts c.args.outputs.now) (g.O.Outputs.texts c.split_items.new.outputs) (Ok c.split_items.new.splitting.report)
+    = search rules in
+    splits_accepted c.args.limits c.args.n (g.R.Source.remaining c.args.reader.now) (g.R.Source.remaining c.split_items.new.reader) (g.O.Outputs.texts c.args.outputs.now) (g.O.Outputs.texts c.split_items.new.outputs) (Ok c.split_items.new.splitting.report) splits
+
+pub returns-in-Err-clause-accepted : goal.returns-in-Err-clause-accepted
+returns-in-Err-clause-accepted g c =
+    let splits : Splits c.args.limits c.args.n (g.R.Source.remaining c.args.reader.now) (g.R.Source.remaining c.split_items.new.reader) (g.O.Outputs.texts c.args.outputs.now) (g.O.Outputs.texts c.give_up.new.outputs) (Err c.in-Err.fault)
+    = search rules in
+    splits_accepted c.args.limits c.args.n (g.R.Source.remaining c.args.reader.now) (g.R.Source.remaining c.split_items.new.reader) (g.O.Outputs.texts c.args.outputs.now) (g.O.Outputs.texts c.give_up.new.outputs) (Err c.in-Err.fault) splits
+
+pub returns-in-Ok-clause-lent : goal.returns-in-Ok-clause-lent
+returns-in-Ok-clause-lent g c =
+    let none = ap (λ (s : Splitting g.row.O-W.Denot). open_outputs s.output) c.new-splitting.ensures in
+    omega (arith, c.in-Ok.ensures.lent (g.O.Outputs.lent c.args.outputs.now) (omega (arith, none)), ap open_outputs c.in-Ok.ensures.ended)
+
+pub returns-in-Err-clause-lent : goal.returns-in-Err-clause-lent
+returns-in-Err-clause-lent g c =
+    let none = ap (λ (s : Splitting g.row.O-W.Denot). open_outputs s.output) c.new-splitting.ensures in
+    c.give_up.ensures.lent (g.O.Outputs.lent c.args.outputs.now) (c.in-Err.ensures.lent (g.O.Outputs.lent c.args.outputs.now) (omega (arith, none)))

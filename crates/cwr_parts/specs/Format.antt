@@ -1,0 +1,6 @@
+-- What is promised, in the words of the format.
+pub mod Joins
+pub mod Outcomes
+pub mod Outputs
+pub mod Splits
+pub mod Splitting
