@@ -1,6 +1,6 @@
 use Rattle.std.proofs.Common.{rules, ◌≡◌, true, subst, sym}
 use Rattle.cwr_encode.specs.Steps.Sinks.{Puts}
-use Rattle.cwr_tools.specs.Format.Outcomes.{is_of_input, join_outcome}
+use Rattle.cwr_parts.specs.Format.Outcomes.{is_of_input, join_outcome}
 use Rattle.cwr_tools.proofs.OutcomesPut.{mark_refused}
 use Rattle.cwr_tools.proofs.outcomes.put_join_outcome.Goals as goal
 
