@@ -1,8 +1,8 @@
 use Rattle.std.proofs.Common.{rules, ◌≡◌, true, subst, sym}
 use Rattle.cwr_encode.specs.Steps.Sinks.{Puts}
 use Rattle.cwr_parts.specs.Format.Outcomes.{is_of_input, join_outcome}
-use Rattle.cwr_tools.proofs.OutcomesPut.{mark_refused}
-use Rattle.cwr_tools.proofs.outcomes.put_join_outcome.Goals as goal
+use Rattle.cwr_parts.proofs.OutcomesPut.{mark_refused}
+use Rattle.cwr_parts.proofs.outcomes.put_join_outcome.Goals as goal
 
 pub returns-in_err-input_mark-in-Err-clause-puts : goal.returns-in_err-input_mark-in-Err-clause-puts
 returns-in_err-input_mark-in-Err-clause-puts g c =

@@ -33,8 +33,7 @@ returns-clause-puts g c = λ of given counted here.
 pub returns-clause-stands : goal.returns-clause-stands
 returns-clause-stands g c = λ of given counted here.
     let self = c.args.self.now in
-    let more = given ++ c.args.item.now ∷ [] in
-    (
+    let more = given ++ c.args.item.now ∷ [] in (
       here.0,
       here.1,
       subst (λ (t : Option Table). IsMatched t here.0 more) (sym c.mark_with.ensures) (matched_more (rows_if self.sent) here.0 given c.args.item.now here.2),
