@@ -7,3 +7,4 @@ pub mod SinceParty
 pub mod WriterRecords
 pub mod KeptInTurn
 pub mod AdviceByRecord
+pub mod LastFields

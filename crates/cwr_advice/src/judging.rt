@@ -10,6 +10,7 @@ use crate::checked_cells::is_wrong;
 use crate::facts::Facts;
 use crate::owners::{is_publisher, owns_over_half};
 use crate::rules::AdviceRule;
+use crate::shifts::is_shifted;
 use crate::territories::{goes_over, stands_twice};
 use crate::writers::{has_no_publisher, has_no_territory};
 use cwr_fields::is_spaces;
@@ -142,7 +143,7 @@ fn lacks_original(facts: &Facts, shown: &RecordRef<'_>) -> bool
     cell(shown, VERSION_TYPE) == b"MOD".as_slice() && !facts.has_original
 }
 
-/// Whether the record, which stands after so many others, breaks the rule, at that field where the rule judges a cell by itself.
+/// Whether the record, which stands after so many others, breaks the rule, at that field where the rule judges a cell.
 pub(crate) fn breaks(
     rule: AdviceRule,
     transaction: &Transaction,
@@ -167,6 +168,7 @@ pub(crate) fn breaks(
         AdviceRule::A6a => lacks_components(facts, shown),
         AdviceRule::A6b => is_stray_component(transaction, shown),
         AdviceRule::A6c => lacks_original(facts, shown),
+        AdviceRule::A7a => is_shifted(shown, field),
         _ => is_wrong(rule, cell(shown, field)),
     }
 }

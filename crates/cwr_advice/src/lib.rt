@@ -8,6 +8,7 @@ mod judging;
 mod numbers;
 mod owners;
 mod rules;
+mod shifts;
 mod territories;
 mod territory_cells;
 mod walk;

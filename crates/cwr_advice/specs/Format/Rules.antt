@@ -12,10 +12,11 @@ use Rattle.cwr_shape.specs.declared.reasons.Level.{Level}
 use Rattle.cwr_shape.specs.declared.reasons.Level.TheVariants.{T, R, F}
 use Rattle.cwr_levels.specs.Format.Findings.{is_a, is_blank, is_owner, ownership, share_of}
 use Rattle.cwr_advice.specs.declared.rules.AdviceRule.{AdviceRule}
-use Rattle.cwr_advice.specs.declared.rules.AdviceRule.TheVariants.{A1a, A1b, A2a, A2b, A2c, A2d, A3a, A3b, A4a, A4b, A4c, A4d, A6a, A6b, A6c, A8a, A8b, A8c, A8d}
+use Rattle.cwr_advice.specs.declared.rules.AdviceRule.TheVariants.{A1a, A1b, A2a, A2b, A2c, A2d, A3a, A3b, A4a, A4b, A4c, A4d, A6a, A6b, A6c, A7a, A8a, A8b, A8c, A8d}
 use Rattle.cwr_advice.specs.declared.rules.Asked.{Asked}
 use Rattle.cwr_advice.specs.declared.rules.Advice.{Advice}
 use Rattle.cwr_advice.specs.Format.Numbers.{is_ean, is_ipi_base, is_ipi_name, is_isrc, is_language, is_society, is_territory_number, is_zero}
+use Rattle.cwr_advice.specs.Format.Shifts.{goes_on, has_gap}
 
 -- ---- words on records
 
@@ -147,6 +148,12 @@ is_stray_component t r = is_a kinds.Com r && list_any has_no_composite_type (tak
 abbrev pub lacks_original : List RecordValue → RecordValue → Bool
 lacks_original t r = is_header r && bytes_eq (cell_named "version type" r) (codes "MOD") && not (list_any (is_a kinds.Ver) t)
 
+-- ---- A7: text that stands too far to the left
+
+-- the text of field j goes on over its end, and stands behind a gap: it doesn't begin the cell, as a text that is too long does
+abbrev pub is_shifted : RecordValue → ℕ → Bool
+is_shifted r j = goes_on (cell_at r j) (cell_at r (j + 1)) && has_gap (cell_at r j)
+
 -- ---- A4 and A8: cells that are judged by themselves
 
 -- the cell is as the rule asks
@@ -167,7 +174,7 @@ is_wrong rule cell = not (is_spaces cell) && not (is_right rule cell)
 
 -- ---- all rules
 
--- Record r of the transaction t, after k others, breaks the rule, at field j where that judges a cell by itself.
+-- Record r of the transaction t, after k others, breaks the rule, at field j where that judges a cell.
 abbrev pub breaks : AdviceRule → List RecordValue → ℕ → RecordValue → ℕ → Bool
 breaks A1a t k r j = goes_over t k r
 breaks A1b t k r j = stands_twice t k r
@@ -180,6 +187,7 @@ breaks A3b t k r j = writers_own_less t
 breaks A6a t k r j = lacks_components t r
 breaks A6b t k r j = is_stray_component t r
 breaks A6c t k r j = lacks_original t r
+breaks A7a t k r j = is_shifted r j
 breaks rule t k r j = is_wrong rule (cell_at r j)
 
 -- the rule, at this field
@@ -188,22 +196,25 @@ at rule j = record { rule = rule; field = j }
 
 -- What is asked of a record of the kind, in this order: the rule, and the number of the field.
 abbrev pub asked_of : Kind → List Asked
-asked_of kinds.Nwr = at A2b 1 ∷ at A3b 1 ∷ at A6a 14 ∷ at A6c 15 ∷ at A8c 5 ∷ at A8d 11 ∷ []
-asked_of kinds.Rev = at A2b 1 ∷ at A3b 1 ∷ at A6a 14 ∷ at A6c 15 ∷ at A8c 5 ∷ at A8d 11 ∷ []
-asked_of kinds.Spu = at A2a 8 ∷ at A3a 13 ∷ at A4a 10 ∷ at A4b 21 ∷ at A8a 12 ∷ at A8a 14 ∷ at A8a 16 ∷ []
-asked_of kinds.Opu = at A2a 8 ∷ at A3a 13 ∷ at A4a 10 ∷ at A4b 21 ∷ at A8a 12 ∷ at A8a 14 ∷ at A8a 16 ∷ []
-asked_of kinds.Swr = at A2c 1 ∷ at A2d 1 ∷ at A4a 10 ∷ at A4b 21 ∷ at A8a 11 ∷ at A8a 13 ∷ at A8a 15 ∷ []
-asked_of kinds.Owr = at A4a 10 ∷ at A4b 21 ∷ at A8a 11 ∷ at A8a 13 ∷ at A8a 15 ∷ []
-asked_of kinds.Spt = at A1a 10 ∷ at A1b 10 ∷ at A8b 10 ∷ []
+asked_of kinds.Nwr = at A2b 1 ∷ at A3b 1 ∷ at A6a 14 ∷ at A6c 15 ∷ at A7a 4 ∷ at A7a 6 ∷ at A7a 19 ∷ at A7a 20 ∷ at A7a 26 ∷ at A8c 5 ∷ at A8d 11 ∷ []
+asked_of kinds.Rev = at A2b 1 ∷ at A3b 1 ∷ at A6a 14 ∷ at A6c 15 ∷ at A7a 4 ∷ at A7a 6 ∷ at A7a 19 ∷ at A7a 20 ∷ at A7a 26 ∷ at A8c 5 ∷ at A8d 11 ∷ []
+asked_of kinds.Spu = at A2a 8 ∷ at A3a 13 ∷ at A4a 10 ∷ at A4b 21 ∷ at A7a 5 ∷ at A7a 9 ∷ at A7a 10 ∷ at A7a 11 ∷ at A7a 21 ∷ at A7a 22 ∷ at A8a 12 ∷ at A8a 14 ∷ at A8a 16 ∷ []
+asked_of kinds.Opu = at A2a 8 ∷ at A3a 13 ∷ at A4a 10 ∷ at A4b 21 ∷ at A7a 5 ∷ at A7a 9 ∷ at A7a 10 ∷ at A7a 11 ∷ at A7a 21 ∷ at A7a 22 ∷ at A8a 12 ∷ at A8a 14 ∷ at A8a 16 ∷ []
+asked_of kinds.Swr = at A2c 1 ∷ at A2d 1 ∷ at A4a 10 ∷ at A4b 21 ∷ at A7a 4 ∷ at A7a 5 ∷ at A7a 9 ∷ at A7a 10 ∷ at A7a 21 ∷ at A7a 22 ∷ at A8a 11 ∷ at A8a 13 ∷ at A8a 15 ∷ []
+asked_of kinds.Owr = at A4a 10 ∷ at A4b 21 ∷ at A7a 4 ∷ at A7a 5 ∷ at A7a 9 ∷ at A7a 10 ∷ at A7a 21 ∷ at A7a 22 ∷ at A8a 11 ∷ at A8a 13 ∷ at A8a 15 ∷ []
+asked_of kinds.Spt = at A1a 10 ∷ at A1b 10 ∷ at A7a 4 ∷ at A8b 10 ∷ []
 asked_of kinds.Swt = at A1a 9 ∷ at A1b 9 ∷ at A8b 9 ∷ []
 asked_of kinds.Ter = at A8b 5 ∷ []
-asked_of kinds.Ipa = at A4a 5 ∷ at A4b 6 ∷ at A8a 10 ∷ at A8a 12 ∷ at A8a 14 ∷ []
+asked_of kinds.Ipa = at A4a 5 ∷ at A4b 6 ∷ at A7a 5 ∷ at A7a 6 ∷ at A7a 7 ∷ at A7a 8 ∷ at A7a 9 ∷ at A8a 10 ∷ at A8a 12 ∷ at A8a 14 ∷ []
 asked_of kinds.Alt = at A8c 6 ∷ []
-asked_of kinds.Ewt = at A4a 10 ∷ at A4a 14 ∷ at A4b 11 ∷ at A4b 15 ∷ at A8c 6 ∷ []
-asked_of kinds.Ver = at A4a 10 ∷ at A4a 14 ∷ at A4b 11 ∷ at A4b 15 ∷ at A8c 6 ∷ []
-asked_of kinds.Per = at A4a 6 ∷ at A4b 7 ∷ []
-asked_of kinds.Rec = at A4c 12 ∷ at A4d 11 ∷ at A8d 6 ∷ []
-asked_of kinds.Com = at A4a 10 ∷ at A4a 13 ∷ at A4b 14 ∷ at A4b 15 ∷ at A6b 1 ∷ at A8d 7 ∷ []
+asked_of kinds.Ewt = at A4a 10 ∷ at A4a 14 ∷ at A4b 11 ∷ at A4b 15 ∷ at A7a 4 ∷ at A7a 5 ∷ at A7a 7 ∷ at A7a 8 ∷ at A7a 9 ∷ at A7a 10 ∷ at A7a 11 ∷ at A7a 12 ∷ at A7a 13 ∷ at A7a 14 ∷ at A7a 15 ∷ at A8c 6 ∷ []
+asked_of kinds.Ver = at A4a 10 ∷ at A4a 14 ∷ at A4b 11 ∷ at A4b 15 ∷ at A7a 4 ∷ at A7a 5 ∷ at A7a 7 ∷ at A7a 8 ∷ at A7a 9 ∷ at A7a 10 ∷ at A7a 11 ∷ at A7a 12 ∷ at A7a 13 ∷ at A7a 14 ∷ at A7a 15 ∷ at A8c 6 ∷ []
+asked_of kinds.Per = at A4a 6 ∷ at A4b 7 ∷ at A7a 4 ∷ at A7a 5 ∷ at A7a 6 ∷ []
+asked_of kinds.Rec = at A4c 12 ∷ at A4d 11 ∷ at A7a 8 ∷ at A7a 9 ∷ at A7a 10 ∷ at A7a 11 ∷ at A8d 6 ∷ []
+asked_of kinds.Com = at A4a 10 ∷ at A4a 13 ∷ at A4b 14 ∷ at A4b 15 ∷ at A6b 1 ∷ at A7a 4 ∷ at A7a 5 ∷ at A7a 8 ∷ at A7a 9 ∷ at A7a 10 ∷ at A7a 11 ∷ at A7a 12 ∷ at A7a 13 ∷ at A7a 14 ∷ at A8d 7 ∷ []
+asked_of kinds.Agr = at A7a 4 ∷ []
+asked_of kinds.Pwr = at A7a 4 ∷ at A7a 5 ∷ at A7a 6 ∷ at A7a 7 ∷ []
+asked_of kinds.Orn = at A7a 5 ∷ at A7a 6 ∷ at A7a 8 ∷ at A7a 11 ∷ at A7a 12 ∷ []
 asked_of this_kind = []
 
 -- what is usually rejected where the rule is broken
@@ -219,6 +230,7 @@ level_of_rule A3b = T
 level_of_rule A6a = T
 level_of_rule A6b = R
 level_of_rule A6c = R
+level_of_rule A7a = R
 level_of_rule rule = F
 
 -- the advice of what was asked of a record that stands after k others
