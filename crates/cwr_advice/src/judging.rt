@@ -3,7 +3,7 @@
 ghost use Rattle.std.specs.Prelude.{◌≡◌, ◌+◌, ◌<◌, ◌^◌, List, take};
 ghost use Rattle.std.specs.List.{list_any};
 ghost use Rattle.cwr_layouts.specs.Format.Records.{RecordValue};
-ghost use Rattle.cwr_advice.specs.Format.Rules.{begins_with_agent, breaks, collects_nowhere, has_no_composite_type, in_chain, is_agent, is_header, is_stray_component, lacks_components, lacks_original, names_agent};
+ghost use Rattle.cwr_advice.specs.Format.Rules.{begins_with_agent, breaks, breaks_alone, collects_nowhere, has_composite_type, has_no_composite_type, in_chain, is_agent, is_header, is_stray_component, is_version, lacks_components, lacks_original, names_agent};
 ghost use Rattle.cwr_advice.specs.Steps.Facts.{AreFacts};
 
 use crate::checked_cells::is_wrong;
@@ -19,7 +19,7 @@ use cwr_levels::{cell, is_of};
 use cwr_values::Transaction;
 
 /// SPU, OPU: publisher sequence.
-const CHAIN: u8 = 4;
+pub(crate) const CHAIN: u8 = 4;
 
 /// SPU, OPU: publisher type.
 const PUBLISHER_TYPE: u8 = 8;
@@ -46,7 +46,7 @@ fn names_agent(ty: &[u8]) -> bool
 }
 
 /// Whether the record is an administrator or a sub-publisher.
-fn is_agent(shown: &RecordRef<'_>) -> bool
+pub(crate) fn is_agent(shown: &RecordRef<'_>) -> bool
     ensures { result ≡ is_agent shown.now }
 {
     if !is_publisher(shown) {
@@ -94,24 +94,31 @@ fn begins_with_agent(transaction: &Transaction, sequence: usize, shown: &RecordR
 }
 
 /// Whether publishers own shares, and no record says where they collect.
-fn collects_nowhere(facts: &Facts) -> bool
+pub(crate) fn collects_nowhere(facts: &Facts) -> bool
     ensures { (t : List RecordValue) → AreFacts t facts.now → result ≡ collects_nowhere t }
 {
     facts.has_owning_publisher && !facts.has_territory
+}
+
+/// Whether the record is the header of a work that has a composite type.
+pub(crate) fn has_composite_type(header: &RecordRef<'_>) -> bool
+    ensures { result ≡ has_composite_type header.now }
+{
+    if !is_header(header) {
+        return false;
+    }
+    !is_spaces(cell(header, COMPOSITE_TYPE))
 }
 
 /// Whether the header of a work has a composite type, and the work no component.
 fn lacks_components(facts: &Facts, shown: &RecordRef<'_>) -> bool
     ensures { (t : List RecordValue) → AreFacts t facts.now → result ≡ lacks_components t shown.now }
 {
-    if !is_header(shown) {
-        return false;
-    }
-    !is_spaces(cell(shown, COMPOSITE_TYPE)) && !facts.has_component
+    has_composite_type(shown) && !facts.has_component
 }
 
 /// Whether the record is the header of a work that has no composite type.
-fn has_no_composite_type(header: &RecordRef<'_>) -> bool
+pub(crate) fn has_no_composite_type(header: &RecordRef<'_>) -> bool
     ensures { result ≡ has_no_composite_type header.now }
 {
     if !is_header(header) {
@@ -133,14 +140,32 @@ fn is_stray_component(transaction: &Transaction, shown: &RecordRef<'_>) -> bool
     }
 }
 
+/// Whether the record is the header of a version of another work.
+pub(crate) fn is_version(header: &RecordRef<'_>) -> bool
+    ensures { result ≡ is_version header.now }
+{
+    if !is_header(header) {
+        return false;
+    }
+    cell(header, VERSION_TYPE) == b"MOD".as_slice()
+}
+
 /// Whether the header of a work says that it is a version, and no record names the original.
 fn lacks_original(facts: &Facts, shown: &RecordRef<'_>) -> bool
     ensures { (t : List RecordValue) → AreFacts t facts.now → result ≡ lacks_original t shown.now }
 {
-    if !is_header(shown) {
-        return false;
+    is_version(shown) && !facts.has_original
+}
+
+/// Whether the record breaks the rule by itself, at that field where the rule judges a cell.
+pub(crate) fn breaks_alone(rule: AdviceRule, shown: &RecordRef<'_>, field: u8) -> bool
+    ensures { result ≡ breaks_alone rule shown.now field }
+{
+    match rule {
+        AdviceRule::A3a => owns_over_half(shown),
+        AdviceRule::A7a => is_shifted(shown, field),
+        _ => is_wrong(rule, cell(shown, field)),
     }
-    cell(shown, VERSION_TYPE) == b"MOD".as_slice() && !facts.has_original
 }
 
 /// Whether the record, which stands after so many others, breaks the rule, at that field where the rule judges a cell.
@@ -163,12 +188,10 @@ pub(crate) fn breaks(
         AdviceRule::A2b => collects_nowhere(facts),
         AdviceRule::A2c => has_no_publisher(transaction, facts, sequence, shown),
         AdviceRule::A2d => has_no_territory(transaction, sequence, shown),
-        AdviceRule::A3a => owns_over_half(shown),
         AdviceRule::A3b => facts.writers_own_less(),
         AdviceRule::A6a => lacks_components(facts, shown),
         AdviceRule::A6b => is_stray_component(transaction, shown),
         AdviceRule::A6c => lacks_original(facts, shown),
-        AdviceRule::A7a => is_shifted(shown, field),
-        _ => is_wrong(rule, cell(shown, field)),
+        _ => breaks_alone(rule, shown, field),
     }
 }

@@ -5,7 +5,10 @@ mod asking;
 mod checked_cells;
 mod facts;
 mod judging;
+mod kept;
+mod kept_headers;
 mod numbers;
+mod owing;
 mod owners;
 mod rules;
 mod shifts;
@@ -14,5 +17,6 @@ mod territory_cells;
 mod walk;
 mod writers;
 
+pub use kept::AdviceSums;
 pub use rules::{Advice, AdviceRule, Asked};
 pub use walk::advice;

@@ -132,9 +132,13 @@ writers_own_less t = nat_lt 0 (ownership "pr share" t) && nat_lt (owned_by_write
 
 -- ---- A6: composite works and versions
 
--- a composite type, and no component
+-- the header of a work with a composite type
+abbrev pub has_composite_type : RecordValue → Bool
+has_composite_type r = is_header r && not (is_blank "composite type" r)
+
+-- there is one, and no component
 abbrev pub lacks_components : List RecordValue → RecordValue → Bool
-lacks_components t r = is_header r && not (is_blank "composite type" r) && not (list_any (is_a kinds.Com) t)
+lacks_components t r = has_composite_type r && not (list_any (is_a kinds.Com) t)
 
 -- the header of a work without a composite type
 abbrev pub has_no_composite_type : RecordValue → Bool
@@ -144,9 +148,13 @@ has_no_composite_type r = is_header r && is_blank "composite type" r
 abbrev pub is_stray_component : List RecordValue → RecordValue → Bool
 is_stray_component t r = is_a kinds.Com r && list_any has_no_composite_type (take 1 t)
 
+-- the header of a version of another work
+abbrev pub is_version : RecordValue → Bool
+is_version r = is_header r && bytes_eq (cell_named "version type" r) (codes "MOD")
+
 -- a version whose original no record names
 abbrev pub lacks_original : List RecordValue → RecordValue → Bool
-lacks_original t r = is_header r && bytes_eq (cell_named "version type" r) (codes "MOD") && not (list_any (is_a kinds.Ver) t)
+lacks_original t r = is_version r && not (list_any (is_a kinds.Ver) t)
 
 -- ---- A7: text that stands too far to the left
 
@@ -174,6 +182,12 @@ is_wrong rule cell = not (is_spaces cell) && not (is_right rule cell)
 
 -- ---- all rules
 
+-- Record r breaks the rule by itself, at field j where that judges a cell.
+abbrev pub breaks_alone : AdviceRule → RecordValue → ℕ → Bool
+breaks_alone A3a r j = owns_over_half r
+breaks_alone A7a r j = is_shifted r j
+breaks_alone rule r j = is_wrong rule (cell_at r j)
+
 -- Record r of the transaction t, after k others, breaks the rule, at field j where that judges a cell.
 abbrev pub breaks : AdviceRule → List RecordValue → ℕ → RecordValue → ℕ → Bool
 breaks A1a t k r j = goes_over t k r
@@ -182,13 +196,11 @@ breaks A2a t k r j = begins_with_agent t k r
 breaks A2b t k r j = collects_nowhere t
 breaks A2c t k r j = has_no_publisher t k r
 breaks A2d t k r j = has_no_territory t k r
-breaks A3a t k r j = owns_over_half r
 breaks A3b t k r j = writers_own_less t
 breaks A6a t k r j = lacks_components t r
 breaks A6b t k r j = is_stray_component t r
 breaks A6c t k r j = lacks_original t r
-breaks A7a t k r j = is_shifted r j
-breaks rule t k r j = is_wrong rule (cell_at r j)
+breaks rule t k r j = breaks_alone rule r j
 
 -- the rule, at this field
 abbrev pub at : AdviceRule → ℕ → Asked
