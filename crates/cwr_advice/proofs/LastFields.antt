@@ -9,7 +9,7 @@ use Rattle.cwr_layouts.specs.Format.Carried.{carried_at, carried_before}
 use Rattle.cwr_layouts.specs.Format.Layouts.{FieldLayout, layout}
 use Rattle.cwr_layouts.specs.Format.Records.{RecordValue}
 use Rattle.cwr_advice.specs.Format.Rules.{cell_at, is_shifted}
-use Rattle.cwr_advice.specs.Format.Shifts.{goes_on, has_gap}
+use Rattle.cwr_advice.specs.Format.Shifts.{begins_with_letter, ends_with_letter}
 
 none_behind : (r : RecordValue) (j : ℕ) → length (layout r.kind) ≤ j → cell_at r (j + 1) ≡ []
 none_behind r j end =
@@ -17,9 +17,6 @@ none_behind r j end =
     let none : carried_at r.kind (suc j) ≡ None = ap (option_and_then (λ (f : FieldLayout). if f.derived then None else Some f)) (slice_get_past (layout r.kind) j end) in
     ap (cell_at r) next ∙ ap (λ (o : Option FieldLayout). unwrap_or (option_and_then (λ (_ : FieldLayout). slice_get r.cells (carried_before r.kind (suc j))) o) []) none
 
-goes_nowhere : (cell : List ℕ) → goes_on cell [] ≡ false
-goes_nowhere cell = and_left _ _ (and_left _ _ (and_right (not (length cell == 0)) false refl))
-
 -- so the last one goes on nowhere
 pub last_ends : (r : RecordValue) (j : ℕ) → length (layout r.kind) ≤ j → is_shifted r j ≡ false
-last_ends r j end = and_left (goes_on (cell_at r j) (cell_at r (j + 1))) (has_gap (cell_at r j)) (ap (goes_on (cell_at r j)) (none_behind r j end) ∙ goes_nowhere (cell_at r j))
+last_ends r j end = and_left _ _ (and_right (ends_with_letter (cell_at r j)) _ (ap begins_with_letter (none_behind r j end)))

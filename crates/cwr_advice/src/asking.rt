@@ -7,7 +7,7 @@ use crate::rules::{AdviceRule, Asked};
 use cwr_layouts::Kind;
 
 /// NWR, REV: what is asked of them, in this order.
-static WORK: [Asked; 11] = [
+static WORK: [Asked; 8] = [
     Asked {
         rule: AdviceRule::A2b,
         field: 1,
@@ -30,19 +30,7 @@ static WORK: [Asked; 11] = [
     },
     Asked {
         rule: AdviceRule::A7a,
-        field: 6,
-    },
-    Asked {
-        rule: AdviceRule::A7a,
         field: 19,
-    },
-    Asked {
-        rule: AdviceRule::A7a,
-        field: 20,
-    },
-    Asked {
-        rule: AdviceRule::A7a,
-        field: 26,
     },
     Asked {
         rule: AdviceRule::A8c,
@@ -55,7 +43,7 @@ static WORK: [Asked; 11] = [
 ];
 
 /// SPU, OPU: what is asked of them, in this order.
-static PUBLISHER: [Asked; 13] = [
+static PUBLISHER: [Asked; 8] = [
     Asked {
         rule: AdviceRule::A2a,
         field: 8,
@@ -77,26 +65,6 @@ static PUBLISHER: [Asked; 13] = [
         field: 5,
     },
     Asked {
-        rule: AdviceRule::A7a,
-        field: 9,
-    },
-    Asked {
-        rule: AdviceRule::A7a,
-        field: 10,
-    },
-    Asked {
-        rule: AdviceRule::A7a,
-        field: 11,
-    },
-    Asked {
-        rule: AdviceRule::A7a,
-        field: 21,
-    },
-    Asked {
-        rule: AdviceRule::A7a,
-        field: 22,
-    },
-    Asked {
         rule: AdviceRule::A8a,
         field: 12,
     },
@@ -111,7 +79,7 @@ static PUBLISHER: [Asked; 13] = [
 ];
 
 /// SWR: what is asked of them, in this order.
-static CONTROLLED_WRITER: [Asked; 13] = [
+static CONTROLLED_WRITER: [Asked; 9] = [
     Asked {
         rule: AdviceRule::A2c,
         field: 1,
@@ -137,22 +105,6 @@ static CONTROLLED_WRITER: [Asked; 13] = [
         field: 5,
     },
     Asked {
-        rule: AdviceRule::A7a,
-        field: 9,
-    },
-    Asked {
-        rule: AdviceRule::A7a,
-        field: 10,
-    },
-    Asked {
-        rule: AdviceRule::A7a,
-        field: 21,
-    },
-    Asked {
-        rule: AdviceRule::A7a,
-        field: 22,
-    },
-    Asked {
         rule: AdviceRule::A8a,
         field: 11,
     },
@@ -167,7 +119,7 @@ static CONTROLLED_WRITER: [Asked; 13] = [
 ];
 
 /// OWR: what is asked of them, in this order.
-static OTHER_WRITER: [Asked; 11] = [
+static OTHER_WRITER: [Asked; 7] = [
     Asked {
         rule: AdviceRule::A4a,
         field: 10,
@@ -185,22 +137,6 @@ static OTHER_WRITER: [Asked; 11] = [
         field: 5,
     },
     Asked {
-        rule: AdviceRule::A7a,
-        field: 9,
-    },
-    Asked {
-        rule: AdviceRule::A7a,
-        field: 10,
-    },
-    Asked {
-        rule: AdviceRule::A7a,
-        field: 21,
-    },
-    Asked {
-        rule: AdviceRule::A7a,
-        field: 22,
-    },
-    Asked {
         rule: AdviceRule::A8a,
         field: 11,
     },
@@ -215,7 +151,7 @@ static OTHER_WRITER: [Asked; 11] = [
 ];
 
 /// SPT: what is asked of them, in this order.
-static PUBLISHER_TERRITORY: [Asked; 4] = [
+static PUBLISHER_TERRITORY: [Asked; 3] = [
     Asked {
         rule: AdviceRule::A1a,
         field: 10,
@@ -223,10 +159,6 @@ static PUBLISHER_TERRITORY: [Asked; 4] = [
     Asked {
         rule: AdviceRule::A1b,
         field: 10,
-    },
-    Asked {
-        rule: AdviceRule::A7a,
-        field: 4,
     },
     Asked {
         rule: AdviceRule::A8b,
@@ -257,7 +189,7 @@ static TERRITORY: [Asked; 1] = [Asked {
 }];
 
 /// IPA: what is asked of them, in this order.
-static PARTY: [Asked; 10] = [
+static PARTY: [Asked; 7] = [
     Asked {
         rule: AdviceRule::A4a,
         field: 5,
@@ -268,23 +200,11 @@ static PARTY: [Asked; 10] = [
     },
     Asked {
         rule: AdviceRule::A7a,
-        field: 5,
-    },
-    Asked {
-        rule: AdviceRule::A7a,
-        field: 6,
-    },
-    Asked {
-        rule: AdviceRule::A7a,
         field: 7,
     },
     Asked {
         rule: AdviceRule::A7a,
         field: 8,
-    },
-    Asked {
-        rule: AdviceRule::A7a,
-        field: 9,
     },
     Asked {
         rule: AdviceRule::A8a,
@@ -307,7 +227,7 @@ static ALTERNATIVE_TITLE: [Asked; 1] = [Asked {
 }];
 
 /// EWT, VER: what is asked of them, in this order.
-static OTHER_WORK: [Asked; 16] = [
+static OTHER_WORK: [Asked; 11] = [
     Asked {
         rule: AdviceRule::A4a,
         field: 10,
@@ -327,10 +247,6 @@ static OTHER_WORK: [Asked; 16] = [
     Asked {
         rule: AdviceRule::A7a,
         field: 4,
-    },
-    Asked {
-        rule: AdviceRule::A7a,
-        field: 5,
     },
     Asked {
         rule: AdviceRule::A7a,
@@ -346,27 +262,11 @@ static OTHER_WORK: [Asked; 16] = [
     },
     Asked {
         rule: AdviceRule::A7a,
-        field: 10,
-    },
-    Asked {
-        rule: AdviceRule::A7a,
-        field: 11,
-    },
-    Asked {
-        rule: AdviceRule::A7a,
         field: 12,
     },
     Asked {
         rule: AdviceRule::A7a,
         field: 13,
-    },
-    Asked {
-        rule: AdviceRule::A7a,
-        field: 14,
-    },
-    Asked {
-        rule: AdviceRule::A7a,
-        field: 15,
     },
     Asked {
         rule: AdviceRule::A8c,
@@ -375,7 +275,7 @@ static OTHER_WORK: [Asked; 16] = [
 ];
 
 /// PER: what is asked of them, in this order.
-static PERFORMER: [Asked; 5] = [
+static PERFORMER: [Asked; 4] = [
     Asked {
         rule: AdviceRule::A4a,
         field: 6,
@@ -392,14 +292,10 @@ static PERFORMER: [Asked; 5] = [
         rule: AdviceRule::A7a,
         field: 5,
     },
-    Asked {
-        rule: AdviceRule::A7a,
-        field: 6,
-    },
 ];
 
 /// REC: what is asked of them, in this order.
-static RECORDING: [Asked; 7] = [
+static RECORDING: [Asked; 5] = [
     Asked {
         rule: AdviceRule::A4c,
         field: 12,
@@ -417,21 +313,13 @@ static RECORDING: [Asked; 7] = [
         field: 9,
     },
     Asked {
-        rule: AdviceRule::A7a,
-        field: 10,
-    },
-    Asked {
-        rule: AdviceRule::A7a,
-        field: 11,
-    },
-    Asked {
         rule: AdviceRule::A8d,
         field: 6,
     },
 ];
 
 /// COM: what is asked of them, in this order.
-static COMPONENT: [Asked; 15] = [
+static COMPONENT: [Asked; 11] = [
     Asked {
         rule: AdviceRule::A4a,
         field: 10,
@@ -458,19 +346,11 @@ static COMPONENT: [Asked; 15] = [
     },
     Asked {
         rule: AdviceRule::A7a,
-        field: 5,
-    },
-    Asked {
-        rule: AdviceRule::A7a,
         field: 8,
     },
     Asked {
         rule: AdviceRule::A7a,
         field: 9,
-    },
-    Asked {
-        rule: AdviceRule::A7a,
-        field: 10,
     },
     Asked {
         rule: AdviceRule::A7a,
@@ -481,27 +361,13 @@ static COMPONENT: [Asked; 15] = [
         field: 12,
     },
     Asked {
-        rule: AdviceRule::A7a,
-        field: 13,
-    },
-    Asked {
-        rule: AdviceRule::A7a,
-        field: 14,
-    },
-    Asked {
         rule: AdviceRule::A8d,
         field: 7,
     },
 ];
 
-/// AGR: what is asked of them, in this order.
-static AGREEMENT: [Asked; 1] = [Asked {
-    rule: AdviceRule::A7a,
-    field: 4,
-}];
-
 /// PWR: what is asked of them, in this order.
-static WRITER_PUBLISHER: [Asked; 4] = [
+static WRITER_PUBLISHER: [Asked; 2] = [
     Asked {
         rule: AdviceRule::A7a,
         field: 4,
@@ -510,33 +376,17 @@ static WRITER_PUBLISHER: [Asked; 4] = [
         rule: AdviceRule::A7a,
         field: 5,
     },
-    Asked {
-        rule: AdviceRule::A7a,
-        field: 6,
-    },
-    Asked {
-        rule: AdviceRule::A7a,
-        field: 7,
-    },
 ];
 
 /// ORN: what is asked of them, in this order.
-static ORIGIN: [Asked; 5] = [
+static ORIGIN: [Asked; 3] = [
     Asked {
         rule: AdviceRule::A7a,
         field: 5,
     },
     Asked {
         rule: AdviceRule::A7a,
-        field: 6,
-    },
-    Asked {
-        rule: AdviceRule::A7a,
         field: 8,
-    },
-    Asked {
-        rule: AdviceRule::A7a,
-        field: 11,
     },
     Asked {
         rule: AdviceRule::A7a,
@@ -563,7 +413,6 @@ pub(crate) fn asked_of(kind: Kind) -> &'static [Asked]
         Kind::Per => &PERFORMER,
         Kind::Rec => &RECORDING,
         Kind::Com => &COMPONENT,
-        Kind::Agr => &AGREEMENT,
         Kind::Pwr => &WRITER_PUBLISHER,
         Kind::Orn => &ORIGIN,
         _ => &[],

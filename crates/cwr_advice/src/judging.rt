@@ -164,7 +164,15 @@ pub(crate) fn breaks_alone(rule: AdviceRule, shown: &RecordRef<'_>, field: u8) -
     match rule {
         AdviceRule::A3a => owns_over_half(shown),
         AdviceRule::A7a => is_shifted(shown, field),
-        _ => is_wrong(rule, cell(shown, field)),
+        AdviceRule::A4a
+        | AdviceRule::A4b
+        | AdviceRule::A4c
+        | AdviceRule::A4d
+        | AdviceRule::A8a
+        | AdviceRule::A8b
+        | AdviceRule::A8c
+        | AdviceRule::A8d => is_wrong(rule, cell(shown, field)),
+        _ => false,
     }
 }
 

@@ -2,17 +2,26 @@
 
 ghost use Rattle.std.specs.Prelude.{◌≡◌};
 ghost use Rattle.cwr_advice.specs.Format.Rules.{is_shifted};
-ghost use Rattle.cwr_advice.specs.Format.Shifts.{goes_on, has_gap};
+ghost use Rattle.cwr_advice.specs.Format.Shifts.{begins_with_letter, ends_with_letter, has_gap};
 
 use crate::numbers::is_letter;
 use cwr_layouts::{RecordRef, fields};
 use cwr_levels::cell;
 
-/// Whether a letter ends the one cell, and a letter begins the next.
-fn goes_on(cell: &[u8], next: &[u8]) -> bool
-    ensures { result ≡ goes_on cell.now next.now }
+/// Whether a letter ends the cell.
+#[inline(always)]
+fn ends_with_letter(cell: &[u8]) -> bool
+    ensures { result ≡ ends_with_letter cell.now }
 {
-    !cell.is_empty() && !next.is_empty() && is_letter(cell[cell.len() - 1]) && is_letter(next[0])
+    !cell.is_empty() && is_letter(cell[cell.len() - 1])
+}
+
+/// Whether a letter begins the cell.
+#[inline(always)]
+fn begins_with_letter(cell: &[u8]) -> bool
+    ensures { result ≡ begins_with_letter cell.now }
+{
+    !cell.is_empty() && is_letter(cell[0])
 }
 
 /// Whether three blanks stand together in the cell behind something else.
@@ -33,9 +42,12 @@ fn has_gap(cell: &[u8]) -> bool
 pub(crate) fn is_shifted(shown: &RecordRef<'_>, field: u8) -> bool
     ensures { result ≡ is_shifted shown.now field }
 {
+    let text = cell(shown, field);
+    if !ends_with_letter(text) {
+        return false;
+    }
     if field >= fields(shown.kind()) {
         return false;
     }
-    let text = cell(shown, field);
-    goes_on(text, cell(shown, field + 1)) && has_gap(text)
+    begins_with_letter(cell(shown, field + 1)) && has_gap(text)
 }

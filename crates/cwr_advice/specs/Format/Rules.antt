@@ -1,6 +1,6 @@
 -- Advice on a transaction that is to be sent: which record breaks which rule, and at which field.
 use Prim.Native.String.{String}
-use Rattle.std.specs.Prelude.{ℕ, ◌+◌, Bool, true, not, ◌&&◌, ◌||◌, nat_lt, nat_le, List, [], ◌∷◌, codes, map, filter, take, drop, take_while, unwrap_or, flat_map, count_by, if◌then◌else◌}
+use Rattle.std.specs.Prelude.{ℕ, ◌+◌, Bool, true, false, not, ◌&&◌, ◌||◌, nat_lt, nat_le, List, [], ◌∷◌, codes, map, filter, take, drop, take_while, unwrap_or, flat_map, count_by, if◌then◌else◌}
 use Rattle.std.specs.List.{list_any, sum_by, enumerate_from, after_last}
 use Rattle.std.specs.Str.{bytes_eq}
 use Rattle.cwr_fields.specs.Format.Bytes.{is_spaces}
@@ -16,7 +16,7 @@ use Rattle.cwr_advice.specs.declared.rules.AdviceRule.TheVariants.{A1a, A1b, A2a
 use Rattle.cwr_advice.specs.declared.rules.Asked.{Asked}
 use Rattle.cwr_advice.specs.declared.rules.Advice.{Advice}
 use Rattle.cwr_advice.specs.Format.Numbers.{is_ean, is_ipi_base, is_ipi_name, is_isrc, is_language, is_society, is_territory_number, is_zero}
-use Rattle.cwr_advice.specs.Format.Shifts.{goes_on, has_gap}
+use Rattle.cwr_advice.specs.Format.Shifts.{begins_with_letter, ends_with_letter, has_gap}
 
 -- ---- words on records
 
@@ -160,7 +160,7 @@ lacks_original t r = is_version r && not (list_any (is_a kinds.Ver) t)
 
 -- the text of field j goes on over its end, and stands behind a gap: it doesn't begin the cell, as a text that is too long does
 abbrev pub is_shifted : RecordValue → ℕ → Bool
-is_shifted r j = goes_on (cell_at r j) (cell_at r (j + 1)) && has_gap (cell_at r j)
+is_shifted r j = ends_with_letter (cell_at r j) && begins_with_letter (cell_at r (j + 1)) && has_gap (cell_at r j)
 
 -- ---- A4 and A8: cells that are judged by themselves
 
@@ -185,8 +185,16 @@ is_wrong rule cell = not (is_spaces cell) && not (is_right rule cell)
 -- Record r breaks the rule by itself, at field j where that judges a cell.
 abbrev pub breaks_alone : AdviceRule → RecordValue → ℕ → Bool
 breaks_alone A3a r j = owns_over_half r
+breaks_alone A4a r j = is_wrong A4a (cell_at r j)
+breaks_alone A4b r j = is_wrong A4b (cell_at r j)
+breaks_alone A4c r j = is_wrong A4c (cell_at r j)
+breaks_alone A4d r j = is_wrong A4d (cell_at r j)
 breaks_alone A7a r j = is_shifted r j
-breaks_alone rule r j = is_wrong rule (cell_at r j)
+breaks_alone A8a r j = is_wrong A8a (cell_at r j)
+breaks_alone A8b r j = is_wrong A8b (cell_at r j)
+breaks_alone A8c r j = is_wrong A8c (cell_at r j)
+breaks_alone A8d r j = is_wrong A8d (cell_at r j)
+breaks_alone rule r j = false
 
 -- Record r of the transaction t, after k others, breaks the rule, at field j where that judges a cell.
 abbrev pub breaks : AdviceRule → List RecordValue → ℕ → RecordValue → ℕ → Bool
@@ -208,25 +216,24 @@ at rule j = record { rule = rule; field = j }
 
 -- What is asked of a record of the kind, in this order: the rule, and the number of the field.
 abbrev pub asked_of : Kind → List Asked
-asked_of kinds.Nwr = at A2b 1 ∷ at A3b 1 ∷ at A6a 14 ∷ at A6c 15 ∷ at A7a 4 ∷ at A7a 6 ∷ at A7a 19 ∷ at A7a 20 ∷ at A7a 26 ∷ at A8c 5 ∷ at A8d 11 ∷ []
-asked_of kinds.Rev = at A2b 1 ∷ at A3b 1 ∷ at A6a 14 ∷ at A6c 15 ∷ at A7a 4 ∷ at A7a 6 ∷ at A7a 19 ∷ at A7a 20 ∷ at A7a 26 ∷ at A8c 5 ∷ at A8d 11 ∷ []
-asked_of kinds.Spu = at A2a 8 ∷ at A3a 13 ∷ at A4a 10 ∷ at A4b 21 ∷ at A7a 5 ∷ at A7a 9 ∷ at A7a 10 ∷ at A7a 11 ∷ at A7a 21 ∷ at A7a 22 ∷ at A8a 12 ∷ at A8a 14 ∷ at A8a 16 ∷ []
-asked_of kinds.Opu = at A2a 8 ∷ at A3a 13 ∷ at A4a 10 ∷ at A4b 21 ∷ at A7a 5 ∷ at A7a 9 ∷ at A7a 10 ∷ at A7a 11 ∷ at A7a 21 ∷ at A7a 22 ∷ at A8a 12 ∷ at A8a 14 ∷ at A8a 16 ∷ []
-asked_of kinds.Swr = at A2c 1 ∷ at A2d 1 ∷ at A4a 10 ∷ at A4b 21 ∷ at A7a 4 ∷ at A7a 5 ∷ at A7a 9 ∷ at A7a 10 ∷ at A7a 21 ∷ at A7a 22 ∷ at A8a 11 ∷ at A8a 13 ∷ at A8a 15 ∷ []
-asked_of kinds.Owr = at A4a 10 ∷ at A4b 21 ∷ at A7a 4 ∷ at A7a 5 ∷ at A7a 9 ∷ at A7a 10 ∷ at A7a 21 ∷ at A7a 22 ∷ at A8a 11 ∷ at A8a 13 ∷ at A8a 15 ∷ []
-asked_of kinds.Spt = at A1a 10 ∷ at A1b 10 ∷ at A7a 4 ∷ at A8b 10 ∷ []
+asked_of kinds.Nwr = at A2b 1 ∷ at A3b 1 ∷ at A6a 14 ∷ at A6c 15 ∷ at A7a 4 ∷ at A7a 19 ∷ at A8c 5 ∷ at A8d 11 ∷ []
+asked_of kinds.Rev = at A2b 1 ∷ at A3b 1 ∷ at A6a 14 ∷ at A6c 15 ∷ at A7a 4 ∷ at A7a 19 ∷ at A8c 5 ∷ at A8d 11 ∷ []
+asked_of kinds.Spu = at A2a 8 ∷ at A3a 13 ∷ at A4a 10 ∷ at A4b 21 ∷ at A7a 5 ∷ at A8a 12 ∷ at A8a 14 ∷ at A8a 16 ∷ []
+asked_of kinds.Opu = at A2a 8 ∷ at A3a 13 ∷ at A4a 10 ∷ at A4b 21 ∷ at A7a 5 ∷ at A8a 12 ∷ at A8a 14 ∷ at A8a 16 ∷ []
+asked_of kinds.Swr = at A2c 1 ∷ at A2d 1 ∷ at A4a 10 ∷ at A4b 21 ∷ at A7a 4 ∷ at A7a 5 ∷ at A8a 11 ∷ at A8a 13 ∷ at A8a 15 ∷ []
+asked_of kinds.Owr = at A4a 10 ∷ at A4b 21 ∷ at A7a 4 ∷ at A7a 5 ∷ at A8a 11 ∷ at A8a 13 ∷ at A8a 15 ∷ []
+asked_of kinds.Spt = at A1a 10 ∷ at A1b 10 ∷ at A8b 10 ∷ []
 asked_of kinds.Swt = at A1a 9 ∷ at A1b 9 ∷ at A8b 9 ∷ []
 asked_of kinds.Ter = at A8b 5 ∷ []
-asked_of kinds.Ipa = at A4a 5 ∷ at A4b 6 ∷ at A7a 5 ∷ at A7a 6 ∷ at A7a 7 ∷ at A7a 8 ∷ at A7a 9 ∷ at A8a 10 ∷ at A8a 12 ∷ at A8a 14 ∷ []
+asked_of kinds.Ipa = at A4a 5 ∷ at A4b 6 ∷ at A7a 7 ∷ at A7a 8 ∷ at A8a 10 ∷ at A8a 12 ∷ at A8a 14 ∷ []
 asked_of kinds.Alt = at A8c 6 ∷ []
-asked_of kinds.Ewt = at A4a 10 ∷ at A4a 14 ∷ at A4b 11 ∷ at A4b 15 ∷ at A7a 4 ∷ at A7a 5 ∷ at A7a 7 ∷ at A7a 8 ∷ at A7a 9 ∷ at A7a 10 ∷ at A7a 11 ∷ at A7a 12 ∷ at A7a 13 ∷ at A7a 14 ∷ at A7a 15 ∷ at A8c 6 ∷ []
-asked_of kinds.Ver = at A4a 10 ∷ at A4a 14 ∷ at A4b 11 ∷ at A4b 15 ∷ at A7a 4 ∷ at A7a 5 ∷ at A7a 7 ∷ at A7a 8 ∷ at A7a 9 ∷ at A7a 10 ∷ at A7a 11 ∷ at A7a 12 ∷ at A7a 13 ∷ at A7a 14 ∷ at A7a 15 ∷ at A8c 6 ∷ []
-asked_of kinds.Per = at A4a 6 ∷ at A4b 7 ∷ at A7a 4 ∷ at A7a 5 ∷ at A7a 6 ∷ []
-asked_of kinds.Rec = at A4c 12 ∷ at A4d 11 ∷ at A7a 8 ∷ at A7a 9 ∷ at A7a 10 ∷ at A7a 11 ∷ at A8d 6 ∷ []
-asked_of kinds.Com = at A4a 10 ∷ at A4a 13 ∷ at A4b 14 ∷ at A4b 15 ∷ at A6b 1 ∷ at A7a 4 ∷ at A7a 5 ∷ at A7a 8 ∷ at A7a 9 ∷ at A7a 10 ∷ at A7a 11 ∷ at A7a 12 ∷ at A7a 13 ∷ at A7a 14 ∷ at A8d 7 ∷ []
-asked_of kinds.Agr = at A7a 4 ∷ []
-asked_of kinds.Pwr = at A7a 4 ∷ at A7a 5 ∷ at A7a 6 ∷ at A7a 7 ∷ []
-asked_of kinds.Orn = at A7a 5 ∷ at A7a 6 ∷ at A7a 8 ∷ at A7a 11 ∷ at A7a 12 ∷ []
+asked_of kinds.Ewt = at A4a 10 ∷ at A4a 14 ∷ at A4b 11 ∷ at A4b 15 ∷ at A7a 4 ∷ at A7a 7 ∷ at A7a 8 ∷ at A7a 9 ∷ at A7a 12 ∷ at A7a 13 ∷ at A8c 6 ∷ []
+asked_of kinds.Ver = at A4a 10 ∷ at A4a 14 ∷ at A4b 11 ∷ at A4b 15 ∷ at A7a 4 ∷ at A7a 7 ∷ at A7a 8 ∷ at A7a 9 ∷ at A7a 12 ∷ at A7a 13 ∷ at A8c 6 ∷ []
+asked_of kinds.Per = at A4a 6 ∷ at A4b 7 ∷ at A7a 4 ∷ at A7a 5 ∷ []
+asked_of kinds.Rec = at A4c 12 ∷ at A4d 11 ∷ at A7a 8 ∷ at A7a 9 ∷ at A8d 6 ∷ []
+asked_of kinds.Com = at A4a 10 ∷ at A4a 13 ∷ at A4b 14 ∷ at A4b 15 ∷ at A6b 1 ∷ at A7a 4 ∷ at A7a 8 ∷ at A7a 9 ∷ at A7a 11 ∷ at A7a 12 ∷ at A8d 7 ∷ []
+asked_of kinds.Pwr = at A7a 4 ∷ at A7a 5 ∷ []
+asked_of kinds.Orn = at A7a 5 ∷ at A7a 8 ∷ at A7a 12 ∷ []
 asked_of this_kind = []
 
 -- what is usually rejected where the rule is broken

@@ -3,9 +3,13 @@ use Rattle.std.specs.Prelude.{ℕ, ◌-◌, Bool, false, not, ◌&&◌, ◌||◌
 use Rattle.std.specs.List.{starts_with}
 use Rattle.cwr_advice.specs.Format.Numbers.{is_letter}
 
--- a letter ends the one cell, and a letter begins the next
-abbrev pub goes_on : List ℕ → List ℕ → Bool
-goes_on cell next = not (length cell == 0) && not (length next == 0) && is_letter (slice_index cell (length cell - 1)) && is_letter (slice_index next 0)
+-- a letter ends it
+abbrev pub ends_with_letter : List ℕ → Bool
+ends_with_letter cell = not (length cell == 0) && is_letter (slice_index cell (length cell - 1))
+
+-- a letter begins it
+abbrev pub begins_with_letter : List ℕ → Bool
+begins_with_letter cell = not (length cell == 0) && is_letter (slice_index cell 0)
 
 -- three blanks stand together in the cell behind something else
 abbrev pub has_gap : List ℕ → Bool
