@@ -7,3 +7,8 @@ pub mod SinceParty
 pub mod WriterRecords
 pub mod KeptInTurn
 pub mod AdviceByRecord
+pub mod OwnedShares
+pub mod OwingWriters
+pub mod CalmRecords
+pub mod CleanWorks
+pub mod LastFields

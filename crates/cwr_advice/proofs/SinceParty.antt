@@ -35,7 +35,8 @@ after_last-snoc {X = X} p xs x = by (p x) refl
 abbrev pub since : {X : Type 0} → (X → Bool) → (X → Bool) → List X → ℕ → Bool
 since p other t n = list_any p (after_last other (take n t))
 
-one_since : {X : Type 0} (p other : X → Bool) (xs : List X) (x : X) (b c : Bool) → other x ≡ b → p x ≡ c → list_any p (after_last other (xs ++ x ∷ [])) ≡ cond b false (list_any p (after_last other xs) || c)
+-- one more of which it is known whether it is of the other kind, and whether it passes
+pub one_since : {X : Type 0} (p other : X → Bool) (xs : List X) (x : X) (b c : Bool) → other x ≡ b → p x ≡ c → list_any p (after_last other (xs ++ x ∷ [])) ≡ cond b false (list_any p (after_last other xs) || c)
 one_since {X} p other xs x true c e f = ap (list_any p) (after_last-snoc other xs x ∙ ap (λ (b : Bool). cond b [] (after_last other xs ++ x ∷ [])) e)
 one_since {X} p other xs x false c e f =
     ap (list_any p) (after_last-snoc other xs x ∙ ap (λ (b : Bool). cond b [] (after_last other xs ++ x ∷ [])) e)

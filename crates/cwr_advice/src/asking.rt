@@ -7,7 +7,7 @@ use crate::rules::{AdviceRule, Asked};
 use cwr_layouts::Kind;
 
 /// NWR, REV: what is asked of them, in this order.
-static WORK: [Asked; 6] = [
+static WORK: [Asked; 8] = [
     Asked {
         rule: AdviceRule::A2b,
         field: 1,
@@ -25,6 +25,14 @@ static WORK: [Asked; 6] = [
         field: 15,
     },
     Asked {
+        rule: AdviceRule::A7a,
+        field: 4,
+    },
+    Asked {
+        rule: AdviceRule::A7a,
+        field: 19,
+    },
+    Asked {
         rule: AdviceRule::A8c,
         field: 5,
     },
@@ -35,7 +43,7 @@ static WORK: [Asked; 6] = [
 ];
 
 /// SPU, OPU: what is asked of them, in this order.
-static PUBLISHER: [Asked; 7] = [
+static PUBLISHER: [Asked; 8] = [
     Asked {
         rule: AdviceRule::A2a,
         field: 8,
@@ -53,6 +61,10 @@ static PUBLISHER: [Asked; 7] = [
         field: 21,
     },
     Asked {
+        rule: AdviceRule::A7a,
+        field: 5,
+    },
+    Asked {
         rule: AdviceRule::A8a,
         field: 12,
     },
@@ -67,7 +79,7 @@ static PUBLISHER: [Asked; 7] = [
 ];
 
 /// SWR: what is asked of them, in this order.
-static CONTROLLED_WRITER: [Asked; 7] = [
+static CONTROLLED_WRITER: [Asked; 9] = [
     Asked {
         rule: AdviceRule::A2c,
         field: 1,
@@ -85,6 +97,14 @@ static CONTROLLED_WRITER: [Asked; 7] = [
         field: 21,
     },
     Asked {
+        rule: AdviceRule::A7a,
+        field: 4,
+    },
+    Asked {
+        rule: AdviceRule::A7a,
+        field: 5,
+    },
+    Asked {
         rule: AdviceRule::A8a,
         field: 11,
     },
@@ -99,7 +119,7 @@ static CONTROLLED_WRITER: [Asked; 7] = [
 ];
 
 /// OWR: what is asked of them, in this order.
-static OTHER_WRITER: [Asked; 5] = [
+static OTHER_WRITER: [Asked; 7] = [
     Asked {
         rule: AdviceRule::A4a,
         field: 10,
@@ -107,6 +127,14 @@ static OTHER_WRITER: [Asked; 5] = [
     Asked {
         rule: AdviceRule::A4b,
         field: 21,
+    },
+    Asked {
+        rule: AdviceRule::A7a,
+        field: 4,
+    },
+    Asked {
+        rule: AdviceRule::A7a,
+        field: 5,
     },
     Asked {
         rule: AdviceRule::A8a,
@@ -161,7 +189,7 @@ static TERRITORY: [Asked; 1] = [Asked {
 }];
 
 /// IPA: what is asked of them, in this order.
-static PARTY: [Asked; 5] = [
+static PARTY: [Asked; 7] = [
     Asked {
         rule: AdviceRule::A4a,
         field: 5,
@@ -169,6 +197,14 @@ static PARTY: [Asked; 5] = [
     Asked {
         rule: AdviceRule::A4b,
         field: 6,
+    },
+    Asked {
+        rule: AdviceRule::A7a,
+        field: 7,
+    },
+    Asked {
+        rule: AdviceRule::A7a,
+        field: 8,
     },
     Asked {
         rule: AdviceRule::A8a,
@@ -191,7 +227,7 @@ static ALTERNATIVE_TITLE: [Asked; 1] = [Asked {
 }];
 
 /// EWT, VER: what is asked of them, in this order.
-static OTHER_WORK: [Asked; 5] = [
+static OTHER_WORK: [Asked; 11] = [
     Asked {
         rule: AdviceRule::A4a,
         field: 10,
@@ -209,13 +245,37 @@ static OTHER_WORK: [Asked; 5] = [
         field: 15,
     },
     Asked {
+        rule: AdviceRule::A7a,
+        field: 4,
+    },
+    Asked {
+        rule: AdviceRule::A7a,
+        field: 7,
+    },
+    Asked {
+        rule: AdviceRule::A7a,
+        field: 8,
+    },
+    Asked {
+        rule: AdviceRule::A7a,
+        field: 9,
+    },
+    Asked {
+        rule: AdviceRule::A7a,
+        field: 12,
+    },
+    Asked {
+        rule: AdviceRule::A7a,
+        field: 13,
+    },
+    Asked {
         rule: AdviceRule::A8c,
         field: 6,
     },
 ];
 
 /// PER: what is asked of them, in this order.
-static PERFORMER: [Asked; 2] = [
+static PERFORMER: [Asked; 4] = [
     Asked {
         rule: AdviceRule::A4a,
         field: 6,
@@ -224,10 +284,18 @@ static PERFORMER: [Asked; 2] = [
         rule: AdviceRule::A4b,
         field: 7,
     },
+    Asked {
+        rule: AdviceRule::A7a,
+        field: 4,
+    },
+    Asked {
+        rule: AdviceRule::A7a,
+        field: 5,
+    },
 ];
 
 /// REC: what is asked of them, in this order.
-static RECORDING: [Asked; 3] = [
+static RECORDING: [Asked; 5] = [
     Asked {
         rule: AdviceRule::A4c,
         field: 12,
@@ -237,13 +305,21 @@ static RECORDING: [Asked; 3] = [
         field: 11,
     },
     Asked {
+        rule: AdviceRule::A7a,
+        field: 8,
+    },
+    Asked {
+        rule: AdviceRule::A7a,
+        field: 9,
+    },
+    Asked {
         rule: AdviceRule::A8d,
         field: 6,
     },
 ];
 
 /// COM: what is asked of them, in this order.
-static COMPONENT: [Asked; 6] = [
+static COMPONENT: [Asked; 11] = [
     Asked {
         rule: AdviceRule::A4a,
         field: 10,
@@ -265,8 +341,56 @@ static COMPONENT: [Asked; 6] = [
         field: 1,
     },
     Asked {
+        rule: AdviceRule::A7a,
+        field: 4,
+    },
+    Asked {
+        rule: AdviceRule::A7a,
+        field: 8,
+    },
+    Asked {
+        rule: AdviceRule::A7a,
+        field: 9,
+    },
+    Asked {
+        rule: AdviceRule::A7a,
+        field: 11,
+    },
+    Asked {
+        rule: AdviceRule::A7a,
+        field: 12,
+    },
+    Asked {
         rule: AdviceRule::A8d,
         field: 7,
+    },
+];
+
+/// PWR: what is asked of them, in this order.
+static WRITER_PUBLISHER: [Asked; 2] = [
+    Asked {
+        rule: AdviceRule::A7a,
+        field: 4,
+    },
+    Asked {
+        rule: AdviceRule::A7a,
+        field: 5,
+    },
+];
+
+/// ORN: what is asked of them, in this order.
+static ORIGIN: [Asked; 3] = [
+    Asked {
+        rule: AdviceRule::A7a,
+        field: 5,
+    },
+    Asked {
+        rule: AdviceRule::A7a,
+        field: 8,
+    },
+    Asked {
+        rule: AdviceRule::A7a,
+        field: 12,
     },
 ];
 
@@ -289,6 +413,8 @@ pub(crate) fn asked_of(kind: Kind) -> &'static [Asked]
         Kind::Per => &PERFORMER,
         Kind::Rec => &RECORDING,
         Kind::Com => &COMPONENT,
+        Kind::Pwr => &WRITER_PUBLISHER,
+        Kind::Orn => &ORIGIN,
         _ => &[],
     }
 }

@@ -3,9 +3,9 @@
 ghost use Rattle.std.specs.Prelude.{◌≡◌, ◌++◌, ◌∷◌, [], List};
 ghost use Rattle.cwr_layouts.specs.Format.Records.{RecordValue};
 ghost use Rattle.cwr_advice.specs.Format.Rules.{has_few_territories, writers_own_less};
-ghost use Rattle.cwr_advice.specs.Steps.Facts.{AreFacts};
+ghost use Rattle.cwr_advice.specs.Steps.Facts.{AreFacts, AreOwnedBy};
 
-use crate::owners::{is_owning_publisher, performing_of_owner, performing_of_writer};
+use crate::owners::{Owned, is_writer, owned_by};
 use crate::territory_cells::count_of_territory;
 use cwr_layouts::{Kind, RecordRef};
 use cwr_levels::is_of;
@@ -35,7 +35,7 @@ pub(crate) struct Facts {
 impl Facts {
     /// Those over no record.
     #[inline(always)]
-    fn none() -> Facts
+    pub(crate) fn none() -> Facts
         ensures { AreFacts [] result }
     {
         Facts {
@@ -50,23 +50,24 @@ impl Facts {
         }
     }
 
-    /// With one more record.
-    fn with(self, shown: &RecordRef<'_>) -> Facts
+    /// With one more record, which owns so much.
+    #[inline(always)]
+    pub(crate) fn with(self, shown: &RecordRef<'_>, owned: &Owned) -> Facts
+        requires { AreOwnedBy shown.now owned.now }
         ensures { (rs : List RecordValue) → AreFacts rs self → AreFacts (rs ++ shown.now ∷ []) result }
     {
-        let owned = performing_of_owner(shown);
-        let by_writers = performing_of_writer(shown);
+        let by_writer = owned.performing_if(is_writer(shown));
         let publisher = is_of(shown, Kind::Spu);
-        let owner = is_owning_publisher(shown);
+        let owns = owned.is_something();
         let territory = is_of(shown, Kind::Spt);
         let counted = count_of_territory(shown);
         let component = is_of(shown, Kind::Com);
         let original = is_of(shown, Kind::Ver);
         Facts {
-            owned: self.owned.saturating_add(owned),
-            by_writers: self.by_writers.saturating_add(by_writers),
+            owned: self.owned.saturating_add(owned.performing),
+            by_writers: self.by_writers.saturating_add(by_writer),
             has_publisher: self.has_publisher | publisher,
-            has_owning_publisher: self.has_owning_publisher | owner,
+            has_owning_publisher: self.has_owning_publisher | (publisher & owns),
             has_territory: self.has_territory | territory,
             territories: self.territories.saturating_add(counted),
             has_component: self.has_component | component,
@@ -83,7 +84,7 @@ impl Facts {
             let Some(shown) = transaction.record(sequence) else {
                 return facts;
             };
-            facts = facts.with(&shown);
+            facts = facts.with(&shown, &owned_by(&shown));
         }
         facts
     }

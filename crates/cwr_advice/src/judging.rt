@@ -3,13 +3,14 @@
 ghost use Rattle.std.specs.Prelude.{◌≡◌, ◌+◌, ◌<◌, ◌^◌, List, take};
 ghost use Rattle.std.specs.List.{list_any};
 ghost use Rattle.cwr_layouts.specs.Format.Records.{RecordValue};
-ghost use Rattle.cwr_advice.specs.Format.Rules.{begins_with_agent, breaks, collects_nowhere, has_no_composite_type, in_chain, is_agent, is_header, is_stray_component, lacks_components, lacks_original, names_agent};
+ghost use Rattle.cwr_advice.specs.Format.Rules.{begins_with_agent, breaks, breaks_alone, collects_nowhere, has_composite_type, has_no_composite_type, in_chain, is_agent, is_header, is_stray_component, is_version, lacks_components, lacks_original, names_agent};
 ghost use Rattle.cwr_advice.specs.Steps.Facts.{AreFacts};
 
 use crate::checked_cells::is_wrong;
 use crate::facts::Facts;
 use crate::owners::{is_publisher, owns_over_half};
 use crate::rules::AdviceRule;
+use crate::shifts::is_shifted;
 use crate::territories::{goes_over, stands_twice};
 use crate::writers::{has_no_publisher, has_no_territory};
 use cwr_fields::is_spaces;
@@ -18,7 +19,7 @@ use cwr_levels::{cell, is_of};
 use cwr_values::Transaction;
 
 /// SPU, OPU: publisher sequence.
-const CHAIN: u8 = 4;
+pub(crate) const CHAIN: u8 = 4;
 
 /// SPU, OPU: publisher type.
 const PUBLISHER_TYPE: u8 = 8;
@@ -45,7 +46,7 @@ fn names_agent(ty: &[u8]) -> bool
 }
 
 /// Whether the record is an administrator or a sub-publisher.
-fn is_agent(shown: &RecordRef<'_>) -> bool
+pub(crate) fn is_agent(shown: &RecordRef<'_>) -> bool
     ensures { result ≡ is_agent shown.now }
 {
     if !is_publisher(shown) {
@@ -93,24 +94,31 @@ fn begins_with_agent(transaction: &Transaction, sequence: usize, shown: &RecordR
 }
 
 /// Whether publishers own shares, and no record says where they collect.
-fn collects_nowhere(facts: &Facts) -> bool
+pub(crate) fn collects_nowhere(facts: &Facts) -> bool
     ensures { (t : List RecordValue) → AreFacts t facts.now → result ≡ collects_nowhere t }
 {
     facts.has_owning_publisher && !facts.has_territory
+}
+
+/// Whether the record is the header of a work that has a composite type.
+pub(crate) fn has_composite_type(header: &RecordRef<'_>) -> bool
+    ensures { result ≡ has_composite_type header.now }
+{
+    if !is_header(header) {
+        return false;
+    }
+    !is_spaces(cell(header, COMPOSITE_TYPE))
 }
 
 /// Whether the header of a work has a composite type, and the work no component.
 fn lacks_components(facts: &Facts, shown: &RecordRef<'_>) -> bool
     ensures { (t : List RecordValue) → AreFacts t facts.now → result ≡ lacks_components t shown.now }
 {
-    if !is_header(shown) {
-        return false;
-    }
-    !is_spaces(cell(shown, COMPOSITE_TYPE)) && !facts.has_component
+    has_composite_type(shown) && !facts.has_component
 }
 
 /// Whether the record is the header of a work that has no composite type.
-fn has_no_composite_type(header: &RecordRef<'_>) -> bool
+pub(crate) fn has_no_composite_type(header: &RecordRef<'_>) -> bool
     ensures { result ≡ has_no_composite_type header.now }
 {
     if !is_header(header) {
@@ -132,17 +140,43 @@ fn is_stray_component(transaction: &Transaction, shown: &RecordRef<'_>) -> bool
     }
 }
 
+/// Whether the record is the header of a version of another work.
+pub(crate) fn is_version(header: &RecordRef<'_>) -> bool
+    ensures { result ≡ is_version header.now }
+{
+    if !is_header(header) {
+        return false;
+    }
+    cell(header, VERSION_TYPE) == b"MOD".as_slice()
+}
+
 /// Whether the header of a work says that it is a version, and no record names the original.
 fn lacks_original(facts: &Facts, shown: &RecordRef<'_>) -> bool
     ensures { (t : List RecordValue) → AreFacts t facts.now → result ≡ lacks_original t shown.now }
 {
-    if !is_header(shown) {
-        return false;
-    }
-    cell(shown, VERSION_TYPE) == b"MOD".as_slice() && !facts.has_original
+    is_version(shown) && !facts.has_original
 }
 
-/// Whether the record, which stands after so many others, breaks the rule, at that field where the rule judges a cell by itself.
+/// Whether the record breaks the rule by itself, at that field where the rule judges a cell.
+pub(crate) fn breaks_alone(rule: AdviceRule, shown: &RecordRef<'_>, field: u8) -> bool
+    ensures { result ≡ breaks_alone rule shown.now field }
+{
+    match rule {
+        AdviceRule::A3a => owns_over_half(shown),
+        AdviceRule::A7a => is_shifted(shown, field),
+        AdviceRule::A4a
+        | AdviceRule::A4b
+        | AdviceRule::A4c
+        | AdviceRule::A4d
+        | AdviceRule::A8a
+        | AdviceRule::A8b
+        | AdviceRule::A8c
+        | AdviceRule::A8d => is_wrong(rule, cell(shown, field)),
+        _ => false,
+    }
+}
+
+/// Whether the record, which stands after so many others, breaks the rule, at that field where the rule judges a cell.
 pub(crate) fn breaks(
     rule: AdviceRule,
     transaction: &Transaction,
@@ -162,11 +196,10 @@ pub(crate) fn breaks(
         AdviceRule::A2b => collects_nowhere(facts),
         AdviceRule::A2c => has_no_publisher(transaction, facts, sequence, shown),
         AdviceRule::A2d => has_no_territory(transaction, sequence, shown),
-        AdviceRule::A3a => owns_over_half(shown),
         AdviceRule::A3b => facts.writers_own_less(),
         AdviceRule::A6a => lacks_components(facts, shown),
         AdviceRule::A6b => is_stray_component(transaction, shown),
         AdviceRule::A6c => lacks_original(facts, shown),
-        _ => is_wrong(rule, cell(shown, field)),
+        _ => breaks_alone(rule, shown, field),
     }
 }

@@ -5,13 +5,18 @@ mod asking;
 mod checked_cells;
 mod facts;
 mod judging;
+mod kept;
+mod kept_headers;
 mod numbers;
+mod owing;
 mod owners;
 mod rules;
+mod shifts;
 mod territories;
 mod territory_cells;
 mod walk;
 mod writers;
 
+pub use kept::AdviceSums;
 pub use rules::{Advice, AdviceRule, Asked};
 pub use walk::advice;

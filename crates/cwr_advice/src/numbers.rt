@@ -47,7 +47,7 @@ fn are_digits(cell: &[u8]) -> bool
 
 /// Whether the byte is a letter.
 #[inline(always)]
-fn is_letter(byte: u8) -> bool
+pub(crate) fn is_letter(byte: u8) -> bool
     ensures { result ≡ is_letter byte }
 {
     (b'A' <= byte && byte <= b'Z') || (b'a' <= byte && byte <= b'z')

@@ -1,10 +1,10 @@
 //! Who owns what of a work.
 
-ghost use Rattle.std.specs.Prelude.{◌≡◌, ◌<◌, true, if◌then◌else◌};
+ghost use Rattle.std.specs.Prelude.{◌≡◌, ◌+◌, ◌<◌, nat_lt, true, if◌then◌else◌};
 ghost use Rattle.cwr_levels.specs.Format.Fields.{HasSharesFrom};
-ghost use Rattle.cwr_levels.specs.Format.Findings.{is_owner, share_of};
-ghost use Rattle.cwr_advice.specs.Format.Rules.{is_owning_publisher, is_publisher, is_writer, owns_over_half, owns_shares};
-ghost use Rattle.cwr_advice.specs.Steps.Facts.{AreSharesOf};
+ghost use Rattle.cwr_levels.specs.Format.Findings.{is_owner};
+ghost use Rattle.cwr_advice.specs.Format.Rules.{is_publisher, is_writer, owns_over_half, owns_shares};
+ghost use Rattle.cwr_advice.specs.Steps.Facts.{AreOwnedBy, AreSharesOf, AreSmall};
 
 use cwr_layouts::{Kind, RecordRef};
 use cwr_levels::{PUBLISHER_SHARES, WRITER_SHARES, cell, is_of, is_owner, number_of};
@@ -58,42 +58,43 @@ fn shares_of(shown: &RecordRef<'_>) -> Owned
     }
 }
 
-/// What the record owns of the performing right, if it is an owner, and else nothing.
-pub(crate) fn performing_of_owner(shown: &RecordRef<'_>) -> u64
-    ensures { result ≡ (if is_owner shown.now then share_of "pr share" shown.now else 0) }
+/// What the record owns of a work: nothing, where it is no owner.
+pub(crate) fn owned_by(shown: &RecordRef<'_>) -> Owned
+    ensures { AreOwnedBy shown.now result }
 {
     if !is_owner(shown) {
-        return 0;
+        return Owned {
+            performing: 0,
+            mechanical: 0,
+            synchronization: 0,
+        };
     }
-    shares_of(shown).performing
+    shares_of(shown)
 }
 
-/// What the record owns of the performing right, if it is a writer, and else nothing.
-pub(crate) fn performing_of_writer(shown: &RecordRef<'_>) -> u64
-    ensures { result ≡ (if is_writer shown.now then share_of "pr share" shown.now else 0) }
-{
-    if !is_writer(shown) {
-        return 0;
+impl Owned {
+    /// Whether it is something, in one or more rights.
+    pub(crate) fn is_something(&self) -> bool
+        requires { AreSmall self.now }
+        ensures { result ≡ nat_lt 0 (self.now.performing + self.now.mechanical + self.now.synchronization) }
+    {
+        self.performing + self.mechanical + self.synchronization > 0
     }
-    shares_of(shown).performing
+
+    /// What is owned of the performing right, if the owner is a writer, and else nothing.
+    #[inline(always)]
+    pub(crate) fn performing_if(&self, is_writer: bool) -> u64
+        ensures { result ≡ (if is_writer then self.now.performing else 0) }
+    {
+        if is_writer { self.performing } else { 0 }
+    }
 }
 
 /// Whether the record owns a share in some right.
 pub(crate) fn owns_shares(shown: &RecordRef<'_>) -> bool
     ensures { result ≡ owns_shares shown.now }
 {
-    if !is_owner(shown) {
-        return false;
-    }
-    let owned = shares_of(shown);
-    owned.performing + owned.mechanical + owned.synchronization > 0
-}
-
-/// Whether the record is a publisher whom the submitter controls, and owns a share in some right.
-pub(crate) fn is_owning_publisher(shown: &RecordRef<'_>) -> bool
-    ensures { result ≡ is_owning_publisher shown.now }
-{
-    is_of(shown, Kind::Spu) && owns_shares(shown)
+    owned_by(shown).is_something()
 }
 
 /// Whether the record is a publisher that owns more than half of the performing right.

@@ -39,6 +39,8 @@ pub enum AdviceRule {
     A6b,
     /// A version names its original.
     A6c,
+    /// A text ends within its cell.
+    A7a,
     /// A society's number has three digits.
     A8a,
     /// A territory's number has the form of one.
@@ -71,6 +73,7 @@ impl AdviceRule {
             AdviceRule::A6a => "A6a",
             AdviceRule::A6b => "A6b",
             AdviceRule::A6c => "A6c",
+            AdviceRule::A7a => "A7a",
             AdviceRule::A8a => "A8a",
             AdviceRule::A8b => "A8b",
             AdviceRule::A8c => "A8c",
@@ -91,7 +94,7 @@ impl AdviceRule {
             | AdviceRule::A3a
             | AdviceRule::A3b
             | AdviceRule::A6a => Level::T,
-            AdviceRule::A1b | AdviceRule::A6b | AdviceRule::A6c => Level::R,
+            AdviceRule::A1b | AdviceRule::A6b | AdviceRule::A6c | AdviceRule::A7a => Level::R,
             _ => Level::F,
         }
     }
@@ -132,6 +135,8 @@ impl AdviceRule {
                 "COM names a work that is in this one, whose composite type is blank: fill in the type, or leave COM out",
             AdviceRule::A6c =>
                 "the work is a version (MOD), and no VER names its original: add a VER record, or write ORI",
+            AdviceRule::A7a =>
+                "this text goes on into the next cell: blanks were lost in the line, and what follows stands too far to the left; fill up the cells",
             AdviceRule::A8a => "this is no number of a society: it has three digits, as 010",
             AdviceRule::A8b =>
                 "this is no number of a territory: those of countries are 0001 to 0999, those of groups begin with 21, as 2136 for the world",

@@ -88,7 +88,7 @@ fn collection_from(shown: &RecordRef<'_>, first: u8) -> Owned
 }
 
 /// What is collected in a territory.
-fn collection_of(shown: &RecordRef<'_>) -> Owned
+pub(crate) fn collection_of(shown: &RecordRef<'_>) -> Owned
     requires { is_territory shown.now ≡ true }
     ensures { AreCollectedBy shown.now result }
 {

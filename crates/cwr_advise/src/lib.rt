@@ -3,6 +3,8 @@
 
 mod advice_texts;
 mod item_advice;
+mod kept_works;
 mod running;
 
+pub use kept_works::AdvisedSums;
 pub use running::advise;

@@ -1,6 +1,6 @@
 -- Advice on a transaction that is to be sent: which record breaks which rule, and at which field.
 use Prim.Native.String.{String}
-use Rattle.std.specs.Prelude.{ℕ, ◌+◌, Bool, true, not, ◌&&◌, ◌||◌, nat_lt, nat_le, List, [], ◌∷◌, codes, map, filter, take, drop, take_while, unwrap_or, flat_map, count_by, if◌then◌else◌}
+use Rattle.std.specs.Prelude.{ℕ, ◌+◌, Bool, true, false, not, ◌&&◌, ◌||◌, nat_lt, nat_le, List, [], ◌∷◌, codes, map, filter, take, drop, take_while, unwrap_or, flat_map, count_by, if◌then◌else◌}
 use Rattle.std.specs.List.{list_any, sum_by, enumerate_from, after_last}
 use Rattle.std.specs.Str.{bytes_eq}
 use Rattle.cwr_fields.specs.Format.Bytes.{is_spaces}
@@ -12,10 +12,11 @@ use Rattle.cwr_shape.specs.declared.reasons.Level.{Level}
 use Rattle.cwr_shape.specs.declared.reasons.Level.TheVariants.{T, R, F}
 use Rattle.cwr_levels.specs.Format.Findings.{is_a, is_blank, is_owner, ownership, share_of}
 use Rattle.cwr_advice.specs.declared.rules.AdviceRule.{AdviceRule}
-use Rattle.cwr_advice.specs.declared.rules.AdviceRule.TheVariants.{A1a, A1b, A2a, A2b, A2c, A2d, A3a, A3b, A4a, A4b, A4c, A4d, A6a, A6b, A6c, A8a, A8b, A8c, A8d}
+use Rattle.cwr_advice.specs.declared.rules.AdviceRule.TheVariants.{A1a, A1b, A2a, A2b, A2c, A2d, A3a, A3b, A4a, A4b, A4c, A4d, A6a, A6b, A6c, A7a, A8a, A8b, A8c, A8d}
 use Rattle.cwr_advice.specs.declared.rules.Asked.{Asked}
 use Rattle.cwr_advice.specs.declared.rules.Advice.{Advice}
 use Rattle.cwr_advice.specs.Format.Numbers.{is_ean, is_ipi_base, is_ipi_name, is_isrc, is_language, is_society, is_territory_number, is_zero}
+use Rattle.cwr_advice.specs.Format.Shifts.{begins_with_letter, ends_with_letter, has_gap}
 
 -- ---- words on records
 
@@ -131,9 +132,13 @@ writers_own_less t = nat_lt 0 (ownership "pr share" t) && nat_lt (owned_by_write
 
 -- ---- A6: composite works and versions
 
--- a composite type, and no component
+-- the header of a work with a composite type
+abbrev pub has_composite_type : RecordValue → Bool
+has_composite_type r = is_header r && not (is_blank "composite type" r)
+
+-- there is one, and no component
 abbrev pub lacks_components : List RecordValue → RecordValue → Bool
-lacks_components t r = is_header r && not (is_blank "composite type" r) && not (list_any (is_a kinds.Com) t)
+lacks_components t r = has_composite_type r && not (list_any (is_a kinds.Com) t)
 
 -- the header of a work without a composite type
 abbrev pub has_no_composite_type : RecordValue → Bool
@@ -143,9 +148,19 @@ has_no_composite_type r = is_header r && is_blank "composite type" r
 abbrev pub is_stray_component : List RecordValue → RecordValue → Bool
 is_stray_component t r = is_a kinds.Com r && list_any has_no_composite_type (take 1 t)
 
+-- the header of a version of another work
+abbrev pub is_version : RecordValue → Bool
+is_version r = is_header r && bytes_eq (cell_named "version type" r) (codes "MOD")
+
 -- a version whose original no record names
 abbrev pub lacks_original : List RecordValue → RecordValue → Bool
-lacks_original t r = is_header r && bytes_eq (cell_named "version type" r) (codes "MOD") && not (list_any (is_a kinds.Ver) t)
+lacks_original t r = is_version r && not (list_any (is_a kinds.Ver) t)
+
+-- ---- A7: text that stands too far to the left
+
+-- the text of field j goes on over its end, and stands behind a gap: it doesn't begin the cell, as a text that is too long does
+abbrev pub is_shifted : RecordValue → ℕ → Bool
+is_shifted r j = ends_with_letter (cell_at r j) && begins_with_letter (cell_at r (j + 1)) && has_gap (cell_at r j)
 
 -- ---- A4 and A8: cells that are judged by themselves
 
@@ -167,7 +182,21 @@ is_wrong rule cell = not (is_spaces cell) && not (is_right rule cell)
 
 -- ---- all rules
 
--- Record r of the transaction t, after k others, breaks the rule, at field j where that judges a cell by itself.
+-- Record r breaks the rule by itself, at field j where that judges a cell.
+abbrev pub breaks_alone : AdviceRule → RecordValue → ℕ → Bool
+breaks_alone A3a r j = owns_over_half r
+breaks_alone A4a r j = is_wrong A4a (cell_at r j)
+breaks_alone A4b r j = is_wrong A4b (cell_at r j)
+breaks_alone A4c r j = is_wrong A4c (cell_at r j)
+breaks_alone A4d r j = is_wrong A4d (cell_at r j)
+breaks_alone A7a r j = is_shifted r j
+breaks_alone A8a r j = is_wrong A8a (cell_at r j)
+breaks_alone A8b r j = is_wrong A8b (cell_at r j)
+breaks_alone A8c r j = is_wrong A8c (cell_at r j)
+breaks_alone A8d r j = is_wrong A8d (cell_at r j)
+breaks_alone rule r j = false
+
+-- Record r of the transaction t, after k others, breaks the rule, at field j where that judges a cell.
 abbrev pub breaks : AdviceRule → List RecordValue → ℕ → RecordValue → ℕ → Bool
 breaks A1a t k r j = goes_over t k r
 breaks A1b t k r j = stands_twice t k r
@@ -175,12 +204,11 @@ breaks A2a t k r j = begins_with_agent t k r
 breaks A2b t k r j = collects_nowhere t
 breaks A2c t k r j = has_no_publisher t k r
 breaks A2d t k r j = has_no_territory t k r
-breaks A3a t k r j = owns_over_half r
 breaks A3b t k r j = writers_own_less t
 breaks A6a t k r j = lacks_components t r
 breaks A6b t k r j = is_stray_component t r
 breaks A6c t k r j = lacks_original t r
-breaks rule t k r j = is_wrong rule (cell_at r j)
+breaks rule t k r j = breaks_alone rule r j
 
 -- the rule, at this field
 abbrev pub at : AdviceRule → ℕ → Asked
@@ -188,22 +216,24 @@ at rule j = record { rule = rule; field = j }
 
 -- What is asked of a record of the kind, in this order: the rule, and the number of the field.
 abbrev pub asked_of : Kind → List Asked
-asked_of kinds.Nwr = at A2b 1 ∷ at A3b 1 ∷ at A6a 14 ∷ at A6c 15 ∷ at A8c 5 ∷ at A8d 11 ∷ []
-asked_of kinds.Rev = at A2b 1 ∷ at A3b 1 ∷ at A6a 14 ∷ at A6c 15 ∷ at A8c 5 ∷ at A8d 11 ∷ []
-asked_of kinds.Spu = at A2a 8 ∷ at A3a 13 ∷ at A4a 10 ∷ at A4b 21 ∷ at A8a 12 ∷ at A8a 14 ∷ at A8a 16 ∷ []
-asked_of kinds.Opu = at A2a 8 ∷ at A3a 13 ∷ at A4a 10 ∷ at A4b 21 ∷ at A8a 12 ∷ at A8a 14 ∷ at A8a 16 ∷ []
-asked_of kinds.Swr = at A2c 1 ∷ at A2d 1 ∷ at A4a 10 ∷ at A4b 21 ∷ at A8a 11 ∷ at A8a 13 ∷ at A8a 15 ∷ []
-asked_of kinds.Owr = at A4a 10 ∷ at A4b 21 ∷ at A8a 11 ∷ at A8a 13 ∷ at A8a 15 ∷ []
+asked_of kinds.Nwr = at A2b 1 ∷ at A3b 1 ∷ at A6a 14 ∷ at A6c 15 ∷ at A7a 4 ∷ at A7a 19 ∷ at A8c 5 ∷ at A8d 11 ∷ []
+asked_of kinds.Rev = at A2b 1 ∷ at A3b 1 ∷ at A6a 14 ∷ at A6c 15 ∷ at A7a 4 ∷ at A7a 19 ∷ at A8c 5 ∷ at A8d 11 ∷ []
+asked_of kinds.Spu = at A2a 8 ∷ at A3a 13 ∷ at A4a 10 ∷ at A4b 21 ∷ at A7a 5 ∷ at A8a 12 ∷ at A8a 14 ∷ at A8a 16 ∷ []
+asked_of kinds.Opu = at A2a 8 ∷ at A3a 13 ∷ at A4a 10 ∷ at A4b 21 ∷ at A7a 5 ∷ at A8a 12 ∷ at A8a 14 ∷ at A8a 16 ∷ []
+asked_of kinds.Swr = at A2c 1 ∷ at A2d 1 ∷ at A4a 10 ∷ at A4b 21 ∷ at A7a 4 ∷ at A7a 5 ∷ at A8a 11 ∷ at A8a 13 ∷ at A8a 15 ∷ []
+asked_of kinds.Owr = at A4a 10 ∷ at A4b 21 ∷ at A7a 4 ∷ at A7a 5 ∷ at A8a 11 ∷ at A8a 13 ∷ at A8a 15 ∷ []
 asked_of kinds.Spt = at A1a 10 ∷ at A1b 10 ∷ at A8b 10 ∷ []
 asked_of kinds.Swt = at A1a 9 ∷ at A1b 9 ∷ at A8b 9 ∷ []
 asked_of kinds.Ter = at A8b 5 ∷ []
-asked_of kinds.Ipa = at A4a 5 ∷ at A4b 6 ∷ at A8a 10 ∷ at A8a 12 ∷ at A8a 14 ∷ []
+asked_of kinds.Ipa = at A4a 5 ∷ at A4b 6 ∷ at A7a 7 ∷ at A7a 8 ∷ at A8a 10 ∷ at A8a 12 ∷ at A8a 14 ∷ []
 asked_of kinds.Alt = at A8c 6 ∷ []
-asked_of kinds.Ewt = at A4a 10 ∷ at A4a 14 ∷ at A4b 11 ∷ at A4b 15 ∷ at A8c 6 ∷ []
-asked_of kinds.Ver = at A4a 10 ∷ at A4a 14 ∷ at A4b 11 ∷ at A4b 15 ∷ at A8c 6 ∷ []
-asked_of kinds.Per = at A4a 6 ∷ at A4b 7 ∷ []
-asked_of kinds.Rec = at A4c 12 ∷ at A4d 11 ∷ at A8d 6 ∷ []
-asked_of kinds.Com = at A4a 10 ∷ at A4a 13 ∷ at A4b 14 ∷ at A4b 15 ∷ at A6b 1 ∷ at A8d 7 ∷ []
+asked_of kinds.Ewt = at A4a 10 ∷ at A4a 14 ∷ at A4b 11 ∷ at A4b 15 ∷ at A7a 4 ∷ at A7a 7 ∷ at A7a 8 ∷ at A7a 9 ∷ at A7a 12 ∷ at A7a 13 ∷ at A8c 6 ∷ []
+asked_of kinds.Ver = at A4a 10 ∷ at A4a 14 ∷ at A4b 11 ∷ at A4b 15 ∷ at A7a 4 ∷ at A7a 7 ∷ at A7a 8 ∷ at A7a 9 ∷ at A7a 12 ∷ at A7a 13 ∷ at A8c 6 ∷ []
+asked_of kinds.Per = at A4a 6 ∷ at A4b 7 ∷ at A7a 4 ∷ at A7a 5 ∷ []
+asked_of kinds.Rec = at A4c 12 ∷ at A4d 11 ∷ at A7a 8 ∷ at A7a 9 ∷ at A8d 6 ∷ []
+asked_of kinds.Com = at A4a 10 ∷ at A4a 13 ∷ at A4b 14 ∷ at A4b 15 ∷ at A6b 1 ∷ at A7a 4 ∷ at A7a 8 ∷ at A7a 9 ∷ at A7a 11 ∷ at A7a 12 ∷ at A8d 7 ∷ []
+asked_of kinds.Pwr = at A7a 4 ∷ at A7a 5 ∷ []
+asked_of kinds.Orn = at A7a 5 ∷ at A7a 8 ∷ at A7a 12 ∷ []
 asked_of this_kind = []
 
 -- what is usually rejected where the rule is broken
@@ -219,6 +249,7 @@ level_of_rule A3b = T
 level_of_rule A6a = T
 level_of_rule A6b = R
 level_of_rule A6c = R
+level_of_rule A7a = R
 level_of_rule rule = F
 
 -- the advice of what was asked of a record that stands after k others

@@ -1,7 +1,7 @@
 -- The rules of advice in words.
 use Rattle.std.specs.Prelude.{ℕ, List, codes}
 use Rattle.cwr_advice.specs.declared.rules.AdviceRule.{AdviceRule}
-use Rattle.cwr_advice.specs.declared.rules.AdviceRule.TheVariants.{A1a, A1b, A2a, A2b, A2c, A2d, A3a, A3b, A4a, A4b, A4c, A4d, A6a, A6b, A6c, A8a, A8b, A8c, A8d}
+use Rattle.cwr_advice.specs.declared.rules.AdviceRule.TheVariants.{A1a, A1b, A2a, A2b, A2c, A2d, A3a, A3b, A4a, A4b, A4c, A4d, A6a, A6b, A6c, A7a, A8a, A8b, A8c, A8d}
 
 -- the name of a rule
 abbrev pub rule_text : AdviceRule → List ℕ
@@ -20,6 +20,7 @@ rule_text A4d = codes "A4d"
 rule_text A6a = codes "A6a"
 rule_text A6b = codes "A6b"
 rule_text A6c = codes "A6c"
+rule_text A7a = codes "A7a"
 rule_text A8a = codes "A8a"
 rule_text A8b = codes "A8b"
 rule_text A8c = codes "A8c"
@@ -42,6 +43,7 @@ advice_words A4d = codes "this is no EAN or UPC: it has at most 13 digits, of wh
 advice_words A6a = codes "the work has a composite type, and no COM names a work that is in it: add the COM records, or leave the type blank"
 advice_words A6b = codes "COM names a work that is in this one, whose composite type is blank: fill in the type, or leave COM out"
 advice_words A6c = codes "the work is a version (MOD), and no VER names its original: add a VER record, or write ORI"
+advice_words A7a = codes "this text goes on into the next cell: blanks were lost in the line, and what follows stands too far to the left; fill up the cells"
 advice_words A8a = codes "this is no number of a society: it has three digits, as 010"
 advice_words A8b = codes "this is no number of a territory: those of countries are 0001 to 0999, those of groups begin with 21, as 2136 for the world"
 advice_words A8c = codes "this is no code of a language: it has two letters, as EN"

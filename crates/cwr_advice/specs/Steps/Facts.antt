@@ -11,14 +11,25 @@ use Rattle.cwr_advice.specs.declared.owners.Owned.{Owned}
 use Rattle.cwr_advice.specs.declared.facts.Facts.{Facts}
 use Rattle.cwr_advice.specs.Format.Rules.{collects_in, is_owning_publisher, is_territory, is_writer}
 
+-- each is less than what ten digits write
+pub record AreSmall (s : Owned) : Type 0 where
+  pub performing : s.performing < 10 ^ 10
+  pub mechanical : s.mechanical < 10 ^ 10
+  pub synchronization : s.synchronization < 10 ^ 10
+
 -- these are the record's shares
 pub record AreSharesOf (r : RecordValue) (s : Owned) : Type 0 where
   pub performing : s.performing ≡ share_of "pr share" r
   pub mechanical : s.mechanical ≡ share_of "mr share" r
   pub synchronization : s.synchronization ≡ share_of "sr share" r
-  pub performing_small : s.performing < 10 ^ 10
-  pub mechanical_small : s.mechanical < 10 ^ 10
-  pub synchronization_small : s.synchronization < 10 ^ 10
+  pub small : AreSmall s
+
+-- these are the record's shares where it is an owner, and else nothing
+pub record AreOwnedBy (r : RecordValue) (s : Owned) : Type 0 where
+  pub performing : s.performing ≡ (if is_owner r then share_of "pr share" r else 0)
+  pub mechanical : s.mechanical ≡ (if is_owner r then share_of "mr share" r else 0)
+  pub synchronization : s.synchronization ≡ (if is_owner r then share_of "sr share" r else 0)
+  pub small : AreSmall s
 
 -- what the rules ask of all records of a transaction
 pub record AreFacts (t : List RecordValue) (x : Facts) : Type 0 where

@@ -20,7 +20,5 @@ returns c = record {
   performing = c.number_of.ensures.value ∙ ap number_of (c.cell.ensures.value ∙ named_cell "pr share" c.args.shown.now.kind c.args.first 5 c.args.shown.now c.requires.there.performing refl c.cell.ensures.fits) ∙ share_is_number (cell_named "pr share" c.args.shown.now);
   mechanical = c.number_of-2.ensures.value ∙ ap number_of (c.cell-2.ensures.value ∙ named_cell "mr share" c.args.shown.now.kind _ 5 c.args.shown.now c.requires.there.mechanical refl c.cell-2.ensures.fits) ∙ share_is_number (cell_named "mr share" c.args.shown.now);
   synchronization = c.number_of-3.ensures.value ∙ ap number_of (c.cell-3.ensures.value ∙ named_cell "sr share" c.args.shown.now.kind _ 5 c.args.shown.now c.requires.there.synchronization refl c.cell-3.ensures.fits) ∙ share_is_number (cell_named "sr share" c.args.shown.now);
-  performing_small = c.number_of.ensures.small;
-  mechanical_small = c.number_of-2.ensures.small;
-  synchronization_small = c.number_of-3.ensures.small;
+  small = record { performing = c.number_of.ensures.small; mechanical = c.number_of-2.ensures.small; synchronization = c.number_of-3.ensures.small };
 }

@@ -1,0 +1,26 @@
+use Rattle.std.proofs.Common.{sym, ap, ap₂, ◌∙◌}
+use Rattle.std.specs.Prelude.{◌&&◌}
+use Rattle.cwr_layouts.specs.declared.kinds.Kind.TheVariants as kinds
+use Rattle.cwr_levels.specs.Format.Findings.{is_a}
+use Rattle.cwr_advice.specs.Steps.Kept.{is_owning_writer}
+use Rattle.cwr_advice.proofs.CalmRecords.{calm_more, controlled_writes, owner_writes}
+use Rattle.cwr_advice.proofs.OwnedShares.{owns_something}
+use Rattle.cwr_advice.proofs.kept.AdviceSums.add_to_work.Goals as goal
+
+pub is_something-owns-requires : goal.is_something-owns-requires
+is_something-owns-requires c = c.owned_by-owned.ensures.small
+
+pub returns-clause-kept : goal.returns-clause-kept
+returns-clause-kept c = λ rs h yes.
+    let r = c.args.shown.now in
+    let owns = c.is_something-owns.ensures ∙ owns_something r c.owned_by-owned.result c.owned_by-owned.ensures in
+    record {
+      facts = c.with-self-3.ensures rs h.facts;
+      headers = c.with-self-4.ensures rs h.headers;
+      collected = c.with_any_collected-self.ensures rs h.collected;
+      chain = c.chain_with-self.ensures rs h.chain;
+      territories = c.keep_territory.ensures rs h.territories c.if-not-keep_territory.false;
+      publishers = c.with-self.ensures (is_a kinds.Swr) (is_a kinds.Pwr) rs r h.publishers controlled_writes c.is_writer-writer.ensures c.is_of-controlled.ensures c.is_of-publisher.ensures;
+      collections = c.with-self-2.ensures is_owning_writer (is_a kinds.Swt) rs r h.collections owner_writes c.is_writer-writer.ensures (ap₂ (λ a b. a && b) c.is_of-controlled.ensures owns) c.is_of-territory.ensures;
+      calm = calm_more rs r h.calm (c.may_break.ensures rs h c.if-may_break.false);
+    }

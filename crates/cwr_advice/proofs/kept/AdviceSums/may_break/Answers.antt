@@ -1,0 +1,14 @@
+use Rattle.std.proofs.Common.{List, ◌∷◌, [], ◌++◌, length, sym, ap, subst, ◌∙◌}
+use Rattle.cwr_layouts.specs.Format.Records.{RecordValue}
+use Rattle.cwr_advice.specs.Steps.Kept.{AreSinceParty, stands_again}
+use Rattle.cwr_advice.proofs.CalmRecords.{front_taken}
+use Rattle.cwr_advice.proofs.kept.AdviceSums.may_break.Goals as goal
+
+pub returns : goal.returns
+returns c = λ rs h no.
+    let r = c.args.shown.now in
+    record {
+      alone = sym c.breaks_some.ensures ∙ c.if-breaks_some.false;
+      twice = ap (λ (l : List RecordValue). stands_again l r) (front_taken rs r) ∙ sym (c.stands_again.ensures rs (subst (AreSinceParty rs) (sym c.as_slice.ensures.value) h.territories)) ∙ c.if-stands_again.false;
+      chain = c.may_begin_chain.ensures rs h.chain no;
+    }

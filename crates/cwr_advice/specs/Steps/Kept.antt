@@ -1,0 +1,98 @@
+-- What is kept of the records of a transaction in place of them, and what that says of them.
+use Rattle.std.specs.Prelude.{◌≡◌, ◌⊎◌, ℕ, ◌+◌, Bool, true, false, not, ◌&&◌, if◌then◌else◌, List, filter, drop, take, slice_get, Option, Some, None}
+use Rattle.std.specs.List.{list_any, sum_by, after_last}
+use Rattle.std.specs.Str.{bytes_eq}
+use Rattle.cwr_layouts.specs.declared.kinds.Kind.TheVariants as kinds
+use Rattle.cwr_layouts.specs.Format.Records.{RecordValue, cell_named}
+use Rattle.cwr_levels.specs.Format.Findings.{is_a, is_blank, is_owner, share_of}
+use Rattle.cwr_levels.specs.Steps.Walks.{capped}
+use Rattle.cwr_advice.specs.declared.kept.AdviceSums.{AdviceSums}
+use Rattle.cwr_advice.specs.declared.kept_headers.Headers.{Headers}
+use Rattle.cwr_advice.specs.declared.owing.Owing.{Owing}
+use Rattle.cwr_advice.specs.declared.owners.Owned.{Owned}
+use Rattle.cwr_advice.specs.declared.rules.Asked.{Asked}
+use Rattle.cwr_advice.specs.Format.Rules.{asked_of, begins_with_agent, breaks_alone, has_composite_type, has_no_composite_type, in_chain, is_acknowledgement, is_territory, is_territory_of, is_version, is_writer, owns_shares, records_of_writer}
+use Rattle.cwr_advice.specs.Steps.Facts.{AreFacts}
+
+-- ---- headers
+
+-- what headers there are among the records
+pub record AreHeaders (t : List RecordValue) (x : Headers) : Type 0 where
+  pub composite : x.has_composite ≡ list_any has_composite_type t
+  pub plain : x.has_plain ≡ list_any has_no_composite_type t
+  pub version : x.has_version ≡ list_any is_version t
+
+-- ---- what is collected
+
+-- these are the record's collection shares where it is a territory, and else nothing
+pub record AreCollectedAnywhere (r : RecordValue) (s : Owned) : Type 0 where
+  pub performing : s.performing ≡ (if is_territory r then share_of "pr collection share" r else 0)
+  pub mechanical : s.mechanical ≡ (if is_territory r then share_of "mr collection share" r else 0)
+  pub synchronization : s.synchronization ≡ (if is_territory r then share_of "sr collection share" r else 0)
+
+-- what the records collect in all territories together
+pub record AreAllCollected (t : List RecordValue) (s : Owned) : Type 0 where
+  pub performing : s.performing ≡ capped (sum_by (share_of "pr collection share") (filter is_territory t))
+  pub mechanical : s.mechanical ≡ capped (sum_by (share_of "mr collection share") (filter is_territory t))
+  pub synchronization : s.synchronization ≡ capped (sum_by (share_of "sr collection share") (filter is_territory t))
+
+-- ---- what writers need
+
+-- Each record that asks for another one, which gives it, has that before the next writer. Or it is said that some lack it: the last
+-- writer alone, or one before it.
+abbrev pub AreOwing : (RecordValue → Bool) → (RecordValue → Bool) → List RecordValue → Owing → Type 0
+AreOwing asks gives t x = (k : ℕ) (r : RecordValue) → slice_get t k ≡ Some r → asks r ≡ true
+    → (list_any gives (records_of_writer t k) ≡ true) ⊎ ((x.lacks ≡ true) ⊎ ((x.owes ≡ true) × (list_any is_writer (drop (k + 1) t) ≡ false)))
+
+-- a writer whom the submitter controls, who owns shares
+abbrev pub is_owning_writer : RecordValue → Bool
+is_owning_writer r = is_a kinds.Swr r && owns_shares r
+
+-- ---- what stands before a record
+
+-- one of the numbers is this
+abbrev pub is_among : List ℕ → List (List ℕ) → Bool
+is_among number numbers = list_any (λ known. bytes_eq known number) numbers
+
+-- these are the numbers of the territories after the last publisher or writer
+abbrev pub AreSinceParty : List RecordValue → List (List ℕ) → Type 0
+AreSinceParty t numbers = (number : List ℕ) → list_any (is_territory_of number) (after_last is_owner t) ≡ is_among number numbers
+
+-- the record is a territory that stands before it already, after the last publisher or writer
+abbrev pub stands_again : List RecordValue → RecordValue → Bool
+stands_again before r = is_territory r && not (is_blank "tis code" r) && list_any (is_territory_of (cell_named "tis code" r)) (after_last is_owner before)
+
+-- that is the sequence of a chain that is begun
+abbrev pub IsBegun : List RecordValue → Option (List ℕ) → Type 0
+IsBegun t chain = (sequence : List ℕ) → chain ≡ Some sequence → list_any (in_chain sequence) t ≡ true
+
+-- the record breaks a rule by itself
+abbrev pub breaks_some : RecordValue → Bool
+breaks_some r = list_any (λ asked. breaks_alone asked.rule r asked.field) (asked_of r.kind)
+
+-- the record, after k others, breaks no rule that speaks of it and of those before it
+pub record IsCalm (t : List RecordValue) (k : ℕ) (r : RecordValue) : Type 0 where
+  pub alone : breaks_some r ≡ false
+  pub twice : stands_again (take k t) r ≡ false
+  pub chain : begins_with_agent t k r ≡ false
+
+-- each of the records does so
+abbrev pub AreCalm : List RecordValue → Type 0
+AreCalm t = (k : ℕ) (r : RecordValue) → slice_get t k ≡ Some r → IsCalm t k r
+
+-- ---- all of it
+
+-- it is kept of these records
+pub record AreKept (s : AdviceSums) (t : List RecordValue) : Type 0 where
+  pub facts : AreFacts t s.facts
+  pub headers : AreHeaders t s.headers
+  pub collected : AreAllCollected t s.collected
+  pub chain : IsBegun t s.chain
+  pub territories : AreSinceParty t s.territories.items
+  pub publishers : AreOwing (is_a kinds.Swr) (is_a kinds.Pwr) t s.publishers
+  pub collections : AreOwing is_owning_writer (is_a kinds.Swt) t s.collections
+  pub calm : AreCalm t
+
+-- it is kept of these records, or they are those of an acknowledgement
+abbrev pub StandsFor : AdviceSums → List RecordValue → Type 0
+StandsFor s t = ((s.is_acknowledgement ≡ true) × (is_acknowledgement t ≡ true)) ⊎ ((s.is_acknowledgement ≡ false) × AreKept s t)
