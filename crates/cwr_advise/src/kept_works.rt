@@ -10,14 +10,14 @@ use cwr_levels::Sums;
 /// What is kept of the records of a transaction in place of them. It tells of most transactions that surely there is neither a finding
 /// in them nor advice on them.
 #[derive(Drop)]
-pub struct AdvisedSums {
+pub(crate) struct AdvisedSums {
     findings: Sums,
     advice: AdviceSums,
 }
 
 impl AdvisedSums {
     /// Of no transaction.
-    pub fn new() -> AdvisedSums {
+    pub(crate) fn new() -> AdvisedSums {
         AdvisedSums {
             findings: Sums::new(),
             advice: AdviceSums::new(),

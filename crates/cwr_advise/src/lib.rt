@@ -6,5 +6,4 @@ mod item_advice;
 mod kept_works;
 mod running;
 
-pub use kept_works::AdvisedSums;
 pub use running::advise;

@@ -8,10 +8,11 @@ ghost use Rattle.cwr_advise.specs.Format.AdviceLines.{lines_of_advice};
 
 use crate::advice_texts::AdviceText;
 use crate::item_advice::put_item;
+use crate::kept_works::AdvisedSums;
 use cwr_encode::{Sink, SinkFault};
 use cwr_fields::{Source, Target};
 use cwr_shape::Limits;
-use cwr_tools::{NothingKept, Report, ToolFault, Totals, Verdict, put_verdict_line, write_report};
+use cwr_tools::{Report, ToolFault, Totals, Verdict, put_verdict_line, write_report};
 use cwr_values::Item;
 use std::alloc::Global;
 
@@ -26,16 +27,16 @@ impl Report for AdviceLines {
     ghost use Rattle.std.specs.Prelude.{◌≡◌};
     ghost use Rattle.cwr_advise.specs.Format.AdviceLines.{lines_of_advice};
 
-    type Works = NothingKept;
+    type Works = AdvisedSums;
 
     ghost stands = { λ report of given. of ≡ lines_of_advice };
 
-    fn works(&self) -> NothingKept {
-        NothingKept
+    fn works(&self) -> AdvisedSums {
+        AdvisedSums::new()
     }
 
     fn passes(&self) -> bool {
-        false
+        true
     }
 
     fn put_first<W: Target>(&mut self, _: &mut Sink<W>) -> Result<(), ToolFault> {
