@@ -40,5 +40,5 @@ advised_passed given t none quiet =
     let sequence : ℕ = count_by is_transaction (after_last opens_group given) in
     let n : ℕ = length (records_in given) + 1 in
     advised_lines-snoc given (Transaction t)
-    ∙ ap₂ (λ (found : List Finding) (all : List Advice). advised_lines given ++ flat_map (explained_finding group sequence n t) found ++ flat_map (noted_advice group sequence n t) all) none quiet
+    ∙ ap₂ (λ (found : List Finding) (all : List Advice). advised_lines given ++ (flat_map (explained_finding group sequence n t) found ++ flat_map (noted_advice group sequence n t) all)) none quiet
     ∙ append-nil (advised_lines given)
