@@ -1,5 +1,5 @@
 -- The lines of an acknowledgement are its opening, its messages and its closing, and those of a transaction go by its header.
-use Rattle.std.proofs.Common.{◌≡◌, ℕ, ◌+◌, Bool, true, false, cond, List, [], ◌∷◌, ◌++◌, length, take, Option, Some, refl, sym, ap, ap₂, ◌∙◌, arith, append_assoc}
+use Rattle.std.proofs.Common.{◌≡◌, ℕ, ◌+◌, Bool, true, cond, List, [], ◌∷◌, ◌++◌, length, take, Option, Some, refl, sym, ap, ap₂, ◌∙◌, arith, append_assoc}
 use Rattle.std.specs.Prelude.{◌||◌, codes, slice_get}
 use Rattle.std.specs.List.{list_any}
 use Rattle.std.proofs.Math.Seq.{take-append_seam}
@@ -24,7 +24,8 @@ any_snoc front r = list_any-append is_message front (r ∷ []) ∙ ap (λ (b : B
 
 -- the messages of a list, each told whether one came before
 messages_after : (front rest : List RecordValue)
-    → numbered (λ n r. message_in forms.Json (list_any is_message (take n (front ++ rest))) r) (length front) rest ≡ messages_from (list_any is_message front) rest
+    → numbered (λ n r. message_in forms.Json (list_any is_message (take n (front ++ rest))) r) (length front) rest
+    ≡ messages_from (list_any is_message front) rest
 messages_after front [] = refl
 messages_after front (r ∷ rest) =
     let all : List RecordValue = front ++ r ∷ rest in
@@ -33,10 +34,12 @@ messages_after front (r ∷ rest) =
     let number : length front + 1 ≡ length next = omega (arith, length-append front (r ∷ [])) in
     let same : all ≡ next ++ rest = sym (append_assoc front (r ∷ []) rest) in
     let more : numbered (part all) (length front + 1) rest ≡ messages_from (list_any is_message front || is_message r) rest
-    = ap₂ (λ (l : List RecordValue) (n : ℕ). numbered (part l) n rest) same number ∙ messages_after next rest ∙ ap (λ (b : Bool). messages_from b rest) (any_snoc front r) in
+    = ap₂ (λ (l : List RecordValue) (n : ℕ). numbered (part l) n rest) same number ∙ messages_after next rest ∙ ap (λ (b : Bool). messages_from b rest)
+    (any_snoc front r) in
     ap₂ (λ (l m : List ℕ). l ++ m) (ap (λ (l : List RecordValue). message_in forms.Json (list_any is_message l) r) (take-append_seam front (r ∷ rest))) more
 
-pub answer_is : (form : Form) (notes : Notes) (a : RecordValue) (t : List RecordValue) → (opening_in form notes a (worst_level t) ++ messages_in form t) ++ closing_in form notes a ≡ answer_in form notes a t
+pub answer_is : (form : Form) (notes : Notes) (a : RecordValue) (t : List RecordValue)
+    → (opening_in form notes a (worst_level t) ++ messages_in form t) ++ closing_in form notes a ≡ answer_in form notes a t
 answer_is forms.Words notes a t = ap (λ (l : List ℕ). (ack_line a (worst_level t) ++ l) ++ note_lines notes a) (numbered_alike message_text 0 t)
 answer_is forms.Json notes a t = ap (λ (l : List ℕ). (ack_opening notes a (worst_level t) ++ l) ++ codes "]}\n") (messages_after [] t) ∙ ack_shown notes a t
 

@@ -19,7 +19,7 @@ use Rattle.cwr_acks.specs.Format.Acknowledgements.{has_status, is_answer}
 use Rattle.cwr_acks.specs.declared.forms.Form.{Form}
 use Rattle.cwr_acks.specs.declared.forms.Form.TheVariants as forms
 use Rattle.cwr_acks.specs.Format.AckLines.{ack_lines, counts_after, lines_after}
-use Rattle.cwr_acks.specs.Format.AckTexts.{counts_line, status_part}
+use Rattle.cwr_acks.specs.Format.AckTexts.{status_part}
 use Rattle.cwr_sent.specs.declared.facts.SentFacts.{SentFacts}
 use Rattle.cwr_sent.specs.declared.tables.Sent.{Sent}
 use Rattle.cwr_sent.specs.Format.SentRows.{facts_in_rows, rows}
@@ -46,14 +46,16 @@ count_more p given item =
     one_more (p item) (count_by p given) ∙ sym snoc
 
 each_more : (given : List Item) (item : Item) (ss : List TransactionStatus)
-    → map (λ (p : TransactionStatus × ℕ). one_more_if (has_status p.0 item) p.1) (zip ss (map (λ s. count_by (has_status s) given) ss)) ≡ map (λ s. count_by (has_status s) (given ++ item ∷ [])) ss
+    → map (λ (p : TransactionStatus × ℕ). one_more_if (has_status p.0 item) p.1) (zip ss (map (λ s. count_by (has_status s) given) ss))
+    ≡ map (λ s. count_by (has_status s) (given ++ item ∷ [])) ss
 each_more given item [] = refl
 each_more given item (s ∷ ss) = ap₂ (λ (n : ℕ) (l : List ℕ). n ∷ l) (count_more (has_status s) given item) (each_more given item ss)
 
 pub answers_more : (answers : Answers) (given : List Item) (item : Item) → IsAnswers answers given → IsAnswers (answers_with answers item) (given ++ item ∷ [])
 answers_more answers given item h = record {
   all = ap (one_more_if (is_answer item)) h.all ∙ count_more is_answer given item;
-  each = ap (λ (ns : List ℕ). map (λ (p : TransactionStatus × ℕ). one_more_if (has_status p.0 item) p.1) (zip transaction_statuses ns)) h.each ∙ each_more given item transaction_statuses;
+  each = ap (λ (ns : List ℕ). map (λ (p : TransactionStatus × ℕ). one_more_if (has_status p.0 item) p.1) (zip transaction_statuses ns)) h.each
+      ∙ each_more given item transaction_statuses;
 }
 
 -- ---- room
@@ -84,7 +86,8 @@ status_is s (items.GroupOpened r) h = absurd (cc h)
 status_is s (items.GroupClosed r) h = absurd (cc h)
 status_is s items.Ended h = absurd (cc h)
 
-each_small : (f : TransactionStatus → ℕ) (most : ℕ) → ((s : TransactionStatus) → f s ≤ most) → (ss : List TransactionStatus) (k : ℕ) → slice_index (map f ss) k ≤ most
+each_small : (f : TransactionStatus → ℕ) (most : ℕ) → ((s : TransactionStatus) → f s ≤ most) → (ss : List TransactionStatus) (k : ℕ)
+    → slice_index (map f ss) k ≤ most
 each_small f most h [] k = omega arith
 each_small f most h (s ∷ ss) zero = h s
 each_small f most h (s ∷ ss) (suc j) = each_small f most h ss j
@@ -93,20 +96,24 @@ pub answers_room : (answers : Answers) (c : Totals) (given : List Item) → IsAn
 answers_room answers c given h k room = record {
   all = omega (arith, h.all, fewer is_answer is_transaction answer_is given, k.transactions, room.transactions);
   each = λ n. subst (λ (ns : List ℕ). slice_index ns n ≤ 199999998) (sym h.each)
-      (each_small (λ s. count_by (has_status s) given) 199999998 (λ s. omega (arith, fewer (has_status s) is_transaction (status_is s) given, k.transactions, room.transactions)) transaction_statuses n);
+      (each_small (λ s. count_by (has_status s) given) 199999998
+      (λ s. omega (arith, fewer (has_status s) is_transaction (status_is s) given, k.transactions, room.transactions)) transaction_statuses n);
   ten = ap length h.each;
 }
 
 -- ---- lines
 
-parts_are : (f : TransactionStatus → ℕ) (ss : List TransactionStatus) → flat_map (λ (p : TransactionStatus × ℕ). status_part (status_code p.0) p.1) (zip ss (map f ss)) ≡ flat_map (λ s. status_part (status_code s) (f s)) ss
+parts_are : (f : TransactionStatus → ℕ) (ss : List TransactionStatus)
+    → flat_map (λ (p : TransactionStatus × ℕ). status_part (status_code p.0) p.1) (zip ss (map f ss)) ≡ flat_map (λ s. status_part (status_code s) (f s)) ss
 parts_are f [] = refl
 parts_are f (s ∷ ss) = ap (λ (l : List ℕ). status_part (status_code s) (f s) ++ l) (parts_are f ss)
 
 counts_are : (form : Form) (answers : Answers) (given : List Item) → IsAnswers answers given → counts_in form answers ≡ counts_after form given
 counts_are forms.Words answers given h =
-    ap₂ (λ (n : ℕ) (ns : List ℕ). codes "ACKS " ++ decimal n ++ flat_map (λ (p : TransactionStatus × ℕ). status_part (status_code p.0) p.1) (zip transaction_statuses ns) ++ codes "\n") h.all h.each
-    ∙ ap (λ (l : List ℕ). codes "ACKS " ++ decimal (count_by is_answer given) ++ l ++ codes "\n") (parts_are (λ s. count_by (has_status s) given) transaction_statuses)
+    ap₂ (λ (n : ℕ) (ns : List ℕ). codes "ACKS " ++ decimal n ++ flat_map (λ (p : TransactionStatus × ℕ). status_part (status_code p.0) p.1)
+    (zip transaction_statuses ns) ++ codes "\n") h.all h.each
+    ∙ ap (λ (l : List ℕ). codes "ACKS " ++ decimal (count_by is_answer given) ++ l ++ codes "\n")
+    (parts_are (λ s. count_by (has_status s) given) transaction_statuses)
 counts_are forms.Json answers given h = ap₂ counts_data_text h.all h.each ∙ counts_shown given
 
 -- ---- what was sent
@@ -116,7 +123,8 @@ pub matched_none : (sent : Option Sent) → IfSome sent IsFresh → IsMatched (r
 matched_none None h = refl
 matched_none (Some s) h = ap Some (h ∙ fresh_is (is_answered []) (λ g t. refl) 1 (facts_in_rows (rows s)))
 
-pub matched_more : (table : Option Table) (sent : Option (List (List SentFacts))) (given : List Item) (item : Item) → IsMatched table sent given → IsMatched (option_map (λ (t : Table). marked_with t item) table) sent (given ++ item ∷ [])
+pub matched_more : (table : Option Table) (sent : Option (List (List SentFacts))) (given : List Item) (item : Item) → IsMatched table sent given
+    → IsMatched (option_map (λ (t : Table). marked_with t item) table) sent (given ++ item ∷ [])
 matched_more table None given item h = ap (option_map (λ (t : Table). marked_with t item)) h
 matched_more table (Some s) given item h = ap (option_map (λ (t : Table). marked_with t item)) h ∙ ap Some (marks_are s given item)
 
@@ -136,9 +144,11 @@ pub lines_none : (form : Form) (sent : Option (List (List SentFacts))) → ack_l
 unfolding ack_lines
 lines_none form sent = refl
 
-pub lines_more : (form : Form) (table : Option Table) (sent : Option (List (List SentFacts))) (answers : Answers) (given : List Item) (item : Item) → IsAnswers answers given → IsMatched table sent given
+pub lines_more : (form : Form) (table : Option Table) (sent : Option (List (List SentFacts))) (answers : Answers) (given : List Item) (item : Item)
+    → IsAnswers answers given → IsMatched table sent given
     → ack_lines form sent (given ++ item ∷ []) ≡ ack_lines form sent given ++ lines_at form table answers item
 unfolding ack_lines
 lines_more form table sent answers given item h k =
     lines_from-snoc (lines_after form sent) given item
-    ∙ ap (λ (l : List ℕ). ack_lines form sent given ++ l) (lines_of form sent answers given item h ∙ ap (λ (o : Option Table). lines_at form o answers item) (sym k))
+    ∙ ap (λ (l : List ℕ). ack_lines form sent given ++ l) (lines_of form sent answers given item h ∙ ap (λ (o : Option Table). lines_at form o answers item)
+    (sym k))

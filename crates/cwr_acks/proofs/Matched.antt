@@ -1,7 +1,7 @@
 -- The table of what was sent is that of its facts, marked by the acknowledgements so far.
 use Rattle.std.proofs.Common.{◌≡◌, ℕ, zero, suc, ◌+◌, ◌-◌, ◌≤◌, ◌<◌, Bool, true, false, not, cond, List, [], ◌∷◌, ◌++◌, length, Option, Some, None, refl, sym, ap, ap₂, ◌∙◌, arith, inl, inr, eqb, ◌⊎◌, ◌≢◌}
-use Rattle.std.specs.Prelude.{◌&&◌, ◌||◌, ◌==◌, map, option_map, slice_get, slice_set, take}
-use Rattle.std.specs.List.{enumerate_from, flat_map, list_any}
+use Rattle.std.specs.Prelude.{◌&&◌, ◌||◌, ◌==◌, map, option_map, slice_get}
+use Rattle.std.specs.List.{enumerate_from, flat_map}
 use Rattle.std.specs.Option.{option_and_then}
 use Rattle.std.specs.Str.{bytes_eq}
 use Rattle.std.proofs.Math.Dec.{eqb-suc-zero}
@@ -15,7 +15,6 @@ use Rattle.cwr_values.specs.declared.items.Item.{Item}
 use Rattle.cwr_values.specs.declared.items.Item.TheVariants as items
 use Rattle.cwr_sent.specs.declared.facts.SentFacts.{SentFacts}
 use Rattle.cwr_sent.specs.declared.tables.Entry.{Entry}
-use Rattle.cwr_sent.specs.Format.SentFacts.{facts_at}
 use Rattle.cwr_sent.specs.Format.SentRows.{fresh, fresh_rows}
 use Rattle.cwr_sent.specs.Steps.SentTables.{entry_at, mark_in, mark_row, marked}
 use Rattle.cwr_acks.specs.Format.Acknowledgements.{is_ack}
@@ -30,7 +29,8 @@ use Rattle.cwr_acks.specs.Steps.AckSteps.{Table, entries_from, entry_line, if_wa
 
 fresh_entries : (a : ℕ → ℕ → Bool) → ((g t : ℕ) → a g t ≡ false) → (g t : ℕ) (fs : List SentFacts) → map fresh fs ≡ entries_from g t a fs
 fresh_entries a none g t [] = refl
-fresh_entries a none g t (f ∷ fs) = ap₂ (λ (b : Bool) (l : List Entry). record { facts = f; answered = b } ∷ l) (sym (none g t)) (fresh_entries a none g (t + 1) fs)
+fresh_entries a none g t (f ∷ fs) =
+    ap₂ (λ (b : Bool) (l : List Entry). record { facts = f; answered = b } ∷ l) (sym (none g t)) (fresh_entries a none g (t + 1) fs)
 
 pub fresh_is : (a : ℕ → ℕ → Bool) → ((g t : ℕ) → a g t ≡ false) → (g : ℕ) (sent : List (List SentFacts)) → fresh_rows sent ≡ rows_from g a sent
 fresh_is a none g [] = refl
@@ -52,7 +52,8 @@ entry_is a n i t [] = refl
 entry_is a n zero t (row ∷ rest) =
     entry_in a n 0 t row ∙ ap₂ (λ (g s : ℕ). option_map (made (a g s)) (slice_get row t)) (omega arith) (omega arith)
 entry_is a n (suc i) t (row ∷ rest) =
-    entry_is a (n + 1) i t rest ∙ ap (λ (g : ℕ). option_map (made (a g t)) (option_and_then (λ (r : List SentFacts). slice_get r t) (slice_get rest i))) (omega arith)
+    entry_is a (n + 1) i t rest ∙ ap (λ (g : ℕ). option_map (made (a g t)) (option_and_then (λ (r : List SentFacts). slice_get r t) (slice_get rest i)))
+    (omega arith)
 
 -- ---- what is told
 
@@ -63,7 +64,8 @@ wanted_by : (a : Bool) (r : RecordValue) (f : SentFacts) (b : Bool) → notes_by
 wanted_by a r f true = refl
 wanted_by a r f false = refl
 
-notes_of : (a : Bool) (r : RecordValue) (o : Option SentFacts) → notes_by (option_and_then if_wanted (option_map (made a) o)) r ≡ notes_on (option_and_then facts_wanted o) a r
+notes_of : (a : Bool) (r : RecordValue) (o : Option SentFacts)
+    → notes_by (option_and_then if_wanted (option_map (made a) o)) r ≡ notes_on (option_and_then facts_wanted o) a r
 notes_of a r None = refl
 notes_of a r (Some f) = wanted_by a r f (bytes_eq (letters f.kind) (letters kinds.Ack))
 
@@ -74,11 +76,14 @@ notes_at a sent r zero t = refl
 notes_at a sent r (suc g) t =
     ap (λ (b : Bool). notes_by (option_and_then if_wanted (cond b None (entry_at (rows_from 1 a sent) (suc g - 1) t))) r) (eqb-suc-zero g)
     ∙ ap (λ (o : Option Entry). notes_by (option_and_then if_wanted o) r) (entry_is a 1 (suc g - 1) t sent)
-    ∙ ap (λ (n : ℕ). notes_by (option_and_then if_wanted (option_map (made (a n t)) (option_and_then (λ (row : List SentFacts). slice_get row t) (slice_get sent (suc g - 1))))) r) (omega arith)
+    ∙ ap (λ (n : ℕ). notes_by (option_and_then if_wanted (option_map (made (a n t))
+    (option_and_then (λ (row : List SentFacts). slice_get row t) (slice_get sent (suc g - 1))))) r) (omega arith)
     ∙ notes_of (a (suc g) t) r (option_and_then (λ (row : List SentFacts). slice_get row t) (slice_get sent (suc g - 1)))
-    ∙ sym (ap (λ (b : Bool). notes_on (option_and_then facts_wanted (option_and_then (λ (row : List SentFacts). slice_get row t) (cond b None (slice_get sent (suc g - 1))))) (a (suc g) t) r) (eqb-suc-zero g))
+    ∙ sym (ap (λ (b : Bool). notes_on (option_and_then facts_wanted
+    (option_and_then (λ (row : List SentFacts). slice_get row t) (cond b None (slice_get sent (suc g - 1))))) (a (suc g) t) r) (eqb-suc-zero g))
 
-notes_are : (sent : Option (List (List SentFacts))) (before : List Item) (a : RecordValue) → notes_in (option_map (rows_from 1 (is_answered before)) sent) a ≡ notes_if sent before a
+notes_are : (sent : Option (List (List SentFacts))) (before : List Item) (a : RecordValue)
+    → notes_in (option_map (rows_from 1 (is_answered before)) sent) a ≡ notes_if sent before a
 notes_are None before a = refl
 notes_are (Some facts) before a = notes_at (is_answered before) facts a (group_of a) (sequence_of a)
 
@@ -96,23 +101,29 @@ entries_told form a g t [] = refl
 entries_told form a g t (f ∷ fs) = ap (λ (l : List ℕ). unanswered_line form g t f (a g t) ++ l) (entries_told form a g (t + 1) fs)
 
 rows_told : (form : Form) (a : ℕ → ℕ → Bool) (n : ℕ) (sent : List (List SentFacts))
-    → numbered (row_lines form) n (rows_from n a sent) ≡ flat_map (λ (p : ℕ × List SentFacts). flat_map (λ (q : ℕ × SentFacts). unanswered_line form p.0 q.0 q.1 (a p.0 q.0)) (enumerate_from 0 p.1)) (enumerate_from n sent)
+    → numbered (row_lines form) n (rows_from n a sent)
+    ≡ flat_map (λ (p : ℕ × List SentFacts). flat_map (λ (q : ℕ × SentFacts). unanswered_line form p.0 q.0 q.1 (a p.0 q.0)) (enumerate_from 0 p.1))
+    (enumerate_from n sent)
 rows_told form a n [] = refl
 rows_told form a n (row ∷ rest) = ap₂ (λ (x l : List ℕ). x ++ l) (entries_told form a n 0 row) (rows_told form a (n + 1) rest)
 
-pub unanswered_are : (form : Form) (sent : List (List SentFacts)) (before : List Item) → table_lines form (rows_from 1 (is_answered before) sent) ≡ unanswered_lines form sent before
+pub unanswered_are : (form : Form) (sent : List (List SentFacts)) (before : List Item)
+    → table_lines form (rows_from 1 (is_answered before) sent) ≡ unanswered_lines form sent before
 unanswered_are form sent before = rows_told form (is_answered before) 1 sent
 
 -- ---- marks
 
 same_entries : (a b : ℕ → ℕ → Bool) (g s : ℕ) → ((t : ℕ) → s ≤ t → a g t ≡ b g t) → (fs : List SentFacts) → entries_from g s a fs ≡ entries_from g s b fs
 same_entries a b g s h [] = refl
-same_entries a b g s h (f ∷ fs) = ap₂ (λ (x : Bool) (l : List Entry). record { facts = f; answered = x } ∷ l) (h s (omega arith)) (same_entries a b g (s + 1) (λ t le. h t (omega (arith, le))) fs)
+same_entries a b g s h (f ∷ fs) =
+    ap₂ (λ (x : Bool) (l : List Entry). record { facts = f; answered = x } ∷ l) (h s (omega arith))
+    (same_entries a b g (s + 1) (λ t le. h t (omega (arith, le))) fs)
 
 same_rows : (a b : ℕ → ℕ → Bool) (n : ℕ) → ((g t : ℕ) → n ≤ g → a g t ≡ b g t) → (sent : List (List SentFacts)) → rows_from n a sent ≡ rows_from n b sent
 same_rows a b n h [] = refl
 same_rows a b n h (row ∷ rest) =
-    ap₂ (λ (x : List Entry) (l : Table). x ∷ l) (same_entries a b n 0 (λ t le. h n t (omega arith)) row) (same_rows a b (n + 1) (λ g t le. h g t (omega (arith, le))) rest)
+    ap₂ (λ (x : List Entry) (l : Table). x ∷ l) (same_entries a b n 0 (λ t le. h n t (omega arith)) row)
+    (same_rows a b (n + 1) (λ g t le. h g t (omega (arith, le))) rest)
 
 later_row : (e : Entry) (es : List Entry) (t : ℕ) (o : Option Entry) → mark_row (e ∷ es) (suc t) o ≡ e ∷ mark_row es t o
 later_row e es t None = refl
@@ -127,7 +138,8 @@ mark_entries : (a b : ℕ → ℕ → Bool) (g s t : ℕ) → b g (s + t) ≡ tr
 mark_entries a b g s t here others [] = refl
 mark_entries a b g s zero here others (f ∷ fs) =
     let at : s + 0 ≡ s = omega arith in
-    ap₂ (λ (x : Bool) (l : List Entry). record { facts = f; answered = x } ∷ l) (sym here ∙ ap (b g) at) (same_entries a b g (s + 1) (λ u le. others u (λ e. absurd (omega (arith, e, le)))) fs)
+    ap₂ (λ (x : Bool) (l : List Entry). record { facts = f; answered = x } ∷ l) (sym here ∙ ap (b g) at)
+    (same_entries a b g (s + 1) (λ u le. others u (λ e. absurd (omega (arith, e, le)))) fs)
 mark_entries a b g s (suc t) here others (f ∷ fs) =
     later_row (record { facts = f; answered = a g s }) (entries_from g (s + 1) a fs) t (slice_get (entries_from g (s + 1) a fs) t)
     ∙ ap₂ (λ (x : Bool) (l : List Entry). record { facts = f; answered = x } ∷ l) (others s (λ e. absurd (omega (arith, e))))
@@ -151,7 +163,8 @@ mark_rows a b n (suc i) t here others (row ∷ rest) =
 answered_more : (before : List Item) (item : Item) (g t : ℕ) → is_answered (before ++ item ∷ []) g t ≡ (is_answered before g t || answers g t item)
 answered_more before item g t = list_any-append (answers g t) before (item ∷ []) ∙ ap (λ (b : Bool). is_answered before g t || b) (or_false (answers g t item))
 
-unmarked : (sent : List (List SentFacts)) (before : List Item) (item : Item) → ((g t : ℕ) → 1 ≤ g → answers g t item ≡ false) → rows_from 1 (is_answered before) sent ≡ rows_from 1 (is_answered (before ++ item ∷ [])) sent
+unmarked : (sent : List (List SentFacts)) (before : List Item) (item : Item) → ((g t : ℕ) → 1 ≤ g → answers g t item ≡ false)
+    → rows_from 1 (is_answered before) sent ≡ rows_from 1 (is_answered (before ++ item ∷ [])) sent
 unmarked sent before item none =
     same_rows (is_answered before) (is_answered (before ++ item ∷ [])) 1
     (λ g t le. sym (answered_more before item g t ∙ ap (λ (b : Bool). is_answered before g t || b) (none g t le) ∙ or_false (is_answered before g t))) sent
@@ -187,7 +200,8 @@ differs a b ne = by (eqb_tells a b)
     by (inl p) = absurd (ne p.1)
     by (inr p) = p.0
 
-pub marks_are : (sent : List (List SentFacts)) (before : List Item) (item : Item) → marked_with (rows_from 1 (is_answered before) sent) item ≡ rows_from 1 (is_answered (before ++ item ∷ [])) sent
+pub marks_are : (sent : List (List SentFacts)) (before : List Item) (item : Item)
+    → marked_with (rows_from 1 (is_answered before) sent) item ≡ rows_from 1 (is_answered (before ++ item ∷ [])) sent
 marks_are sent before (items.Opened r) = unmarked sent before (items.Opened r) (λ g t le. refl)
 marks_are sent before (items.GroupOpened r) = unmarked sent before (items.GroupOpened r) (λ g t le. refl)
 marks_are sent before (items.GroupClosed r) = unmarked sent before (items.GroupClosed r) (λ g t le. refl)
@@ -211,16 +225,19 @@ marks_are sent before (items.Transaction (head ∷ rest)) = by (is_ack head) (gr
     by false n e f = is_choice false n e f ∙ unmarked sent before item (λ g t le. both_false (is_ack head) (g == group_of head) (t == sequence_of head) e)
     by true zero e f =
         is_choice true zero e f
-        ∙ unmarked sent before item (λ g t le. first_false (is_ack head) (g == group_of head) (t == sequence_of head) (differs g (group_of head) (λ same. absurd (omega (arith, le, same, f)))))
+        ∙ unmarked sent before item (λ g t le. first_false (is_ack head) (g == group_of head) (t == sequence_of head)
+        (differs g (group_of head) (λ same. absurd (omega (arith, le, same, f)))))
     by true (suc n) e f =
         is_choice true (suc n) e f
         ∙ ap (λ (b : Bool). cond (true && not b) (marked table (suc n - 1) (sequence_of head)) table) (eqb-suc-zero n)
         ∙ mark_rows (is_answered before) (is_answered (before ++ item ∷ [])) 1 (suc n - 1) (sequence_of head)
         (answered_more before item (1 + (suc n - 1)) (sequence_of head)
         ∙ ap (λ (b : Bool). is_answered before (1 + (suc n - 1)) (sequence_of head) || b)
-        (all_true (is_ack head) ((1 + (suc n - 1)) == group_of head) (sequence_of head == sequence_of head) e (eq-eqb (1 + (suc n - 1)) (group_of head) (omega (arith, f))) (eq-eqb (sequence_of head) (sequence_of head) refl))
+        (all_true (is_ack head) ((1 + (suc n - 1)) == group_of head) (sequence_of head == sequence_of head) e
+        (eq-eqb (1 + (suc n - 1)) (group_of head) (omega (arith, f))) (eq-eqb (sequence_of head) (sequence_of head) refl))
         ∙ or_true (is_answered before (1 + (suc n - 1)) (sequence_of head)))
-        (λ g t ne. sym (answered_more before item g t ∙ ap (λ (b : Bool). is_answered before g t || b) (apart g t ne (eqb_tells g (group_of head)) (eqb_tells t (sequence_of head))) ∙ or_false (is_answered before g t)))
+        (λ g t ne. sym (answered_more before item g t ∙ ap (λ (b : Bool). is_answered before g t || b)
+        (apart g t ne (eqb_tells g (group_of head)) (eqb_tells t (sequence_of head))) ∙ or_false (is_answered before g t)))
         sent
       where
         apart : (g t : ℕ) → (g ≡ 1 + (suc n - 1) → t ≡ sequence_of head → ⊥) → Tells g (group_of head) → Tells t (sequence_of head) → answers g t item ≡ false
@@ -230,7 +247,8 @@ marks_are sent before (items.Transaction (head ∷ rest)) = by (is_ack head) (gr
 
 -- ---- one transaction
 
-pub marked_is : (table : Table) (t : List RecordValue) (head : RecordValue) (n s : ℕ) → Some head ≡ slice_get t 0 → is_ack head ≡ true → n ≡ group_of head → s ≡ sequence_of head → 0 < n → marked table (n - 1) s ≡ marked_by table t
+pub marked_is : (table : Table) (t : List RecordValue) (head : RecordValue) (n s : ℕ) → Some head ≡ slice_get t 0 → is_ack head ≡ true → n ≡ group_of head
+    → s ≡ sequence_of head → 0 < n → marked table (n - 1) s ≡ marked_by table t
 marked_is table [] head n s e ack g q h = absurd (cc e)
 marked_is table (x ∷ rest) head n s e ack g q h =
     let same : x ≡ head = cc e in
@@ -238,7 +256,8 @@ marked_is table (x ∷ rest) head n s e ack g q h =
     ap₂ (λ (m u : ℕ). marked table (m - 1) u) (g ∙ sym (ap group_of same)) (q ∙ sym (ap sequence_of same))
     ∙ sym (ap₂ (λ (a b : Bool). cond (a && not b) (marked table (group_of x - 1) (sequence_of x)) table) (ap is_ack same ∙ ack) some)
 
-pub unmarked_is : (table : Table) (t : List RecordValue) (head : RecordValue) (n : ℕ) → Some head ≡ slice_get t 0 → n ≡ group_of head → n ≤ 0 → table ≡ marked_by table t
+pub unmarked_is : (table : Table) (t : List RecordValue) (head : RecordValue) (n : ℕ) → Some head ≡ slice_get t 0 → n ≡ group_of head → n ≤ 0
+    → table ≡ marked_by table t
 unmarked_is table [] head n e g h = absurd (cc e)
 unmarked_is table (x ∷ rest) head n e g h =
     let same : x ≡ head = cc e in

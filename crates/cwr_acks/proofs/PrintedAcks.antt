@@ -50,11 +50,13 @@ key_later this_status = refl
 
 -- ---- messages
 
-regroup_message : (k o p a b c d e f rest : List ℕ) → k ++ ((o ++ ((p ++ (a ++ (b ++ (c ++ (d ++ e))))) ++ f)) ++ rest) ≡ (((((((k ++ (o ++ p)) ++ a) ++ b) ++ c) ++ d) ++ e) ++ f) ++ rest
+regroup_message : (k o p a b c d e f rest : List ℕ)
+    → k ++ ((o ++ ((p ++ (a ++ (b ++ (c ++ (d ++ e))))) ++ f)) ++ rest) ≡ (((((((k ++ (o ++ p)) ++ a) ++ b) ++ c) ++ d) ++ e) ++ f) ++ rest
 regroup_message k o p a b c d e f rest = simp append_assoc
 
 -- one, wherever a value may stand
-message_shown : (later : Bool) (m : RecordValue) (rest : List Token) → print_from later (json_tokens (message_data m) ++ rest) ≡ message_part later m ++ print_from true rest
+message_shown : (later : Bool) (m : RecordValue) (rest : List Token)
+    → print_from later (json_tokens (message_data m) ++ rest) ≡ message_part later m ++ print_from true rest
 unfolding escape_byte
 message_shown later m rest =
     let first : List ℕ = cell_named "message level" m in
@@ -67,7 +69,8 @@ message_shown later m rest =
     (follows_last (codes "text") (codes ",\"text\":") (shown_cell last) (string (characters Latin1 (trimmed last))) refl (cell_shown last)))))) in
     object_listed _ _ parts later rest
     ∙ regroup_message (comma_if later) (123 ∷ []) (codes "\"level\":" ++ shown_cell first) (cell_member (codes ",\"type\":") (cell_named "message type" m))
-    (number_part (codes ",\"record\":") (cell_named "original record sequence" m)) (cell_member_if (codes ",\"record_type\":") (cell_named "message record type" m))
+    (number_part (codes ",\"record\":") (cell_named "original record sequence" m))
+    (cell_member_if (codes ",\"record_type\":") (cell_named "message record type" m))
     (cell_member_if (codes ",\"validation\":") (cell_named "validation number" m)) (cell_member (codes ",\"text\":") last) (125 ∷ []) (print_from true rest)
 
 -- those of records, each told whether one came before
@@ -83,7 +86,8 @@ ending false rest = refl
 one_listed : (later : Bool) (r : RecordValue) (t : List RecordValue) (rest : List Token) (b : Bool)
     → print_from true (items_tokens (message_items t) ++ rest) ≡ messages_from true t ++ 93 ∷ print_from true rest
     → print_from later (items_tokens (message_items t) ++ rest) ≡ messages_from later t ++ 93 ∷ print_from true rest
-    → print_from later (items_tokens (cond b (item (message_data r) (message_items t)) (message_items t)) ++ rest) ≡ (cond b (message_part later r) [] ++ messages_from (later || b) t) ++ 93 ∷ print_from true rest
+    → print_from later (items_tokens (cond b (item (message_data r) (message_items t)) (message_items t)) ++ rest)
+    ≡ (cond b (message_part later r) [] ++ messages_from (later || b) t) ++ 93 ∷ print_from true rest
 one_listed later r t rest true after same =
     ap (print_from later) (append_assoc (json_tokens (message_data r)) (items_tokens (message_items t)) rest)
     ∙ message_shown later r (items_tokens (message_items t) ++ rest)
@@ -92,7 +96,8 @@ one_listed later r t rest true after same =
     ∙ ap (λ (b : Bool). (message_part later r ++ messages_from b t) ++ 93 ∷ print_from true rest) (sym (or_true later))
 one_listed later r t rest false after same = same ∙ ap (λ (b : Bool). messages_from b t ++ 93 ∷ print_from true rest) (sym (or_false later))
 
-items_listed : (later : Bool) (t : List RecordValue) (rest : List Token) → print_from later (items_tokens (message_items t) ++ rest) ≡ messages_from later t ++ 93 ∷ print_from true rest
+items_listed : (later : Bool) (t : List RecordValue) (rest : List Token)
+    → print_from later (items_tokens (message_items t) ++ rest) ≡ messages_from later t ++ 93 ∷ print_from true rest
 items_listed later [] rest = ending later rest
 items_listed later (r ∷ t) rest = one_listed later r t rest (is_message r) (items_listed true t rest) (items_listed later t rest)
 
@@ -103,7 +108,8 @@ regroup_ack : (o p w1 w q g1 g t1 t y l s r ti u re ag m1 m b c e : List ℕ)
     ≡ (((((((((((((o ++ p) ++ w1) ++ w) ++ q) ++ ((((g1 ++ g) ++ t1) ++ t) ++ y)) ++ l) ++ s) ++ r) ++ ti) ++ ((u ++ re) ++ ag)) ++ m1) ++ m) ++ (b ++ (c ++ e)))
 regroup_ack o p w1 w q g1 g t1 t y l s r ti u re ag m1 m b c e = simp append_assoc
 
-pub ack_shown : (notes : Notes) (a : RecordValue) (t : List RecordValue) → (ack_opening notes a (worst_level t) ++ messages_from false t) ++ codes "]}\n" ≡ data_line (ack_data notes a t)
+pub ack_shown : (notes : Notes) (a : RecordValue) (t : List RecordValue)
+    → (ack_opening notes a (worst_level t) ++ messages_from false t) ++ codes "]}\n" ≡ data_line (ack_data notes a t)
 unfolding escape_byte
 ack_shown notes a t =
     let first : List ℕ = cell_named "transaction status" a in
@@ -121,18 +127,23 @@ ack_shown notes a t =
     (mark_follows (codes "unsent") (codes ",\"unsent\":true") notes.unsent _ _ refl
     (mark_follows (codes "retitled") (codes ",\"retitled\":true") notes.retitled _ _ refl
     (mark_follows (codes "again") (codes ",\"again\":true") notes.again _ _ refl
-    (follows_last (codes "messages") (codes ",\"messages\":") (91 ∷ (texts ++ 93 ∷ [])) (array (message_items t)) refl (array_shown (message_items t) texts (λ rest. items_listed false t rest)))))))))))))) in
+    (follows_last (codes "messages") (codes ",\"messages\":") (91 ∷ (texts ++ 93 ∷ [])) (array (message_items t)) refl
+    (array_shown (message_items t) texts (λ rest. items_listed false t rest)))))))))))))) in
     sym (line_shown (ack_data notes a t) _ (object_shown _ _ parts)
-    ∙ regroup_ack (123 ∷ []) (codes "\"status\":" ++ shown_cell first) (codes ",\"words\":\"") words (34 ∷ []) (codes ",\"group\":") (decimal (group_of a)) (codes ",\"transaction\":") (decimal (sequence_of a))
-    (cell_member (codes ",\"type\":") (cell_named "original transaction type" a)) (level_member (worst_level t)) (cell_member_if (codes ",\"submitter\":") (cell_named "submitter creation number" a))
+    ∙ regroup_ack (123 ∷ []) (codes "\"status\":" ++ shown_cell first) (codes ",\"words\":\"") words (34 ∷ []) (codes ",\"group\":") (decimal (group_of a))
+    (codes ",\"transaction\":") (decimal (sequence_of a))
+    (cell_member (codes ",\"type\":") (cell_named "original transaction type" a)) (level_member (worst_level t))
+    (cell_member_if (codes ",\"submitter\":") (cell_named "submitter creation number" a))
     (cell_member_if (codes ",\"recipient\":") (cell_named "recipient creation number" a)) (cell_member_if (codes ",\"title\":") (cell_named "creation title" a))
-    (mark_part (codes ",\"unsent\":true") notes.unsent) (mark_part (codes ",\"retitled\":true") notes.retitled) (mark_part (codes ",\"again\":true") notes.again)
+    (mark_part (codes ",\"unsent\":true") notes.unsent) (mark_part (codes ",\"retitled\":true") notes.retitled)
+    (mark_part (codes ",\"again\":true") notes.again)
     (codes ",\"messages\":[") texts (93 ∷ []) (125 ∷ []) (10 ∷ []))
 
 -- ---- the end
 
 regroup_unanswered : (o p g1 g t1 t y1 y q c e : List ℕ)
-    → (o ++ ((p ++ (o ++ (((g1 ++ g) ++ ((t1 ++ t) ++ (y1 ++ (y ++ q)))) ++ c))) ++ c)) ++ e ≡ ((((((o ++ (p ++ (o ++ g1))) ++ g) ++ t1) ++ t) ++ y1) ++ y) ++ (q ++ (c ++ (c ++ e)))
+    → (o ++ ((p ++ (o ++ (((g1 ++ g) ++ ((t1 ++ t) ++ (y1 ++ (y ++ q)))) ++ c))) ++ c)) ++ e
+    ≡ ((((((o ++ (p ++ (o ++ g1))) ++ g) ++ t1) ++ t) ++ y1) ++ y) ++ (q ++ (c ++ (c ++ e)))
 regroup_unanswered o p g1 g t1 t y1 y q c e = simp append_assoc
 
 pub unanswered_shown : (g t : ℕ) (this_kind : Kind) → unanswered_data_text g t this_kind ≡ data_line (unanswered_data g t this_kind)
@@ -140,31 +151,37 @@ unfolding escape_byte
 unanswered_shown g t this_kind =
     let place = object_shown _ _ (begins_member (codes "group") (codes "\"group\":") (decimal g) (number (decimal g)) _ _ refl (number_shown (decimal g))
     (number_follows (codes "transaction") (codes ",\"transaction\":") t _ _ refl
-    (follows_last (codes "type") (codes ",\"type\":") (34 ∷ (letters this_kind ++ 34 ∷ [])) (string (letters this_kind)) refl (string_shown (letters this_kind) (letters this_kind) (plain_letters this_kind))))) in
+    (follows_last (codes "type") (codes ",\"type\":") (34 ∷ (letters this_kind ++ 34 ∷ [])) (string (letters this_kind)) refl
+    (string_shown (letters this_kind) (letters this_kind) (plain_letters this_kind))))) in
     let whole = begins_alone (codes "unanswered") (codes "\"unanswered\":") _ (place_data g t this_kind) refl place in
     sym (line_shown (unanswered_data g t this_kind) _ (object_shown _ _ whole)
-    ∙ regroup_unanswered (123 ∷ []) (codes "\"unanswered\":") (codes "\"group\":") (decimal g) (codes ",\"transaction\":") (decimal t) (codes ",\"type\":\"") (letters this_kind) (34 ∷ []) (125 ∷ []) (10 ∷ []))
+    ∙ regroup_unanswered (123 ∷ []) (codes "\"unanswered\":") (codes "\"group\":") (decimal g) (codes ",\"transaction\":") (decimal t) (codes ",\"type\":\"")
+    (letters this_kind) (34 ∷ []) (125 ∷ []) (10 ∷ []))
 
 counts_follow : (f : TransactionStatus → ℕ) (ss : List TransactionStatus) → Follows (with_counts f ss) (count_members true (zip ss (map f ss)))
 counts_follow f [] = follows_none
 counts_follow f (s ∷ ss) = number_follows (status_code s) (count_key true (status_code s)) (f s) _ _ (key_later s) (counts_follow f ss)
 
-counts_begin : (f : TransactionStatus → ℕ) → Begins (with_counts f transaction_statuses) (count_members false (zip transaction_statuses (map f transaction_statuses)))
+counts_begin : (f : TransactionStatus → ℕ)
+    → Begins (with_counts f transaction_statuses) (count_members false (zip transaction_statuses (map f transaction_statuses)))
 unfolding escape_byte
 counts_begin f =
-    begins_member (codes "CO") (count_key false (codes "CO")) (decimal (f status.Conflict)) (number (decimal (f status.Conflict))) _ _ refl (number_shown (decimal (f status.Conflict)))
+    begins_member (codes "CO") (count_key false (codes "CO")) (decimal (f status.Conflict)) (number (decimal (f status.Conflict))) _ _ refl
+    (number_shown (decimal (f status.Conflict)))
     (counts_follow f (drop 1 transaction_statuses))
 
 regroup_counts : (o p n s m c e : List ℕ) → (o ++ (((p ++ n) ++ (s ++ (m ++ c))) ++ c)) ++ e ≡ ((((o ++ p) ++ n) ++ s) ++ m) ++ (c ++ (c ++ e))
 regroup_counts o p n s m c e = simp append_assoc
 
-pub counts_shown : (given : List Item) → counts_data_text (count_by is_answer given) (map (λ s. count_by (has_status s) given) transaction_statuses) ≡ data_line (counts_data given)
+pub counts_shown : (given : List Item)
+    → counts_data_text (count_by is_answer given) (map (λ s. count_by (has_status s) given) transaction_statuses) ≡ data_line (counts_data given)
 unfolding escape_byte
 counts_shown given =
     let f : TransactionStatus → ℕ = λ s. count_by (has_status s) given in
     let all : List ℕ = decimal (count_by is_answer given) in
     let each : List ℕ = count_members false (zip transaction_statuses (map f transaction_statuses)) in
     let whole = begins_member (codes "acks") (codes "\"acks\":") all (number all) _ _ refl (number_shown all)
-    (follows_last (codes "statuses") (codes ",\"statuses\":") (123 ∷ (each ++ 125 ∷ [])) (object (with_counts f transaction_statuses)) refl (object_shown _ _ (counts_begin f))) in
+    (follows_last (codes "statuses") (codes ",\"statuses\":") (123 ∷ (each ++ 125 ∷ [])) (object (with_counts f transaction_statuses)) refl
+    (object_shown _ _ (counts_begin f))) in
     sym (line_shown (counts_data given) _ (object_shown _ _ whole)
     ∙ regroup_counts (123 ∷ []) (codes "\"acks\":") all (codes ",\"statuses\":{") each (125 ∷ []) (10 ∷ []))

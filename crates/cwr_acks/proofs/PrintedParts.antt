@@ -46,7 +46,8 @@ true_shown = record { shown = λ rest. refl }
 pub cell_shown : (cell : List ℕ) → IsShownAs (string (characters Latin1 (trimmed cell))) (shown_cell cell)
 cell_shown cell = string_shown (characters Latin1 (trimmed cell)) (spelled_bytes Latin1 (trimmed cell)) (spelled_each Latin1 (trimmed cell) refl)
 
-pub array_shown : (js : Items) (text : List ℕ) → ((rest : List Token) → print_from false (items_tokens js ++ rest) ≡ text ++ 93 ∷ print_from true rest) → IsShownAs (array js) (91 ∷ (text ++ 93 ∷ []))
+pub array_shown : (js : Items) (text : List ℕ) → ((rest : List Token) → print_from false (items_tokens js ++ rest) ≡ text ++ 93 ∷ print_from true rest)
+    → IsShownAs (array js) (91 ∷ (text ++ 93 ∷ []))
 unfolding print_from
 array_shown js text h = record { shown = λ rest. ap (λ (l : List ℕ). 91 ∷ l) (h rest ∙ sym (append_assoc text (93 ∷ []) (print_from true rest))) }
 
@@ -70,7 +71,8 @@ pub follows_none : Follows no_members []
 unfolding print_from
 follows_none = record { shown = λ rest. refl }
 
-pub follows_member : (key name value : List ℕ) (j : Json) (more : Members) (text : List ℕ) → 44 ∷ (quoted key ++ 58 ∷ []) ≡ name → IsShownAs j value → Follows more text
+pub follows_member : (key name value : List ℕ) (j : Json) (more : Members) (text : List ℕ) → 44 ∷ (quoted key ++ 58 ∷ []) ≡ name → IsShownAs j value
+    → Follows more text
     → Follows (member key j more) ((name ++ value) ++ text)
 unfolding print_from
 follows_member key name value j more text e v m = record {
@@ -91,11 +93,14 @@ begins_member key name value j more text e v m = record {
 }
 
 -- the last of some, and one alone
-pub follows_last : (key name value : List ℕ) (j : Json) → 44 ∷ (quoted key ++ 58 ∷ []) ≡ name → IsShownAs j value → Follows (member key j no_members) (name ++ value)
-follows_last key name value j e v = subst (λ (l : List ℕ). Follows (member key j no_members) l) (append-nil (name ++ value)) (follows_member key name value j no_members [] e v follows_none)
+pub follows_last : (key name value : List ℕ) (j : Json) → 44 ∷ (quoted key ++ 58 ∷ []) ≡ name → IsShownAs j value
+    → Follows (member key j no_members) (name ++ value)
+follows_last key name value j e v =
+    subst (λ (l : List ℕ). Follows (member key j no_members) l) (append-nil (name ++ value)) (follows_member key name value j no_members [] e v follows_none)
 
 pub begins_alone : (key name value : List ℕ) (j : Json) → quoted key ++ 58 ∷ [] ≡ name → IsShownAs j value → Begins (member key j no_members) (name ++ value)
-begins_alone key name value j e v = subst (λ (l : List ℕ). Begins (member key j no_members) l) (append-nil (name ++ value)) (begins_member key name value j no_members [] e v follows_none)
+begins_alone key name value j e v =
+    subst (λ (l : List ℕ). Begins (member key j no_members) l) (append-nil (name ++ value)) (begins_member key name value j no_members [] e v follows_none)
 
 -- ---- members of each sort
 
@@ -127,10 +132,12 @@ cell_follows_if key name cell more text e m = by (is_spaces cell)
     by true = m
     by false = cell_follows key name cell more text e m
 
-pub mark_follows : (key mark : List ℕ) (there : Bool) (more : Members) (text : List ℕ) → (44 ∷ (quoted key ++ 58 ∷ [])) ++ codes "true" ≡ mark → Follows more text
+pub mark_follows : (key mark : List ℕ) (there : Bool) (more : Members) (text : List ℕ) → (44 ∷ (quoted key ++ 58 ∷ [])) ++ codes "true" ≡ mark
+    → Follows more text
     → Follows (with_mark key there more) (mark_part mark there ++ text)
 mark_follows key mark true more text e m =
-    subst (λ (l : List ℕ). Follows (member key (boolean true) more) (l ++ text)) e (follows_member key (44 ∷ (quoted key ++ 58 ∷ [])) (codes "true") (boolean true) more text refl true_shown m)
+    subst (λ (l : List ℕ). Follows (member key (boolean true) more) (l ++ text)) e
+    (follows_member key (44 ∷ (quoted key ++ 58 ∷ [])) (codes "true") (boolean true) more text refl true_shown m)
 mark_follows key mark false more text e m = m
 
 plain_level : (l : MessageLevel) → escape (level_code l) ≡ level_code l
@@ -138,7 +145,8 @@ unfolding escape_byte
 plain_level level.EntireFile = refl
 plain_level this_level = refl
 
-pub level_follows : (worst : Option MessageLevel) (more : Members) (text : List ℕ) → Follows more text → Follows (with_level worst more) (level_member worst ++ text)
+pub level_follows : (worst : Option MessageLevel) (more : Members) (text : List ℕ) → Follows more text
+    → Follows (with_level worst more) (level_member worst ++ text)
 unfolding escape_byte
 level_follows None more text m = m
 level_follows (Some l) more text m = text_follows (codes "level") (codes ",\"level\":") (level_code l) more text refl (plain_level l) m

@@ -92,7 +92,8 @@ ack_data notes a t =
 
 -- transaction t, from 0, of group g, from 1, of that kind isn't answered
 abbrev pub place_data : ℕ → ℕ → Kind → Json
-place_data g t this_kind = object (with_number (codes "group") g (with_number (codes "transaction") t (with_text (codes "type") (letters this_kind) no_members)))
+place_data g t this_kind =
+    object (with_number (codes "group") g (with_number (codes "transaction") t (with_text (codes "type") (letters this_kind) no_members)))
 
 abbrev pub unanswered_data : ℕ → ℕ → Kind → Json
 unanswered_data g t this_kind = object (member (codes "unanswered") (place_data g t this_kind) no_members)

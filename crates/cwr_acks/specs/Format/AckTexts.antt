@@ -84,7 +84,8 @@ message_lines t = flat_map message_text t
 -- a word on an acknowledgement, where it is to be told
 abbrev pub marked_line : List ℕ → RecordValue → List ℕ
 marked_line word a =
-    word ++ original_text a ++ cell_part (codes " submitter ") (cell_named "submitter creation number" a) ++ cell_part (codes " title ") (cell_named "creation title" a) ++ codes "\n"
+    word ++ original_text a ++ cell_part (codes " submitter ") (cell_named "submitter creation number" a)
+    ++ cell_part (codes " title ") (cell_named "creation title" a) ++ codes "\n"
 
 abbrev pub marked_if : Bool → List ℕ → RecordValue → List ℕ
 marked_if told word a = if told then marked_line word a else []
@@ -107,4 +108,5 @@ status_part code count = codes " " ++ code ++ codes " " ++ decimal count
 -- how many of the items are acknowledgements, and how many of them have each status
 abbrev pub counts_line : List Item → List ℕ
 counts_line items =
-    codes "ACKS " ++ decimal (count_by is_answer items) ++ flat_map (λ this_status. status_part (status_code this_status) (count_by (has_status this_status) items)) transaction_statuses ++ codes "\n"
+    codes "ACKS " ++ decimal (count_by is_answer items)
+    ++ flat_map (λ this_status. status_part (status_code this_status) (count_by (has_status this_status) items)) transaction_statuses ++ codes "\n"

@@ -3,10 +3,9 @@ use Rattle.std.specs.Prelude.{◌≡◌, ℕ, ◌+◌, ◌-◌, ◌≤◌, Bool,
 use Rattle.std.specs.List.{enumerate_from, flat_map, list_any}
 use Rattle.std.specs.Option.{option_and_then}
 use Rattle.cwr_layouts.specs.Format.Records.{RecordValue}
-use Rattle.cwr_sent.specs.declared.facts.SentFacts.{SentFacts}
 use Rattle.cwr_sent.specs.declared.tables.Entry.{Entry}
 use Rattle.cwr_sent.specs.declared.tables.Sent.{Sent}
-use Rattle.cwr_sent.specs.Format.SentRows.{facts_in_rows, fresh_rows, rows}
+use Rattle.cwr_sent.specs.Format.SentRows.{rows}
 use Rattle.cwr_sent.specs.Steps.SentTables.{entry_at, marked}
 use Rattle.cwr_fields.specs.declared.message_codes.MessageLevel.{MessageLevel}
 use Rattle.cwr_fields.specs.Format.MessageCodes.{status_code, transaction_statuses}

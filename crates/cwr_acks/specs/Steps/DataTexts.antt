@@ -41,7 +41,9 @@ abbrev pub mark_part : List ℕ → Bool → List ℕ
 mark_part mark there = if there then mark else []
 
 abbrev pub notes_members : Notes → List ℕ
-notes_members notes = mark_part (codes ",\"unsent\":true") notes.unsent ++ mark_part (codes ",\"retitled\":true") notes.retitled ++ mark_part (codes ",\"again\":true") notes.again
+notes_members notes =
+    mark_part (codes ",\"unsent\":true") notes.unsent ++ mark_part (codes ",\"retitled\":true") notes.retitled
+    ++ mark_part (codes ",\"again\":true") notes.again
 
 abbrev pub comma_if : Bool → List ℕ
 comma_if later = if later then codes "," else []
@@ -94,4 +96,5 @@ count_members later (p ∷ more) = count_member later (status_code p.0) p.1 ++ c
 
 -- the line of counts
 abbrev pub counts_data_text : ℕ → List ℕ → List ℕ
-counts_data_text all by_status = codes "{\"acks\":" ++ decimal all ++ codes ",\"statuses\":{" ++ count_members false (zip transaction_statuses by_status) ++ codes "}}\n"
+counts_data_text all by_status =
+    codes "{\"acks\":" ++ decimal all ++ codes ",\"statuses\":{" ++ count_members false (zip transaction_statuses by_status) ++ codes "}}\n"

@@ -4,7 +4,14 @@ use Rattle.cwr_acks.proofs.NamedParts.{cell_high, cell_short}
 use Rattle.cwr_acks.proofs.data_texts.push_member.Goals as goal
 
 pub push_shown-requires-clause-room : goal.push_shown-requires-clause-room
-push_shown-requires-clause-room c = omega (arith, cell_short c.args.shown.now c.args.j c.cell.result.now c.cell.ensures.value c.cell.ensures.fits, c.requires.room, c.requires.short, c.push.ensures.len)
+push_shown-requires-clause-room c =
+    omega (
+      arith,
+      cell_short c.args.shown.now c.args.j c.cell.result.now c.cell.ensures.value c.cell.ensures.fits,
+      c.requires.room,
+      c.requires.short,
+      c.push.ensures.len,
+    )
 
 pub push_shown-requires-clause-high : goal.push_shown-requires-clause-high
 push_shown-requires-clause-high c = cell_high c.args.shown.now c.args.j c.cell.result.now c.cell.ensures.value c.cell.ensures.fits
@@ -15,4 +22,11 @@ returns-clause-value c =
     ∙ append_assoc c.args.text.now.items c.args.key.now (shown_cell (cell_at c.args.shown.now c.args.j))
 
 pub returns-clause-len : goal.returns-clause-len
-returns-clause-len c = omega (arith, cell_short c.args.shown.now c.args.j c.cell.result.now c.cell.ensures.value c.cell.ensures.fits, c.requires.short, c.push.ensures.len, c.push_shown.ensures.len)
+returns-clause-len c =
+    omega (
+      arith,
+      cell_short c.args.shown.now c.args.j c.cell.result.now c.cell.ensures.value c.cell.ensures.fits,
+      c.requires.short,
+      c.push.ensures.len,
+      c.push_shown.ensures.len,
+    )

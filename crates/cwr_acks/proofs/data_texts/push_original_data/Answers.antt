@@ -18,5 +18,6 @@ returns-clause-value c =
     (c.push_number.ensures.value ∙ ap₂ join c.push.ensures.value (ap decimal c.group_of.ensures)))
     (ap decimal c.sequence_of.ensures))
     (ap (cell_member (codes ",\"type\":")) kind)
-    ∙ five_parts c.args.text.now.items (codes ",\"group\":") (decimal (group_of c.args.shown.now)) (codes ",\"transaction\":") (decimal (sequence_of c.args.shown.now))
+    ∙ five_parts c.args.text.now.items (codes ",\"group\":") (decimal (group_of c.args.shown.now)) (codes ",\"transaction\":")
+    (decimal (sequence_of c.args.shown.now))
     (cell_member (codes ",\"type\":") (cell_named "original transaction type" c.args.shown.now))

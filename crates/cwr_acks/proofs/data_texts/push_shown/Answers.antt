@@ -11,7 +11,9 @@ pub push_spelled-requires-clause-high : goal.push_spelled-requires-clause-high
 push_spelled-requires-clause-high c = subst NoLow (sym c.trimmed.ensures) (NoLow-trimmed c.args.cell.now c.requires.high)
 
 pub push-requires-2 : goal.push-requires-2
-push-requires-2 c = omega (arith, length-trimmed-le c.args.cell.now, ap length c.trimmed.ensures, c.requires.room, c.push.ensures.len, c.push_spelled.ensures.len)
+push-requires-2 c =
+    omega (arith, length-trimmed-le c.args.cell.now, ap length c.trimmed.ensures, c.requires.room, c.push.ensures.len, c.push_spelled.ensures.len)
 
 pub returns-clause-len : goal.returns-clause-len
-returns-clause-len c = omega (arith, length-trimmed-le c.args.cell.now, ap length c.trimmed.ensures, c.push.ensures.len, c.push_spelled.ensures.len, c.push-2.ensures.len)
+returns-clause-len c =
+    omega (arith, length-trimmed-le c.args.cell.now, ap length c.trimmed.ensures, c.push.ensures.len, c.push_spelled.ensures.len, c.push-2.ensures.len)

@@ -1,5 +1,4 @@
-use Rattle.std.proofs.Common.{ℕ, List, ◌++◌, length, take, get_or, ap, sym, ◌∙◌, arith, append_assoc}
-use Rattle.std.proofs.lemmas.List.{take_all}
+use Rattle.std.proofs.Common.{ℕ, List, ◌++◌, take, get_or, ap, sym, ◌∙◌, arith, append_assoc}
 use Rattle.cwr_json.specs.declared.encodings.Encoding.TheVariants.{Latin1}
 use Rattle.cwr_json.specs.Steps.FormTexts.{spelled_byte, spelled_bytes}
 use Rattle.cwr_json.proofs.Spelled.{high_at, spelled_more}

@@ -1,5 +1,5 @@
 use Rattle.std.proofs.Common.{Bool, List, ap, sym, ◌∙◌, arith, ℕ, take}
-use Rattle.std.specs.Prelude.{◌||◌}
+use Rattle.std.specs.Prelude.{◌||◌, Ok, Err}
 use Rattle.std.specs.List.{list_any}
 use Rattle.cwr_layouts.specs.Format.Records.{RecordValue}
 use Rattle.cwr_encode.proofs.PutRows.{found_within}
@@ -13,9 +13,11 @@ pub returns-in_err-put_message-clause-puts : goal.returns-in_err-put_message-cla
 returns-in_err-put_message-clause-puts g c =
     let t : List RecordValue = c.args.transaction.now in
     let part : ℕ → RecordValue → List ℕ = λ n r. message_in c.args.form (list_any is_message (take n t)) r in
-    steps_refused g.W.Target.contents g.W.Target.failures part 0 c.loop-shown.i c.loop-shown.i t c.in-Some.shown c.args.sink.now c.loop-shown.sink c.put_message.new.sink
-    c.in_err-put_message.field-0.0 c.from_residual.result c.in-Some.ensures.value (omega arith) c.from_residual.ensures.0 c.loop-shown.invariant.counts c.loop-shown.invariant.written
-    (puts_as g.W.Target.contents g.W.Target.failures (message_in c.args.form c.loop-shown.later c.in-Some.shown) (part c.loop-shown.i c.in-Some.shown) c.loop-shown.sink c.put_message.new.sink _
+    steps_refused g.W.Target.contents g.W.Target.failures part 0 c.loop-shown.i c.loop-shown.i t c.in-Some.shown c.args.sink.now c.loop-shown.sink
+    c.put_message.new.sink c.in_err-put_message.field-0.0 c.from_residual.result c.in-Some.ensures.value (omega arith) c.from_residual.ensures.0
+    c.loop-shown.invariant.counts c.loop-shown.invariant.written
+    (puts_as g.W.Target.contents g.W.Target.failures (message_in c.args.form c.loop-shown.later c.in-Some.shown) (part c.loop-shown.i c.in-Some.shown)
+    c.loop-shown.sink c.put_message.new.sink (Err c.in_err-put_message.field-0.0)
     (ap (λ (b : Bool). message_in c.args.form b c.in-Some.shown) c.loop-shown.invariant.later) c.in_err-put_message.ensures.puts)
 
 pub loop-shown-smaller : goal.loop-shown-smaller
@@ -25,11 +27,13 @@ pub loop-shown-preserved : goal.loop-shown-preserved
 loop-shown-preserved g c =
     let t : List RecordValue = c.args.transaction.now in
     let part : ℕ → RecordValue → List ℕ = λ n r. message_in c.args.form (list_any is_message (take n t)) r in
-    let put = puts_as g.W.Target.contents g.W.Target.failures (message_in c.args.form c.loop-shown.later c.in-Some.shown) (part c.loop-shown.i c.in-Some.shown) c.loop-shown.sink c.put_message.new.sink _
+    let put = puts_as g.W.Target.contents g.W.Target.failures (message_in c.args.form c.loop-shown.later c.in-Some.shown)
+    (part c.loop-shown.i c.in-Some.shown) c.loop-shown.sink c.put_message.new.sink (Ok tt)
     (ap (λ (b : Bool). message_in c.args.form b c.in-Some.shown) c.loop-shown.invariant.later) c.in_ok-put_message.ensures.puts in
     record {
       within = let h = found_within t c.loop-shown.i c.in-Some.shown c.in-Some.ensures.value in omega (arith, h);
-      later = ap (λ (b : Bool). c.loop-shown.later || b) c.is_message-later.ensures ∙ ap (λ (b : Bool). b || is_message c.in-Some.shown) c.loop-shown.invariant.later
+      later = ap (λ (b : Bool). c.loop-shown.later || b) c.is_message-later.ensures ∙ ap (λ (b : Bool). b || is_message c.in-Some.shown)
+          c.loop-shown.invariant.later
           ∙ sym (any_more is_message t c.loop-shown.i c.in-Some.shown c.in-Some.ensures.value);
       unfailed = put.failed;
       counts = put.counts ∙ c.loop-shown.invariant.counts;
@@ -42,7 +46,8 @@ returns-clause-puts g c =
     let t : List RecordValue = c.args.transaction.now in
     let part : ℕ → RecordValue → List ℕ = λ n r. message_in c.args.form (list_any is_message (take n t)) r in
     record {
-      written = λ start before h. steps_whole g.W.Target.contents start before part 0 c.loop-shown.i t c.loop-shown.sink c.in_default.ensures.value (c.loop-shown.invariant.written start before h);
+      written = λ start before h. steps_whole g.W.Target.contents start before part 0 c.loop-shown.i t c.loop-shown.sink c.in_default.ensures.value
+          (c.loop-shown.invariant.written start before h);
       failed = c.loop-shown.invariant.unfailed;
       counts = c.loop-shown.invariant.counts;
     }

@@ -1,8 +1,5 @@
-use Rattle.std.proofs.Common.{◌≡◌, ℕ, ◌+◌, ◌<◌, List, Some, length, ap, ◌∙◌, arith}
-use Rattle.std.specs.Prelude.{slice_get}
-use Rattle.std.proofs.lemmas.List.{take_all}
-use Rattle.std.proofs.lemmas.Option.{slice_get_past}
-use Rattle.cwr_encode.proofs.Numbered.{step_more, steps_refused, steps_whole}
+use Rattle.std.proofs.Common.{◌+◌, ◌<◌, Some, length, ap, ◌∙◌, arith}
+use Rattle.cwr_encode.proofs.Numbered.{step_more, steps_refused}
 use Rattle.cwr_sent.specs.Format.SentRows.{rows}
 use Rattle.cwr_acks.specs.Steps.AckSteps.{row_lines}
 use Rattle.cwr_acks.proofs.Matched.{row_there}

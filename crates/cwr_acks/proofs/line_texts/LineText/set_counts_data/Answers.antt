@@ -9,7 +9,8 @@ use Rattle.cwr_acks.proofs.line_texts.LineText.set_counts_data.Goals as goal
 pub loop-i-init : goal.loop-i-init
 loop-i-init c = record {
   value = c.push-2.ensures.value ∙ ap (λ (l : List ℕ). l ++ codes ",\"statuses\":{")
-      (c.push_number.ensures.value ∙ ap₂ (λ (l m : List ℕ). l ++ m) (c.push.ensures.value ∙ ap (λ (l : List ℕ). l ++ codes "{\"acks\":") c.clear.ensures) (ap decimal c.from.ensures))
+      (c.push_number.ensures.value ∙ ap₂ (λ (l m : List ℕ). l ++ m) (c.push.ensures.value ∙ ap (λ (l : List ℕ). l ++ codes "{\"acks\":") c.clear.ensures)
+      (ap decimal c.from.ensures))
       ∙ sym (append-nil (codes "{\"acks\":" ++ decimal c.args.answers.now.all ++ codes ",\"statuses\":{"));
   len = omega (arith, c.push-2.ensures.len, c.push_number.ensures.len, c.push.ensures.len, ap length c.clear.ensures);
 }
@@ -28,7 +29,8 @@ loop-i-preserved c =
       value = c.push_count_data.ensures.value
           ∙ ap (λ (l : List ℕ). l ++ count_member (nat_lt 0 i) (status_code (get_or transaction_statuses i _)) (get_or ns i 0)) c.loop-i.invariant.value
           ∙ append_assoc head (counts_to i ns) (count_member (nat_lt 0 i) (status_code (get_or transaction_statuses i _)) (get_or ns i 0))
-          ∙ ap (λ (l : List ℕ). head ++ l) (sym (counts_more ns i _ (slice_get-get_or transaction_statuses i _ c.loop-i-test.true) within) ∙ ap (λ (n : ℕ). counts_to n ns) next);
+          ∙ ap (λ (l : List ℕ). head ++ l) (sym (counts_more ns i _ (slice_get-get_or transaction_statuses i _ c.loop-i-test.true) within)
+          ∙ ap (λ (n : ℕ). counts_to n ns) next);
       len = omega (arith, c.push_count_data.ensures.len, c.loop-i.invariant.len);
     }
 
@@ -39,4 +41,5 @@ pub returns : goal.returns
 returns c =
     let ns : List ℕ = c.args.answers.now.by_status in
     c.push-3.ensures.value ∙ ap (λ (l : List ℕ). l ++ codes "}}\n")
-    (c.loop-i.invariant.value ∙ ap (λ (l : List ℕ). codes "{\"acks\":" ++ decimal c.args.answers.now.all ++ codes ",\"statuses\":{" ++ l) (counts_whole c.loop-i.i ns c.requires c.loop-i-test.false c.loop-i.auto.i-end))
+    (c.loop-i.invariant.value ∙ ap (λ (l : List ℕ). codes "{\"acks\":" ++ decimal c.args.answers.now.all ++ codes ",\"statuses\":{" ++ l)
+    (counts_whole c.loop-i.i ns c.requires c.loop-i-test.false c.loop-i.auto.i-end))
