@@ -158,6 +158,7 @@ fn lacks_original(facts: &Facts, shown: &RecordRef<'_>) -> bool
 }
 
 /// Whether the record breaks the rule by itself, at that field where the rule judges a cell.
+#[inline(always)]
 pub(crate) fn breaks_alone(rule: AdviceRule, shown: &RecordRef<'_>, field: u8) -> bool
     ensures { result ≡ breaks_alone rule shown.now field }
 {
