@@ -4,3 +4,4 @@ pub mod CellLines
 pub mod AdvicePut
 pub mod LinesOfAdvice
 pub mod AdvisingOn
+pub mod SaidBefore

@@ -1,14 +1,15 @@
 -- What is written of items is what is written of all but the last, and then of the last.
 use Rattle.std.proofs.Common.{◌≡◌, ℕ, ◌+◌, ◌<◌, List, [], ◌∷◌, ◌++◌, length, take, refl, sym, ap, ap₂, ◌∙◌, arith, append-nil}
-use Rattle.std.specs.List.{enumerate_from, flat_map}
+use Rattle.std.specs.List.{after_last, count_by, enumerate_from, flat_map}
 use Rattle.std.proofs.Math.Seq.{take-append_seam}
 use Rattle.std.proofs.lemmas.Grind.{flat_map-append}
 use Rattle.std.proofs.lemmas.List.{take-append-le}
 use Rattle.cwr_values.specs.declared.items.Item.{Item}
-use Rattle.cwr_judge.specs.Format.Items.{records_in}
+use Rattle.cwr_judge.specs.Format.Items.{is_transaction, opens_group, records_in}
 use Rattle.cwr_tools.specs.declared.totals.Totals.{Totals}
 use Rattle.cwr_tools.proofs.CountedTotals.{IsCount}
-use Rattle.cwr_advise.specs.Format.AdviceLines.{advised_in, advised_item, advised_lines}
+use Rattle.cwr_advice.specs.declared.characters.Characters.{Characters}
+use Rattle.cwr_advise.specs.Format.AdviceLines.{advised_in, advised_item, advised_lines, said_in}
 use Rattle.cwr_advise.specs.Steps.AdvisedItems.{advised_at}
 
 -- the lines of items, which stand at these places of a list, by the items before each
@@ -47,8 +48,9 @@ unfolding advised_lines
 advised_none = refl
 
 -- with one item more
-pub advised_more : (c : Totals) (given : List Item) (item : Item) → IsCount c given → advised_lines (given ++ item ∷ []) ≡ advised_lines given ++ advised_at c item
-advised_more c given item k =
+pub advised_more : (c : Totals) (said : Characters) (given : List Item) (item : Item) → IsCount c given → said ≡ said_in given → advised_lines (given ++ item ∷ []) ≡ advised_lines given ++ advised_at said c item
+advised_more c said given item k e =
     advised_lines-snoc given item
-    ∙ ap₂ (λ (group sequence : ℕ). advised_lines given ++ advised_in group sequence (length (records_in given) + 1) item) (sym k.groups) (sym k.in_group)
-    ∙ ap (λ (n : ℕ). advised_lines given ++ advised_in c.groups c.in_group (n + 1) item) (sym k.records)
+    ∙ ap (λ (s : Characters). advised_lines given ++ advised_in s (count_by opens_group given) (count_by is_transaction (after_last opens_group given)) (length (records_in given) + 1) item) (sym e)
+    ∙ ap₂ (λ (group sequence : ℕ). advised_lines given ++ advised_in said group sequence (length (records_in given) + 1) item) (sym k.groups) (sym k.in_group)
+    ∙ ap (λ (n : ℕ). advised_lines given ++ advised_in said c.groups c.in_group (n + 1) item) (sym k.records)

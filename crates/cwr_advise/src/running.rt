@@ -9,6 +9,7 @@ ghost use Rattle.cwr_tools.specs.Steps.Reports.{PutsReport, Reports};
 ghost use Rattle.cwr_advise.specs.Format.AdviceLines.{lines_of_advice};
 
 use crate::advice_texts::AdviceText;
+use crate::before::Before;
 use crate::item_advice::put_item;
 use cwr_decode::Reading;
 use cwr_encode::Sink;
@@ -32,12 +33,14 @@ fn put_items<R: Source, W: Target>(
 {
     let mut reading = Reading::new(alloc, limits, reader);
     let mut counts = Totals::new();
+    let mut before = Before::nothing();
     let mut text = AdviceText::new();
     'items: loop {
         match reading.next_item() {
             Ok(Some(item)) => {
-                put_item(alloc, &counts, &item, &mut text, sink)?;
+                put_item(alloc, before.characters(), &counts, &item, &mut text, sink)?;
                 counts.count(&item);
+                before = before.with(&item);
             }
             Ok(None) => return Ok(counts.good()),
             Err(fault) => return verdict_of(fault),

@@ -19,7 +19,7 @@ items-init g c =
     let reading = nothing_read_yet c.args.limits c.new-reading.result.decoder (g.R.Source.remaining c.args.reader.now) (g.R.Source.remaining c.new-reading.result.reader.now) new.represents new.limits new.open new.fresh (ap g.R.Source.remaining new.kept) in
     record {
       advising = advises_nothing c.args.limits c.new-reading.result.decoder (g.R.Source.remaining c.args.reader.now) (g.R.Source.remaining c.new-reading.result.reader.now) g.W.Target.contents g.W.Target.failures
-          c.new-counts.result c.args.sink.now reading (counts_none c.new-counts.result c.new-counts.ensures) c.requires.unfailed c.requires.empty;
+          c.new-counts.result c.nothing-before.result c.args.sink.now reading (counts_none c.new-counts.result c.new-counts.ensures) c.nothing-before.ensures c.requires.unfailed c.requires.empty;
       failures = ap g.R.Source.failures new.kept;
       same = refl;
     }
@@ -34,13 +34,13 @@ put_item-requires-clause-few g c =
     (next_room c.args.limits c.next_item.new.self.decoder (g.R.Source.remaining c.args.reader.now) _ c.items.counts c.items.invariant.advising.given c.in-Ok-Some.item reading c.items.invariant.advising.counts).records
 
 pub count-requires-clause-groups : goal.count-requires-clause-groups
-count-requires-clause-groups g c = (room_in c.args.limits _ _ _ g.W.Target.contents g.W.Target.failures c.items.counts c.args.sink.now c.items.sink c.items.invariant.advising).groups
+count-requires-clause-groups g c = (room_in c.args.limits _ _ _ g.W.Target.contents g.W.Target.failures c.items.counts c.items.before c.args.sink.now c.items.sink c.items.invariant.advising).groups
 
 pub count-requires-clause-transactions : goal.count-requires-clause-transactions
-count-requires-clause-transactions g c = (room_in c.args.limits _ _ _ g.W.Target.contents g.W.Target.failures c.items.counts c.args.sink.now c.items.sink c.items.invariant.advising).transactions
+count-requires-clause-transactions g c = (room_in c.args.limits _ _ _ g.W.Target.contents g.W.Target.failures c.items.counts c.items.before c.args.sink.now c.items.sink c.items.invariant.advising).transactions
 
 pub count-requires-clause-in_group : goal.count-requires-clause-in_group
-count-requires-clause-in_group g c = (room_in c.args.limits _ _ _ g.W.Target.contents g.W.Target.failures c.items.counts c.args.sink.now c.items.sink c.items.invariant.advising).in_group
+count-requires-clause-in_group g c = (room_in c.args.limits _ _ _ g.W.Target.contents g.W.Target.failures c.items.counts c.items.before c.args.sink.now c.items.sink c.items.invariant.advising).in_group
 
 pub count-requires-clause-records : goal.count-requires-clause-records
 count-requires-clause-records g c =
@@ -86,9 +86,9 @@ items-preserved-in_ok-put_item-in-Ok-Some g c =
     c.items.invariant.advising.reading c.in-Ok-Some.ensures.reads c.in-Ok-Some.ensures.again in
     record {
       advising = subst (λ (counts : Totals). IsAdvising c.args.limits c.next_item.new.self.decoder (g.R.Source.remaining c.args.reader.now) (g.R.Source.remaining c.next_item.new.self.reader.now) g.W.Target.contents g.W.Target.failures
-          counts c.args.sink.now c.put_item.new.sink) (sym c.count.ensures)
-          (advises_item c.args.limits c.items.reading.decoder c.next_item.new.self.decoder (g.R.Source.remaining c.args.reader.now) _ _ g.W.Target.contents g.W.Target.failures c.items.counts c.args.sink.now c.items.sink c.put_item.new.sink
-          c.in-Ok-Some.item tt c.items.invariant.advising reading c.in_ok-put_item-in-Ok-Some.ensures);
+          counts c.with-before.result c.args.sink.now c.put_item.new.sink) (sym c.count.ensures)
+          (advises_item c.args.limits c.items.reading.decoder c.next_item.new.self.decoder (g.R.Source.remaining c.args.reader.now) _ _ g.W.Target.contents g.W.Target.failures c.items.counts c.items.before c.with-before.result c.characters.result c.args.sink.now c.items.sink c.put_item.new.sink
+          c.in-Ok-Some.item tt c.items.invariant.advising reading c.in_ok-put_item-in-Ok-Some.ensures c.characters.ensures c.with-before.ensures);
       failures = c.in-Ok-Some.ensures.failures ∙ c.items.invariant.failures;
       same = c.in-Ok-Some.ensures.same_reference ∙ c.items.invariant.same;
     }
@@ -99,9 +99,9 @@ items-preserved g c =
     c.items.invariant.advising.reading c.in-Ok-Some.ensures.reads c.in-Ok-Some.ensures.again in
     record {
       advising = subst (λ (counts : Totals). IsAdvising c.args.limits c.next_item.new.self.decoder (g.R.Source.remaining c.args.reader.now) (g.R.Source.remaining c.next_item.new.self.reader.now) g.W.Target.contents g.W.Target.failures
-          counts c.args.sink.now c.put_item.new.sink) (sym c.count.ensures)
-          (advises_item c.args.limits c.items.reading.decoder c.next_item.new.self.decoder (g.R.Source.remaining c.args.reader.now) _ _ g.W.Target.contents g.W.Target.failures c.items.counts c.args.sink.now c.items.sink c.put_item.new.sink
-          c.in-Ok-Some.item tt c.items.invariant.advising reading c.in_ok-put_item-in-Ok-Some.ensures);
+          counts c.with-before.result c.args.sink.now c.put_item.new.sink) (sym c.count.ensures)
+          (advises_item c.args.limits c.items.reading.decoder c.next_item.new.self.decoder (g.R.Source.remaining c.args.reader.now) _ _ g.W.Target.contents g.W.Target.failures c.items.counts c.items.before c.with-before.result c.characters.result c.args.sink.now c.items.sink c.put_item.new.sink
+          c.in-Ok-Some.item tt c.items.invariant.advising reading c.in_ok-put_item-in-Ok-Some.ensures c.characters.ensures c.with-before.ensures);
       failures = c.in-Ok-Some.ensures.failures ∙ c.items.invariant.failures;
       same = c.in-Ok-Some.ensures.same_reference ∙ c.items.invariant.same;
     }
@@ -113,8 +113,8 @@ returns-in_err-put_item-in-Ok-Some-clause-puts g c =
     let faulty : PutsReport lines_of_advice nothing c.args.limits (g.R.Source.remaining c.args.reader.now) (g.R.Source.remaining c.next_item.new.self.reader.now) g.W.Target.contents g.W.Target.failures c.from_residual.result c.args.sink.now c.put_item.new.sink
     = subst (λ (r : Result Verdict ToolFault). PutsReport lines_of_advice nothing c.args.limits (g.R.Source.remaining c.args.reader.now) (g.R.Source.remaining c.next_item.new.self.reader.now) g.W.Target.contents g.W.Target.failures r c.args.sink.now c.put_item.new.sink)
     (sym (same_fault c.from_residual.result c.in_err-put_item-in-Ok-Some.field-0.0 c.from_residual.ensures.1))
-    (item_fault nothing c.args.limits c.items.reading.decoder c.next_item.new.self.decoder (g.R.Source.remaining c.args.reader.now) _ _ g.W.Target.contents g.W.Target.failures c.items.counts c.args.sink.now c.items.sink c.put_item.new.sink
-    c.in-Ok-Some.item c.in_err-put_item-in-Ok-Some.field-0.0 c.items.invariant.advising reading c.in_err-put_item-in-Ok-Some.ensures) in
+    (item_fault nothing c.args.limits c.items.reading.decoder c.next_item.new.self.decoder (g.R.Source.remaining c.args.reader.now) _ _ g.W.Target.contents g.W.Target.failures c.items.counts c.items.before c.characters.result c.args.sink.now c.items.sink c.put_item.new.sink
+    c.in-Ok-Some.item c.in_err-put_item-in-Ok-Some.field-0.0 c.items.invariant.advising reading c.in_err-put_item-in-Ok-Some.ensures c.characters.ensures) in
     search rules
 
 pub returns-in-Ok-None-clause-puts : goal.returns-in-Ok-None-clause-puts
