@@ -12,7 +12,7 @@ use Rattle.cwr_layouts.specs.declared.kinds.Kind.TheVariants as kinds
 use Rattle.cwr_levels.specs.Format.Findings.{is_a, is_owner}
 use Rattle.cwr_levels.proofs.RuleTests.{cell_of_field, or_none}
 use Rattle.cwr_advice.specs.Format.Rules.{begins_with_agent, in_chain, is_agent, is_publisher, is_territory, is_territory_of, is_writer, owns_shares}
-use Rattle.cwr_advice.specs.Steps.Kept.{AreCalm, AreSinceParty, IsBegun, IsCalm, breaks_some, is_among, is_owning_writer, stands_again}
+use Rattle.cwr_advice.specs.Steps.Kept.{AreCalm, AreSinceParty, IsBegun, IsCalm, is_among, is_owning_writer, stands_again}
 use Rattle.cwr_advice.proofs.AdvisedFields.{named_sequence}
 use Rattle.cwr_advice.proofs.OwingWriters.{there_or_last}
 use Rattle.cwr_advice.proofs.SinceParty.{one_since}

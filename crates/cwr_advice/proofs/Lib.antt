@@ -10,5 +10,6 @@ pub mod AdviceByRecord
 pub mod OwnedShares
 pub mod OwingWriters
 pub mod CalmRecords
+pub mod AsciiTexts
 pub mod CleanWorks
 pub mod LastFields

@@ -1,4 +1,5 @@
 -- What is promised, in the words of the format.
+pub mod Characters
 pub mod Numbers
 pub mod Rules
 pub mod Shifts

@@ -7,7 +7,7 @@ use crate::rules::{AdviceRule, Asked};
 use cwr_layouts::Kind;
 
 /// NWR, REV: what is asked of them, in this order.
-static WORK: [Asked; 8] = [
+static WORK: [Asked; 10] = [
     Asked {
         rule: AdviceRule::A2b,
         field: 1,
@@ -40,10 +40,18 @@ static WORK: [Asked; 8] = [
         rule: AdviceRule::A8d,
         field: 11,
     },
+    Asked {
+        rule: AdviceRule::A9a,
+        field: 4,
+    },
+    Asked {
+        rule: AdviceRule::A9a,
+        field: 19,
+    },
 ];
 
 /// SPU, OPU: what is asked of them, in this order.
-static PUBLISHER: [Asked; 8] = [
+static PUBLISHER: [Asked; 9] = [
     Asked {
         rule: AdviceRule::A2a,
         field: 8,
@@ -76,10 +84,14 @@ static PUBLISHER: [Asked; 8] = [
         rule: AdviceRule::A8a,
         field: 16,
     },
+    Asked {
+        rule: AdviceRule::A9a,
+        field: 6,
+    },
 ];
 
 /// SWR: what is asked of them, in this order.
-static CONTROLLED_WRITER: [Asked; 9] = [
+static CONTROLLED_WRITER: [Asked; 11] = [
     Asked {
         rule: AdviceRule::A2c,
         field: 1,
@@ -116,10 +128,18 @@ static CONTROLLED_WRITER: [Asked; 9] = [
         rule: AdviceRule::A8a,
         field: 15,
     },
+    Asked {
+        rule: AdviceRule::A9a,
+        field: 5,
+    },
+    Asked {
+        rule: AdviceRule::A9a,
+        field: 6,
+    },
 ];
 
 /// OWR: what is asked of them, in this order.
-static OTHER_WRITER: [Asked; 7] = [
+static OTHER_WRITER: [Asked; 9] = [
     Asked {
         rule: AdviceRule::A4a,
         field: 10,
@@ -147,6 +167,14 @@ static OTHER_WRITER: [Asked; 7] = [
     Asked {
         rule: AdviceRule::A8a,
         field: 15,
+    },
+    Asked {
+        rule: AdviceRule::A9a,
+        field: 5,
+    },
+    Asked {
+        rule: AdviceRule::A9a,
+        field: 6,
     },
 ];
 
@@ -189,7 +217,7 @@ static TERRITORY: [Asked; 1] = [Asked {
 }];
 
 /// IPA: what is asked of them, in this order.
-static PARTY: [Asked; 7] = [
+static PARTY: [Asked; 9] = [
     Asked {
         rule: AdviceRule::A4a,
         field: 5,
@@ -218,16 +246,30 @@ static PARTY: [Asked; 7] = [
         rule: AdviceRule::A8a,
         field: 14,
     },
+    Asked {
+        rule: AdviceRule::A9a,
+        field: 8,
+    },
+    Asked {
+        rule: AdviceRule::A9a,
+        field: 9,
+    },
 ];
 
 /// ALT: what is asked of them, in this order.
-static ALTERNATIVE_TITLE: [Asked; 1] = [Asked {
-    rule: AdviceRule::A8c,
-    field: 6,
-}];
+static ALTERNATIVE_TITLE: [Asked; 2] = [
+    Asked {
+        rule: AdviceRule::A8c,
+        field: 6,
+    },
+    Asked {
+        rule: AdviceRule::A9a,
+        field: 4,
+    },
+];
 
 /// EWT, VER: what is asked of them, in this order.
-static OTHER_WORK: [Asked; 11] = [
+static OTHER_WORK: [Asked; 17] = [
     Asked {
         rule: AdviceRule::A4a,
         field: 10,
@@ -272,10 +314,34 @@ static OTHER_WORK: [Asked; 11] = [
         rule: AdviceRule::A8c,
         field: 6,
     },
+    Asked {
+        rule: AdviceRule::A9a,
+        field: 4,
+    },
+    Asked {
+        rule: AdviceRule::A9a,
+        field: 7,
+    },
+    Asked {
+        rule: AdviceRule::A9a,
+        field: 8,
+    },
+    Asked {
+        rule: AdviceRule::A9a,
+        field: 9,
+    },
+    Asked {
+        rule: AdviceRule::A9a,
+        field: 12,
+    },
+    Asked {
+        rule: AdviceRule::A9a,
+        field: 13,
+    },
 ];
 
 /// PER: what is asked of them, in this order.
-static PERFORMER: [Asked; 4] = [
+static PERFORMER: [Asked; 6] = [
     Asked {
         rule: AdviceRule::A4a,
         field: 6,
@@ -292,10 +358,18 @@ static PERFORMER: [Asked; 4] = [
         rule: AdviceRule::A7a,
         field: 5,
     },
+    Asked {
+        rule: AdviceRule::A9a,
+        field: 4,
+    },
+    Asked {
+        rule: AdviceRule::A9a,
+        field: 5,
+    },
 ];
 
 /// REC: what is asked of them, in this order.
-static RECORDING: [Asked; 5] = [
+static RECORDING: [Asked; 7] = [
     Asked {
         rule: AdviceRule::A4c,
         field: 12,
@@ -316,10 +390,18 @@ static RECORDING: [Asked; 5] = [
         rule: AdviceRule::A8d,
         field: 6,
     },
+    Asked {
+        rule: AdviceRule::A9a,
+        field: 8,
+    },
+    Asked {
+        rule: AdviceRule::A9a,
+        field: 9,
+    },
 ];
 
 /// COM: what is asked of them, in this order.
-static COMPONENT: [Asked; 11] = [
+static COMPONENT: [Asked; 16] = [
     Asked {
         rule: AdviceRule::A4a,
         field: 10,
@@ -364,10 +446,30 @@ static COMPONENT: [Asked; 11] = [
         rule: AdviceRule::A8d,
         field: 7,
     },
+    Asked {
+        rule: AdviceRule::A9a,
+        field: 4,
+    },
+    Asked {
+        rule: AdviceRule::A9a,
+        field: 8,
+    },
+    Asked {
+        rule: AdviceRule::A9a,
+        field: 9,
+    },
+    Asked {
+        rule: AdviceRule::A9a,
+        field: 11,
+    },
+    Asked {
+        rule: AdviceRule::A9a,
+        field: 12,
+    },
 ];
 
 /// PWR: what is asked of them, in this order.
-static WRITER_PUBLISHER: [Asked; 2] = [
+static WRITER_PUBLISHER: [Asked; 3] = [
     Asked {
         rule: AdviceRule::A7a,
         field: 4,
@@ -376,10 +478,14 @@ static WRITER_PUBLISHER: [Asked; 2] = [
         rule: AdviceRule::A7a,
         field: 5,
     },
+    Asked {
+        rule: AdviceRule::A9a,
+        field: 5,
+    },
 ];
 
 /// ORN: what is asked of them, in this order.
-static ORIGIN: [Asked; 3] = [
+static ORIGIN: [Asked; 6] = [
     Asked {
         rule: AdviceRule::A7a,
         field: 5,
@@ -390,6 +496,18 @@ static ORIGIN: [Asked; 3] = [
     },
     Asked {
         rule: AdviceRule::A7a,
+        field: 12,
+    },
+    Asked {
+        rule: AdviceRule::A9a,
+        field: 5,
+    },
+    Asked {
+        rule: AdviceRule::A9a,
+        field: 8,
+    },
+    Asked {
+        rule: AdviceRule::A9a,
         field: 12,
     },
 ];

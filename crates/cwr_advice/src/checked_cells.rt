@@ -28,6 +28,7 @@ fn is_right(rule: AdviceRule, cell: &[u8]) -> bool
 }
 
 /// Whether the cell is filled in, and not as the rule asks.
+#[inline(always)]
 pub(crate) fn is_wrong(rule: AdviceRule, cell: &[u8]) -> bool
     ensures { result ≡ is_wrong rule cell.now }
 {

@@ -6,6 +6,7 @@ ghost use Rattle.cwr_layouts.specs.Format.Records.{RecordValue};
 ghost use Rattle.cwr_advice.specs.Format.Rules.{begins_with_agent, breaks, breaks_alone, collects_nowhere, has_composite_type, has_no_composite_type, in_chain, is_agent, is_header, is_stray_component, is_version, lacks_components, lacks_original, names_agent};
 ghost use Rattle.cwr_advice.specs.Steps.Facts.{AreFacts};
 
+use crate::characters::{Characters, is_unlike};
 use crate::checked_cells::is_wrong;
 use crate::facts::Facts;
 use crate::owners::{is_publisher, owns_over_half};
@@ -158,8 +159,14 @@ fn lacks_original(facts: &Facts, shown: &RecordRef<'_>) -> bool
 }
 
 /// Whether the record breaks the rule by itself, at that field where the rule judges a cell.
-pub(crate) fn breaks_alone(rule: AdviceRule, shown: &RecordRef<'_>, field: u8) -> bool
-    ensures { result ≡ breaks_alone rule shown.now field }
+#[inline(always)]
+pub(crate) fn breaks_alone(
+    said: Characters,
+    rule: AdviceRule,
+    shown: &RecordRef<'_>,
+    field: u8,
+) -> bool
+    ensures { result ≡ breaks_alone said rule shown.now field }
 {
     match rule {
         AdviceRule::A3a => owns_over_half(shown),
@@ -172,12 +179,14 @@ pub(crate) fn breaks_alone(rule: AdviceRule, shown: &RecordRef<'_>, field: u8) -
         | AdviceRule::A8b
         | AdviceRule::A8c
         | AdviceRule::A8d => is_wrong(rule, cell(shown, field)),
+        AdviceRule::A9a => is_unlike(said, cell(shown, field)),
         _ => false,
     }
 }
 
 /// Whether the record, which stands after so many others, breaks the rule, at that field where the rule judges a cell.
 pub(crate) fn breaks(
+    said: Characters,
     rule: AdviceRule,
     transaction: &Transaction,
     facts: &Facts,
@@ -187,7 +196,7 @@ pub(crate) fn breaks(
 ) -> bool
     requires facts { AreFacts transaction.now facts.now }
     requires room { sequence + 1 < 2 ^ 64 }
-    ensures { result ≡ breaks rule transaction.now sequence shown.now field }
+    ensures { result ≡ breaks said rule transaction.now sequence shown.now field }
 {
     match rule {
         AdviceRule::A1a => goes_over(transaction, facts, sequence, shown),
@@ -200,6 +209,6 @@ pub(crate) fn breaks(
         AdviceRule::A6a => lacks_components(facts, shown),
         AdviceRule::A6b => is_stray_component(transaction, shown),
         AdviceRule::A6c => lacks_original(facts, shown),
-        _ => breaks_alone(rule, shown, field),
+        _ => breaks_alone(said, rule, shown, field),
     }
 }

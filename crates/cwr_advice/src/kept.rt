@@ -2,15 +2,18 @@
 
 ghost use Rattle.std.specs.Prelude.{◌≡◌, ◌≤◌, ℕ, ◌++◌, ◌∷◌, [], List, length, option_map, true, false, Some, IfSome, IsTrue, IsFalse};
 ghost use Rattle.cwr_layouts.specs.Format.Records.{RecordValue};
+ghost use Rattle.cwr_advice.specs.declared.characters.Characters.{Characters};
 ghost use Rattle.cwr_advice.specs.Format.Rules.{advice_of, begins_with_agent};
-ghost use Rattle.cwr_advice.specs.Steps.Kept.{AreAllCollected, AreCollectedAnywhere, AreKept, AreSinceParty, breaks_some, is_among, IsBegun, IsCalm, stands_again, StandsFor};
+ghost use Rattle.cwr_advice.specs.Steps.Kept.{AreAllCollected, AreCollectedAnywhere, AreKept, AreSinceParty, is_among, IsBegun, IsCalm, may_break_alone, may_break_some, stands_again, StandsFor};
 
 use crate::asking::asked_of;
+use crate::characters::{Characters, is_ascii};
 use crate::facts::Facts;
 use crate::judging::{CHAIN, breaks_alone, collects_nowhere, is_agent};
 use crate::kept_headers::Headers;
 use crate::owing::Owing;
 use crate::owners::{Owned, is_publisher, is_writer, owned_by};
+use crate::rules::AdviceRule;
 use crate::territory_cells::{code_of, collection_of, is_territory};
 use arrayvec::ArrayVec;
 use cwr_fields::is_spaces;
@@ -98,13 +101,24 @@ fn collected_anywhere(shown: &RecordRef<'_>) -> Owned
     collection_of(shown)
 }
 
-/// Whether the record breaks a rule by itself.
-fn breaks_some(shown: &RecordRef<'_>) -> bool
-    ensures { result ≡ breaks_some shown.now }
+/// Whether the record may break the rule by itself, whatever is said of characters.
+#[inline(always)]
+fn may_break_alone(rule: AdviceRule, shown: &RecordRef<'_>, field: u8) -> bool
+    ensures { result ≡ may_break_alone rule shown.now field }
+{
+    match rule {
+        AdviceRule::A9a => !is_ascii(cell(shown, field)),
+        _ => breaks_alone(Characters::Other, rule, shown, field),
+    }
+}
+
+/// Whether the record may break a rule by itself.
+fn may_break_some(shown: &RecordRef<'_>) -> bool
+    ensures { result ≡ may_break_some shown.now }
 {
     asked_of(shown.kind())
         .iter()
-        .any(|asked| breaks_alone(asked.rule, shown, asked.field))
+        .any(|asked| may_break_alone(asked.rule, shown, asked.field))
 }
 
 /// The sequence in a cell that is as wide as such sequences are.
@@ -225,7 +239,7 @@ impl AdviceSums {
     fn may_break(&self, shown: &RecordRef<'_>) -> bool
         ensures { (rs : List RecordValue) → AreKept self.now rs → IsFalse result → IsCalm (rs ++ shown.now ∷ []) (length rs) shown.now }
     {
-        if breaks_some(shown) {
+        if may_break_some(shown) {
             return true;
         }
         if stands_again(self.territories.as_slice(), shown) {
@@ -262,7 +276,7 @@ impl AdviceSums {
 
     /// Whether there surely is no advice on the work, where these were all its records. A no says nothing.
     fn is_work_clean(&self) -> bool
-        ensures { (rs : List RecordValue) → AreKept self.now rs → IsTrue result → advice_of rs ≡ [] }
+        ensures { (rs : List RecordValue) → AreKept self.now rs → IsTrue result → (said : Characters) → advice_of said rs ≡ [] }
     {
         let facts = &self.facts;
         let headers = &self.headers;
@@ -314,7 +328,7 @@ impl AdviceSums {
 
     /// Whether there surely is no advice on the transaction, where these were all its records. A no says nothing.
     pub fn is_clean(&self) -> bool
-        ensures { (rs : List RecordValue) → StandsFor self.now rs → IsTrue result → advice_of rs ≡ [] }
+        ensures { (rs : List RecordValue) → StandsFor self.now rs → IsTrue result → (said : Characters) → advice_of said rs ≡ [] }
     {
         if self.is_acknowledgement {
             return true;

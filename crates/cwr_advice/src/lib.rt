@@ -2,6 +2,7 @@
 #![tactic(auto)]
 
 mod asking;
+mod characters;
 mod checked_cells;
 mod facts;
 mod judging;
@@ -17,6 +18,7 @@ mod territory_cells;
 mod walk;
 mod writers;
 
+pub use characters::Characters;
 pub use kept::AdviceSums;
 pub use rules::{Advice, AdviceRule, Asked};
 pub use walk::advice;

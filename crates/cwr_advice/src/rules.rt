@@ -49,6 +49,8 @@ pub enum AdviceRule {
     A8c,
     /// A duration isn't zero.
     A8d,
+    /// The characters of a text are those that the header says.
+    A9a,
 }
 
 impl AdviceRule {
@@ -78,6 +80,7 @@ impl AdviceRule {
             AdviceRule::A8b => "A8b",
             AdviceRule::A8c => "A8c",
             AdviceRule::A8d => "A8d",
+            AdviceRule::A9a => "A9a",
         }
     }
 
@@ -142,6 +145,8 @@ impl AdviceRule {
                 "this is no number of a territory: those of countries are 0001 to 0999, those of groups begin with 21, as 2136 for the world",
             AdviceRule::A8c => "this is no code of a language: it has two letters, as EN",
             AdviceRule::A8d => "the duration is zero: fill it in, or leave it blank",
+            AdviceRule::A9a =>
+                "this text is in UTF-8, and HDR does not say so, or the other way: write UTF-8 in the character set of HDR, or mend the text",
         }
     }
 }

@@ -5,6 +5,7 @@ ghost use Rattle.cwr_advice.specs.Format.Rules.{advice_at, advice_of, is_acknowl
 ghost use Rattle.cwr_advice.specs.Steps.Facts.{AreFacts};
 
 use crate::asking::asked_of;
+use crate::characters::Characters;
 use crate::facts::Facts;
 use crate::judging::breaks;
 use crate::rules::Advice;
@@ -22,6 +23,7 @@ fn is_acknowledgement(transaction: &Transaction) -> bool
 /// Adds the advice at a record that stands after so many others, as it is asked for.
 fn add_advice_at(
     found: &mut Vec<Advice>,
+    said: Characters,
     transaction: &Transaction,
     facts: &Facts,
     sequence: usize,
@@ -29,11 +31,19 @@ fn add_advice_at(
 ) -> Result<(), AllocError>
     requires facts { AreFacts transaction.now facts.now }
     requires room { sequence + 1 < 2 ^ 64 }
-    ensures ok { OnOk result (found.new.items ≡ found.old.items ++ advice_at transaction.now sequence shown.now) }
-    ensures err { OnErr result (advice_at transaction.now sequence shown.now ≢ []) }
+    ensures ok { OnOk result (found.new.items ≡ found.old.items ++ advice_at said transaction.now sequence shown.now) }
+    ensures err { OnErr result (advice_at said transaction.now sequence shown.now ≢ []) }
 {
     for asked in asked_of(shown.kind()) {
-        if breaks(asked.rule, transaction, facts, sequence, shown, asked.field) {
+        if breaks(
+            said,
+            asked.rule,
+            transaction,
+            facts,
+            sequence,
+            shown,
+            asked.field,
+        ) {
             found.push(Advice {
                 rec: sequence,
                 field: asked.field,
@@ -45,14 +55,18 @@ fn add_advice_at(
 }
 
 /// The advice on a transaction that is to be sent, whole or only begun: which record breaks which rule, by record and then as it is
-/// asked for. An acknowledgement has none.
+/// asked for. An acknowledgement has none. So much is said of the characters of the transmission.
 ///
 /// # Errors
 ///
 /// Out of memory, and that only where there is advice: without any it takes none.
-pub fn advice(alloc: Global, transaction: &Transaction) -> Result<Vec<Advice>, AllocError>
-    ensures ok { IfOk result (λ found. found.items ≡ advice_of transaction.now) }
-    ensures err { OnErr result (advice_of transaction.now ≢ []) }
+pub fn advice(
+    alloc: Global,
+    said: Characters,
+    transaction: &Transaction,
+) -> Result<Vec<Advice>, AllocError>
+    ensures ok { IfOk result (λ found. found.items ≡ advice_of said transaction.now) }
+    ensures err { OnErr result (advice_of said transaction.now ≢ []) }
 {
     let mut found = Vec::new(alloc);
     if is_acknowledgement(transaction) {
@@ -63,7 +77,7 @@ pub fn advice(alloc: Global, transaction: &Transaction) -> Result<Vec<Advice>, A
         let Some(shown) = transaction.record(sequence) else {
             return Ok(found);
         };
-        add_advice_at(&mut found, transaction, &facts, sequence, &shown)?;
+        add_advice_at(&mut found, said, transaction, &facts, sequence, &shown)?;
     }
     Ok(found)
 }

@@ -3,3 +3,4 @@ pub mod TextsPut
 pub mod CellLines
 pub mod AdvicePut
 pub mod LinesOfAdvice
+pub mod SaidBefore

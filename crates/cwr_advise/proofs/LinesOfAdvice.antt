@@ -12,9 +12,10 @@ use Rattle.cwr_tools.specs.declared.totals.Totals.{Totals}
 use Rattle.cwr_tools.specs.Format.FindingNotes.{explained_finding}
 use Rattle.cwr_tools.specs.Steps.Counts.{IsCount}
 use Rattle.cwr_tools.proofs.LinesOfItems.{lines_from-snoc}
+use Rattle.cwr_advice.specs.declared.characters.Characters.{Characters}
 use Rattle.cwr_advice.specs.declared.rules.Advice.{Advice}
 use Rattle.cwr_advice.specs.Format.Rules.{advice_of}
-use Rattle.cwr_advise.specs.Format.AdviceLines.{advised_in, advised_item, advised_lines, noted_advice}
+use Rattle.cwr_advise.specs.Format.AdviceLines.{advised_in, advised_item, advised_lines, noted_advice, said_in}
 use Rattle.cwr_advise.specs.Steps.AdvisedItems.{advised_at}
 
 advised_lines-snoc : (given : List Item) (item : Item) → advised_lines (given ++ item ∷ []) ≡ advised_lines given ++ advised_item given item
@@ -27,14 +28,15 @@ unfolding advised_lines
 advised_none = refl
 
 -- with one item more
-pub advised_more : (c : Totals) (given : List Item) (item : Item) → IsCount c given → advised_lines (given ++ item ∷ []) ≡ advised_lines given ++ advised_at c item
-advised_more c given item k =
+pub advised_more : (c : Totals) (said : Characters) (given : List Item) (item : Item) → IsCount c given → said ≡ said_in given → advised_lines (given ++ item ∷ []) ≡ advised_lines given ++ advised_at said c item
+advised_more c said given item k e =
     advised_lines-snoc given item
-    ∙ ap₂ (λ (group sequence : ℕ). advised_lines given ++ advised_in group sequence (length (records_in given) + 1) item) (sym k.groups) (sym k.in_group)
-    ∙ ap (λ (n : ℕ). advised_lines given ++ advised_in c.groups c.in_group (n + 1) item) (sym k.records)
+    ∙ ap (λ (s : Characters). advised_lines given ++ advised_in s (count_by opens_group given) (count_by is_transaction (after_last opens_group given)) (length (records_in given) + 1) item) (sym e)
+    ∙ ap₂ (λ (group sequence : ℕ). advised_lines given ++ advised_in said group sequence (length (records_in given) + 1) item) (sym k.groups) (sym k.in_group)
+    ∙ ap (λ (n : ℕ). advised_lines given ++ advised_in said c.groups c.in_group (n + 1) item) (sym k.records)
 
 -- a transaction without findings, and without advice on it, has no lines
-pub advised_passed : (given : List Item) (t : List RecordValue) → findings t ≡ [] → advice_of t ≡ [] → advised_lines (given ++ Transaction t ∷ []) ≡ advised_lines given
+pub advised_passed : (given : List Item) (t : List RecordValue) → findings t ≡ [] → advice_of (said_in given) t ≡ [] → advised_lines (given ++ Transaction t ∷ []) ≡ advised_lines given
 advised_passed given t none quiet =
     let group : ℕ = count_by opens_group given in
     let sequence : ℕ = count_by is_transaction (after_last opens_group given) in

@@ -9,7 +9,7 @@ ghost use Rattle.cwr_advise.specs.Format.AdviceLines.{advised_in, has_advice, no
 ghost use Rattle.cwr_advise.specs.Steps.AdvisedItems.{advised_at};
 
 use crate::advice_texts::AdviceText;
-use cwr_advice::{Advice, advice};
+use cwr_advice::{Advice, Characters, advice};
 use cwr_encode::{Sink, SinkFault};
 use cwr_fields::Target;
 use cwr_tools::{ToolFault, Totals, put_transaction_findings, writer_fault};
@@ -83,9 +83,10 @@ fn put_advice<W: Target>(
 }
 
 /// Puts the lines of findings in the transaction of that sequence in the group of that ID, with what explains them, and then the lines
-/// of advice. Its first record is on that line of the file.
+/// of advice. Its first record is on that line of the file. So much is said of characters.
 fn put_advised<W: Target>(
     alloc: Global,
+    said: Characters,
     group: u32,
     sequence: u32,
     first: u64,
@@ -95,9 +96,9 @@ fn put_advised<W: Target>(
 ) -> Result<(), ToolFault>
     requires unfailed { has_failed sink.old ≡ false }
     requires few { first + length transaction.now ≤ 100000000 }
-    ensures { PutsLines W.contents W.failures (has_advice (Item.Transaction transaction.now)) (advised_in group sequence first (Item.Transaction transaction.now)) result sink.old sink.new }
+    ensures { PutsLines W.contents W.failures (has_advice (Item.Transaction transaction.now)) (advised_in said group sequence first (Item.Transaction transaction.now)) result sink.old sink.new }
 {
-    let Ok(found) = advice(alloc, transaction) else {
+    let Ok(found) = advice(alloc, said, transaction) else {
         return Err(ToolFault::Memory);
     };
     put_transaction_findings(
@@ -121,9 +122,10 @@ fn put_advised<W: Target>(
     )
 }
 
-/// Puts what is written of an item that comes after items with these numbers. It is made in the buffer.
+/// Puts what is written of an item that comes after items with these numbers, which say so much of characters. It is made in the buffer.
 pub(crate) fn put_item<W: Target>(
     alloc: Global,
+    said: Characters,
     counts: &Totals,
     item: &Item,
     text: &mut AdviceText,
@@ -131,11 +133,12 @@ pub(crate) fn put_item<W: Target>(
 ) -> Result<(), ToolFault>
     requires unfailed { has_failed sink.old ≡ false }
     requires few { counts.now.records + length (item_records item.now) ≤ 99999999 }
-    ensures { PutsLines W.contents W.failures (has_advice item.now) (advised_at counts.now item.now) result sink.old sink.new }
+    ensures { PutsLines W.contents W.failures (has_advice item.now) (advised_at said counts.now item.now) result sink.old sink.new }
 {
     match item {
         Item::Transaction(transaction) => put_advised(
             alloc,
+            said,
             counts.groups,
             counts.in_group,
             u64::from(counts.records) + 1,

@@ -2,6 +2,7 @@
 #![tactic(auto)]
 
 mod advice_texts;
+mod before;
 mod item_advice;
 mod kept_works;
 mod running;

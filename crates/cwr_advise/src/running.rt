@@ -7,6 +7,7 @@ ghost use Rattle.cwr_tools.specs.Steps.Reports.{Reports};
 ghost use Rattle.cwr_advise.specs.Format.AdviceLines.{lines_of_advice};
 
 use crate::advice_texts::AdviceText;
+use crate::before::Before;
 use crate::item_advice::put_item;
 use crate::kept_works::AdvisedSums;
 use cwr_encode::{Sink, SinkFault};
@@ -19,6 +20,8 @@ use std::alloc::Global;
 /// The findings and the advice in each transaction, and the line of the verdict.
 #[derive(Drop)]
 struct AdviceLines {
+    /// What the items so far leave behind.
+    before: Before,
     /// In which lines of advice are made.
     text: AdviceText,
 }
@@ -26,10 +29,11 @@ struct AdviceLines {
 impl Report for AdviceLines {
     ghost use Rattle.std.specs.Prelude.{◌≡◌};
     ghost use Rattle.cwr_advise.specs.Format.AdviceLines.{lines_of_advice};
+    ghost use Rattle.cwr_advise.specs.Steps.AdvisedItems.{IsBefore};
 
     type Works = AdvisedSums;
 
-    ghost stands = { λ report of given. of ≡ lines_of_advice };
+    ghost stands = { λ report of given. (of ≡ lines_of_advice) × IsBefore report.before given };
 
     fn works(&self) -> AdvisedSums {
         AdvisedSums::new()
@@ -50,7 +54,10 @@ impl Report for AdviceLines {
         item: &Item,
         sink: &mut Sink<W>,
     ) -> Result<(), ToolFault> {
-        put_item(alloc, counts, item, &mut self.text, sink)
+        let said = self.before.characters();
+        put_item(alloc, said, counts, item, &mut self.text, sink)?;
+        self.before = self.before.with(item);
+        Ok(())
     }
 
     fn put_verdict<W: Target>(
@@ -84,6 +91,7 @@ pub fn advise<R: Source, W: Target + Drop>(
     ensures handed_on { OnOk result.1 (W.handed_on result.0 ≡ true) }
 {
     let mut lines = AdviceLines {
+        before: Before::nothing(),
         text: AdviceText::new(),
     };
     let (writer, outcome, _) = write_report(&mut lines, false, alloc, limits, reader, writer);

@@ -1,7 +1,7 @@
 -- The rules of advice in words.
 use Rattle.std.specs.Prelude.{ℕ, List, codes}
 use Rattle.cwr_advice.specs.declared.rules.AdviceRule.{AdviceRule}
-use Rattle.cwr_advice.specs.declared.rules.AdviceRule.TheVariants.{A1a, A1b, A2a, A2b, A2c, A2d, A3a, A3b, A4a, A4b, A4c, A4d, A6a, A6b, A6c, A7a, A8a, A8b, A8c, A8d}
+use Rattle.cwr_advice.specs.declared.rules.AdviceRule.TheVariants.{A1a, A1b, A2a, A2b, A2c, A2d, A3a, A3b, A4a, A4b, A4c, A4d, A6a, A6b, A6c, A7a, A8a, A8b, A8c, A8d, A9a}
 
 -- the name of a rule
 abbrev pub rule_text : AdviceRule → List ℕ
@@ -25,6 +25,7 @@ rule_text A8a = codes "A8a"
 rule_text A8b = codes "A8b"
 rule_text A8c = codes "A8c"
 rule_text A8d = codes "A8d"
+rule_text A9a = codes "A9a"
 
 -- what is wrong where it is broken, and what to do
 abbrev pub advice_words : AdviceRule → List ℕ
@@ -48,3 +49,4 @@ advice_words A8a = codes "this is no number of a society: it has three digits, a
 advice_words A8b = codes "this is no number of a territory: those of countries are 0001 to 0999, those of groups begin with 21, as 2136 for the world"
 advice_words A8c = codes "this is no code of a language: it has two letters, as EN"
 advice_words A8d = codes "the duration is zero: fill it in, or leave it blank"
+advice_words A9a = codes "this text is in UTF-8, and HDR does not say so, or the other way: write UTF-8 in the character set of HDR, or mend the text"

@@ -10,8 +10,12 @@ use Rattle.cwr_advice.specs.declared.kept.AdviceSums.{AdviceSums}
 use Rattle.cwr_advice.specs.declared.kept_headers.Headers.{Headers}
 use Rattle.cwr_advice.specs.declared.owing.Owing.{Owing}
 use Rattle.cwr_advice.specs.declared.owners.Owned.{Owned}
+use Rattle.cwr_advice.specs.declared.rules.AdviceRule.{AdviceRule}
+use Rattle.cwr_advice.specs.declared.rules.AdviceRule.TheVariants.{A9a}
 use Rattle.cwr_advice.specs.declared.rules.Asked.{Asked}
-use Rattle.cwr_advice.specs.Format.Rules.{asked_of, begins_with_agent, breaks_alone, has_composite_type, has_no_composite_type, in_chain, is_acknowledgement, is_territory, is_territory_of, is_version, is_writer, owns_shares, records_of_writer}
+use Rattle.cwr_advice.specs.declared.characters.Characters.TheVariants.{Other}
+use Rattle.cwr_advice.specs.Format.Characters.{is_ascii}
+use Rattle.cwr_advice.specs.Format.Rules.{asked_of, begins_with_agent, breaks_alone, cell_at, has_composite_type, has_no_composite_type, in_chain, is_acknowledgement, is_territory, is_territory_of, is_version, is_writer, owns_shares, records_of_writer}
 use Rattle.cwr_advice.specs.Steps.Facts.{AreFacts}
 
 -- ---- headers
@@ -66,13 +70,18 @@ stands_again before r = is_territory r && not (is_blank "tis code" r) && list_an
 abbrev pub IsBegun : List RecordValue → Option (List ℕ) → Type 0
 IsBegun t chain = (sequence : List ℕ) → chain ≡ Some sequence → list_any (in_chain sequence) t ≡ true
 
--- the record breaks a rule by itself
-abbrev pub breaks_some : RecordValue → Bool
-breaks_some r = list_any (λ asked. breaks_alone asked.rule r asked.field) (asked_of r.kind)
+-- the record may break the rule by itself, whatever is said of characters
+abbrev pub may_break_alone : AdviceRule → RecordValue → ℕ → Bool
+may_break_alone A9a r j = not (is_ascii (cell_at r j))
+may_break_alone rule r j = breaks_alone Other rule r j
+
+-- it may break some rule so
+abbrev pub may_break_some : RecordValue → Bool
+may_break_some r = list_any (λ asked. may_break_alone asked.rule r asked.field) (asked_of r.kind)
 
 -- the record, after k others, breaks no rule that speaks of it and of those before it
 pub record IsCalm (t : List RecordValue) (k : ℕ) (r : RecordValue) : Type 0 where
-  pub alone : breaks_some r ≡ false
+  pub alone : may_break_some r ≡ false
   pub twice : stands_again (take k t) r ≡ false
   pub chain : begins_with_agent t k r ≡ false
 

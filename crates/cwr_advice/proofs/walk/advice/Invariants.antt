@@ -3,4 +3,4 @@ use Rattle.cwr_advice.proofs.AdviceByRecord.{advice_before}
 use Rattle.cwr_advice.proofs.walk.advice.Given as goal
 
 abbrev pub invariant-loop-sequence : goal.invariant-loop-sequence
-invariant-loop-sequence l = l.found.items ≡ advice_before l.transaction l.sequence
+invariant-loop-sequence l = l.found.items ≡ advice_before l.said l.transaction l.sequence

@@ -1,4 +1,4 @@
-use Rattle.std.proofs.Common.{◌++◌, List, length, sym, subst, ◌∙◌}
+use Rattle.std.proofs.Common.{◌+◌, ◌++◌, List, length, sym, subst, ◌∙◌}
 use Rattle.std.specs.Prelude.{Result}
 use Rattle.std.specs.List.{flat_map}
 use Rattle.cwr_levels.specs.Format.Findings.{findings}
@@ -8,6 +8,7 @@ use Rattle.cwr_tools.specs.Format.FindingNotes.{explained_in}
 use Rattle.cwr_tools.specs.Format.Reports.{has_findings}
 use Rattle.cwr_tools.specs.Steps.Reports.{PutsLines}
 use Rattle.cwr_tools.proofs.ReportsOn.{same_fault}
+use Rattle.cwr_advice.specs.declared.characters.Characters.TheVariants.{Unsaid, Utf8, Other}
 use Rattle.cwr_advice.specs.declared.rules.Advice.{Advice}
 use Rattle.cwr_advice.specs.Format.Rules.{advice_of}
 use Rattle.cwr_advise.specs.Format.AdviceLines.{advised_in, has_advice, noted_advice}
@@ -17,11 +18,11 @@ use Rattle.cwr_advise.proofs.item_advice.put_advised.Goals as goal
 pub returns-in_err-put_transaction_findings : goal.returns-in_err-put_transaction_findings
 returns-in_err-put_transaction_findings g c =
     let t = c.args.transaction.now in
-    subst (λ (r : Result (Unit {0}) ToolFault). PutsLines g.W.Target.contents g.W.Target.failures (has_advice (Transaction t)) (advised_in c.args.group c.args.sequence c.args.first (Transaction t)) r c.args.sink.now c.put_transaction_findings.new.sink)
+    subst (λ (r : Result (Unit {0}) ToolFault). PutsLines g.W.Target.contents g.W.Target.failures (has_advice (Transaction t)) (advised_in c.args.said c.args.group c.args.sequence c.args.first (Transaction t)) r c.args.sink.now c.put_transaction_findings.new.sink)
     (sym (same_fault c.from_residual.result c.in_err-put_transaction_findings.field-0.0 c.from_residual.ensures.1))
     (first_fault g.W.Target.contents g.W.Target.failures (has_findings (Transaction t)) (has_advice (Transaction t)) (explained_in c.args.group c.args.sequence c.args.first (Transaction t))
-    (flat_map (noted_advice c.args.group c.args.sequence c.args.first t) (advice_of t)) c.args.sink.now c.put_transaction_findings.new.sink c.in_err-put_transaction_findings.field-0.0
-    (found_first (length (findings t)) (length (advice_of t))) c.in_err-put_transaction_findings.ensures)
+    (flat_map (noted_advice c.args.group c.args.sequence c.args.first t) (advice_of c.args.said t)) c.args.sink.now c.put_transaction_findings.new.sink c.in_err-put_transaction_findings.field-0.0
+    (found_first (length (findings t)) (length (advice_of Unsaid t) + length (advice_of Utf8 t) + length (advice_of Other t))) c.in_err-put_transaction_findings.ensures)
 
 pub returns : goal.returns
 returns g c =

@@ -4,10 +4,10 @@ use Rattle.cwr_tools.proofs.RightReports.{accepted_reports, canonical_reports, j
 use Rattle.cwr_advise.proofs.running.advise.Goals as goal
 
 pub write_report-writer-requires : goal.write_report-writer-requires
-write_report-writer-requires g c = (lines_of_advice, refl)
+write_report-writer-requires g c = (lines_of_advice, (refl, c.nothing.ensures))
 
 pub returns-clause-reported : goal.returns-clause-reported
-returns-clause-reported g c = c.write_report-writer.ensures.reported lines_of_advice refl
+returns-clause-reported g c = c.write_report-writer.ensures.reported lines_of_advice (refl, c.nothing.ensures)
 
 pub returns-clause-judged : goal.returns-clause-judged
 returns-clause-judged g c = judged_text lines_of_advice c.args.limits _ _ g.W.Target.contents c.args.writer c.write_report-writer.result.0 c.write_report-writer.result.1 (returns-clause-reported g c)

@@ -5,7 +5,7 @@ use Rattle.cwr_advice.proofs.CleanWorks.{none_on_clean}
 use Rattle.cwr_advice.proofs.kept.AdviceSums.is_work_clean.Goals as goal
 
 pub returns : goal.returns
-returns c = λ rs h yes. none_on_clean c.args.self.now rs h (record {
+returns c = λ rs h yes said. none_on_clean said c.args.self.now rs h (record {
   nowhere = sym (c.collects_nowhere.ensures rs h.facts) ∙ c.if-collects_nowhere.false;
   less = sym (c.writers_own_less.ensures rs h.facts) ∙ c.if-writers_own_less.false;
   performing = c.is_over_whole.ensures.performing c.if-is_over_whole.false;

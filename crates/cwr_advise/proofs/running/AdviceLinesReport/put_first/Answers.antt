@@ -6,4 +6,4 @@ use Rattle.cwr_tools.proofs.ReportSteps.{first_lines, nothing_put}
 use Rattle.cwr_advise.proofs.running.AdviceLinesReport.put_first.Goals as goal
 
 pub returns-clause-puts : goal.returns-clause-puts
-returns-clause-puts g c = λ of e. first_lines g.W.Target.contents g.W.Target.failures of lines_of_advice _ (Ok tt) c.args.arg2.now c.args.arg2.now e (sym advised_none) (nothing_put g.W.Target.contents g.W.Target.failures false tt c.args.arg2.now c.requires.unfailed)
+returns-clause-puts g c = λ of here. first_lines g.W.Target.contents g.W.Target.failures of lines_of_advice _ (Ok tt) c.args.arg2.now c.args.arg2.now here.0 (sym advised_none) (nothing_put g.W.Target.contents g.W.Target.failures false tt c.args.arg2.now c.requires.unfailed)

@@ -1,0 +1,26 @@
+-- What the header of a transmission says of its characters, and texts that don't go with that.
+use Rattle.std.specs.Prelude.{ℕ, Bool, false, not, ◌&&◌, ◌||◌, nat_lt, List, codes, map, if◌then◌else◌}
+use Rattle.std.specs.List.{list_all}
+use Rattle.std.specs.Str.{is_utf8, str_eq_ignore_ascii_case}
+use Rattle.cwr_fields.specs.Format.Bytes.{is_spaces, trimmed}
+use Rattle.cwr_advice.specs.declared.characters.Characters.{Characters}
+use Rattle.cwr_advice.specs.declared.characters.Characters.TheVariants.{Unsaid, Utf8, Other}
+
+-- it names UTF-8, with its hyphen or without, in upper case or lower case
+abbrev pub names_utf8 : List ℕ → Bool
+names_utf8 cell = str_eq_ignore_ascii_case (trimmed cell) (codes "UTF-8") || str_eq_ignore_ascii_case (trimmed cell) (codes "UTF8")
+
+-- what the header's character set says
+abbrev pub characters_in : List ℕ → Characters
+characters_in cell = if names_utf8 cell then Utf8 else if is_spaces cell then Unsaid else Other
+
+-- every byte is one of ASCII
+abbrev pub is_ascii : List ℕ → Bool
+is_ascii cell = list_all (λ b. nat_lt b 128) cell
+
+-- The text doesn't go with what is said: it has characters of several bytes in UTF-8, and nothing is said, or it isn't UTF-8 as it is
+-- said. Of other sets of characters nothing is known.
+abbrev pub is_unlike : Characters → List ℕ → Bool
+is_unlike Unsaid cell = not (is_ascii cell) && is_utf8 cell
+is_unlike Utf8 cell = not (is_utf8 cell)
+is_unlike Other cell = false
