@@ -22,4 +22,4 @@ returns-clause-puts g c = λ of given counted here.
     (advised_more c.args.counts.now c.characters-said.result given c.args.item.now counted (c.characters-said.ensures given here.1)) c.in_ok-put_item.ensures
 
 pub returns-clause-stands : goal.returns-clause-stands
-returns-clause-stands g c = λ of given counted here. (here.0, c.with.ensures given here.1)
+returns-clause-stands g c = λ of given counted here. (here.0, c.with-self.ensures given here.1)
