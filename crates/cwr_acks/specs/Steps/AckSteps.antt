@@ -3,6 +3,7 @@ use Rattle.std.specs.Prelude.{◌≡◌, ℕ, ◌+◌, ◌-◌, ◌≤◌, Bool,
 use Rattle.std.specs.List.{enumerate_from, flat_map, list_any}
 use Rattle.std.specs.Option.{option_and_then}
 use Rattle.cwr_layouts.specs.Format.Records.{RecordValue}
+use Rattle.cwr_sent.specs.declared.facts.SentFacts.{SentFacts}
 use Rattle.cwr_sent.specs.declared.tables.Entry.{Entry}
 use Rattle.cwr_sent.specs.declared.tables.Sent.{Sent}
 use Rattle.cwr_sent.specs.Format.SentRows.{rows}
