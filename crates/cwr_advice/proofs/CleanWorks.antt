@@ -1,15 +1,15 @@
 -- A work of which what is kept says that there is no advice on it.
 use Prim.Native.String.{String}
-use Rattle.std.proofs.Common.{◌≡◌, ℕ, zero, suc, ◌+◌, ◌<◌, ◌≤◌, Bool, true, false, not, cond, List, [], ◌∷◌, ◌++◌, length, map, take, refl, sym, ap, ap₂, subst, ◌∙◌, arith, inl, inr}
-use Rattle.std.specs.Prelude.{Some, slice_get, nat_lt, filter, flat_map, ◌||◌, ◌&&◌, ◌⊎◌}
-use Rattle.std.specs.List.{list_any, sum_by, enumerate_from, after_last}
-use Rattle.std.proofs.lemmas.Bool.{and_cases, and_from, and_left, and_parts, and_right, cases_Bool, le-ltb, or_from, or_left, or_parts}
+use Rattle.std.proofs.Common.{◌≡◌, ℕ, zero, suc, ◌+◌, ◌≤◌, Bool, true, false, not, cond, List, [], ◌∷◌, ◌++◌, length, map, take, refl, sym, ap, ap₂, subst, ◌∙◌, arith, inl, inr}
+use Rattle.std.specs.Prelude.{Some, slice_get, filter, flat_map, ◌||◌, ◌&&◌, ◌⊎◌}
+use Rattle.std.specs.List.{list_any, sum_by, enumerate_from}
+use Rattle.std.proofs.lemmas.Bool.{and_cases, and_left, and_parts, and_right, cases_Bool, le-ltb, or_from, or_parts}
 use Rattle.std.proofs.lemmas.List.Sums.{sum_by-cons}
 use Rattle.std.proofs.lemmas.Option.{slice_get_within}
 use Rattle.std.proofs.lemmas.List.{take_all}
 use Rattle.cwr_layouts.specs.declared.kinds.Kind.TheVariants as kinds
 use Rattle.cwr_layouts.specs.Format.Records.{RecordValue, cell_named}
-use Rattle.cwr_levels.specs.Format.Findings.{is_a, is_blank, is_owner, share_of}
+use Rattle.cwr_levels.specs.Format.Findings.{is_a, is_blank, share_of}
 use Rattle.cwr_levels.specs.Steps.Walks.{capped}
 use Rattle.cwr_levels.proofs.OneMore.{any_there}
 use Rattle.cwr_advice.specs.declared.rules.AdviceRule.{AdviceRule}
@@ -17,7 +17,7 @@ use Rattle.cwr_advice.specs.declared.rules.AdviceRule.TheVariants.{A1a, A1b, A2a
 use Rattle.cwr_advice.specs.declared.rules.Asked.{Asked}
 use Rattle.cwr_advice.specs.declared.rules.Advice.{Advice}
 use Rattle.cwr_advice.specs.declared.kept.AdviceSums.{AdviceSums}
-use Rattle.cwr_advice.specs.Format.Rules.{advice_at, advice_of, advice_of_asked, are_over_in, asked_of, begins_with_agent, breaks, cell_at, collects_in, collects_nowhere, goes_over, has_composite_type, has_few_territories, has_no_composite_type, has_no_publisher, has_no_territory, is_acknowledgement, is_compared, is_over_in, is_stray_component, is_territory, is_territory_of, is_version, lacks_components, lacks_original, owns_shares, records_of_writer, stands_twice, writers_own_less}
+use Rattle.cwr_advice.specs.Format.Rules.{advice_at, advice_of, advice_of_asked, are_over_in, asked_of, begins_with_agent, breaks, cell_at, collects_in, collects_nowhere, goes_over, has_composite_type, has_few_territories, has_no_composite_type, has_no_publisher, has_no_territory, is_acknowledgement, is_compared, is_over_in, is_stray_component, is_territory, is_territory_of, is_version, lacks_components, lacks_original, records_of_writer, stands_twice, writers_own_less}
 use Rattle.cwr_advice.specs.declared.characters.Characters.{Characters}
 use Rattle.cwr_advice.specs.Steps.Kept.{AreKept, StandsFor, is_owning_writer, may_break_alone, may_break_some}
 use Rattle.cwr_advice.proofs.AsciiTexts.{never_unlike}

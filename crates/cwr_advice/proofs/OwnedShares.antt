@@ -1,5 +1,5 @@
 -- What a record owns of a work, read once.
-use Rattle.std.proofs.Common.{◌≡◌, ℕ, ◌+◌, Bool, true, false, cond, refl, sym, ap, ap₂, ◌∙◌}
+use Rattle.std.proofs.Common.{◌≡◌, ℕ, ◌+◌, Bool, true, false, cond, refl, ap, ap₂, ◌∙◌}
 use Rattle.std.specs.Prelude.{nat_lt, ◌&&◌}
 use Rattle.cwr_layouts.specs.Format.Records.{RecordValue}
 use Rattle.cwr_layouts.specs.declared.kinds.Kind.TheVariants as kinds

@@ -32,6 +32,7 @@ impl Headers {
     }
 
     /// With one more record.
+    #[inline(always)]
     pub(crate) fn with(self, shown: &RecordRef<'_>) -> Headers
         ensures { (rs : List RecordValue) → AreHeaders rs self → AreHeaders (rs ++ shown.now ∷ []) result }
     {

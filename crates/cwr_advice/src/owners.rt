@@ -34,6 +34,7 @@ pub(crate) fn is_writer(shown: &RecordRef<'_>) -> bool
 }
 
 /// The shares that stand in this field, in the next but one, and in the one two further.
+#[inline(always)]
 fn shares_from(shown: &RecordRef<'_>, first: u8) -> Owned
     requires few { first < 20 }
     requires there { HasSharesFrom shown.now.kind first }
@@ -47,6 +48,7 @@ fn shares_from(shown: &RecordRef<'_>, first: u8) -> Owned
 }
 
 /// The shares of an owner.
+#[inline(always)]
 fn shares_of(shown: &RecordRef<'_>) -> Owned
     requires { is_owner shown.now ≡ true }
     ensures { AreSharesOf shown.now result }
@@ -59,6 +61,7 @@ fn shares_of(shown: &RecordRef<'_>) -> Owned
 }
 
 /// What the record owns of a work: nothing, where it is no owner.
+#[inline(always)]
 pub(crate) fn owned_by(shown: &RecordRef<'_>) -> Owned
     ensures { AreOwnedBy shown.now result }
 {
@@ -74,6 +77,7 @@ pub(crate) fn owned_by(shown: &RecordRef<'_>) -> Owned
 
 impl Owned {
     /// Whether it is something, in one or more rights.
+    #[inline(always)]
     pub(crate) fn is_something(&self) -> bool
         requires { AreSmall self.now }
         ensures { result ≡ nat_lt 0 (self.now.performing + self.now.mechanical + self.now.synchronization) }

@@ -39,6 +39,7 @@ fn has_gap(cell: &[u8]) -> bool
 }
 
 /// Whether the text of a field goes on over its end, and stands behind a gap.
+#[inline(always)]
 pub(crate) fn is_shifted(shown: &RecordRef<'_>, field: u8) -> bool
     ensures { result ≡ is_shifted shown.now field }
 {

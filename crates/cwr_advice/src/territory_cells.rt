@@ -75,6 +75,7 @@ fn collects_in(code: &[u8], shown: &RecordRef<'_>) -> bool
 }
 
 /// The shares that stand in this field and in the next two.
+#[inline(always)]
 fn collection_from(shown: &RecordRef<'_>, first: u8) -> Owned
     requires few { first < 20 }
     requires there { HasCollectionFrom shown.now.kind first }
@@ -88,6 +89,7 @@ fn collection_from(shown: &RecordRef<'_>, first: u8) -> Owned
 }
 
 /// What is collected in a territory.
+#[inline(always)]
 pub(crate) fn collection_of(shown: &RecordRef<'_>) -> Owned
     requires { is_territory shown.now ≡ true }
     ensures { AreCollectedBy shown.now result }

@@ -1,5 +1,5 @@
 -- What is said of characters, with one item more.
-use Rattle.std.proofs.Common.{◌≡◌, ℕ, ◌+◌, true, List, [], ◌∷◌, ◌++◌, length, map, refl, sym, ap, ◌∙◌, arith, append-nil}
+use Rattle.std.proofs.Common.{◌≡◌, ◌+◌, true, List, [], ◌∷◌, ◌++◌, length, map, refl, sym, ap, ◌∙◌, arith, append-nil}
 use Rattle.std.specs.Prelude.{Option, Some, None, nat_lt, unwrap_or}
 use Rattle.std.specs.List.{flat_map, last_or}
 use Rattle.std.proofs.lemmas.Bool.{lt-ltb, ltb-true}

@@ -1,5 +1,5 @@
 -- What is kept of the records of a transaction in place of them, and what that says of them.
-use Rattle.std.specs.Prelude.{◌≡◌, ◌⊎◌, ℕ, ◌+◌, Bool, true, false, not, ◌&&◌, if◌then◌else◌, List, filter, drop, take, slice_get, Option, Some, None}
+use Rattle.std.specs.Prelude.{◌≡◌, ◌⊎◌, ℕ, ◌+◌, Bool, true, false, not, ◌&&◌, if◌then◌else◌, List, filter, drop, take, slice_get, Option, Some}
 use Rattle.std.specs.List.{list_any, sum_by, after_last}
 use Rattle.std.specs.Str.{bytes_eq}
 use Rattle.cwr_layouts.specs.declared.kinds.Kind.TheVariants as kinds
@@ -12,7 +12,6 @@ use Rattle.cwr_advice.specs.declared.owing.Owing.{Owing}
 use Rattle.cwr_advice.specs.declared.owners.Owned.{Owned}
 use Rattle.cwr_advice.specs.declared.rules.AdviceRule.{AdviceRule}
 use Rattle.cwr_advice.specs.declared.rules.AdviceRule.TheVariants.{A9a}
-use Rattle.cwr_advice.specs.declared.rules.Asked.{Asked}
 use Rattle.cwr_advice.specs.declared.characters.Characters.TheVariants.{Other}
 use Rattle.cwr_advice.specs.Format.Characters.{is_ascii}
 use Rattle.cwr_advice.specs.Format.Rules.{asked_of, begins_with_agent, breaks_alone, cell_at, has_composite_type, has_no_composite_type, in_chain, is_acknowledgement, is_territory, is_territory_of, is_version, is_writer, owns_shares, records_of_writer}

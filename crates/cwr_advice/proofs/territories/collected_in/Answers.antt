@@ -1,4 +1,4 @@
-use Rattle.std.proofs.Common.{◌≤◌, List, length, take, sym, subst, ◌∙◌, arith}
+use Rattle.std.proofs.Common.{List, take, sym, subst, ◌∙◌, arith}
 use Rattle.cwr_layouts.specs.Format.Records.{RecordValue}
 use Rattle.cwr_levels.proofs.OneMore.{take_more}
 use Rattle.cwr_advice.specs.Steps.Facts.{AreCollectedIn}

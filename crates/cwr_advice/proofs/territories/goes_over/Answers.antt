@@ -1,4 +1,4 @@
-use Rattle.std.proofs.Common.{◌≡◌, ◌+◌, ℕ, List, true, false, take, sym, ap, ◌∙◌}
+use Rattle.std.proofs.Common.{◌≡◌, ◌+◌, ℕ, List, true, take, sym, ap, ◌∙◌}
 use Rattle.std.specs.Prelude.{not}
 use Rattle.cwr_layouts.specs.Format.Records.{cell_named}
 use Rattle.cwr_advice.specs.Format.Rules.{are_over_in, is_compared}

@@ -1,4 +1,3 @@
-use Rattle.std.proofs.Common.{sym, ◌∙◌}
 use Rattle.cwr_advice.proofs.CleanWorks.{answer_more, work_more}
 use Rattle.cwr_advice.proofs.kept.AdviceSums.add.Goals as goal
 

@@ -1,4 +1,4 @@
-use Rattle.std.proofs.Common.{sym, ap, ap₂, ◌∙◌}
+use Rattle.std.proofs.Common.{ap₂, ◌∙◌}
 use Rattle.std.specs.Prelude.{◌&&◌}
 use Rattle.cwr_layouts.specs.declared.kinds.Kind.TheVariants as kinds
 use Rattle.cwr_levels.specs.Format.Findings.{is_a}

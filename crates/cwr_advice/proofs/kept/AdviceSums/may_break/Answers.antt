@@ -1,4 +1,4 @@
-use Rattle.std.proofs.Common.{List, ◌∷◌, [], ◌++◌, length, sym, ap, subst, ◌∙◌}
+use Rattle.std.proofs.Common.{List, sym, ap, subst, ◌∙◌}
 use Rattle.cwr_layouts.specs.Format.Records.{RecordValue}
 use Rattle.cwr_advice.specs.Steps.Kept.{AreSinceParty, stands_again}
 use Rattle.cwr_advice.proofs.CalmRecords.{front_taken}
