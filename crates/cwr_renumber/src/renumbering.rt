@@ -5,8 +5,8 @@ ghost use Rattle.cwr_renumber.specs.Steps.Renumberings.{CountsWriter, Renumbers,
 
 use crate::sources::Renumbered;
 use cwr_fields::{Source, Target};
-use cwr_shape::Limits;
 use cwr_parts::join;
+use cwr_shape::Limits;
 use cwr_tools::{JoinFault, JoinReport, ToolFault};
 use std::alloc::Global;
 use std::slice::from_mut;
