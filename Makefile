@@ -12,7 +12,7 @@ OUT = out
 STRIP = strip
 
 # The version stands in this one place.
-VERSION := $(shell sed -n 's/^const VERSION: &str = "\(.*\)";$$/\1/p' crates/cwr_words/src/grammar.rt)
+VERSION := $(shell sed -n 's/^const VERSION: &str = "\(.*\)";$$/\1/p' crates/cwr_grammar/src/grammar.rt)
 ifndef SOURCE_DATE_EPOCH
 SOURCE_DATE_EPOCH := $(shell git -c safe.directory='*' log -1 --format=%ct 2> /dev/null || echo 0)
 endif
@@ -64,7 +64,7 @@ made: $(made)
 $(OUT)/made:
 	mkdir -p $@
 
-$(OUT)/made/cwr.1: docs/MANUAL.md tools/manual crates/cwr_words/src/grammar.rt | $(OUT)/made
+$(OUT)/made/cwr.1: docs/MANUAL.md tools/manual crates/cwr_grammar/src/grammar.rt | $(OUT)/made
 	$(call debian,python3,python3)
 	tools/manual --page $(VERSION) $(DATE) > $@
 

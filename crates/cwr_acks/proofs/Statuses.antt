@@ -16,8 +16,8 @@ use Rattle.cwr_fields.specs.Format.MessageCodes.{status_code, transaction_status
 use Rattle.cwr_layouts.specs.declared.kinds.Kind.{Kind}
 use Rattle.cwr_layouts.specs.declared.kinds.Kind.TheVariants as kinds
 use Rattle.cwr_layouts.specs.Format.Layouts.{FieldLayout}
-use Rattle.cwr_layouts.specs.Format.Records.{RecordValue, IsCellOf, IsRecord, carried_fields}
-use Rattle.cwr_layouts.specs.Format.Carried.{carried_at, carried_before, record_cell}
+use Rattle.cwr_lines.specs.Format.Records.{RecordValue, IsCellOf, IsRecord, carried_fields}
+use Rattle.cwr_lines.specs.Format.Carried.{carried_at, carried_before, record_cell}
 use Rattle.cwr_values.specs.declared.items.Item.{Item}
 use Rattle.cwr_levels.proofs.KindTests.{kind_of}
 use Rattle.cwr_acks.specs.declared.counts.Answers.{Answers}

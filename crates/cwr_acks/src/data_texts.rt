@@ -3,7 +3,7 @@
 ghost use Rattle.std.specs.Prelude.{◌≡◌, ◌+◌, ◌*◌, ◌≤◌, ◌++◌, length, true};
 ghost use Rattle.json.specs.Print.{escape_byte};
 ghost use Rattle.cwr_fields.specs.Format.MessageCodes.{status_code};
-ghost use Rattle.cwr_layouts.specs.Format.Records.{IsRecord};
+ghost use Rattle.cwr_lines.specs.Format.Records.{IsRecord};
 ghost use Rattle.cwr_json.specs.declared.encodings.Encoding.TheVariants.{Latin1};
 ghost use Rattle.cwr_json.specs.Steps.FormTexts.{NoLow, spelled_byte, spelled_bytes};
 ghost use Rattle.cwr_acks.specs.Format.Acknowledgements.{is_ack, is_message};
@@ -19,8 +19,9 @@ use crate::line_texts::{
 };
 use crate::matching::Notes;
 use cwr_fields::{Coded, MessageLevel, TransactionStatus, is_spaces, trimmed};
-use cwr_layouts::{Kind, RecordRef, letters};
+use cwr_layouts::{Kind, letters};
 use cwr_levels::cell;
+use cwr_lines::RecordRef;
 
 /// Appends a byte below 128 as it stands between quotes.
 fn push_escaped(text: &mut Text, b: u8)

@@ -9,7 +9,8 @@ use crate::counts::Answers;
 use crate::line_texts::LineText;
 use crate::matching::Notes;
 use cwr_fields::MessageLevel;
-use cwr_layouts::{Kind, RecordRef};
+use cwr_layouts::Kind;
+use cwr_lines::RecordRef;
 
 /// How it is told what acknowledgements say.
 #[derive(Clone, Copy, Debug, PartialEq, Eq)]

@@ -13,8 +13,9 @@ use crate::facts::{
 };
 use arrayvec::ArrayVec;
 use cwr_fields::{Coded, MessageLevel, TransactionStatus, is_spaces, trimmed};
-use cwr_layouts::{Kind, RecordRef, letters};
+use cwr_layouts::{Kind, letters};
 use cwr_levels::{cell, number_of};
+use cwr_lines::RecordRef;
 use itoa::Buffer;
 use std::marker::Model;
 

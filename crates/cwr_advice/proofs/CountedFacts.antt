@@ -6,7 +6,7 @@ use Rattle.std.specs.List.{list_any, sum_by, count_by}
 use Rattle.std.proofs.lemmas.List.Elements.{filter-append}
 use Rattle.std.proofs.lemmas.List.Folds.{list_any-append}
 use Rattle.std.proofs.lemmas.List.Sums.{sum_by-append, sum_by_push}
-use Rattle.cwr_layouts.specs.Format.Records.{RecordValue}
+use Rattle.cwr_lines.specs.Format.Records.{RecordValue}
 use Rattle.cwr_levels.specs.Format.Findings.{share_of}
 use Rattle.cwr_levels.specs.Steps.Walks.{capped}
 use Rattle.cwr_levels.proofs.RuleTests.{or_none}

@@ -6,7 +6,7 @@ use Rattle.std.proofs.lemmas.Bool.{and_from, or_from, or_left, or_parts, or_righ
 use Rattle.std.proofs.lemmas.List.{drop-append-le, drop_all, length-append}
 use Rattle.std.proofs.lemmas.List.Folds.{list_any-append}
 use Rattle.std.proofs.lemmas.List.Sums.{take_while-cons}
-use Rattle.cwr_layouts.specs.Format.Records.{RecordValue}
+use Rattle.cwr_lines.specs.Format.Records.{RecordValue}
 use Rattle.cwr_advice.specs.declared.owing.Owing.{Owing}
 use Rattle.cwr_advice.specs.Format.Rules.{is_writer, records_of_writer}
 use Rattle.cwr_advice.specs.Steps.Kept.{AreOwing}

@@ -5,7 +5,7 @@ use Rattle.std.specs.List.{after_last, list_any, prefix_len, suffix_len}
 use Rattle.std.proofs.lemmas.Bool.{and_parts}
 use Rattle.std.proofs.lemmas.List.{drop-append-le, drop_all, length-append, reverse-append, take_all}
 use Rattle.std.proofs.lemmas.List.Folds.{list_any-append}
-use Rattle.cwr_layouts.specs.Format.Records.{RecordValue}
+use Rattle.cwr_lines.specs.Format.Records.{RecordValue}
 use Rattle.cwr_levels.specs.Format.Findings.{is_blank}
 use Rattle.cwr_levels.proofs.OneMore.{take_more}
 use Rattle.cwr_levels.proofs.RuleTests.{or_none}

@@ -1,14 +1,15 @@
 //! What the rules of advice ask of all records of a transaction.
 
 ghost use Rattle.std.specs.Prelude.{◌≡◌, ◌++◌, ◌∷◌, [], List};
-ghost use Rattle.cwr_layouts.specs.Format.Records.{RecordValue};
+ghost use Rattle.cwr_lines.specs.Format.Records.{RecordValue};
 ghost use Rattle.cwr_advice.specs.Format.Rules.{has_few_territories, writers_own_less};
 ghost use Rattle.cwr_advice.specs.Steps.Facts.{AreFacts, AreOwnedBy};
 
 use crate::owners::{Owned, is_writer, owned_by};
 use crate::territory_cells::count_of_territory;
-use cwr_layouts::{Kind, RecordRef};
+use cwr_layouts::Kind;
 use cwr_levels::is_of;
+use cwr_lines::RecordRef;
 use cwr_values::Transaction;
 
 /// Sums over the records of a transaction, as far as 64 bits go, and what kinds of records there are.

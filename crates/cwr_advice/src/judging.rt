@@ -2,7 +2,7 @@
 
 ghost use Rattle.std.specs.Prelude.{◌≡◌, ◌+◌, ◌<◌, ◌^◌, List, take};
 ghost use Rattle.std.specs.List.{list_any};
-ghost use Rattle.cwr_layouts.specs.Format.Records.{RecordValue};
+ghost use Rattle.cwr_lines.specs.Format.Records.{RecordValue};
 ghost use Rattle.cwr_advice.specs.Format.Rules.{begins_with_agent, breaks, breaks_alone, collects_nowhere, has_composite_type, has_no_composite_type, in_chain, is_agent, is_header, is_stray_component, is_version, lacks_components, lacks_original, names_agent};
 ghost use Rattle.cwr_advice.specs.Steps.Facts.{AreFacts};
 
@@ -15,8 +15,9 @@ use crate::shifts::is_shifted;
 use crate::territories::{goes_over, stands_twice};
 use crate::writers::{has_no_publisher, has_no_territory};
 use cwr_fields::is_spaces;
-use cwr_layouts::{Kind, RecordRef};
+use cwr_layouts::Kind;
 use cwr_levels::{cell, is_of};
+use cwr_lines::RecordRef;
 use cwr_values::Transaction;
 
 /// SPU, OPU: publisher sequence.

@@ -1,7 +1,7 @@
 //! What is kept of the records of a work in place of them: it tells of most works that there surely is no advice on them.
 
 ghost use Rattle.std.specs.Prelude.{◌≡◌, ◌≤◌, ℕ, ◌++◌, ◌∷◌, [], List, length, option_map, true, false, Some, IfSome, IsTrue, IsFalse};
-ghost use Rattle.cwr_layouts.specs.Format.Records.{RecordValue};
+ghost use Rattle.cwr_lines.specs.Format.Records.{RecordValue};
 ghost use Rattle.cwr_advice.specs.declared.characters.Characters.{Characters};
 ghost use Rattle.cwr_advice.specs.Format.Rules.{advice_of, begins_with_agent};
 ghost use Rattle.cwr_advice.specs.Steps.Kept.{AreAllCollected, AreCollectedAnywhere, AreKept, AreSinceParty, is_among, IsBegun, IsCalm, may_break_alone, may_break_some, stands_again, StandsFor};
@@ -17,8 +17,9 @@ use crate::rules::AdviceRule;
 use crate::territory_cells::{code_of, collection_of, is_territory};
 use arrayvec::ArrayVec;
 use cwr_fields::is_spaces;
-use cwr_layouts::{Kind, RecordRef};
+use cwr_layouts::Kind;
 use cwr_levels::{cell, is_of, is_owner};
+use cwr_lines::RecordRef;
 
 /// The bytes of a publisher sequence.
 type Chain = [u8; 2];

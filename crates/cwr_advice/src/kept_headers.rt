@@ -1,11 +1,11 @@
 //! What headers of works stand among records.
 
 ghost use Rattle.std.specs.Prelude.{◌≡◌, List, [], ◌++◌, ◌∷◌};
-ghost use Rattle.cwr_layouts.specs.Format.Records.{RecordValue};
+ghost use Rattle.cwr_lines.specs.Format.Records.{RecordValue};
 ghost use Rattle.cwr_advice.specs.Steps.Kept.{AreHeaders};
 
 use crate::judging::{has_composite_type, has_no_composite_type, is_version};
-use cwr_layouts::RecordRef;
+use cwr_lines::RecordRef;
 
 /// What headers there are.
 #[derive(Clone, Copy)]

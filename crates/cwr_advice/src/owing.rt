@@ -1,7 +1,7 @@
 //! What writers need after them, up to the next writer.
 
 ghost use Rattle.std.specs.Prelude.{◌≡◌, Bool, true, false, ◌||◌, List, [], ◌++◌, ◌∷◌};
-ghost use Rattle.cwr_layouts.specs.Format.Records.{RecordValue};
+ghost use Rattle.cwr_lines.specs.Format.Records.{RecordValue};
 ghost use Rattle.cwr_advice.specs.Format.Rules.{is_writer};
 ghost use Rattle.cwr_advice.specs.Steps.Kept.{AreOwing};
 

@@ -1,13 +1,14 @@
 //! The cells of a territory of a publisher or a writer.
 
 ghost use Rattle.std.specs.Prelude.{◌≡◌, ◌<◌, true, if◌then◌else◌};
-ghost use Rattle.cwr_layouts.specs.Format.Records.{cell_named};
+ghost use Rattle.cwr_lines.specs.Format.Records.{cell_named};
 ghost use Rattle.cwr_advice.specs.Format.Rules.{collects_in, is_territory, is_territory_of};
 ghost use Rattle.cwr_advice.specs.Steps.Facts.{AreCollectedBy, AreCollectedIf, HasCollectionFrom};
 
 use crate::owners::Owned;
-use cwr_layouts::{Kind, RecordRef};
+use cwr_layouts::Kind;
 use cwr_levels::{cell, is_of, number_of};
+use cwr_lines::RecordRef;
 
 /// SPT: pr collection share. Those of the other rights follow it.
 const PUBLISHER_COLLECTION: u8 = 6;

@@ -9,7 +9,8 @@ use crate::characters::Characters;
 use crate::facts::Facts;
 use crate::judging::breaks;
 use crate::rules::Advice;
-use cwr_layouts::{Kind, RecordRef};
+use cwr_layouts::Kind;
+use cwr_lines::RecordRef;
 use cwr_values::Transaction;
 use std::alloc::{AllocError, Global};
 

@@ -8,8 +8,9 @@ ghost use Rattle.cwr_advice.specs.Steps.Facts.{AreFacts};
 
 use crate::facts::Facts;
 use crate::owners::{is_writer, owns_shares};
-use cwr_layouts::{Kind, RecordRef};
+use cwr_layouts::Kind;
 use cwr_levels::is_of;
+use cwr_lines::RecordRef;
 use cwr_values::Transaction;
 
 /// Whether one of the records of the writer that stands after `sequence` others is of the kind.

@@ -2,13 +2,14 @@
 
 ghost use Rattle.std.specs.Prelude.{◌≡◌, ◌+◌, ◌≤◌, [], ◌++◌, ◌∷◌, Some, codes, decimal, length};
 ghost use Rattle.cwr_layouts.specs.Steps.Views.{field_view};
-ghost use Rattle.cwr_tools.specs.Format.FindingNotes.{noted_line, value_words, where_line};
+ghost use Rattle.cwr_notes.specs.Format.FindingNotes.{noted_line, value_words, where_line};
 ghost use Rattle.cwr_advise.specs.Format.AdviceLines.{advice_line, cell_line, lines_at_record, words_line};
 
 use arrayvec::ArrayVec;
 use cwr_advice::Advice;
 use cwr_fields::{is_spaces, trimmed};
-use cwr_layouts::{Field, Kind, RecordRef, field, letters};
+use cwr_layouts::{Field, Kind, field, letters};
+use cwr_lines::RecordRef;
 use itoa::Buffer;
 use std::marker::Model;
 

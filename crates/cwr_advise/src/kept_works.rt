@@ -4,8 +4,8 @@ ghost use Rattle.std.specs.Prelude.{◌≡◌, ◌++◌, ◌∷◌, [], List, Is
 
 use cwr_advice::AdviceSums;
 use cwr_decode::Keeper;
-use cwr_layouts::RecordRef;
 use cwr_levels::Sums;
+use cwr_lines::RecordRef;
 
 /// What is kept of the records of a transaction in place of them. It tells of most transactions that surely there is neither a finding
 /// in them nor advice on them.

@@ -1,11 +1,11 @@
 -- What a line that was taken carries and a record that it holds.
 use Rattle.std.proofs.Common.{◌≡◌, ◌≢◌, ℕ, true, false, List, Option, Some, None, refl, sym, ap, ap₂, ◌∙◌, true≢false}
 use Rattle.cwr_layouts.specs.declared.kinds.Kind.{Kind}
-use Rattle.cwr_layouts.specs.declared.lines.LineEnd.{LineEnd}
-use Rattle.cwr_layouts.specs.declared.lines.LineEnd.TheVariants.{Open, Line, Over}
-use Rattle.cwr_layouts.specs.Format.Lines.{body_kind, excess_as, without_cr}
-use Rattle.cwr_layouts.specs.Format.Records.{RecordValue}
-use Rattle.cwr_layouts.specs.Steps.Held.{HeldLine, IsHeld, body_by, carried_by, ended_too_long, held_body, held_cells, held_excess, held_kind}
+use Rattle.cwr_lines.specs.declared.lines.LineEnd.{LineEnd}
+use Rattle.cwr_lines.specs.declared.lines.LineEnd.TheVariants.{Open, Line, Over}
+use Rattle.cwr_lines.specs.Format.Lines.{body_kind, excess_as, without_cr}
+use Rattle.cwr_lines.specs.Format.Records.{RecordValue}
+use Rattle.cwr_lines.specs.Steps.Held.{HeldLine, IsHeld, body_by, carried_by, ended_too_long, held_body, held_cells, held_excess, held_kind}
 use Rattle.cwr_c.specs.Format.LineRecords.{CarriesRecord}
 use Rattle.cwr_decode.proofs.CarriedLines.{carried_line, is_line}
 use Rattle.cwr_c.specs.Steps.Writings.{HoldsRecord}

@@ -6,7 +6,7 @@ use Rattle.std.proofs.lemmas.List.{length-append}
 use Rattle.std.proofs.lemmas.List.Folds.{flat_map-map}
 use Rattle.std.proofs.lemmas.List.Sums.{count_by-le-length, sum_by-append}
 use Rattle.std.proofs.lemmas.Grind.{flat_map-append}
-use Rattle.cwr_layouts.specs.Format.Records.{RecordValue}
+use Rattle.cwr_lines.specs.Format.Records.{RecordValue}
 use Rattle.cwr_shape.specs.declared.limits.Limits.{Limits}
 use Rattle.cwr_values.specs.declared.items.Item.{Item}
 use Rattle.cwr_values.specs.declared.items.Item.TheVariants as items

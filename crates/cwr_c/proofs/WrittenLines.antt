@@ -5,11 +5,11 @@ use Rattle.std.specs.List.{AllZip}
 use Rattle.std.proofs.Math.Seq.{take-add}
 use Rattle.std.proofs.lemmas.List.{length-drop, take_all, take-append-drop}
 use Rattle.cwr_layouts.specs.declared.kinds.Kind.TheVariants.{Trl}
-use Rattle.cwr_layouts.specs.declared.lines.LineEnd.{LineEnd}
-use Rattle.cwr_layouts.specs.declared.lines.LineEnd.TheVariants.{Line}
-use Rattle.cwr_layouts.specs.Format.Lines.{closed}
-use Rattle.cwr_layouts.specs.Format.Records.{RecordValue}
-use Rattle.cwr_layouts.specs.Steps.Held.{HeldLine, held_excess, held_kind, text_by}
+use Rattle.cwr_lines.specs.declared.lines.LineEnd.{LineEnd}
+use Rattle.cwr_lines.specs.declared.lines.LineEnd.TheVariants.{Line}
+use Rattle.cwr_lines.specs.Format.Lines.{closed}
+use Rattle.cwr_lines.specs.Format.Records.{RecordValue}
+use Rattle.cwr_lines.specs.Steps.Held.{HeldLine, held_excess, held_kind, text_by}
 use Rattle.cwr_encode.specs.declared.encoders.Encoder.{Encoder}
 use Rattle.cwr_decode.specs.Steps.Represents.{IsInput, text_of}
 use Rattle.cwr_decode.specs.Steps.TextLines.{FirstLine, IsCutOff, IsLastLine}

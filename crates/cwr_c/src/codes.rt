@@ -3,8 +3,8 @@
 ghost use Rattle.std.specs.Prelude.{◌≡◌, ◌++◌, replicate, IfSome, IsSomeAnd};
 ghost use Rattle.cwr_fields.specs.Format.Bytes.{filled};
 ghost use Rattle.cwr_fields.specs.Format.Cells.{Allows};
-ghost use Rattle.cwr_layouts.specs.Format.Carried.{carried_at};
-ghost use Rattle.cwr_layouts.specs.Format.Records.{blank_cell};
+ghost use Rattle.cwr_lines.specs.Format.Carried.{carried_at};
+ghost use Rattle.cwr_lines.specs.Format.Records.{blank_cell};
 ghost use Rattle.cwr_c.specs.Format.FieldNumbers.{PutsCode, blank_line};
 
 use crate::reports::copy_out;
@@ -15,7 +15,8 @@ use cwr_fields::{
     RecordingFormat, RecordingTechnique, Role, SalesManufactureClause, SenderType, Table,
     TitleType, TransactionStatus, TransactionType, VersionType, Word, WriterDesignation,
 };
-use cwr_layouts::{Draft, Field, Kind, LONGEST_LINE, field, fields, letters};
+use cwr_layouts::{Field, Kind, field, fields, letters};
+use cwr_lines::{Draft, LONGEST_LINE};
 
 /// Code number `i` of a table, from 0.
 fn code_at<C: Coded>(i: usize) -> Option<&'static str> {

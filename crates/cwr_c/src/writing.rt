@@ -1,9 +1,9 @@
 //! Writing a transmission from the lines of its records, in whatever spelling and with whatever numbers.
 
 ghost use Rattle.std.specs.Prelude.{◌≡◌, ◌≢◌, ◌∷◌, [], List, OnOk, IfOk, IfErr, Ok, Some};
-ghost use Rattle.cwr_layouts.specs.Format.Records.{RecordValue};
-ghost use Rattle.cwr_layouts.specs.declared.lines.LineEnd.TheVariants.{Open};
-ghost use Rattle.cwr_layouts.specs.Steps.Held.{held_kind};
+ghost use Rattle.cwr_lines.specs.Format.Records.{RecordValue};
+ghost use Rattle.cwr_lines.specs.declared.lines.LineEnd.TheVariants.{Open};
+ghost use Rattle.cwr_lines.specs.Steps.Held.{held_kind};
 ghost use Rattle.cwr_c.specs.Format.LineRecords.{CarryRecords};
 ghost use Rattle.cwr_c.specs.Format.WrittenTexts.{IsCanonicalOf};
 ghost use Rattle.cwr_c.specs.Steps.Writings.{EndsWriting, GoesOn, HasCanonical, HoldsRecord, WritesLine, WritesLines, WritesOn, held_records};
@@ -12,7 +12,8 @@ use crate::verdicts::limit_number;
 use cwr_decode::first_line;
 use cwr_encode::{EncodeFault, Encoder};
 use cwr_fields::{Counted, Target};
-use cwr_layouts::{CutLine, Kind, LineBuf, Record, RecordRef};
+use cwr_layouts::Kind;
+use cwr_lines::{CutLine, LineBuf, Record, RecordRef};
 use cwr_shape::Limits;
 use cwr_values::{PushFault, Transaction};
 use std::alloc::Global;

@@ -5,11 +5,11 @@ use Rattle.std.specs.List.{AllZip, AllByRecursion}
 use Rattle.std.proofs.lemmas.List.{length-map}
 use Rattle.cwr_layouts.specs.declared.kinds.Kind.{Kind}
 use Rattle.cwr_layouts.specs.declared.kinds.Kind.TheVariants as kinds
-use Rattle.cwr_layouts.specs.declared.lines.LineEnd.{LineEnd}
-use Rattle.cwr_layouts.specs.declared.lines.LineEnd.TheVariants.{Open, Line, Over}
-use Rattle.cwr_layouts.specs.Format.Records.{RecordValue, Row, IsRecord}
-use Rattle.cwr_layouts.specs.Format.Lines.{IsLineOf, excess_as}
-use Rattle.cwr_layouts.specs.Steps.Held.{HeldLine, IsHeld, held_kind, held_body, held_cells, held_text, text_by, carried_by, ended_too_long, HoldsBy, held_record, held_excess}
+use Rattle.cwr_lines.specs.declared.lines.LineEnd.{LineEnd}
+use Rattle.cwr_lines.specs.declared.lines.LineEnd.TheVariants.{Open, Line, Over}
+use Rattle.cwr_lines.specs.Format.Records.{RecordValue, Row, IsRecord}
+use Rattle.cwr_lines.specs.Format.Lines.{IsLineOf, excess_as}
+use Rattle.cwr_lines.specs.Steps.Held.{HeldLine, IsHeld, held_kind, held_body, held_cells, held_text, text_by, carried_by, ended_too_long, HoldsBy, held_record, held_excess}
 use Rattle.cwr_shape.specs.declared.symbols.Symbol.{Symbol}
 use Rattle.cwr_shape.specs.Format.Outlines.{IsWhole}
 use Rattle.cwr_shape.specs.Format.Ranges.{LimitValues, AreInRange}

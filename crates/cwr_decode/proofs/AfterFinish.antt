@@ -2,7 +2,7 @@
 use Rattle.std.proofs.Common.{◌≡◌, ℕ, Bool, true, List, [], ◌++◌, length, map, Option, Some, None, refl, sym, ap, subst, ◌∙◌, append-nil, arith}
 use Rattle.std.specs.Prelude.{IfSome}
 use Rattle.std.proofs.lemmas.List.{length-map}
-use Rattle.cwr_layouts.specs.Format.Lines.{closed}
+use Rattle.cwr_lines.specs.Format.Lines.{closed}
 use Rattle.cwr_shape.specs.Format.Ranges.{LimitValues}
 use Rattle.cwr_shape.specs.declared.tallies.Counts.{Counts}
 use Rattle.cwr_values.specs.declared.items.Item.{Item}

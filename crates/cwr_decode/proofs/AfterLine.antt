@@ -2,9 +2,9 @@
 use Rattle.std.proofs.Common.{◌≡◌, ℕ, ◌≤◌, cond, List, [], ◌∷◌, ◌++◌, length, map, Option, Some, None, refl, sym, ap, ap₂, subst, ◌∙◌, append-nil, arith, inl, inr}
 use Rattle.std.specs.Prelude.{IfSome}
 use Rattle.std.proofs.lemmas.List.{length-append, length-map}
-use Rattle.cwr_layouts.specs.declared.lines.LineEnd.TheVariants.{Line}
-use Rattle.cwr_layouts.specs.Format.Records.{RecordValue}
-use Rattle.cwr_layouts.specs.Steps.Held.{held_kind, held_record}
+use Rattle.cwr_lines.specs.declared.lines.LineEnd.TheVariants.{Line}
+use Rattle.cwr_lines.specs.Format.Records.{RecordValue}
+use Rattle.cwr_lines.specs.Steps.Held.{held_kind, held_record}
 use Rattle.cwr_shape.specs.declared.symbols.Symbol.{Symbol}
 use Rattle.cwr_shape.specs.declared.reasons.Reason.{Reason}
 use Rattle.cwr_shape.specs.declared.tallies.Counts.{Counts}

@@ -4,8 +4,8 @@ use Rattle.std.specs.Prelude.{IfSome, IsNone, IsSomeAnd}
 use Rattle.std.proofs.lemmas.List.{length-drop, take-append-drop}
 use Rattle.cwr_layouts.specs.declared.kinds.Kind.{Kind}
 use Rattle.cwr_layouts.specs.declared.kinds.Kind.TheVariants.{Hdr, Grh, Grt, Trl}
-use Rattle.cwr_layouts.specs.Format.Records.{RecordValue}
-use Rattle.cwr_layouts.specs.Steps.Held.{held_record}
+use Rattle.cwr_lines.specs.Format.Records.{RecordValue}
+use Rattle.cwr_lines.specs.Steps.Held.{held_record}
 use Rattle.cwr_shape.specs.Format.Ranges.{LimitValues}
 use Rattle.cwr_values.specs.declared.items.Item.TheVariants as items
 use Rattle.cwr_decode.specs.declared.outcomes.Outcome.{Outcome}

@@ -2,11 +2,11 @@
 use Rattle.std.proofs.Common.{◌≡◌, ℕ, ◌+◌, ◌*◌, ◌≤◌, Bool, true, false, List, [], ◌∷◌, ◌++◌, length, map, Option, sym, ap, ◌∙◌, arith, append-nil}
 use Rattle.std.specs.List.{AllZip}
 use Rattle.std.proofs.lemmas.List.{length-append, length-map}
-use Rattle.cwr_layouts.specs.declared.lines.LineEnd.{LineEnd}
-use Rattle.cwr_layouts.specs.declared.lines.LineEnd.TheVariants as line_ends
-use Rattle.cwr_layouts.specs.Format.Records.{RecordValue, Row}
-use Rattle.cwr_layouts.specs.Format.Lines.{IsLineOf}
-use Rattle.cwr_layouts.specs.Steps.Held.{text_by}
+use Rattle.cwr_lines.specs.declared.lines.LineEnd.{LineEnd}
+use Rattle.cwr_lines.specs.declared.lines.LineEnd.TheVariants as line_ends
+use Rattle.cwr_lines.specs.Format.Records.{RecordValue, Row}
+use Rattle.cwr_lines.specs.Format.Lines.{IsLineOf}
+use Rattle.cwr_lines.specs.Steps.Held.{text_by}
 use Rattle.cwr_shape.specs.declared.symbols.Symbol.{Symbol}
 use Rattle.cwr_shape.specs.Format.Outlines.{IsWhole, symbols_of}
 use Rattle.cwr_shape.specs.Steps.Tallies.{TallyValue}

@@ -8,7 +8,7 @@ use Rattle.std.proofs.lemmas.List.{length_push}
 use Rattle.std.proofs.lemmas.Grind.{flat_map-append}
 use Rattle.std.proofs.Math.Seq.{drop-append_seam}
 use Rattle.cwr_fields.proofs.LineFeeds.{NoLf}
-use Rattle.cwr_layouts.specs.Format.Lines.{closed}
+use Rattle.cwr_lines.specs.Format.Lines.{closed}
 use Rattle.cwr_decode.specs.Steps.Represents.{text_of}
 
 -- one more line

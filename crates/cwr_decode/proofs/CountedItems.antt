@@ -10,7 +10,7 @@ use Rattle.std.proofs.lemmas.List.Folds.{flat_map-map}
 use Rattle.std.proofs.lemmas.List.Sums.{sum_by-cons, sum_by-append}
 use Rattle.cwr_layouts.specs.declared.kinds.Kind.{Kind}
 use Rattle.cwr_layouts.specs.declared.kinds.Kind.TheVariants as kinds
-use Rattle.cwr_layouts.specs.Format.Records.{RecordValue, IsRecord}
+use Rattle.cwr_lines.specs.Format.Records.{RecordValue, IsRecord}
 use Rattle.cwr_shape.specs.declared.symbols.Symbol.{Symbol}
 use Rattle.cwr_shape.specs.Format.Ranges.{AreInRange}
 use Rattle.cwr_shape.specs.Format.Outlines.{Continues}

@@ -1,7 +1,7 @@
 -- The items that a decoder handed out are the first of those of some transmission within its limits.
 use Rattle.std.proofs.Common.{◌≡◌, ℕ, ◌<◌, ◌≤◌, ◌^◌, List, [], ◌∷◌, ◌++◌, length, map, sym, ap, subst, ◌∙◌, arith, append_assoc}
 use Rattle.std.proofs.lemmas.List.{length-append}
-use Rattle.cwr_layouts.specs.Format.Records.{RecordValue}
+use Rattle.cwr_lines.specs.Format.Records.{RecordValue}
 use Rattle.cwr_shape.specs.Format.Ranges.{AreInRange}
 use Rattle.cwr_shape.specs.Format.AnyTransmission.{Any}
 use Rattle.cwr_shape.specs.Format.Outlines.{Continues}

@@ -2,8 +2,8 @@
 use Rattle.std.proofs.Common.{◌≡◌, ℕ, ◌-◌, ◌≤◌, List, [], ◌∷◌, ◌++◌, length, map, Option, None, sym, ap, ◌∙◌, subst, arith, append-nil}
 use Rattle.std.specs.List.{AllZip}
 use Rattle.std.proofs.lemmas.List.{length-drop}
-use Rattle.cwr_layouts.specs.Format.Records.{RecordValue, Row}
-use Rattle.cwr_layouts.specs.Format.Lines.{IsLineOf}
+use Rattle.cwr_lines.specs.Format.Records.{RecordValue, Row}
+use Rattle.cwr_lines.specs.Format.Lines.{IsLineOf}
 use Rattle.cwr_shape.specs.declared.symbols.Symbol.{Symbol}
 use Rattle.cwr_shape.specs.Format.NextSymbols.{open_records}
 use Rattle.cwr_shape.specs.Steps.Tallies.{TallyValue}

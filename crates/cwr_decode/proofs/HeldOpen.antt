@@ -5,8 +5,8 @@ use Rattle.std.specs.List.{AllByRecursion}
 use Rattle.std.proofs.lemmas.List.{length-append, length-map, drop-map}
 use Rattle.cwr_layouts.specs.declared.kinds.Kind.{Kind}
 use Rattle.cwr_layouts.specs.declared.kinds.Kind.TheVariants.{Hdr, Grh, Grt, Trl}
-use Rattle.cwr_layouts.specs.Format.Records.{RecordValue, IsRecord}
-use Rattle.cwr_layouts.specs.Steps.Held.{HeldLine}
+use Rattle.cwr_lines.specs.Format.Records.{RecordValue, IsRecord}
+use Rattle.cwr_lines.specs.Steps.Held.{HeldLine}
 use Rattle.cwr_shape.specs.declared.symbols.Symbol.{Symbol}
 use Rattle.cwr_shape.specs.Format.Shapes.{BeginsShape}
 use Rattle.cwr_shape.specs.Format.Outlines.{Continues}

@@ -3,10 +3,10 @@ use Rattle.std.proofs.Common.{◌≡◌, ℕ, ◌≤◌, Bool, true, false, List
 use Rattle.std.specs.Prelude.{◌⊎◌}
 use Rattle.std.specs.List.{AllByRecursion}
 use Rattle.std.proofs.lemmas.List.{length-append, length-drop, take-append-drop}
-use Rattle.cwr_layouts.specs.declared.lines.LineEnd.{LineEnd}
-use Rattle.cwr_layouts.specs.declared.lines.LineEnd.TheVariants.{Line}
-use Rattle.cwr_layouts.specs.Format.Lines.{without_cr}
-use Rattle.cwr_layouts.specs.Steps.Held.{HeldLine, text_by}
+use Rattle.cwr_lines.specs.declared.lines.LineEnd.{LineEnd}
+use Rattle.cwr_lines.specs.declared.lines.LineEnd.TheVariants.{Line}
+use Rattle.cwr_lines.specs.Format.Lines.{without_cr}
+use Rattle.cwr_lines.specs.Steps.Held.{HeldLine, text_by}
 use Rattle.cwr_decode.specs.Steps.Represents.{IsInput, text_of}
 use Rattle.cwr_decode.specs.Steps.TextLines.{FirstLine, IsCutOff, IsLastLine}
 use Rattle.cwr_decode.specs.Format.WholeLines.{BeginsWith, IsLine, IsLineAfter}

@@ -4,9 +4,9 @@ use Rattle.std.specs.Prelude.{◌==◌, Result, Ok, Err, MatchResult, IsSomeAnd}
 use Rattle.std.proofs.lemmas.Bool.{eq-eqb, ne_eqb}
 use Rattle.cwr_layouts.specs.declared.kinds.Kind.{Kind}
 use Rattle.cwr_layouts.specs.declared.kinds.Kind.TheVariants.{Hdr, Grh, Grt, Trl}
-use Rattle.cwr_layouts.specs.Format.Growth.{AsksMemory}
-use Rattle.cwr_layouts.specs.Format.Records.{RecordValue, IsRecord}
-use Rattle.cwr_layouts.specs.Steps.Held.{HeldLine, carried_by, held_cells, held_excess, held_kind, held_record}
+use Rattle.cwr_lines.specs.Format.Growth.{AsksMemory}
+use Rattle.cwr_lines.specs.Format.Records.{RecordValue, IsRecord}
+use Rattle.cwr_lines.specs.Steps.Held.{HeldLine, carried_by, held_cells, held_excess, held_kind, held_record}
 use Rattle.cwr_shape.specs.declared.symbols.Symbol.{Symbol}
 use Rattle.cwr_shape.specs.declared.tallies.Scope.{Scope}
 use Rattle.cwr_shape.specs.declared.tallies.Scope.TheVariants as scopes

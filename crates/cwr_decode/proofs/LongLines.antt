@@ -4,8 +4,8 @@ use Rattle.std.specs.Prelude.{◌⊎◌, ◌==◌}
 use Rattle.std.proofs.lemmas.Bool.{ne_eqb, eqb-true}
 use Rattle.std.proofs.lemmas.List.{length-append}
 use Rattle.cwr_fields.proofs.LineFeeds.{NoLf, NoLf-append}
-use Rattle.cwr_layouts.specs.Format.Lines.{closed}
-use Rattle.cwr_layouts.proofs.LineLaws.{text_of-cons}
+use Rattle.cwr_lines.specs.Format.Lines.{closed}
+use Rattle.cwr_lines.proofs.LineLaws.{text_of-cons}
 use Rattle.cwr_decode.proofs.ClosedTexts.{closed_line, closed_more}
 
 -- a text up to its first line feed

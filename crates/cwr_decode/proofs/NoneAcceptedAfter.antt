@@ -6,13 +6,13 @@ use Rattle.std.proofs.lemmas.Bool.{or_parts}
 use Rattle.std.proofs.lemmas.List.{map-append, append_cancel_left}
 use Rattle.std.proofs.lemmas.Grind.{flat_map-append}
 use Rattle.cwr_fields.proofs.LineFeeds.{NoLf, has_lf}
-use Rattle.cwr_layouts.specs.declared.lines.LineEnd.{LineEnd}
-use Rattle.cwr_layouts.specs.declared.lines.LineEnd.TheVariants.{Line}
-use Rattle.cwr_layouts.specs.Format.Records.{RecordValue, IsRecord, Row, IsRow, record_of}
-use Rattle.cwr_layouts.specs.Format.Lines.{IsLineOf, closed, longest_line}
-use Rattle.cwr_layouts.specs.Steps.Held.{HeldLine, IsHeld, HoldsBy, text_by, held_text}
-use Rattle.cwr_layouts.proofs.RowLaws.{IsRow-row_of}
-use Rattle.cwr_layouts.proofs.LineLaws.{first_line, lines_agree, text_of-cons}
+use Rattle.cwr_lines.specs.declared.lines.LineEnd.{LineEnd}
+use Rattle.cwr_lines.specs.declared.lines.LineEnd.TheVariants.{Line}
+use Rattle.cwr_lines.specs.Format.Records.{RecordValue, IsRecord, Row, IsRow, record_of}
+use Rattle.cwr_lines.specs.Format.Lines.{IsLineOf, closed, longest_line}
+use Rattle.cwr_lines.specs.Steps.Held.{HeldLine, IsHeld, HoldsBy, text_by, held_text}
+use Rattle.cwr_lines.proofs.RowLaws.{IsRow-row_of}
+use Rattle.cwr_lines.proofs.LineLaws.{first_line, lines_agree, text_of-cons}
 use Rattle.cwr_shape.specs.declared.symbols.Symbol.{Symbol}
 use Rattle.cwr_shape.specs.Format.Ranges.{LimitValues}
 use Rattle.cwr_shape.specs.Format.Outlines.{symbols_of, IsWhole}

@@ -1,7 +1,7 @@
 -- A decoder of which nothing was read represents no input and no items.
 use Rattle.std.proofs.Common.{◌≡◌, List, [], ◌∷◌, ◌++◌, None, refl, sym, ap, subst, arith}
 use Rattle.std.specs.List.{AllZip}
-use Rattle.cwr_layouts.specs.Format.Lines.{IsLineOf}
+use Rattle.cwr_lines.specs.Format.Lines.{IsLineOf}
 use Rattle.cwr_shape.specs.declared.symbols.Symbol.{Symbol}
 use Rattle.cwr_shape.specs.Format.Ranges.{LimitValues, AreInRange}
 use Rattle.cwr_shape.specs.Format.Outlines.{GroupOutline, symbols_of}

@@ -4,8 +4,8 @@ use Rattle.std.specs.List.{AllByRecursion, list_any, slice_split, onto_first}
 use Rattle.std.proofs.lemmas.Bool.{or_parts}
 use Rattle.std.proofs.lemmas.List.Splits.{length-slice_split, slice_split-cons_yes, slice_split-cons_no}
 use Rattle.cwr_fields.proofs.LineFeeds.{NoLf}
-use Rattle.cwr_layouts.specs.Format.Lines.{is_lf, raw_lines}
-use Rattle.cwr_layouts.proofs.LineLaws.{text_of-cons}
+use Rattle.cwr_lines.specs.Format.Lines.{is_lf, raw_lines}
+use Rattle.cwr_lines.proofs.LineLaws.{text_of-cons}
 use Rattle.cwr_decode.specs.Steps.Represents.{text_of}
 
 split_line : (line rest : List ℕ) → NoLf line → slice_split is_lf (line ++ 10 ∷ rest) ≡ line ∷ slice_split is_lf rest

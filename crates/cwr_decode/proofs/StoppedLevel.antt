@@ -4,12 +4,12 @@ use Rattle.std.specs.Prelude.{Option, Some, None, slice_get, option_and_then}
 use Rattle.std.specs.List.{AllZip, AllByRecursion, last_or}
 use Rattle.cwr_layouts.specs.declared.kinds.Kind.{Kind}
 use Rattle.cwr_layouts.specs.declared.kinds.Kind.TheVariants as kinds
-use Rattle.cwr_layouts.specs.Format.Records.{RecordValue, IsRecord}
-use Rattle.cwr_layouts.specs.Format.Lines.{IsLineOf, line_kind}
-use Rattle.cwr_layouts.specs.Steps.Held.{HoldsLine}
-use Rattle.cwr_layouts.proofs.CutLaws.{line_is_cut}
-use Rattle.cwr_layouts.proofs.HeldLaws.{held_line_is_cut}
-use Rattle.cwr_layouts.proofs.RowLaws.{IsRow-row_of}
+use Rattle.cwr_lines.specs.Format.Records.{RecordValue, IsRecord}
+use Rattle.cwr_lines.specs.Format.Lines.{IsLineOf, line_kind}
+use Rattle.cwr_lines.specs.Steps.Held.{HoldsLine}
+use Rattle.cwr_lines.proofs.CutLaws.{line_is_cut}
+use Rattle.cwr_lines.proofs.HeldLaws.{held_line_is_cut}
+use Rattle.cwr_lines.proofs.RowLaws.{IsRow-row_of}
 use Rattle.cwr_shape.specs.declared.symbols.Symbol.{Symbol}
 use Rattle.cwr_shape.specs.declared.tallies.Scope.{Scope}
 use Rattle.cwr_shape.specs.Format.Levels.{level_of, scope_after_kind}

@@ -3,10 +3,10 @@ use Rattle.std.proofs.Common.{◌≡◌, ℕ, zero, suc, ◌+◌, ◌<◌, ◌�
 use Rattle.std.specs.Prelude.{Option, Some, None}
 use Rattle.std.specs.List.{AllZip}
 use Rattle.cwr_layouts.specs.declared.kinds.Kind.{Kind}
-use Rattle.cwr_layouts.specs.Format.Records.{RecordValue}
-use Rattle.cwr_layouts.specs.Format.Lines.{IsLineOf, line_kind, closed, raw_lines}
-use Rattle.cwr_layouts.specs.Steps.Held.{HeldLine, IsHeld, HoldsLine, IsCutAs, held_kind}
-use Rattle.cwr_layouts.proofs.HeldLaws.{held_line_is_cut}
+use Rattle.cwr_lines.specs.Format.Records.{RecordValue}
+use Rattle.cwr_lines.specs.Format.Lines.{IsLineOf, line_kind, closed, raw_lines}
+use Rattle.cwr_lines.specs.Steps.Held.{HeldLine, IsHeld, HoldsLine, IsCutAs, held_kind}
+use Rattle.cwr_lines.proofs.HeldLaws.{held_line_is_cut}
 use Rattle.cwr_shape.specs.declared.symbols.Symbol.{Symbol}
 use Rattle.cwr_shape.specs.declared.reasons.Reason.{Reason}
 use Rattle.cwr_shape.specs.Format.Ranges.{LimitValues}

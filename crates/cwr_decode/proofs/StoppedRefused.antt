@@ -3,11 +3,11 @@
 use Rattle.std.proofs.Common.{◌≡◌, ◌≢◌, ℕ, ◌+◌, ◌<◌, Bool, true, false, List, [], ◌∷◌, ◌++◌, length, take, refl, sym, ap, subst, ◌∙◌, arith, append_assoc, append-nil}
 use Rattle.std.proofs.lemmas.List.{length-append}
 use Rattle.std.proofs.Math.Seq.{take-append_seam}
-use Rattle.cwr_layouts.specs.declared.lines.LineEnd.{LineEnd}
-use Rattle.cwr_layouts.specs.declared.lines.LineEnd.TheVariants.{Line, Over}
-use Rattle.cwr_layouts.specs.Format.Lines.{closed, longest_line, raw_lines}
-use Rattle.cwr_layouts.specs.Steps.Held.{HoldsBy, HoldsLine, FillsLongest, held_text, text_by}
-use Rattle.cwr_layouts.proofs.HeldLaws.{held_line_is_cut}
+use Rattle.cwr_lines.specs.declared.lines.LineEnd.{LineEnd}
+use Rattle.cwr_lines.specs.declared.lines.LineEnd.TheVariants.{Line, Over}
+use Rattle.cwr_lines.specs.Format.Lines.{closed, longest_line, raw_lines}
+use Rattle.cwr_lines.specs.Steps.Held.{HoldsBy, HoldsLine, FillsLongest, held_text, text_by}
+use Rattle.cwr_lines.proofs.HeldLaws.{held_line_is_cut}
 use Rattle.cwr_values.specs.declared.items.Item.{Item}
 use Rattle.cwr_values.specs.Format.Begins.{rows_so_far}
 use Rattle.cwr_values.proofs.RowAt.{length-rows_so_far}

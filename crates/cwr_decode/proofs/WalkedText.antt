@@ -4,11 +4,11 @@ use Rattle.std.specs.Prelude.{◌⊎◌, None, slice_index}
 use Rattle.std.proofs.Math.Seq.{take-add, take-length}
 use Rattle.std.proofs.lemmas.List.{length-drop, length-map, length-take-le, take_all, drop-drop, drop_all, map-append, take-append-drop}
 use Rattle.cwr_layouts.specs.declared.kinds.Kind.TheVariants.{Trl}
-use Rattle.cwr_layouts.specs.declared.lines.LineEnd.{LineEnd}
-use Rattle.cwr_layouts.specs.declared.lines.LineEnd.TheVariants.{Open, Line, Over}
-use Rattle.cwr_layouts.specs.Format.Records.{RecordValue}
-use Rattle.cwr_layouts.specs.Format.Lines.{closed}
-use Rattle.cwr_layouts.specs.Steps.Held.{HeldLine, Stops, empty_line, held_text, text_by}
+use Rattle.cwr_lines.specs.declared.lines.LineEnd.{LineEnd}
+use Rattle.cwr_lines.specs.declared.lines.LineEnd.TheVariants.{Open, Line, Over}
+use Rattle.cwr_lines.specs.Format.Records.{RecordValue}
+use Rattle.cwr_lines.specs.Format.Lines.{closed}
+use Rattle.cwr_lines.specs.Steps.Held.{HeldLine, Stops, empty_line, held_text, text_by}
 use Rattle.cwr_shape.specs.declared.symbols.Symbol.{Symbol}
 use Rattle.cwr_shape.specs.declared.symbols.Symbol.TheVariants.{Plain}
 use Rattle.cwr_shape.specs.Format.Ranges.{LimitValues, AreInRange}

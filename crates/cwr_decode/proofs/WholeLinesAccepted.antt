@@ -2,8 +2,8 @@
 use Rattle.std.proofs.Common.{◌≡◌, ℕ, ◌<◌, ◌^◌, Bool, true, false, List, [], ◌++◌, length, map, Some, refl, sym, ap, ap₂, subst, ◌∙◌, arith, append_assoc, append-nil}
 use Rattle.std.specs.List.{AllZip}
 use Rattle.std.proofs.lemmas.List.{length-append}
-use Rattle.cwr_layouts.specs.Format.Records.{RecordValue, Row}
-use Rattle.cwr_layouts.specs.Format.Lines.{IsLineOf, closed}
+use Rattle.cwr_lines.specs.Format.Records.{RecordValue, Row}
+use Rattle.cwr_lines.specs.Format.Lines.{IsLineOf, closed}
 use Rattle.cwr_shape.specs.Format.Ranges.{LimitValues, AreInRange}
 use Rattle.cwr_shape.specs.Format.Outlines.{IsWithin, IsWhole}
 use Rattle.cwr_shape.specs.Steps.Tallies.{TallyValue}

@@ -2,8 +2,8 @@
 
 ghost use Rattle.std.specs.Prelude.{◌≡◌, ◌≢◌, ◌↔◌, ◌≤◌, ◌++◌, [], ◌∷◌, List, length, take, IsNone, IsTrue, IfSome, IfOk, IfErr, IsOk, IsOkAnd, Some};
 ghost use Rattle.cwr_layouts.specs.Format.Kinds.{kind_of};
-ghost use Rattle.cwr_layouts.specs.declared.lines.LineEnd.TheVariants.{Open};
-ghost use Rattle.cwr_layouts.specs.Steps.Held.{empty_line};
+ghost use Rattle.cwr_lines.specs.declared.lines.LineEnd.TheVariants.{Open};
+ghost use Rattle.cwr_lines.specs.Steps.Held.{empty_line};
 ghost use Rattle.cwr_shape.specs.declared.symbols.Symbol.{Symbol};
 ghost use Rattle.cwr_shape.specs.Steps.Tallies.{IsTallyOf};
 ghost use Rattle.cwr_decode.specs.Steps.TextLines.{AcceptsLine, RefusesLine};
@@ -14,7 +14,8 @@ use crate::endings::End;
 use crate::lines::{first_line, length_without_return};
 use cwr_fields::SpelledPair;
 use cwr_judge::{Refusal, count_quickly, judge};
-use cwr_layouts::{CutLine, Kind, LineBuf};
+use cwr_layouts::Kind;
+use cwr_lines::{CutLine, LineBuf};
 use cwr_shape::{Limits, Symbol, Tally, level};
 use cwr_values::symbol_of;
 

@@ -1,9 +1,9 @@
 //! What is kept of the records of a transaction in place of them.
 
 ghost use Rattle.std.specs.Prelude.{◌≡◌, ◌++◌, ◌∷◌, [], List, IsTrue};
-ghost use Rattle.cwr_layouts.specs.Format.Records.{RecordValue};
+ghost use Rattle.cwr_lines.specs.Format.Records.{RecordValue};
 
-use cwr_layouts::RecordRef;
+use cwr_lines::RecordRef;
 
 /// What is kept of the records of a transaction in place of them, to tell whether it surely is as it should be. A no is right
 /// anywhere: it says nothing.

@@ -12,7 +12,7 @@ ghost use Rattle.cwr_judge.specs.declared.refusals.Refusal.{Refusal};
 ghost use Rattle.cwr_values.specs.declared.items.Item.{Item};
 ghost use Rattle.cwr_decode.specs.Steps.Machines.{Standing, held_list};
 ghost use Rattle.cwr_decode.specs.Steps.Represents.{Represents};
-ghost use Rattle.cwr_layouts.specs.Format.Lines.{closed, raw_lines};
+ghost use Rattle.cwr_lines.specs.Format.Lines.{closed, raw_lines};
 ghost use Rattle.cwr_shape.specs.Format.UncarriedOrder.{IsUncarriedShape, IsUncopiedShape};
 ghost use Rattle.cwr_shape.specs.declared.limits.Limits.{Limits};
 ghost use Rattle.cwr_values.specs.Format.Rows.{canonical_text, rows};

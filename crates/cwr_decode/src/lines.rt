@@ -1,11 +1,11 @@
 //! The first line of a text in memory.
 
 ghost use Rattle.std.specs.Prelude.{◌≡◌, ◌≤◌, [], length, take, IsNone, IfSome};
-ghost use Rattle.cwr_layouts.specs.Format.Lines.{without_cr};
-ghost use Rattle.cwr_layouts.specs.Steps.Held.{empty_line};
+ghost use Rattle.cwr_lines.specs.Format.Lines.{without_cr};
+ghost use Rattle.cwr_lines.specs.Steps.Held.{empty_line};
 ghost use Rattle.cwr_decode.specs.Steps.TextLines.{FirstLine};
 
-use cwr_layouts::{LineBuf, LineEnd};
+use cwr_lines::{LineBuf, LineEnd};
 
 /// Takes the first line of a text, or all of it where it has no line feed. `None` where the text is empty.
 pub fn first_line(line: &mut LineBuf, text: &[u8]) -> Option<usize>

@@ -10,7 +10,7 @@ ghost use Rattle.cwr_decode.specs.Steps.Runs.{HasReadAll, StopsReading};
 
 use crate::readings::{ReadFault, Reading};
 use cwr_fields::Source;
-use cwr_layouts::Record;
+use cwr_lines::Record;
 use cwr_shape::Limits;
 use cwr_values::{Group, GroupFault, Item, Transaction, Transmission, TransmissionFault};
 use std::alloc::{AllocError, Global};

@@ -1,6 +1,6 @@
 //! Items as the lines of their records, in which each number is 0: what tests compare.
 
-use cwr_layouts::{CanonicalLine, RecordRef};
+use cwr_lines::{CanonicalLine, RecordRef};
 use cwr_values::Item;
 use std::process::Abort;
 

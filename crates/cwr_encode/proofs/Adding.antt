@@ -5,7 +5,7 @@ use Rattle.std.specs.List.{AllByRecursion, flat_map}
 use Rattle.std.proofs.lemmas.List.{map-append}
 use Rattle.std.proofs.lemmas.List.Concat.{flat_map-append}
 use Rattle.cwr_layouts.specs.declared.kinds.Kind.{Kind}
-use Rattle.cwr_layouts.specs.Format.Records.{RecordValue, IsRecord, row_of}
+use Rattle.cwr_lines.specs.Format.Records.{RecordValue, IsRecord, row_of}
 use Rattle.cwr_shape.specs.declared.symbols.Symbol.{Symbol}
 use Rattle.cwr_shape.specs.declared.symbols.Symbol.TheVariants.{Plain}
 use Rattle.cwr_shape.specs.declared.tallies.Bar.{Bar}
@@ -23,7 +23,7 @@ use Rattle.cwr_encode.specs.declared.encoders.Encoder.{Encoder}
 use Rattle.cwr_encode.specs.declared.encoders.Reached.TheVariants as reached_to
 use Rattle.cwr_encode.specs.declared.encoders.EncodeFault.{EncodeFault}
 use Rattle.cwr_encode.specs.declared.encoders.EncodeFault.TheVariants.{Writer}
-use Rattle.cwr_encode.specs.Steps.Sinks.{HasWritten, Puts}
+use Rattle.cwr_sinks.specs.Steps.Sinks.{HasWritten, Puts}
 use Rattle.cwr_encode.specs.Format.Encoders.{part_of, reached, reached_by, JudgesCall}
 use Rattle.cwr_encode.specs.Steps.Encoders.{Encodes, RepresentsMore, AddsRecords, bytes_written}
 

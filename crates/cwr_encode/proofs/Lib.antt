@@ -1,5 +1,3 @@
-pub mod Moves
-pub mod Puts
 pub mod CountedOn
 pub mod TransactionTexts
 pub mod PutRows

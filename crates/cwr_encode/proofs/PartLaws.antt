@@ -1,7 +1,7 @@
 -- The part of some records is the canonical text of the rows with which each transmission begins that they begin.
 use Rattle.std.proofs.Common.{◌≡◌, ℕ, List, [], ◌∷◌, ◌++◌, length, map, take, refl, sym, ap, ap₂, subst, ◌∙◌}
 use Rattle.std.specs.List.{AllByRecursion, flat_map}
-use Rattle.cwr_layouts.specs.Format.Records.{RecordValue, IsRecord, Row}
+use Rattle.cwr_lines.specs.Format.Records.{RecordValue, IsRecord, Row}
 use Rattle.cwr_shape.specs.declared.limits.Limits.{Limits}
 use Rattle.cwr_shape.specs.Format.Outlines.{IsWithin, Continues}
 use Rattle.cwr_values.specs.Format.Values.{TransmissionValue, IsTransmission, symbol_of}

@@ -5,7 +5,7 @@ use Rattle.std.specs.List.{list_all, flat_map}
 use Rattle.std.proofs.lemmas.Bool.{and_parts}
 use Rattle.std.proofs.lemmas.List.{map-append}
 use Rattle.cwr_fields.specs.declared.codes.TransactionType.{TransactionType}
-use Rattle.cwr_layouts.specs.Format.Records.{RecordValue, row_of}
+use Rattle.cwr_lines.specs.Format.Records.{RecordValue, row_of}
 use Rattle.cwr_shape.specs.declared.symbols.Symbol.{Symbol}
 use Rattle.cwr_shape.specs.Format.Numbers.{symbol_kind}
 use Rattle.cwr_shape.specs.Format.Shapes.{IsShape}

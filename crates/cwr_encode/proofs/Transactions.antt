@@ -6,7 +6,7 @@ use Rattle.cwr_fields.specs.declared.codes.TransactionType.{TransactionType}
 use Rattle.cwr_fields.specs.declared.codes.TransactionType.TheVariants.{Agreement, NewWork, RevisedWork, Acknowledgement}
 use Rattle.cwr_layouts.specs.declared.kinds.Kind.{Kind}
 use Rattle.cwr_layouts.specs.declared.kinds.Kind.TheVariants as kinds
-use Rattle.cwr_layouts.specs.Format.Records.{RecordValue}
+use Rattle.cwr_lines.specs.Format.Records.{RecordValue}
 use Rattle.cwr_shape.specs.declared.symbols.Symbol.{Symbol}
 use Rattle.cwr_shape.specs.declared.symbols.Symbol.TheVariants.{Plain}
 use Rattle.cwr_shape.specs.declared.limits.LimitKind.{LimitKind}
@@ -27,7 +27,7 @@ use Rattle.cwr_values.proofs.RowAt.{kind_of_symbol}
 use Rattle.cwr_encode.specs.declared.encoders.Encoder.{Encoder}
 use Rattle.cwr_encode.specs.declared.encoders.EncodeFault.{EncodeFault}
 use Rattle.cwr_encode.specs.declared.encoders.EncodeFault.TheVariants.{Limit, WrongKind}
-use Rattle.cwr_encode.specs.Steps.Sinks.{HasWritten, Puts}
+use Rattle.cwr_sinks.specs.Steps.Sinks.{HasWritten, Puts}
 use Rattle.cwr_encode.specs.Steps.Texts.{text_from}
 use Rattle.cwr_encode.specs.Format.Encoders.{part_of, JudgesTransaction}
 use Rattle.cwr_encode.specs.Steps.Encoders.{TakesTransactions, IsNextNumber, passed_with, RepresentsMore}

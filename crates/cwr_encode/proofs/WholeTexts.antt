@@ -4,7 +4,7 @@ use Rattle.std.specs.Prelude.{sum_by}
 use Rattle.std.specs.List.{flat_map, enumerate_from}
 use Rattle.std.proofs.lemmas.List.{length-map}
 use Rattle.std.proofs.lemmas.List.Concat.{flat_map-append}
-use Rattle.cwr_layouts.specs.Format.Records.{RecordValue, Row, row_of}
+use Rattle.cwr_lines.specs.Format.Records.{RecordValue, Row, row_of}
 use Rattle.cwr_shape.specs.Format.Numbers.{group_records, all_records}
 use Rattle.cwr_values.specs.Format.Values.{GroupValue, TransmissionValue}
 use Rattle.cwr_values.specs.Format.Rows.{canonical_line, canonical_text, lengths_of_value, trailer}

@@ -2,5 +2,4 @@
 pub mod Encoders
 pub mod Finishing
 pub mod GroupTexts
-pub mod Sinks
 pub mod Texts

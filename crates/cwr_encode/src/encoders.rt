@@ -1,12 +1,12 @@
 //! Transmissions that are written call by call.
 
 ghost use Rattle.std.specs.Prelude.{◌≡◌, ◌↔◌, ◌≤◌, IsTrue, ℕ, List, Option, [], ◌∷◌, length, map, true, false, IfErr, MatchOption, IfOk, OnOk, Err, Some};
-ghost use Rattle.cwr_layouts.specs.Format.Records.{RecordValue, row_of};
+ghost use Rattle.cwr_lines.specs.Format.Records.{RecordValue, row_of};
 ghost use Rattle.cwr_shape.specs.declared.symbols.Symbol.{Symbol};
 ghost use Rattle.cwr_shape.specs.Steps.Tallies.{IsTallyOf};
 ghost use Rattle.cwr_values.specs.Format.Values.{symbol_of as symbol_by_cells};
 ghost use Rattle.cwr_values.specs.Format.Rows.{canonical_line, trailer};
-ghost use Rattle.cwr_encode.specs.Steps.Sinks.{Puts, writer_of, written_of};
+ghost use Rattle.cwr_sinks.specs.Steps.Sinks.{Puts, writer_of, written_of};
 ghost use Rattle.cwr_encode.specs.Steps.Texts.{text_from};
 ghost use Rattle.cwr_encode.specs.Format.Encoders.{IsUnlimited, IsBetween, IsInGroup, JudgesTransaction, JudgesFoot, JudgesGroup, JudgesOpening, MayBeginGroup, reached};
 ghost use Rattle.cwr_encode.specs.Steps.Encoders.{Encodes, AddsRecords, AnswersAgain, IsNextNumber, TakesTransactions, end_fault, fault_of_bar, reached_at, is_stopped, encoder_limits, target_of, bytes_written};
@@ -18,10 +18,11 @@ ghost use Rattle.cwr_encode.specs.Steps.Finishing.{FinishesWriting};
 
 use crate::checks::{count_all, group_may_end, limit_passed};
 use crate::rows::{put_row, put_transaction};
-use crate::sinks::Sink;
 use cwr_fields::{Target, TransactionType};
-use cwr_layouts::{CanonicalLine, Draft, Kind, Record, RecordRef};
+use cwr_layouts::Kind;
+use cwr_lines::{CanonicalLine, Draft, Record, RecordRef};
 use cwr_shape::{Bar, LimitKind, Limits, Stage, Symbol, Tally, TransactionStep};
+use cwr_sinks::Sink;
 use cwr_values::{Transaction, symbol_of};
 use std::error::Error;
 use std::fmt::{self, Display, Formatter, Write};

@@ -2,7 +2,7 @@
 
 ghost use Rattle.std.specs.Prelude.{◌≡◌, ℕ, List, [], ◌∷◌, ◌++◌, map, Result};
 ghost use Rattle.std.specs.List.{AllByRecursion};
-ghost use Rattle.cwr_layouts.specs.Format.Records.{RecordValue, IsRecord};
+ghost use Rattle.cwr_lines.specs.Format.Records.{RecordValue, IsRecord};
 ghost use Rattle.cwr_shape.specs.declared.limits.Limits.{Limits};
 ghost use Rattle.cwr_shape.specs.declared.symbols.Symbol.{Symbol};
 ghost use Rattle.cwr_shape.specs.Format.AnyTransmission.{Any};

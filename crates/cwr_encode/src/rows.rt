@@ -1,14 +1,14 @@
 //! Rows that are put to a sink, line by line.
 
 ghost use Rattle.std.specs.Prelude.{◌≡◌, ◌≤◌, [], ◌∷◌, length, false, IfErr};
-ghost use Rattle.cwr_layouts.specs.Format.Records.{row_of};
+ghost use Rattle.cwr_lines.specs.Format.Records.{row_of};
 ghost use Rattle.cwr_values.specs.Format.Rows.{canonical_line};
-ghost use Rattle.cwr_encode.specs.Steps.Sinks.{Puts, has_failed, written_of};
+ghost use Rattle.cwr_sinks.specs.Steps.Sinks.{Puts, has_failed, written_of};
 ghost use Rattle.cwr_encode.specs.Steps.Texts.{text_from};
 
-use crate::sinks::{Sink, SinkFault};
 use cwr_fields::Target;
-use cwr_layouts::{CanonicalLine, RecordRef};
+use cwr_lines::{CanonicalLine, RecordRef};
+use cwr_sinks::{Sink, SinkFault};
 use cwr_values::Transaction;
 
 /// Puts the canonical line of a record with these numbers. The line is made in the buffer.

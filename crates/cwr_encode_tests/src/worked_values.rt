@@ -1,10 +1,10 @@
 //! Records, transactions and transmissions of the worked texts.
 
 ghost use Rattle.std.specs.Prelude.{◌≢◌};
-ghost use Rattle.cwr_layouts.specs.declared.lines.LineEnd.TheVariants.{Open};
+ghost use Rattle.cwr_lines.specs.declared.lines.LineEnd.TheVariants.{Open};
 
 use crate::checks::check_equal;
-use cwr_layouts::{LineBuf, LineEnd, Record};
+use cwr_lines::{LineBuf, LineEnd, Record};
 use cwr_values::{Group, Transaction, Transmission};
 use cwr_worked::lines::*;
 use cwr_worked::texts::ELEVEN_RECORDS;

@@ -1,10 +1,12 @@
 -- The table of symbols has each symbol, and those that may come are found in it one after another.
-use Rattle.std.proofs.Common.{◌≡◌, zero, suc, true, false, List, [], ◌∷◌, ◌++◌, refl, sym, subst, ◌∙◌, arith, inl, inr, lit<}
-use Rattle.std.specs.Prelude.{◌↔◌, ◌⊎◌, Bool, Contains, IsTrue}
+use Rattle.std.proofs.Common.{◌≡◌, zero, suc, true, false, List, [], ◌∷◌, ◌++◌, refl, sym, subst, ◌∙◌, arith, inl, inr}
+use Rattle.std.specs.Prelude.{◌↔◌, ◌⊎◌, Bool, Some, Contains, IsTrue, find}
+use Rattle.std.specs.Str.{bytes_eq}
 use Rattle.std.proofs.lemmas.List.Elements.{Contains-append_cases, Contains-append_left, Contains-append_right}
 use Rattle.cwr_fields.specs.declared.codes.Role.TheVariants as roles
 use Rattle.cwr_fields.specs.declared.codes.TransactionType.TheVariants as types
 use Rattle.cwr_layouts.specs.declared.kinds.Kind.TheVariants as kinds
+use Rattle.cwr_layouts.specs.Format.Kinds.{letters}
 use Rattle.cwr_shape.specs.declared.symbols.Symbol.{Symbol}
 use Rattle.cwr_shape.specs.declared.symbols.Symbol.TheVariants.{Plain, Ipa, Grh}
 use Rattle.cwr_shape.specs.declared.stages.Stage.{Stage}
@@ -15,7 +17,15 @@ use Rattle.cwr_explain.specs.Steps.Coming.{AreComing, HaveCome}
 
 -- each symbol
 abbrev pub all_symbols : List Symbol
-all_symbols = Plain kinds.Hdr ∷ Plain kinds.Grh ∷ Grh types.Agreement ∷ Grh types.NewWork ∷ Grh types.RevisedWork ∷ Grh types.Acknowledgement ∷ Plain kinds.Agr ∷ Plain kinds.Ter ∷ Plain kinds.Ipa ∷ Ipa roles.Assignor ∷ Ipa roles.Acquirer ∷ Plain kinds.Nwr ∷ Plain kinds.Rev ∷ Plain kinds.Spu ∷ Plain kinds.Opu ∷ Plain kinds.Spt ∷ Plain kinds.Swr ∷ Plain kinds.Owr ∷ Plain kinds.Swt ∷ Plain kinds.Pwr ∷ Plain kinds.Alt ∷ Plain kinds.Ewt ∷ Plain kinds.Ver ∷ Plain kinds.Per ∷ Plain kinds.Rec ∷ Plain kinds.Orn ∷ Plain kinds.Com ∷ Plain kinds.Ack ∷ Plain kinds.Msg ∷ Plain kinds.Opt ∷ Plain kinds.Owt ∷ Plain kinds.Npn ∷ Plain kinds.Npr ∷ Plain kinds.Nwn ∷ Plain kinds.Npa ∷ Plain kinds.Net ∷ Plain kinds.Now ∷ Plain kinds.Nct ∷ Plain kinds.Nvt ∷ Plain kinds.Nat ∷ Plain kinds.Ins ∷ Plain kinds.Ind ∷ Plain kinds.Ari ∷ Plain kinds.Xrf ∷ Plain kinds.Grt ∷ Plain kinds.Trl ∷ []
+all_symbols =
+    Plain kinds.Hdr ∷ Plain kinds.Grh ∷ Grh types.Agreement ∷ Grh types.NewWork ∷ Grh types.RevisedWork ∷
+    Grh types.Acknowledgement ∷ Plain kinds.Agr ∷ Plain kinds.Ter ∷ Plain kinds.Ipa ∷ Ipa roles.Assignor ∷
+    Ipa roles.Acquirer ∷ Plain kinds.Nwr ∷ Plain kinds.Rev ∷ Plain kinds.Spu ∷ Plain kinds.Opu ∷ Plain kinds.Spt ∷
+    Plain kinds.Swr ∷ Plain kinds.Owr ∷ Plain kinds.Swt ∷ Plain kinds.Pwr ∷ Plain kinds.Alt ∷ Plain kinds.Ewt ∷
+    Plain kinds.Ver ∷ Plain kinds.Per ∷ Plain kinds.Rec ∷ Plain kinds.Orn ∷ Plain kinds.Com ∷ Plain kinds.Ack ∷
+    Plain kinds.Msg ∷ Plain kinds.Opt ∷ Plain kinds.Owt ∷ Plain kinds.Npn ∷ Plain kinds.Npr ∷ Plain kinds.Nwn ∷
+    Plain kinds.Npa ∷ Plain kinds.Net ∷ Plain kinds.Now ∷ Plain kinds.Nct ∷ Plain kinds.Nvt ∷ Plain kinds.Nat ∷
+    Plain kinds.Ins ∷ Plain kinds.Ind ∷ Plain kinds.Ari ∷ Plain kinds.Xrf ∷ Plain kinds.Grt ∷ Plain kinds.Trl ∷ []
 
 only : (a s : Symbol) → Contains (a ∷ []) s → a ≡ s
 only a s (zero, l, e) = e
@@ -48,54 +58,38 @@ one_stays stage asked found a b h may is xs at s = (λ c. let old = (h xs at s).
         false_true : false ≡ true → ⊥
         false_true e = cc e
 
+-- what is found among symbols is one of them
+found_in : (test : Symbol → Bool) (symbols : List Symbol) (s : Symbol) → find test symbols ≡ Some s → Contains symbols s
+found_in test [] s e = absurd (cc e)
+found_in test (x ∷ symbols) s e = by (test x) refl (found_in test symbols s)
+  where
+    by : (b : Bool) → test x ≡ b → (find test symbols ≡ Some s → Contains symbols s) → Contains (x ∷ symbols) s
+    by true t rest = let here : find test (x ∷ symbols) ≡ Some x = rw t in (0, omega arith, cc (e, here))
+    by false t rest =
+        let later : find test (x ∷ symbols) ≡ find test symbols = rw t in
+        let found = rest (sym later ∙ e) in
+        (suc found.0, omega (arith, found.1), found.2)
+
+-- whether two symbols are the same
+is_same : Symbol → Symbol → Bool
+is_same (Plain kind) (Plain other) = bytes_eq (letters kind) (letters other)
+is_same (Ipa roles.Assignor) (Ipa roles.Assignor) = true
+is_same (Ipa roles.Acquirer) (Ipa roles.Acquirer) = true
+is_same (Grh types.Agreement) (Grh types.Agreement) = true
+is_same (Grh types.NewWork) (Grh types.NewWork) = true
+is_same (Grh types.RevisedWork) (Grh types.RevisedWork) = true
+is_same (Grh types.Acknowledgement) (Grh types.Acknowledgement) = true
+is_same s other = false
+
 -- each symbol is asked
 all_there : (s : Symbol) → Contains all_symbols s
-all_there (Plain kinds.Hdr) = (0, lit< tt, refl)
-all_there (Plain kinds.Grh) = (1, lit< tt, refl)
-all_there (Grh types.Agreement) = (2, lit< tt, refl)
-all_there (Grh types.NewWork) = (3, lit< tt, refl)
-all_there (Grh types.RevisedWork) = (4, lit< tt, refl)
-all_there (Grh types.Acknowledgement) = (5, lit< tt, refl)
-all_there (Plain kinds.Agr) = (6, lit< tt, refl)
-all_there (Plain kinds.Ter) = (7, lit< tt, refl)
-all_there (Plain kinds.Ipa) = (8, lit< tt, refl)
-all_there (Ipa roles.Assignor) = (9, lit< tt, refl)
-all_there (Ipa roles.Acquirer) = (10, lit< tt, refl)
-all_there (Plain kinds.Nwr) = (11, lit< tt, refl)
-all_there (Plain kinds.Rev) = (12, lit< tt, refl)
-all_there (Plain kinds.Spu) = (13, lit< tt, refl)
-all_there (Plain kinds.Opu) = (14, lit< tt, refl)
-all_there (Plain kinds.Spt) = (15, lit< tt, refl)
-all_there (Plain kinds.Swr) = (16, lit< tt, refl)
-all_there (Plain kinds.Owr) = (17, lit< tt, refl)
-all_there (Plain kinds.Swt) = (18, lit< tt, refl)
-all_there (Plain kinds.Pwr) = (19, lit< tt, refl)
-all_there (Plain kinds.Alt) = (20, lit< tt, refl)
-all_there (Plain kinds.Ewt) = (21, lit< tt, refl)
-all_there (Plain kinds.Ver) = (22, lit< tt, refl)
-all_there (Plain kinds.Per) = (23, lit< tt, refl)
-all_there (Plain kinds.Rec) = (24, lit< tt, refl)
-all_there (Plain kinds.Orn) = (25, lit< tt, refl)
-all_there (Plain kinds.Com) = (26, lit< tt, refl)
-all_there (Plain kinds.Ack) = (27, lit< tt, refl)
-all_there (Plain kinds.Msg) = (28, lit< tt, refl)
-all_there (Plain kinds.Opt) = (29, lit< tt, refl)
-all_there (Plain kinds.Owt) = (30, lit< tt, refl)
-all_there (Plain kinds.Npn) = (31, lit< tt, refl)
-all_there (Plain kinds.Npr) = (32, lit< tt, refl)
-all_there (Plain kinds.Nwn) = (33, lit< tt, refl)
-all_there (Plain kinds.Npa) = (34, lit< tt, refl)
-all_there (Plain kinds.Net) = (35, lit< tt, refl)
-all_there (Plain kinds.Now) = (36, lit< tt, refl)
-all_there (Plain kinds.Nct) = (37, lit< tt, refl)
-all_there (Plain kinds.Nvt) = (38, lit< tt, refl)
-all_there (Plain kinds.Nat) = (39, lit< tt, refl)
-all_there (Plain kinds.Ins) = (40, lit< tt, refl)
-all_there (Plain kinds.Ind) = (41, lit< tt, refl)
-all_there (Plain kinds.Ari) = (42, lit< tt, refl)
-all_there (Plain kinds.Xrf) = (43, lit< tt, refl)
-all_there (Plain kinds.Grt) = (44, lit< tt, refl)
-all_there (Plain kinds.Trl) = (45, lit< tt, refl)
+unfolding is_same
+all_there (Plain kinds.Hdr) = found_in (is_same (Plain kinds.Hdr)) all_symbols (Plain kinds.Hdr) refl
+all_there (Plain this_kind) = found_in (is_same (Plain this_kind)) all_symbols (Plain this_kind) refl
+all_there (Ipa roles.Assignor) = found_in (is_same (Ipa roles.Assignor)) all_symbols (Ipa roles.Assignor) refl
+all_there (Ipa this_role) = found_in (is_same (Ipa this_role)) all_symbols (Ipa this_role) refl
+all_there (Grh types.Agreement) = found_in (is_same (Grh types.Agreement)) all_symbols (Grh types.Agreement) refl
+all_there (Grh this_type) = found_in (is_same (Grh this_type)) all_symbols (Grh this_type) refl
 
 -- so those that were found are all that may come
 pub all_come : (stage : Stage) (found : List Symbol) → HaveCome stage all_symbols found → AreComing stage found

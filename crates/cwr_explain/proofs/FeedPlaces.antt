@@ -5,7 +5,7 @@ use Rattle.std.specs.List.{list_any}
 use Rattle.std.proofs.lemmas.Bool.{eqb-true, or_from, false_from_ne_true}
 use Rattle.std.proofs.lemmas.List.{get_or-drop, length-drop, take_all}
 use Rattle.memchr.specs.Find.{IsLastByte, is_byte}
-use Rattle.cwr_layouts.specs.Format.Lines.{is_lf}
+use Rattle.cwr_lines.specs.Format.Lines.{is_lf}
 use Rattle.cwr_explain.specs.Steps.LinesAtEnd.{IsAfterFeed}
 
 -- no place holds a line feed

@@ -5,10 +5,10 @@ use Rattle.std.specs.List.{list_any}
 use Rattle.std.proofs.lemmas.Bool.{false≢true, true≢false}
 use Rattle.std.proofs.lemmas.List.{append_cancel_right, drop-append-le, length-append, length-take-le, nil_from_length, take_all, take-append-drop}
 use Rattle.std.proofs.Math.Seq.{drop-append_seam}
-use Rattle.cwr_layouts.specs.declared.lines.LineEnd.{LineEnd}
-use Rattle.cwr_layouts.specs.declared.lines.LineEnd.TheVariants as line_ends
-use Rattle.cwr_layouts.specs.Format.Lines.{is_lf}
-use Rattle.cwr_layouts.specs.Steps.Held.{FillsLongest, HeldLine, IsHeld, Stops, Takes, empty_line, text_by}
+use Rattle.cwr_lines.specs.declared.lines.LineEnd.{LineEnd}
+use Rattle.cwr_lines.specs.declared.lines.LineEnd.TheVariants as line_ends
+use Rattle.cwr_lines.specs.Format.Lines.{is_lf}
+use Rattle.cwr_lines.specs.Steps.Held.{FillsLongest, HeldLine, IsHeld, Stops, Takes, empty_line, text_by}
 use Rattle.cwr_decode.specs.declared.last_bytes.LastBytes.{LastBytes}
 use Rattle.cwr_decode.specs.Steps.LastReads.{HoldsLast, bytes_read, last_held}
 use Rattle.cwr_decode.specs.Steps.Represents.{EndsInLf}

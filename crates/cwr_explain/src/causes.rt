@@ -12,9 +12,10 @@ use crate::versions::add_version;
 use crate::wrong_numbers::{WrongNumber, is_header};
 use cwr_decode::{LastRead, Refusal};
 use cwr_fields::{CellFault, TransactionType, first_control};
-use cwr_layouts::{CutLine, Field, Kind, LONGEST_LINE, field, is_carried, width};
+use cwr_layouts::{Field, Kind, field, is_carried, width};
+use cwr_lines::{CutLine, LONGEST_LINE};
+use cwr_notes::level_words;
 use cwr_shape::{LimitKind, Limits, Reason, Stage, Symbol, TransactionStep};
-use cwr_tools::level_words;
 use std::alloc::{AllocError, Global};
 use std::fmt::Write;
 

@@ -2,14 +2,14 @@
 
 ghost use Rattle.std.specs.Prelude.{◌≡◌, ◌≢◌, ◌≤◌, ℕ, List, [], ◌∷◌, ◌++◌, length, true, false, IfSome, IsFalse};
 ghost use Rattle.std.specs.List.{list_any};
-ghost use Rattle.cwr_layouts.specs.declared.lines.TheConstants.{LONGEST_LINE};
-ghost use Rattle.cwr_layouts.specs.declared.lines.LineEnd.{LineEnd};
-ghost use Rattle.cwr_layouts.specs.Format.Lines.{is_lf};
+ghost use Rattle.cwr_lines.specs.declared.lines.TheConstants.{LONGEST_LINE};
+ghost use Rattle.cwr_lines.specs.declared.lines.LineEnd.{LineEnd};
+ghost use Rattle.cwr_lines.specs.Format.Lines.{is_lf};
 ghost use Rattle.cwr_decode.specs.Steps.LastReads.{HoldsLast, last_held};
 ghost use Rattle.cwr_explain.specs.Steps.LinesAtEnd.{EndsInLine, EndsWithLine, IsAfterFeed, IsFound, IsLastLine};
 
 use cwr_decode::LastBytes;
-use cwr_layouts::{LineBuf, LineEnd};
+use cwr_lines::{LineBuf, LineEnd};
 use memchr::memrchr;
 
 const LF: u8 = b'\n';

@@ -5,7 +5,7 @@ use Rattle.std.proofs.lemmas.Bool.{and_parts}
 use Rattle.cwr_layouts.specs.declared.kinds.Kind.{Kind}
 use Rattle.cwr_layouts.specs.declared.kinds.Kind.TheVariants.{Hdr}
 use Rattle.cwr_layouts.specs.Format.Layouts.{FieldLayout, layout}
-use Rattle.cwr_layouts.specs.Format.Records.{carried_fields}
+use Rattle.cwr_lines.specs.Format.Records.{carried_fields}
 use Rattle.cwr_json.specs.Format.Forms.{key_of, kind_key, is_note, is_known, are_distinct}
 
 -- the keys of fields

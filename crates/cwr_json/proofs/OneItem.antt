@@ -6,8 +6,8 @@ use Rattle.cwr_fields.specs.Format.Bytes.{filled}
 use Rattle.cwr_layouts.specs.declared.kinds.Kind.{Kind}
 use Rattle.cwr_layouts.specs.Format.Kinds.{letters}
 use Rattle.cwr_layouts.specs.Format.Layouts.{FieldLayout}
-use Rattle.cwr_layouts.specs.Format.Records.{RecordValue, IsRecord, carried_fields}
-use Rattle.cwr_layouts.proofs.RowLaws.{letters-injective}
+use Rattle.cwr_lines.specs.Format.Records.{RecordValue, IsRecord, carried_fields}
+use Rattle.cwr_layouts.proofs.AllKinds.{letters-injective}
 use Rattle.cwr_values.specs.declared.items.Item.{Item}
 use Rattle.cwr_values.specs.declared.items.Item.TheVariants.{Opened, GroupOpened, Transaction, GroupClosed, Ended}
 use Rattle.cwr_judge.specs.Format.Items.{item_records}

@@ -17,7 +17,7 @@ use Rattle.cwr_fields.specs.Format.Codes.{word_text}
 use Rattle.cwr_fields.specs.Format.Cells.{Allows}
 use Rattle.cwr_layouts.specs.Format.Kinds.{letters}
 use Rattle.cwr_layouts.specs.Format.Layouts.{FieldLayout}
-use Rattle.cwr_layouts.specs.Format.Records.{RecordValue, IsCellOf, IsRecord, blank_cell, carried_fields}
+use Rattle.cwr_lines.specs.Format.Records.{RecordValue, IsCellOf, IsRecord, blank_cell, carried_fields}
 use Rattle.cwr_layouts.proofs.TrimmedTexts.{spaces_after}
 use Rattle.cwr_json.specs.declared.encodings.Encoding.{Encoding}
 use Rattle.cwr_json.specs.Format.Encodings.{characters}

@@ -1,9 +1,9 @@
 -- Some transmission within the limits continues from each place in the lines that were accepted.
 use Rattle.std.proofs.Common.{◌≡◌, ℕ, List, [], ◌∷◌, ◌++◌, map, take, refl, sym, ap, subst, ◌∙◌, append_assoc}
 use Rattle.std.specs.List.{AllZip, AllByRecursion}
-use Rattle.cwr_layouts.specs.Format.Records.{RecordValue, Row, IsRecord, IsRow}
-use Rattle.cwr_layouts.specs.Format.Lines.{IsLineOf}
-use Rattle.cwr_layouts.proofs.CutLaws.{line_is_cut}
+use Rattle.cwr_lines.specs.Format.Records.{RecordValue, Row, IsRecord, IsRow}
+use Rattle.cwr_lines.specs.Format.Lines.{IsLineOf}
+use Rattle.cwr_lines.proofs.CutLaws.{line_is_cut}
 use Rattle.cwr_shape.specs.Format.Ranges.{LimitValues}
 use Rattle.cwr_shape.specs.Format.Outlines.{IsWithin, Continues}
 use Rattle.cwr_values.specs.Format.Values.{symbol_of}

@@ -1,7 +1,7 @@
 -- The items of accepted records are the first of those of some transmission within the limits.
 use Rattle.std.proofs.Common.{◌<◌, ◌^◌, List, [], map, sym, ap, subst, ◌∙◌}
 use Rattle.std.specs.List.{AllByRecursion}
-use Rattle.cwr_layouts.specs.Format.Records.{RecordValue, IsRecord}
+use Rattle.cwr_lines.specs.Format.Records.{RecordValue, IsRecord}
 use Rattle.cwr_shape.specs.Format.Ranges.{LimitValues}
 use Rattle.cwr_shape.specs.Format.Outlines.{Continues, IsWithin}
 use Rattle.cwr_values.specs.Format.Values.{symbol_of}

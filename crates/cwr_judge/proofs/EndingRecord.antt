@@ -5,8 +5,8 @@ use Rattle.std.specs.List.{AllByRecursion, last_or, after_last, suffix_len}
 use Rattle.std.proofs.lemmas.List.{length-append, length-map, length-drop, drop-map}
 use Rattle.cwr_layouts.specs.declared.kinds.Kind.{Kind}
 use Rattle.cwr_layouts.specs.declared.kinds.Kind.TheVariants as kinds
-use Rattle.cwr_layouts.specs.Format.Records.{RecordValue, IsRecord, Row, record_of}
-use Rattle.cwr_layouts.proofs.RowLaws.{record_of-row_of}
+use Rattle.cwr_lines.specs.Format.Records.{RecordValue, IsRecord, Row, record_of}
+use Rattle.cwr_lines.proofs.RowLaws.{record_of-row_of}
 use Rattle.cwr_shape.specs.declared.symbols.Symbol.{Symbol}
 use Rattle.cwr_shape.specs.Format.Outlines.{Continues}
 use Rattle.cwr_shape.specs.Format.LastSymbols.{is_grh}

@@ -21,9 +21,9 @@ use Rattle.cwr_layouts.specs.declared.kinds.Kind.TheVariants as kinds
 use Rattle.cwr_layouts.specs.declared.layouts.Field.{Field}
 use Rattle.cwr_layouts.specs.Format.Layouts.{FieldLayout, layout, field_at, field_with_start}
 use Rattle.cwr_layouts.specs.Steps.Views.{field_view}
-use Rattle.cwr_layouts.specs.Steps.Held.{HeldLine, held_kind, held_cell}
+use Rattle.cwr_lines.specs.Steps.Held.{HeldLine, held_kind, held_cell}
 use Rattle.cwr_layouts.proofs.FieldStarts.{field_at-start}
-use Rattle.cwr_layouts.proofs.HeldLaws.{held_cell_there}
+use Rattle.cwr_lines.proofs.HeldLaws.{held_cell_there}
 use Rattle.cwr_shape.specs.declared.symbols.Symbol.{Symbol}
 use Rattle.cwr_shape.specs.declared.symbols.Symbol.TheVariants.{Ipa, Grh}
 use Rattle.cwr_shape.specs.declared.reasons.Reason.{Reason}

@@ -9,10 +9,10 @@ use Rattle.cwr_fields.specs.Format.Bytes.{digits}
 use Rattle.cwr_fields.specs.Format.Cells.{Allows, HasFault}
 use Rattle.cwr_layouts.specs.declared.kinds.Kind.{Kind}
 use Rattle.cwr_layouts.specs.Format.Layouts.{FieldLayout, field_at}
-use Rattle.cwr_layouts.specs.Format.Records.{RecordValue}
-use Rattle.cwr_layouts.specs.Format.Lines.{line_kind}
-use Rattle.cwr_layouts.specs.Steps.Held.{HeldLine, held_cell, held_cells}
-use Rattle.cwr_layouts.proofs.HeldLaws.{held_cell-at, length-held_cell}
+use Rattle.cwr_lines.specs.Format.Records.{RecordValue}
+use Rattle.cwr_lines.specs.Format.Lines.{line_kind}
+use Rattle.cwr_lines.specs.Steps.Held.{HeldLine, held_cell, held_cells}
+use Rattle.cwr_lines.proofs.HeldLaws.{held_cell-at, length-held_cell}
 use Rattle.cwr_shape.specs.declared.symbols.Symbol.{Symbol}
 use Rattle.cwr_shape.specs.declared.reasons.Reason.TheVariants as reasons
 use Rattle.cwr_shape.specs.declared.tallies.Bar.TheVariants as bars

@@ -5,9 +5,9 @@ use Rattle.std.specs.List.{AllZip, AllByRecursion}
 use Rattle.cwr_fields.specs.declared.cell_types.CellFault.{CellFault}
 use Rattle.cwr_layouts.specs.declared.kinds.Kind.{Kind}
 use Rattle.cwr_layouts.specs.Format.Layouts.{FieldLayout, field_at}
-use Rattle.cwr_layouts.specs.Format.Records.{RecordValue, IsRecord}
-use Rattle.cwr_layouts.specs.Format.Lines.{IsLineOf, line_kind}
-use Rattle.cwr_layouts.specs.Steps.Held.{HeldLine, IsCutAs, held_kind, held_cells}
+use Rattle.cwr_lines.specs.Format.Records.{RecordValue, IsRecord}
+use Rattle.cwr_lines.specs.Format.Lines.{IsLineOf, line_kind}
+use Rattle.cwr_lines.specs.Steps.Held.{HeldLine, IsCutAs, held_kind, held_cells}
 use Rattle.cwr_shape.specs.declared.symbols.Symbol.{Symbol}
 use Rattle.cwr_shape.specs.declared.limits.LimitKind.{LimitKind}
 use Rattle.cwr_shape.specs.declared.limits.LimitKind.TheVariants as limit_kinds

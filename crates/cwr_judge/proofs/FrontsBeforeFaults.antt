@@ -11,10 +11,10 @@ use Rattle.cwr_fields.specs.Format.Cells.{Allows}
 use Rattle.cwr_layouts.specs.declared.kinds.Kind.{Kind}
 use Rattle.cwr_layouts.specs.declared.kinds.Kind.TheVariants as kinds
 use Rattle.cwr_layouts.specs.Format.Layouts.{FieldLayout, layout, fields_after_type}
-use Rattle.cwr_layouts.specs.Format.Records.{IsGoodCell, rest_if}
-use Rattle.cwr_layouts.specs.Format.GoodCells.{AreGood}
-use Rattle.cwr_layouts.specs.Steps.Held.{HeldLine, IsCutAs, held_kind, held_cell, held_cells}
-use Rattle.cwr_layouts.proofs.HeldLaws.{held_cell-at, length-held_cell, length-held_cells}
+use Rattle.cwr_lines.specs.Format.Records.{IsGoodCell, rest_if}
+use Rattle.cwr_lines.specs.Format.GoodCells.{AreGood}
+use Rattle.cwr_lines.specs.Steps.Held.{HeldLine, IsCutAs, held_kind, held_cell, held_cells}
+use Rattle.cwr_lines.proofs.HeldLaws.{held_cell-at, length-held_cell, length-held_cells}
 use Rattle.cwr_shape.specs.declared.symbols.Symbol.{Symbol}
 use Rattle.cwr_shape.specs.declared.symbols.Symbol.TheVariants.{Ipa, Grh}
 use Rattle.cwr_shape.specs.declared.reasons.Reason.{Reason}

@@ -16,11 +16,11 @@ use Rattle.cwr_layouts.specs.declared.kinds.Kind.{Kind}
 use Rattle.cwr_layouts.specs.declared.kinds.Kind.TheVariants as kinds
 use Rattle.cwr_layouts.specs.Format.Kinds.{letters}
 use Rattle.cwr_layouts.specs.Format.Layouts.{FieldLayout, layout, fields_after_type}
-use Rattle.cwr_layouts.specs.Format.Records.{RecordValue, Row, IsRecord, row_cells, row_of}
-use Rattle.cwr_layouts.specs.Format.Lines.{IsLineOf, line_kind, line_cells, has_bad_excess}
-use Rattle.cwr_layouts.proofs.RowLaws.{row_fits}
-use Rattle.cwr_layouts.specs.Format.GoodCells.{AreGood}
-use Rattle.cwr_layouts.proofs.GoodLinesAreRows.{carried_in, cells_again, good_cells}
+use Rattle.cwr_lines.specs.Format.Records.{RecordValue, Row, IsRecord, row_cells, row_of}
+use Rattle.cwr_lines.specs.Format.Lines.{IsLineOf, line_kind, line_cells, has_bad_excess}
+use Rattle.cwr_lines.proofs.RowLaws.{row_fits}
+use Rattle.cwr_lines.specs.Format.GoodCells.{AreGood}
+use Rattle.cwr_lines.proofs.GoodLinesAreRows.{carried_in, cells_again, good_cells}
 use Rattle.cwr_shape.specs.declared.symbols.Symbol.{Symbol}
 use Rattle.cwr_shape.specs.declared.symbols.Symbol.TheVariants.{Plain, Ipa, Grh}
 use Rattle.cwr_shape.specs.Format.Ranges.{LimitValues}

@@ -13,11 +13,11 @@ use Rattle.cwr_fields.specs.Format.Cells.{Allows}
 use Rattle.cwr_layouts.specs.declared.kinds.Kind.{Kind}
 use Rattle.cwr_layouts.specs.declared.kinds.Kind.TheVariants as kinds
 use Rattle.cwr_layouts.specs.Format.Layouts.{FieldLayout, layout, field_at, record_type}
-use Rattle.cwr_layouts.specs.Format.Records.{RecordValue, IsCellOf, IsRecord}
-use Rattle.cwr_layouts.specs.Steps.Held.{HeldLine, held_kind, held_cell, held_cells, held_excess, carried_by}
-use Rattle.cwr_layouts.proofs.CarriedCells.{carried_in-at}
-use Rattle.cwr_layouts.proofs.HeldLaws.{held_cell-at, length-held_cell, length-held_cells}
-use Rattle.cwr_layouts.proofs.GoodLinesAreRows.{carried_in}
+use Rattle.cwr_lines.specs.Format.Records.{RecordValue, IsCellOf, IsRecord}
+use Rattle.cwr_lines.specs.Steps.Held.{HeldLine, held_kind, held_cell, held_cells, held_excess, carried_by}
+use Rattle.cwr_lines.proofs.CarriedCells.{carried_in-at}
+use Rattle.cwr_lines.proofs.HeldLaws.{held_cell-at, length-held_cell, length-held_cells}
+use Rattle.cwr_lines.proofs.GoodLinesAreRows.{carried_in}
 use Rattle.cwr_shape.specs.declared.symbols.Symbol.{Symbol}
 use Rattle.cwr_shape.specs.declared.symbols.Symbol.TheVariants.{Ipa, Grh}
 use Rattle.cwr_shape.specs.Format.Ranges.{LimitValues}

@@ -7,8 +7,8 @@ use Rattle.std.proofs.lemmas.List.Sums.{sum_by-cons}
 use Rattle.cwr_fields.specs.declared.codes.TransactionType.{TransactionType}
 use Rattle.cwr_layouts.specs.declared.kinds.Kind.{Kind}
 use Rattle.cwr_layouts.specs.declared.kinds.Kind.TheVariants as kinds
-use Rattle.cwr_layouts.specs.Format.Records.{RecordValue, IsRecord, Row, row_of, record_of}
-use Rattle.cwr_layouts.proofs.RowLaws.{record_of-row_of}
+use Rattle.cwr_lines.specs.Format.Records.{RecordValue, IsRecord, Row, row_of, record_of}
+use Rattle.cwr_lines.proofs.RowLaws.{record_of-row_of}
 use Rattle.cwr_shape.specs.declared.limits.Limits.{Limits}
 use Rattle.cwr_shape.specs.Format.Outlines.{symbols_of}
 use Rattle.cwr_shape.specs.Format.Numbers.{group_records}

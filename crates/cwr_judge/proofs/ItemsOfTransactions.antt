@@ -12,8 +12,8 @@ use Rattle.cwr_fields.specs.declared.codes.TransactionType.{TransactionType}
 use Rattle.cwr_layouts.specs.declared.kinds.Kind.{Kind}
 use Rattle.cwr_layouts.specs.declared.kinds.Kind.TheVariants as kinds
 use Rattle.cwr_layouts.specs.Format.Layouts.{fields_after_type}
-use Rattle.cwr_layouts.specs.Format.Records.{RecordValue, IsRecord, Row, row_cells, row_of, record_of}
-use Rattle.cwr_layouts.proofs.RowLaws.{record_of-row_of}
+use Rattle.cwr_lines.specs.Format.Records.{RecordValue, IsRecord, Row, row_cells, row_of, record_of}
+use Rattle.cwr_lines.proofs.RowLaws.{record_of-row_of}
 use Rattle.cwr_shape.proofs.HeadFirst.{part_class}
 use Rattle.cwr_values.specs.Format.Values.{symbol_by}
 use Rattle.cwr_values.proofs.RowsByParts.{rows_inside, rows_of_transactions}

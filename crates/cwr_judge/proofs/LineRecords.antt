@@ -7,12 +7,12 @@ use Rattle.cwr_fields.proofs.LineFeeds.{NoLf}
 use Rattle.cwr_layouts.specs.declared.kinds.Kind.{Kind}
 use Rattle.cwr_layouts.specs.declared.kinds.Kind.TheVariants as kinds
 use Rattle.cwr_layouts.specs.Format.Layouts.{FieldLayout, layout, fields_after_type}
-use Rattle.cwr_layouts.specs.Format.Records.{RecordValue, Row, IsRecord, row_of}
-use Rattle.cwr_layouts.specs.Format.GoodCells.{AreGood}
-use Rattle.cwr_layouts.specs.Format.Lines.{IsLineOf, line_kind, line_cells}
-use Rattle.cwr_layouts.proofs.CutLaws.{line_is_cut}
-use Rattle.cwr_layouts.proofs.RowLaws.{IsRow-row_of}
-use Rattle.cwr_layouts.proofs.GoodLinesAreRows.{good_line_is_row}
+use Rattle.cwr_lines.specs.Format.Records.{RecordValue, Row, IsRecord, row_of}
+use Rattle.cwr_lines.specs.Format.GoodCells.{AreGood}
+use Rattle.cwr_lines.specs.Format.Lines.{IsLineOf, line_kind, line_cells}
+use Rattle.cwr_lines.proofs.CutLaws.{line_is_cut}
+use Rattle.cwr_lines.proofs.RowLaws.{IsRow-row_of}
+use Rattle.cwr_lines.proofs.GoodLinesAreRows.{good_line_is_row}
 use Rattle.cwr_shape.specs.declared.symbols.Symbol.{Symbol}
 use Rattle.cwr_shape.specs.declared.symbols.Symbol.TheVariants.{Plain}
 use Rattle.cwr_shape.specs.Format.Ranges.{LimitValues}

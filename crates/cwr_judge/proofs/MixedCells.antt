@@ -7,11 +7,11 @@ use Rattle.cwr_fields.specs.Format.Bytes.{filled}
 use Rattle.cwr_layouts.specs.declared.kinds.Kind.{Kind}
 use Rattle.cwr_layouts.specs.Format.Kinds.{letters}
 use Rattle.cwr_layouts.specs.Format.Layouts.{FieldLayout, fields_after_type, total_width, line_width, record_type}
-use Rattle.cwr_layouts.specs.Format.Records.{RecordValue, IsRecord, rest_if, row_of}
-use Rattle.cwr_layouts.specs.Format.Lines.{line_kind, line_cells, line_body, cells_as, pieces}
-use Rattle.cwr_layouts.proofs.RowLaws.{Fits}
-use Rattle.cwr_layouts.specs.Format.GoodCells.{AreGood}
-use Rattle.cwr_layouts.proofs.GoodLinesAreRows.{total-cons, pieces_wide, letters-of}
+use Rattle.cwr_lines.specs.Format.Records.{RecordValue, IsRecord, rest_if, row_of}
+use Rattle.cwr_lines.specs.Format.Lines.{line_kind, line_cells, line_body, cells_as, pieces}
+use Rattle.cwr_lines.proofs.RowLaws.{Fits}
+use Rattle.cwr_lines.specs.Format.GoodCells.{AreGood}
+use Rattle.cwr_lines.proofs.GoodLinesAreRows.{total-cons, pieces_wide, letters-of}
 use Rattle.cwr_shape.specs.declared.symbols.Symbol.{Symbol}
 use Rattle.cwr_values.specs.Format.Values.{symbol_of}
 

@@ -10,14 +10,14 @@ use Rattle.cwr_fields.proofs.LineFeeds.{NoLf}
 use Rattle.cwr_layouts.specs.declared.kinds.Kind.{Kind}
 use Rattle.cwr_layouts.specs.declared.kinds.Kind.TheVariants as kinds
 use Rattle.cwr_layouts.specs.Format.Layouts.{FieldLayout, fields_after_type, field_at}
-use Rattle.cwr_layouts.specs.Format.Records.{RecordValue, IsRecord, IsCellOf, IsGoodCell, carried_fields, rest_if, record_of, row_of}
-use Rattle.cwr_layouts.specs.Format.Lines.{IsLineOf}
-use Rattle.cwr_layouts.specs.Steps.Held.{HeldLine, IsHeld, HoldsLine, held_kind, held_cells, held_cell, held_record, carried_by}
-use Rattle.cwr_layouts.proofs.HeldLaws.{held_line_is_cut, length-held_cells, held_cell-at}
-use Rattle.cwr_layouts.proofs.CutLaws.{line_is_cut}
-use Rattle.cwr_layouts.proofs.RowLaws.{IsRow-row_of, record_of-row_of}
-use Rattle.cwr_layouts.specs.Format.GoodCells.{AreGood}
-use Rattle.cwr_layouts.proofs.GoodLinesAreRows.{carried_in, good_line_is_row, line_is_good}
+use Rattle.cwr_lines.specs.Format.Records.{RecordValue, IsRecord, IsCellOf, IsGoodCell, carried_fields, rest_if, record_of, row_of}
+use Rattle.cwr_lines.specs.Format.Lines.{IsLineOf}
+use Rattle.cwr_lines.specs.Steps.Held.{HeldLine, IsHeld, HoldsLine, held_kind, held_cells, held_cell, held_record, carried_by}
+use Rattle.cwr_lines.proofs.HeldLaws.{held_line_is_cut, length-held_cells, held_cell-at}
+use Rattle.cwr_lines.proofs.CutLaws.{line_is_cut}
+use Rattle.cwr_lines.proofs.RowLaws.{IsRow-row_of, record_of-row_of}
+use Rattle.cwr_lines.specs.Format.GoodCells.{AreGood}
+use Rattle.cwr_lines.proofs.GoodLinesAreRows.{carried_in, good_line_is_row, line_is_good}
 use Rattle.cwr_shape.specs.declared.symbols.Symbol.{Symbol}
 use Rattle.cwr_shape.specs.declared.symbols.Symbol.TheVariants.{Plain}
 use Rattle.cwr_shape.specs.declared.tallies.Counts.{Counts}

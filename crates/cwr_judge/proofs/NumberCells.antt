@@ -12,10 +12,10 @@ use Rattle.cwr_layouts.specs.declared.layouts.Field.{Field}
 use Rattle.cwr_layouts.specs.Format.Kinds.{is_in_transaction}
 use Rattle.cwr_layouts.specs.Format.Layouts.{FieldLayout, layout, field_at, field_with_start}
 use Rattle.cwr_layouts.specs.Steps.Views.{field_view}
-use Rattle.cwr_layouts.specs.Format.Records.{RecordValue}
-use Rattle.cwr_layouts.specs.Steps.Held.{HeldLine, held_kind, held_cell, held_cells, held_record, carried_by}
+use Rattle.cwr_lines.specs.Format.Records.{RecordValue}
+use Rattle.cwr_lines.specs.Steps.Held.{HeldLine, held_kind, held_cell, held_cells, held_record, carried_by}
 use Rattle.cwr_layouts.proofs.FieldStarts.{field_at-start}
-use Rattle.cwr_layouts.proofs.HeldLaws.{length-held_cell}
+use Rattle.cwr_lines.proofs.HeldLaws.{length-held_cell}
 use Rattle.cwr_layouts.proofs.TypeWidths.{type_width-field}
 use Rattle.cwr_shape.specs.declared.symbols.Symbol.{Symbol}
 use Rattle.cwr_shape.specs.declared.tallies.Bar.{Bar}

@@ -11,8 +11,8 @@ use Rattle.cwr_layouts.specs.declared.kinds.Kind.{Kind}
 use Rattle.cwr_layouts.specs.declared.kinds.Kind.TheVariants as kinds
 use Rattle.cwr_layouts.specs.Format.Kinds.{letters}
 use Rattle.cwr_layouts.specs.Format.Layouts.{FieldLayout, field_at, record_type, line_width}
-use Rattle.cwr_layouts.specs.Format.Lines.{cells_as, line_body, line_kind}
-use Rattle.cwr_layouts.proofs.GoodLinesAreRows.{letters-of, three-filled}
+use Rattle.cwr_lines.specs.Format.Lines.{cells_as, line_body, line_kind}
+use Rattle.cwr_lines.proofs.GoodLinesAreRows.{letters-of, three-filled}
 use Rattle.cwr_shape.specs.Format.Numbers.{number_fields, number_in}
 use Rattle.cwr_judge.specs.Format.Reasons.{cell_of}
 

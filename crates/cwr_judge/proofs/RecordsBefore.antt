@@ -1,9 +1,9 @@
 -- Rows that are cut at one of them are those of records, cut at its record.
 use Rattle.std.proofs.Common.{◌≡◌, ℕ, List, [], ◌∷◌, ◌++◌, map, refl, sym, ap, ap₂, subst, ◌∙◌, append_assoc, append-nil}
 use Rattle.std.specs.List.{AllZip, AllByRecursion}
-use Rattle.cwr_layouts.specs.Format.Records.{RecordValue, Row, IsRecord, IsRow, record_of}
-use Rattle.cwr_layouts.specs.Format.Lines.{IsLineOf}
-use Rattle.cwr_layouts.proofs.RowLaws.{IsRow-row_of}
+use Rattle.cwr_lines.specs.Format.Records.{RecordValue, Row, IsRecord, IsRow, record_of}
+use Rattle.cwr_lines.specs.Format.Lines.{IsLineOf}
+use Rattle.cwr_lines.proofs.RowLaws.{IsRow-row_of}
 use Rattle.cwr_values.specs.Format.Values.{TransmissionValue, IsTransmission}
 use Rattle.cwr_values.specs.Format.Rows.{records_of, rows}
 use Rattle.cwr_values.specs.Format.Begins.{row_after, rows_after, rows_so_far}

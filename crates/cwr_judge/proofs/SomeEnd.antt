@@ -1,7 +1,7 @@
 -- A text has some end: one that isn't accepted, and in which no place is the first bad one, is truncated.
 use Rattle.std.proofs.Common.{◌≡◌, ℕ, zero, suc, ◌<◌, ◌≤◌, List, length, refl, sym, subst, arith, inl, inr, ap}
 use Rattle.std.specs.Prelude.{◌⊎◌}
-use Rattle.cwr_layouts.specs.Format.Lines.{closed, raw_lines}
+use Rattle.cwr_lines.specs.Format.Lines.{closed, raw_lines}
 use Rattle.cwr_shape.specs.declared.limits.Limits.{Limits}
 use Rattle.cwr_judge.specs.Format.Places.{IsBadAt, IsFirstBad}
 use Rattle.cwr_judge.specs.Format.Ends.{IsNotAccepted, IsTruncated}

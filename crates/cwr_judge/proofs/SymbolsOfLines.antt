@@ -1,8 +1,8 @@
 -- What a transmission continues from by the symbols that accepted lines name is what it continues from by those of their records.
 use Rattle.std.proofs.Common.{◌≡◌, ℕ, List, [], ◌∷◌, ◌++◌, map, ap, ap₂, ◌∙◌, refl}
 use Rattle.std.specs.List.{AllZip, AllByRecursion, IsAmong}
-use Rattle.cwr_layouts.specs.Format.Records.{RecordValue, IsRecord}
-use Rattle.cwr_layouts.specs.Format.Lines.{IsLineOf, line_kind, line_cells}
+use Rattle.cwr_lines.specs.Format.Records.{RecordValue, IsRecord}
+use Rattle.cwr_lines.specs.Format.Lines.{IsLineOf, line_kind, line_cells}
 use Rattle.cwr_shape.specs.declared.symbols.Symbol.{Symbol}
 use Rattle.cwr_shape.specs.Format.Outlines.{GroupOutline}
 use Rattle.cwr_shape.specs.Format.Candidates.{candidates, ContinuesAmong}

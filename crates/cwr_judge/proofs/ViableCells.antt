@@ -3,9 +3,9 @@ use Rattle.std.proofs.Common.{◌≡◌, ℕ, suc, List, [], ◌∷◌, ◌++◌
 use Rattle.std.specs.List.{AllZip, AllByRecursion}
 use Rattle.std.proofs.lemmas.List.{map-append}
 use Rattle.cwr_layouts.specs.Format.Layouts.{layout}
-use Rattle.cwr_layouts.specs.Format.Records.{RecordValue, Row, IsRecord}
-use Rattle.cwr_layouts.specs.Format.Lines.{IsLineOf, line_cells}
-use Rattle.cwr_layouts.proofs.RowLaws.{row_fits}
+use Rattle.cwr_lines.specs.Format.Records.{RecordValue, Row, IsRecord}
+use Rattle.cwr_lines.specs.Format.Lines.{IsLineOf, line_cells}
+use Rattle.cwr_lines.proofs.RowLaws.{row_fits}
 use Rattle.cwr_shape.specs.declared.symbols.Symbol.{Symbol}
 use Rattle.cwr_shape.specs.Format.Ranges.{LimitValues}
 use Rattle.cwr_shape.specs.Format.Outlines.{symbols_of}

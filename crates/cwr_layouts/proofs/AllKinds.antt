@@ -17,6 +17,12 @@ pub kind_of-letters : (kind : Kind) → kind_of (letters kind) ≡ Some kind
 kind_of-letters Hdr = refl
 kind_of-letters this_kind = refl
 
+-- and each kind has letters of its own
+pub letters-injective : (j k : Kind) → letters j ≡ letters k → j ≡ k
+letters-injective j k e =
+    let same : Some j ≡ Some k = sym (kind_of-letters j) ∙ ap kind_of e ∙ kind_of-letters k in
+    cc same
+
 -- each kind has three letters
 pub length-letters : (kind : Kind) → length (letters kind) ≡ 3
 length-letters Hdr = refl

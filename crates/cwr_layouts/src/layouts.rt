@@ -523,7 +523,7 @@ static CARRIED: [Field; 4] = [
 
 /// The fields of a kind, in order.
 #[inline(always)]
-pub(crate) fn layout(kind: Kind) -> &'static [Field]
+pub fn layout(kind: Kind) -> &'static [Field]
     ensures { map field_view result.now ≡ fields_with_starts 0 (layout_of kind) }
 {
     match kind {

@@ -2,7 +2,6 @@
 
 ghost use Rattle.std.specs.Prelude.{◌≡◌, option_map, length};
 ghost use Rattle.cwr_layouts.specs.Format.Layouts.{field_with_start, layout as layout_of, line_width};
-ghost use Rattle.cwr_layouts.specs.Format.Carried.{carried_with_start};
 ghost use Rattle.cwr_layouts.specs.Steps.Views.{field_view};
 
 use crate::kinds::Kind;
@@ -17,19 +16,6 @@ pub fn field(kind: Kind, j: u8) -> Option<Field>
         return None;
     }
     layout(kind).get(j as usize - 1).copied()
-}
-
-/// Field `j` of a kind's layout, from 1, where its cells are in values. `None` where the kind has no such field, and
-/// where that is derived.
-#[inline(always)]
-pub(crate) fn carried_field(kind: Kind, j: u8) -> Option<Field>
-    ensures { option_map field_view result ≡ carried_with_start kind j }
-{
-    let place = field(kind, j)?;
-    if place.derived {
-        return None;
-    }
-    Some(place)
 }
 
 /// How many fields a kind has, the record type counted.

@@ -12,7 +12,7 @@ use Rattle.cwr_layouts.specs.declared.kinds.Kind.TheVariants as kinds
 use Rattle.cwr_fields.specs.declared.codes.Role.{Role}
 use Rattle.cwr_fields.specs.Format.Bytes.{number_of}
 use Rattle.cwr_fields.specs.Format.Codes.{role_code}
-use Rattle.cwr_layouts.specs.Format.Records.{RecordValue, IsRecord, cell_named}
+use Rattle.cwr_lines.specs.Format.Records.{RecordValue, IsRecord, cell_named}
 use Rattle.cwr_levels.specs.Format.Fields.{IsField}
 use Rattle.cwr_levels.specs.Format.Findings.{share_of, is_owner, is_party, of_role}
 use Rattle.cwr_levels.specs.declared.shares.Shares.{Shares}

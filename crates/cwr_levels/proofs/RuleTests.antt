@@ -8,8 +8,8 @@ use Rattle.cwr_fields.specs.Format.Bytes.{is_spaces}
 use Rattle.cwr_fields.specs.Format.Iswc.{is_iswc}
 use Rattle.cwr_layouts.specs.declared.kinds.Kind.{Kind}
 use Rattle.cwr_layouts.specs.declared.kinds.Kind.TheVariants as kinds
-use Rattle.cwr_layouts.specs.Format.Carried.{record_cell}
-use Rattle.cwr_layouts.specs.Format.Records.{RecordValue, IsRecord, cell_named}
+use Rattle.cwr_lines.specs.Format.Carried.{record_cell}
+use Rattle.cwr_lines.specs.Format.Records.{RecordValue, IsRecord, cell_named}
 use Rattle.cwr_levels.specs.declared.rules.Rule.TheVariants.{V1, V2, V7}
 use Rattle.cwr_levels.specs.Format.Fields.{IsField}
 use Rattle.cwr_levels.specs.Format.Findings.{breaks, is_a, is_work, is_agreement, is_blank, nearest, has_party_number, names_author, is_author}

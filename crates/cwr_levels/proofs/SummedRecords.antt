@@ -11,7 +11,7 @@ use Rattle.std.proofs.lemmas.List.Folds.{list_any-append}
 use Rattle.cwr_layouts.specs.declared.kinds.Kind.{Kind}
 use Rattle.cwr_layouts.specs.declared.kinds.Kind.TheVariants as kinds
 use Rattle.cwr_fields.specs.Format.Bytes.{is_spaces}
-use Rattle.cwr_layouts.specs.Format.Records.{RecordValue, IsRecord, cell_named}
+use Rattle.cwr_lines.specs.Format.Records.{RecordValue, IsRecord, cell_named}
 use Rattle.cwr_levels.specs.declared.rules.Rule.{Rule}
 use Rattle.cwr_levels.specs.declared.rules.Rule.TheVariants.{V1, V2, V3, V4, V5, V6, V7, V8, V9, V10, V11}
 use Rattle.cwr_levels.specs.declared.rules.Finding.{Finding}

@@ -1,11 +1,12 @@
 //! What the rules ask of the records before one.
 
 ghost use Rattle.std.specs.Prelude.{◌≡◌, ◌++◌, ◌∷◌, [], List, option_map};
-ghost use Rattle.cwr_layouts.specs.Format.Records.{RecordValue};
+ghost use Rattle.cwr_lines.specs.Format.Records.{RecordValue};
 ghost use Rattle.cwr_levels.specs.Steps.Walks.{IsBefore};
 
 use crate::named_cells::{PUBLISHER_NUMBER, WRITER_NUMBER, cell};
-use cwr_layouts::{Kind, RecordRef};
+use cwr_layouts::Kind;
+use cwr_lines::RecordRef;
 
 /// What the records before one leave behind.
 #[derive(Clone, Copy)]

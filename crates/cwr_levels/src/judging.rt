@@ -4,7 +4,7 @@ ghost use Rattle.std.specs.Prelude.{◌≡◌, ℕ, ◌+◌, ◌<◌, ◌&&◌, 
 ghost use Rattle.std.specs.List.{list_any};
 ghost use Rattle.cwr_fields.specs.Format.Bytes.{is_spaces};
 ghost use Rattle.cwr_fields.specs.Format.Iswc.{is_iswc};
-ghost use Rattle.cwr_layouts.specs.Format.Records.{RecordValue};
+ghost use Rattle.cwr_lines.specs.Format.Records.{RecordValue};
 ghost use Rattle.cwr_levels.specs.declared.rules.Rule.TheVariants.{V1, V2, V3, V4, V5, V6, V7, V8, V9, V10, V11};
 ghost use Rattle.cwr_levels.specs.Format.Findings.{breaks, counts_others, ends_before_start, is_agreement, is_blank, is_off, is_work};
 ghost use Rattle.cwr_levels.specs.Steps.Walks.{AreTotals, IsBefore, KnowsNumbersOf, capped, is_number};
@@ -20,7 +20,8 @@ use crate::rules::Rule;
 use crate::shares::{Sides, is_off};
 use crate::totals::TransactionTotals;
 use cwr_fields::{is_spaces, iswc_ok};
-use cwr_layouts::{Kind, RecordRef};
+use cwr_layouts::Kind;
+use cwr_lines::RecordRef;
 
 /// Whether the records begin with the header of a work.
 #[inline(always)]

@@ -2,11 +2,12 @@
 
 ghost use Rattle.std.specs.Prelude.{◌≡◌, ◌<◌, ◌≤◌, ◌^◌, [], length, unwrap_or};
 ghost use Rattle.cwr_fields.specs.Format.Bytes.{number_of};
-ghost use Rattle.cwr_layouts.specs.Format.Records.{IsRecord};
-ghost use Rattle.cwr_layouts.specs.Format.Carried.{record_cell};
+ghost use Rattle.cwr_lines.specs.Format.Records.{IsRecord};
+ghost use Rattle.cwr_lines.specs.Format.Carried.{record_cell};
 ghost use Rattle.cwr_levels.specs.Format.Findings.{is_a, is_owner};
 
-use cwr_layouts::{Kind, RecordRef};
+use cwr_layouts::Kind;
+use cwr_lines::RecordRef;
 
 /// AGR: agreement start date.
 pub(crate) const START_DATE: u8 = 7;

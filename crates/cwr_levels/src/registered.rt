@@ -4,7 +4,8 @@ ghost use Rattle.std.specs.Prelude.{◌≡◌, ◌+◌, ◌^◌, ◌<◌, ◌≤
 ghost use Rattle.cwr_levels.specs.Format.Findings.{before_copy, stands_before_copy};
 
 use crate::named_cells::is_of;
-use cwr_layouts::{Kind, RecordRef};
+use cwr_layouts::Kind;
+use cwr_lines::RecordRef;
 use cwr_values::Transaction;
 use std::marker::Model;
 
@@ -44,7 +45,7 @@ pub(crate) struct Registered<'a> {
 
 impl<'a> Model for Registered<'a> {
     ghost use Rattle.std.specs.Prelude.{List, drop, length, ◌≤◌};
-    ghost use Rattle.cwr_layouts.specs.Format.Records.{RecordValue};
+    ghost use Rattle.cwr_lines.specs.Format.Records.{RecordValue};
 
     ghost Value = { List RecordValue };
 

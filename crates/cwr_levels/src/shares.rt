@@ -1,14 +1,15 @@
 //! Shares of records, added up.
 
 ghost use Rattle.std.specs.Prelude.{◌≡◌, ◌<◌, ℕ, ◌++◌, ◌∷◌, ◌||◌, [], List, true, drop, if◌then◌else◌};
-ghost use Rattle.cwr_layouts.specs.Format.Records.{RecordValue};
+ghost use Rattle.cwr_lines.specs.Format.Records.{RecordValue};
 ghost use Rattle.cwr_levels.specs.Format.Fields.{HasSharesFrom};
 ghost use Rattle.cwr_levels.specs.Format.Findings.{is_off, is_party, parties_after, are_over_whole, have_side_over_whole};
 ghost use Rattle.cwr_levels.specs.Steps.Walks.{AddUpTo, SidesAddUpTo, capped, has_shares};
 
 use crate::named_cells::{PUBLISHER_SHARES, ROLE, WRITER_SHARES, cell, is_of, number_of};
 use crate::registered::Registered;
-use cwr_layouts::{Kind, RecordRef};
+use cwr_layouts::Kind;
+use cwr_lines::RecordRef;
 
 /// Shares in the three rights, in hundredths of a percent, as far as 64 bits go.
 #[derive(Clone, Copy)]

@@ -4,7 +4,7 @@
 ghost use Rattle.std.specs.Prelude.{◌≡◌, ℕ, ◌++◌, ◌∷◌, [], ◌<◌, ◌^◌, List, length, option_map, true, false, IfSome, IsTrue, IsFalse};
 ghost use Rattle.std.specs.List.{list_any};
 ghost use Rattle.std.specs.Str.{bytes_eq};
-ghost use Rattle.cwr_layouts.specs.Format.Records.{RecordValue};
+ghost use Rattle.cwr_lines.specs.Format.Records.{RecordValue};
 ghost use Rattle.cwr_levels.specs.declared.rules.Rule.TheVariants.{V7, V8};
 ghost use Rattle.cwr_levels.specs.Format.Findings.{breaks, findings, findings_after, is_blank, is_work};
 ghost use Rattle.cwr_levels.specs.Steps.Sums.{AreSums, AsksComponents, IsUnbroken, KeepsNumbers, StandFor, wants_other};
@@ -21,7 +21,8 @@ use crate::shares::is_off;
 use crate::totals::TransactionTotals;
 use arrayvec::ArrayVec;
 use cwr_fields::is_spaces;
-use cwr_layouts::{Kind, RecordRef};
+use cwr_layouts::Kind;
+use cwr_lines::RecordRef;
 
 /// The bytes of an interested party's number.
 type Number = [u8; 9];

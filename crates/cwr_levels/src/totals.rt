@@ -1,14 +1,15 @@
 //! What the rules ask of all records of a transaction: sums and counts.
 
 ghost use Rattle.std.specs.Prelude.{◌≡◌, ◌+◌, ◌^◌, ◌<◌, ◌++◌, ◌∷◌, [], List, length};
-ghost use Rattle.cwr_layouts.specs.Format.Records.{RecordValue};
+ghost use Rattle.cwr_lines.specs.Format.Records.{RecordValue};
 ghost use Rattle.cwr_levels.specs.Format.Findings.{is_author, names_author};
 ghost use Rattle.cwr_levels.specs.Steps.Walks.{AreTotals};
 
 use crate::named_cells::{DESIGNATION, cell, is_of, is_owner};
 use crate::registered::Registered;
 use crate::shares::Shares;
-use cwr_layouts::{Kind, RecordRef};
+use cwr_layouts::Kind;
+use cwr_lines::RecordRef;
 
 /// Whether the designation is that of someone who has written words or music.
 #[inline(always)]

@@ -1,11 +1,12 @@
 //! Transactions of worked records, some of whose cells have other texts, and their findings.
 
 ghost use Rattle.std.specs.Prelude.{◌≢◌};
-ghost use Rattle.cwr_layouts.specs.declared.lines.LineEnd.TheVariants.{Open};
+ghost use Rattle.cwr_lines.specs.declared.lines.LineEnd.TheVariants.{Open};
 
 use crate::checks::check_equal;
-use cwr_layouts::{Draft, LineBuf, LineEnd, Record, RecordRef, fields};
+use cwr_layouts::fields;
 use cwr_levels::{Finding, Rule, findings};
+use cwr_lines::{Draft, LineBuf, LineEnd, Record, RecordRef};
 use cwr_shape::Level;
 use cwr_values::Transaction;
 use std::process::Abort;

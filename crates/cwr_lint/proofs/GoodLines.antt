@@ -12,13 +12,13 @@ use Rattle.cwr_fields.proofs.Digits.{length-digits, number_of-digits}
 use Rattle.cwr_fields.proofs.Spellings.{are_digits-digits}
 use Rattle.cwr_layouts.specs.declared.kinds.Kind.{Kind}
 use Rattle.cwr_layouts.specs.declared.kinds.Kind.TheVariants as kinds
-use Rattle.cwr_layouts.specs.declared.lines.LineEnd.TheVariants.{Line}
+use Rattle.cwr_lines.specs.declared.lines.LineEnd.TheVariants.{Line}
 use Rattle.cwr_layouts.specs.Format.Layouts.{FieldLayout, field_at, layout}
-use Rattle.cwr_layouts.specs.Format.Lines.{IsLineOf, has_bad_excess, line_cells, line_kind}
-use Rattle.cwr_layouts.specs.Format.Records.{RecordValue, IsRecord, row_of}
-use Rattle.cwr_layouts.specs.Steps.Held.{HeldLine, IsHeld, cell_as}
-use Rattle.cwr_layouts.proofs.GoodLinesAreRows.{IsCutGood, line_is_good}
-use Rattle.cwr_layouts.proofs.HeldLaws.{held_cell-at, length-held_cells, held_line_is_cut}
+use Rattle.cwr_lines.specs.Format.Lines.{IsLineOf, has_bad_excess, line_cells, line_kind}
+use Rattle.cwr_lines.specs.Format.Records.{RecordValue, IsRecord, row_of}
+use Rattle.cwr_lines.specs.Steps.Held.{HeldLine, IsHeld, cell_as}
+use Rattle.cwr_lines.proofs.GoodLinesAreRows.{IsCutGood, line_is_good}
+use Rattle.cwr_lines.proofs.HeldLaws.{held_cell-at, length-held_cells, held_line_is_cut}
 use Rattle.cwr_shape.specs.declared.symbols.Symbol.{Symbol}
 use Rattle.cwr_shape.specs.declared.symbols.Symbol.TheVariants.{Ipa, Grh}
 use Rattle.cwr_shape.specs.declared.stages.Stage.{Stage}

@@ -5,7 +5,7 @@ use Rattle.std.specs.List.{list_any}
 use Rattle.std.proofs.KnownBytes.{Consumes-nil}
 use Rattle.std.proofs.lemmas.List.{length-append}
 use Rattle.std.proofs.Math.Seq.{drop-append-le, drop-append_seam}
-use Rattle.cwr_layouts.specs.Format.Lines.{is_lf}
+use Rattle.cwr_lines.specs.Format.Lines.{is_lf}
 use Rattle.cwr_decode.specs.declared.last_bytes.LastBytes.{LastBytes}
 use Rattle.cwr_decode.specs.Steps.LastReads.{HoldsLast, last_held}
 use Rattle.cwr_explain.specs.declared.lines_at_end.LineAtEnd.{LineAtEnd}

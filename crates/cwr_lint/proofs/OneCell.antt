@@ -10,9 +10,9 @@ use Rattle.cwr_layouts.specs.declared.kinds.Kind.{Kind}
 use Rattle.cwr_layouts.specs.declared.kinds.Kind.TheVariants as kinds
 use Rattle.cwr_fields.specs.Format.Bytes.{filled}
 use Rattle.cwr_layouts.specs.Format.Layouts.{FieldLayout, field_at, fields_after_type, layout, line_width}
-use Rattle.cwr_layouts.specs.Format.Lines.{IsLineOf, cells_as, closed, is_lf, line_body, line_cells, line_kind, pieces, raw_lines}
-use Rattle.cwr_layouts.specs.Format.Records.{IsRecord, RecordValue, Row}
-use Rattle.cwr_layouts.proofs.GoodLinesAreRows.{line_is_good}
+use Rattle.cwr_lines.specs.Format.Lines.{IsLineOf, cells_as, closed, is_lf, line_body, line_cells, line_kind, pieces, raw_lines}
+use Rattle.cwr_lines.specs.Format.Records.{IsRecord, RecordValue, Row}
+use Rattle.cwr_lines.proofs.GoodLinesAreRows.{line_is_good}
 use Rattle.cwr_shape.specs.declared.stages.Stage.{Stage}
 use Rattle.cwr_shape.specs.declared.stages.Stage.TheVariants.{Start, Within, Closed, Ended}
 use Rattle.cwr_shape.specs.declared.symbols.Symbol.{Symbol}

@@ -4,11 +4,11 @@ use Rattle.std.specs.Prelude.{◌⊎◌}
 use Rattle.std.specs.List.{AllZip}
 use Rattle.std.proofs.lemmas.Grind.{flat_map-append}
 use Rattle.std.proofs.lemmas.List.{length-append}
-use Rattle.cwr_layouts.specs.Format.Lines.{IsLineOf}
-use Rattle.cwr_layouts.specs.Format.Records.{Row}
-use Rattle.cwr_layouts.proofs.CutLaws.{IsCutInto, line_is_cut}
-use Rattle.cwr_layouts.proofs.LineLaws.{lines_agree, lines_text}
-use Rattle.cwr_layouts.proofs.RowLaws.{IsRow-row_of}
+use Rattle.cwr_lines.specs.Format.Lines.{IsLineOf}
+use Rattle.cwr_lines.specs.Format.Records.{Row}
+use Rattle.cwr_lines.proofs.CutLaws.{IsCutInto, line_is_cut}
+use Rattle.cwr_lines.proofs.LineLaws.{lines_agree, lines_text}
+use Rattle.cwr_lines.proofs.RowLaws.{IsRow-row_of}
 use Rattle.cwr_shape.specs.declared.limits.Limits.{Limits}
 use Rattle.cwr_values.specs.Format.Begins.{numbers_after, row_after}
 use Rattle.cwr_values.specs.Format.Rows.{rows}

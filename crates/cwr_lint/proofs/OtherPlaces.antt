@@ -4,13 +4,13 @@ use Rattle.std.specs.Prelude.{◌⊎◌, IsFalse, slice_index}
 use Rattle.std.specs.List.{AllByRecursion, AllZip, list_any}
 use Rattle.std.proofs.lemmas.List.{map-append}
 use Rattle.cwr_layouts.specs.declared.kinds.Kind.{Kind}
-use Rattle.cwr_layouts.specs.Format.GoodCells.{AreGood}
+use Rattle.cwr_lines.specs.Format.GoodCells.{AreGood}
 use Rattle.cwr_layouts.specs.Format.Layouts.{FieldLayout, field_at, fields_after_type, layout}
-use Rattle.cwr_layouts.specs.Format.Lines.{IsLineOf, closed, is_lf, line_cells, line_kind, raw_lines}
-use Rattle.cwr_layouts.specs.Format.Records.{IsGoodCell, RecordValue, Row, rest_if}
-use Rattle.cwr_layouts.proofs.CutLaws.{IsCutInto, line_is_cut}
-use Rattle.cwr_layouts.proofs.RowLaws.{IsRow-row_of}
-use Rattle.cwr_layouts.proofs.GoodLinesAreRows.{IsCutGood, line_is_good}
+use Rattle.cwr_lines.specs.Format.Lines.{IsLineOf, closed, is_lf, line_cells, line_kind, raw_lines}
+use Rattle.cwr_lines.specs.Format.Records.{IsGoodCell, RecordValue, Row, rest_if}
+use Rattle.cwr_lines.proofs.CutLaws.{IsCutInto, line_is_cut}
+use Rattle.cwr_lines.proofs.RowLaws.{IsRow-row_of}
+use Rattle.cwr_lines.proofs.GoodLinesAreRows.{IsCutGood, line_is_good}
 use Rattle.cwr_shape.specs.declared.limits.Limits.{Limits}
 use Rattle.cwr_shape.specs.Format.Outlines.{Continues, IsWithin}
 use Rattle.cwr_values.specs.Format.Begins.{numbers_after, row_after, rows_so_far}

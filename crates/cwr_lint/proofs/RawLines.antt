@@ -10,9 +10,9 @@ use Rattle.std.proofs.lemmas.List.{length-append, length-take, take_all, take_mi
 use Rattle.std.proofs.lemmas.List.Folds.{list_any-append}
 use Rattle.std.proofs.Math.Seq.{take-suc}
 use Rattle.cwr_fields.specs.Format.Bytes.{is_spaces}
-use Rattle.cwr_layouts.specs.Format.Lines.{is_lf, is_too_long, line_body, longest_line, without_cr}
-use Rattle.cwr_layouts.specs.Steps.Held.{FillsLongest, HoldsBy, IsHeld, held_body}
-use Rattle.cwr_layouts.proofs.HeldLaws.{held_line_is_cut}
+use Rattle.cwr_lines.specs.Format.Lines.{is_lf, is_too_long, line_body, longest_line, without_cr}
+use Rattle.cwr_lines.specs.Steps.Held.{FillsLongest, HoldsBy, IsHeld, held_body}
+use Rattle.cwr_lines.proofs.HeldLaws.{held_line_is_cut}
 use Rattle.cwr_decode.proofs.ClosedTexts.{text_of-push}
 use Rattle.cwr_decode.proofs.FromReader.{consumes_taken}
 use Rattle.cwr_lint.specs.declared.raw_lines.RawLine.{RawLine}

@@ -2,7 +2,7 @@
 use Rattle.std.proofs.Common.{◌≡◌, ℕ, ◌+◌, ◌-◌, ◌≤◌, min, Bool, true, false, true≢false, List, [], ◌∷◌, ◌++◌, length, Option, Some, None, refl, sym, ap, subst, ◌∙◌, arith, inl, inr, append_assoc, append-nil}
 use Rattle.std.specs.Prelude.{◌⊎◌, ◌^◌, IfSome, IsFalse}
 use Rattle.std.specs.List.{AllByRecursion, list_any}
-use Rattle.cwr_layouts.specs.Format.Lines.{is_lf}
+use Rattle.cwr_lines.specs.Format.Lines.{is_lf}
 use Rattle.std.specs.Io.KnownBytes.{Consumes, IsAtEnd}
 use Rattle.std.proofs.KnownBytes.{Consumes-nil, Consumes-trans}
 use Rattle.std.proofs.lemmas.List.{length-append}
@@ -10,7 +10,7 @@ use Rattle.cwr_judge.specs.declared.refusals.Refusal.{Refusal}
 use Rattle.cwr_levels.specs.Format.ReportLines.{faults_line}
 use Rattle.cwr_lint.specs.declared.linting.LintRun.{LintRun}
 use Rattle.cwr_lint.specs.declared.raw_lines.RawLine.{RawLine}
-use Rattle.cwr_layouts.specs.Format.Records.{RecordValue}
+use Rattle.cwr_lines.specs.Format.Records.{RecordValue}
 use Rattle.cwr_lint_lines.specs.Format.FaultsAtFields.{LineCut, cut_of, one_more_line}
 use Rattle.cwr_lint.specs.Format.FaultsOfLines.{count_after}
 use Rattle.cwr_lint.specs.Steps.Walks.{Walk, WalksLine, WalksLines}

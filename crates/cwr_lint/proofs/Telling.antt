@@ -5,17 +5,17 @@ use Rattle.std.proofs.lemmas.Bool.{eqb-true}
 use Rattle.std.proofs.lemmas.List.{length-append}
 use Rattle.cwr_layouts.specs.declared.kinds.Kind.{Kind}
 use Rattle.cwr_layouts.specs.declared.kinds.Kind.TheVariants.{Trl}
-use Rattle.cwr_layouts.specs.Steps.Held.{HeldLine, held_kind}
+use Rattle.cwr_lines.specs.Steps.Held.{HeldLine, held_kind}
 use Rattle.cwr_shape.specs.declared.tallies.Scope.{Scope}
 use Rattle.cwr_judge.specs.declared.refusals.Refusal.{Refusal}
-use Rattle.cwr_encode.specs.declared.sinks.Sink.{Sink}
-use Rattle.cwr_encode.specs.Steps.Sinks.{has_failed}
+use Rattle.cwr_sinks.specs.declared.sinks.Sink.{Sink}
+use Rattle.cwr_sinks.specs.Steps.Sinks.{has_failed}
 use Rattle.cwr_tools.specs.declared.verdicts.ToolFault.{ToolFault}
 use Rattle.cwr_tools.specs.declared.verdicts.ToolFault.TheVariants as faults
 use Rattle.cwr_lint_lines.specs.declared.judging.Judged.{Judged}
 use Rattle.cwr_lint_lines.specs.declared.judging.Judged.TheVariants.{Unknown, Known as Of}
 use Rattle.cwr_lint.specs.declared.linting.LintRun.{LintRun}
-use Rattle.cwr_layouts.specs.Format.Records.{RecordValue}
+use Rattle.cwr_lines.specs.Format.Records.{RecordValue}
 use Rattle.cwr_lint_lines.specs.declared.states.LintState.{LintState}
 use Rattle.cwr_lint_lines.specs.Format.FaultsAtFields.{JudgedLine, LineCut, fields_end, one_more_line}
 use Rattle.cwr_lint.specs.Format.FaultsOfLines.{EndedTransaction, IsFaultText, Tells, TellsLine, TellsMore, ended_lines}

@@ -1,8 +1,8 @@
 //! The open transaction's records, as long as it has no fault, and its findings.
 
 ghost use Rattle.std.specs.Prelude.{◌≡◌, ◌⊎◌, ◌&&◌, ◌++◌, ◌∷◌, [], ◌+◌, ◌-◌, ◌^◌, min, nat_le, length, false, IfOk, None, Some, if◌then◌else◌};
-ghost use Rattle.cwr_encode.specs.Steps.Sinks.{has_failed};
-ghost use Rattle.cwr_layouts.specs.Steps.Held.{held_record};
+ghost use Rattle.cwr_sinks.specs.Steps.Sinks.{has_failed};
+ghost use Rattle.cwr_lines.specs.Steps.Held.{held_record};
 ghost use Rattle.cwr_values.specs.Format.Begun.{BeginsWithOneMore};
 ghost use Rattle.cwr_lint.specs.Format.FaultsOfLines.{ended_lines};
 ghost use Rattle.cwr_lint_lines.specs.Steps.Cells.{held_cut};
@@ -12,10 +12,10 @@ ghost use Rattle.cwr_lint_lines.specs.declared.takings.Taking.{Taking};
 ghost use Rattle.cwr_lint.specs.Steps.Walks.{AfterCarried, AfterJudged, AfterRecord, GoesOnWith, ended_by, ended_in, ends_by_taking, ends_transaction};
 
 use crate::puts::report_number;
-use cwr_encode::Sink;
 use cwr_fields::Target;
-use cwr_layouts::{CutLine, RecordRef};
+use cwr_lines::{CutLine, RecordRef};
 use cwr_lint_lines::{Judged, Known, LintState, OpenGroup, Taking};
+use cwr_sinks::Sink;
 use cwr_tools::{ToolFault, put_transaction_findings};
 use cwr_values::{PushFault, Transaction};
 use std::alloc::{AllocError, Global};

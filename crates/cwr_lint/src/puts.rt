@@ -2,7 +2,7 @@
 
 ghost use Rattle.std.specs.Prelude.{◌≡◌, false};
 ghost use Rattle.std.specs.Option.{is_some};
-ghost use Rattle.cwr_encode.specs.Steps.Sinks.{has_failed};
+ghost use Rattle.cwr_sinks.specs.Steps.Sinks.{has_failed};
 ghost use Rattle.cwr_levels.specs.Format.ReportLines.{fault_line, faults_line};
 ghost use Rattle.cwr_lint_lines.specs.Format.FaultsAtFields.{report_number};
 ghost use Rattle.cwr_lint.specs.Format.FaultsOfLines.{IsFaultText};
@@ -12,11 +12,11 @@ ghost use Rattle.cwr_lint.specs.Steps.Runs.{AreWords, IsEndText};
 
 use crate::raw_lines::RawLine;
 use cwr_decode::Refusal;
-use cwr_encode::{Sink, SinkFault};
 use cwr_explain::explain_fault;
 use cwr_fields::Target;
 use cwr_levels::{fault_line, faults_line, truncated_line};
 use cwr_shape::{Limits, Stage};
+use cwr_sinks::{Sink, SinkFault};
 use cwr_tools::ToolFault;
 use std::alloc::Global;
 

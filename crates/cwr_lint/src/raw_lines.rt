@@ -2,18 +2,18 @@
 
 ghost use Rattle.std.specs.Prelude.{◌≡◌, ◌≢◌, ℕ, ◌+◌, ◌≤◌, ◌<◌, ◌||◌, nat_lt, List, [], ◌∷◌, ◌++◌, length, take, slice_index, true, false, IfOk, IsFalse, MatchOption};
 ghost use Rattle.std.specs.List.{list_any};
-ghost use Rattle.cwr_encode.specs.Steps.Sinks.{CountsOn};
+ghost use Rattle.cwr_sinks.specs.Steps.Sinks.{CountsOn};
 ghost use Rattle.cwr_explain.specs.Format.Explained.{TakesMore};
 ghost use Rattle.cwr_fields.specs.Format.Bytes.{is_spaces};
-ghost use Rattle.cwr_layouts.specs.Format.Lines.{is_lf, without_cr};
-ghost use Rattle.cwr_layouts.specs.Steps.Held.{empty_line, held_body};
+ghost use Rattle.cwr_lines.specs.Format.Lines.{is_lf, without_cr};
+ghost use Rattle.cwr_lines.specs.Steps.Held.{empty_line, held_body};
 ghost use Rattle.cwr_lint.specs.Steps.LinesRead.{AddsPiece, HoldsRaw, IsOfLine, ReadsLast, ReadsLineIf, ReadsPiece, ReadsRest, held_raw};
 
 use arrayvec::ArrayVec;
 use cwr_decode::LastBytes;
 use cwr_explain::{LineAtEnd, line_at_end};
 use cwr_fields::{DeviceFault, Source, is_spaces};
-use cwr_layouts::{LONGEST_LINE, LineBuf, LineEnd};
+use cwr_lines::{LONGEST_LINE, LineBuf, LineEnd};
 use memchr::memchr;
 
 const LF: u8 = b'\n';

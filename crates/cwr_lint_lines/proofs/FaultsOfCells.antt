@@ -4,7 +4,7 @@ use Rattle.cwr_fields.specs.declared.cell_types.CellFault.{CellFault}
 use Rattle.cwr_layouts.specs.declared.kinds.Kind.{Kind}
 use Rattle.cwr_layouts.specs.declared.layouts.Field.{Field}
 use Rattle.cwr_layouts.specs.Format.Layouts.{FieldLayout, field_at, field_with_start}
-use Rattle.cwr_layouts.specs.Steps.Held.{HeldLine, held_cell, held_kind}
+use Rattle.cwr_lines.specs.Steps.Held.{HeldLine, held_cell, held_kind}
 use Rattle.cwr_layouts.specs.Steps.Views.{field_view}
 use Rattle.cwr_layouts.proofs.FieldStarts.{field_at-start}
 use Rattle.cwr_judge.proofs.NumberCells.{found_in_layout}

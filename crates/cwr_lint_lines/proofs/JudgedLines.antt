@@ -4,9 +4,9 @@ use Rattle.std.specs.Prelude.{◌^◌, not, ◌||◌}
 use Rattle.std.proofs.lemmas.Option.{slice_get_past}
 use Rattle.cwr_layouts.specs.declared.kinds.Kind.{Kind}
 use Rattle.cwr_layouts.specs.Format.Layouts.{FieldLayout, field_at, layout}
-use Rattle.cwr_layouts.specs.Steps.Held.{HeldLine, held_cell, held_cells, held_excess, held_kind}
+use Rattle.cwr_lines.specs.Steps.Held.{HeldLine, held_cell, held_cells, held_excess, held_kind}
 use Rattle.cwr_layouts.proofs.AllKinds.{few_fields}
-use Rattle.cwr_layouts.proofs.HeldLaws.{held_cell-at}
+use Rattle.cwr_lines.proofs.HeldLaws.{held_cell-at}
 use Rattle.cwr_shape.specs.declared.tallies.Scope.{Scope}
 use Rattle.cwr_shape.specs.declared.reasons.Reason.{Reason}
 use Rattle.cwr_shape.specs.declared.reasons.Reason.TheVariants.{UnknownKind, Misplaced, Excess}

@@ -1,7 +1,7 @@
 //! The faults of one line.
 
 ghost use Rattle.std.specs.Prelude.{◌≡◌, ℕ, Some};
-ghost use Rattle.cwr_layouts.specs.Steps.Held.{held_kind};
+ghost use Rattle.cwr_lines.specs.Steps.Held.{held_kind};
 ghost use Rattle.cwr_shape.specs.declared.tallies.Scope.{Scope};
 ghost use Rattle.cwr_lint_lines.specs.Format.FaultsAtFields.{IsToldAt, reason_if};
 ghost use Rattle.cwr_lint_lines.specs.Steps.JudgedLines.{IsEndOf, IsJudged, IsKnown, IsReasonOfCell, judged_at, judged_line, known_as, number_reason_in};
@@ -11,7 +11,8 @@ use crate::cells::cell_fault;
 use crate::numbers::WrongNumbers;
 use crate::states::LintState;
 use crate::takings::{Taking, is_misplaced};
-use cwr_layouts::{CutLine, Kind, fields};
+use cwr_layouts::{Kind, fields};
+use cwr_lines::CutLine;
 use cwr_shape::Reason;
 
 /// A line of a known kind, and what it is taken for.

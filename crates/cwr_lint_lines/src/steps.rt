@@ -14,7 +14,8 @@ use crate::numbers::{Belonging, Count};
 use crate::states::{LintState, OpenGroup, OpenTransaction, number_or, sum_known};
 use crate::takings::Taking;
 use cwr_fields::{Role, TransactionType};
-use cwr_layouts::{CutLine, Kind};
+use cwr_layouts::Kind;
+use cwr_lines::CutLine;
 use cwr_shape::{Stage, Symbol, TransactionStep};
 
 impl OpenTransaction {

@@ -10,7 +10,8 @@ use crate::following::is_number;
 use crate::numbers::Count;
 use crate::states::{LintState, OpenGroup, OpenTransaction};
 use cwr_fields::TransactionType;
-use cwr_layouts::{CutLine, Kind};
+use cwr_layouts::Kind;
+use cwr_lines::CutLine;
 use cwr_shape::Symbol;
 
 /// What a line is taken for.

@@ -6,16 +6,16 @@ use Rattle.std.specs.Io.KnownBytes.{Appends}
 use Rattle.std.proofs.Math.Dec.{eqb-suc-zero}
 use Rattle.std.proofs.Math.Seq.{get_or-append_seam, set-append_seam}
 use Rattle.std.proofs.lemmas.List.{length-append}
-use Rattle.cwr_layouts.specs.Format.Records.{RecordValue}
+use Rattle.cwr_lines.specs.Format.Records.{RecordValue}
 use Rattle.cwr_shape.specs.declared.limits.Limits.{Limits}
 use Rattle.cwr_shape.specs.Format.Outlines.{Continues, IsWithin}
 use Rattle.cwr_shape.specs.Format.Ranges.{LimitValues}
 use Rattle.cwr_values.specs.declared.items.Item.{Item}
 use Rattle.cwr_values.specs.Format.Values.{TransmissionValue, IsTransmission, symbol_of}
 use Rattle.cwr_judge.specs.Format.Items.{records_in}
-use Rattle.cwr_encode.specs.declared.sinks.Sink.{Sink}
-use Rattle.cwr_encode.specs.Steps.Sinks as sinks
-use Rattle.cwr_encode.specs.Steps.Sinks.{HasWritten, has_failed}
+use Rattle.cwr_sinks.specs.declared.sinks.Sink.{Sink}
+use Rattle.cwr_sinks.specs.Steps.Sinks as sinks
+use Rattle.cwr_sinks.specs.Steps.Sinks.{HasWritten, has_failed}
 use Rattle.cwr_encode.specs.Format.Written.{IsPart}
 use Rattle.cwr_encode.specs.declared.encoders.Encoder.{Encoder}
 use Rattle.cwr_encode.specs.Format.Encoders.{part_of}

@@ -1,15 +1,15 @@
 -- What is put of a join that stopped at an input, where the writer fails in the number of that one.
 use Rattle.std.proofs.Common.{◌≡◌, ℕ, true, false, List, [], ◌++◌, Option, refl, sym, subst}
 use Rattle.std.specs.Prelude.{Result, Err, IsErr, if◌then◌else◌}
-use Rattle.cwr_encode.specs.declared.sinks.Sink.{Sink}
-use Rattle.cwr_encode.specs.declared.sinks.SinkFault.{SinkFault}
-use Rattle.cwr_encode.specs.Steps.Sinks.{Puts, has_failed}
+use Rattle.cwr_sinks.specs.declared.sinks.Sink.{Sink}
+use Rattle.cwr_sinks.specs.declared.sinks.SinkFault.{SinkFault}
+use Rattle.cwr_sinks.specs.Steps.Sinks.{Puts, has_failed}
 use Rattle.cwr_encode.proofs.Numbered.{puts_as, puts_cut}
 use Rattle.cwr_levels.specs.Format.ReportLines.{input_mark}
 use Rattle.cwr_levels.specs.Steps.Putting.{PutsText}
 use Rattle.cwr_tools.specs.declared.verdicts.JoinFault.{JoinFault}
 use Rattle.cwr_parts.specs.Format.Outcomes.{input_line, is_of_input, join_outcome}
-use Rattle.cwr_tools.proofs.FindingsPut.{puts_line}
+use Rattle.cwr_notes.proofs.FindingsPut.{puts_line}
 
 marked : (stopped : JoinFault) → is_of_input stopped.fault ≡ true → input_mark stopped.input ++ input_line stopped.fault ≡ join_outcome (Err stopped)
 marked stopped e =

@@ -6,8 +6,8 @@ use Rattle.std.proofs.lemmas.Bool.Decides.{eqb_tells}
 use Rattle.std.proofs.lemmas.List.{length-append, map-append}
 use Rattle.std.proofs.lemmas.List.Sums.{sum_by-append}
 use Rattle.cwr_layouts.specs.declared.kinds.Kind.TheVariants as kinds
-use Rattle.cwr_layouts.specs.Format.Records.{RecordValue, blank_record}
-use Rattle.cwr_layouts.proofs.RecordTest.{record_sound}
+use Rattle.cwr_lines.specs.Format.Records.{RecordValue, blank_record}
+use Rattle.cwr_lines.proofs.RecordTest.{record_sound}
 use Rattle.cwr_fields.proofs.CellTests as tests
 use Rattle.cwr_shape.specs.Format.Outlines.{GroupOutline, IsWithin}
 use Rattle.cwr_shape.specs.declared.limits.Limits.{Limits}

@@ -5,7 +5,7 @@ use Rattle.std.proofs.lemmas.Bool.{eq-eqb}
 use Rattle.std.proofs.lemmas.Bool.Decides.{eqb_tells}
 use Rattle.std.proofs.lemmas.List.{length-append}
 use native.Mathlib.Nat.{add-mul}
-use Rattle.cwr_layouts.specs.Format.Records.{RecordValue}
+use Rattle.cwr_lines.specs.Format.Records.{RecordValue}
 use Rattle.cwr_values.specs.declared.items.Item.{Item}
 use Rattle.cwr_values.specs.declared.items.Item.TheVariants.{Opened, GroupOpened, Transaction, Ended}
 use Rattle.cwr_values.specs.Format.Values.{GroupValue, TransmissionValue, IsTransmission}

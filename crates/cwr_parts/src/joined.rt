@@ -2,7 +2,7 @@
 
 ghost use Rattle.std.specs.Prelude.{◌≡◌, ◌≢◌, ◌+◌, ◌≤◌, ◌∷◌, ℕ, Bool, List, Option, [], map, length, true, false, filter, Result, Ok, Err, OnOk};
 ghost use Rattle.std.specs.List.{AllByRecursion};
-ghost use Rattle.cwr_layouts.specs.Format.Records.{RecordValue};
+ghost use Rattle.cwr_lines.specs.Format.Records.{RecordValue};
 ghost use Rattle.cwr_shape.specs.Format.Ranges.{AreInRange};
 ghost use Rattle.cwr_values.specs.Format.Values.{IsTransmission, symbol_of, TransmissionValue};
 ghost use Rattle.cwr_values.specs.declared.items.Item.{Item};

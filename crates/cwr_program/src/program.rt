@@ -1,16 +1,17 @@
 //! The program between its words and its devices.
 
-ghost use Rattle.std.specs.Prelude.{◌≡◌, ◌≢◌, ◌≤◌, ◌||◌, map, true, None, if◌then◌else◌};
+ghost use Rattle.std.specs.Prelude.{◌≡◌, ◌≢◌, ◌≤◌, ◌||◌, map, option_map, true, false, None, if◌then◌else◌};
 ghost use Rattle.clap.specs.Values.{kind_of};
 ghost use Rattle.cwr_program.specs.Format.Endings.{EndsOnInput, IsOfInput, fault_status, wanted_in};
-ghost use Rattle.cwr_program.specs.Format.Inputs.{are_standard};
+ghost use Rattle.cwr_program.specs.Format.Inputs.{are_standard, is_standard};
 ghost use Rattle.cwr_program.specs.Format.Tables.{table_of};
+ghost use Rattle.cwr_program.specs.Steps.Looks.{tells_findings};
 
 use crate::answers::{Answering, match_answers};
 use crate::endings::{Status, Wanted};
 use crate::faults::{Fault, tell_fault};
 use crate::imports::{Import, import_file, import_input};
-use crate::inputs::{DASH, Input, open_input};
+use crate::inputs::{DASH, open_input};
 use crate::joins::{Union, join_files};
 use crate::outputs::print_manual;
 use crate::progress::{Pace, Progress};
@@ -116,26 +117,54 @@ fn report<E: Write>(error: &mut E, fault: &Fault<'_>) -> Status
     }
 }
 
-/// Writes the transmission that the input's lines are, to the file of that name or to the output.
-fn import_lines<
-    'a,
-    R: Files + AllocGlobal,
-    I: Read + Drop,
-    P: Pace + Drop,
-    O: Write + Drop,
-    E: Write,
->(
+/// Writes the transmission that an input's lines are, to the file of that name or to the output. The input is the file of its name, or
+/// standard input.
+fn import_lines<'a, R: Files + AllocGlobal, I: Read + Drop, P: Pace, O: Write + Drop, E: Write>(
     rt: &R,
     import: &Import,
-    input: Input<'a, R::File, I, P>,
+    file: Option<&'a str>,
     out: Option<&'a str>,
+    standard: I,
+    pace: &mut P,
     output: O,
     error: &mut E,
 ) -> Result<Status, Fault<'a>> {
+    let input = open_input(rt, file, &mut Some(standard), pace)?;
     match out {
         Some(name) => import_file(rt, import, input, name, error),
         None => import_input(rt.alloc(), import, input, output, error),
     }
+}
+
+/// Cuts the transmission of the file to be cut, or that on standard input.
+fn split_input<'a, R: Files + AllocGlobal, I: Read + Drop, P: Pace, O: Write + Drop, E: Write>(
+    rt: &R,
+    cut: &Cut<'a>,
+    standard: I,
+    pace: &mut P,
+    output: O,
+    error: &mut E,
+) -> Result<Status, Fault<'a>> {
+    let input = open_input(rt, Some(cut.file), &mut Some(standard), pace)?;
+    split_file(rt, cut, input, output, error)
+}
+
+/// Reports on the transmission of the file of that name, or on that on standard input.
+fn report_file<'a, R: Files, I: Read + Drop, P: Pace, O: Write + Drop, E: Write>(
+    rt: &R,
+    asked: &Asked,
+    telling: Telling<'_>,
+    name: Option<&'a str>,
+    standard: I,
+    pace: &mut P,
+    output: O,
+    error: &mut E,
+) -> Result<Status, Fault<'a>>
+    requires { tells_findings telling ≡ false → asked.now.wanted.fail_on ≡ None }
+    ensures { is_standard (option_map (λ n. n.now) name) ≡ true → EndsOnInput asked.now.limits asked.now.wanted (I.remaining standard) result }
+{
+    let input = open_input(rt, name, &mut Some(standard), pace)?;
+    report_input(asked, telling, input, output, error)
 }
 
 /// How cells are shown in data.
@@ -174,9 +203,8 @@ fn judge<'a, R: Files + AllocGlobal, I: Read + Drop, P: Pace, O: Write + Drop, E
         return report_several(rt, asked, explained, names, standard, pace, output, error);
     }
     let name = names.first().copied();
-    let input = open_input(rt, name, &mut Some(standard), &mut *pace)?;
     let telling = telling_of(asked, explained, name.unwrap_or(DASH));
-    report_input(asked, telling, input, output, error)
+    report_file(rt, asked, telling, name, standard, pace, output, error)
 }
 
 /// The table that has rows of these.
@@ -215,8 +243,8 @@ fn perform<'a, R: Files + AllocGlobal, I: Read + Drop, P: Pace, O: Write + Drop,
         Work::Check(judging) => (judging, false),
         Work::Explain(judging) => (judging, true),
         Work::Show(file) => {
-            let input = open_input(rt, *file, &mut Some(standard), &mut *pace)?;
-            return report_input(&asked, Telling::Records, input, output, error);
+            let told = Telling::Records;
+            return report_file(rt, &asked, told, *file, standard, pace, output, error);
         }
         Work::Lint {
             files,
@@ -242,13 +270,11 @@ fn perform<'a, R: Files + AllocGlobal, I: Read + Drop, P: Pace, O: Write + Drop,
                 encoding: encoding_of(*utf8),
                 numbers: *numbers,
             };
-            let input = open_input(rt, *file, &mut Some(standard), &mut *pace)?;
-            return report_input(&asked, telling, input, output, error);
+            return report_file(rt, &asked, telling, *file, standard, pace, output, error);
         }
         Work::Csv { rows, file } => {
             let telling = Telling::Rows(table_of(*rows));
-            let input = open_input(rt, *file, &mut Some(standard), &mut *pace)?;
-            return report_input(&asked, telling, input, output, error);
+            return report_file(rt, &asked, telling, *file, standard, pace, output, error);
         }
         Work::Acks {
             file,
@@ -262,10 +288,10 @@ fn perform<'a, R: Files + AllocGlobal, I: Read + Drop, P: Pace, O: Write + Drop,
                     file: *file,
                     sent,
                 };
-                return match_answers(rt, &asked, &files, standard, &mut *pace, output, error);
+                return match_answers(rt, &asked, &files, standard, pace, output, error);
             }
-            let input = open_input(rt, *file, &mut Some(standard), &mut *pace)?;
-            return report_input(&asked, Telling::Answers(form), input, output, error);
+            let told = Telling::Answers(form);
+            return report_file(rt, &asked, told, *file, standard, pace, output, error);
         }
         Work::Write {
             file,
@@ -278,8 +304,7 @@ fn perform<'a, R: Files + AllocGlobal, I: Read + Drop, P: Pace, O: Write + Drop,
                 encoding: encoding_of(*utf8),
                 most: *line as usize,
             };
-            let input = open_input(rt, *file, &mut Some(standard), &mut *pace)?;
-            return import_lines(rt, &import, input, *out, output, error);
+            return import_lines(rt, &import, *file, *out, standard, pace, output, error);
         }
         Work::Split {
             transactions,
@@ -295,8 +320,7 @@ fn perform<'a, R: Files + AllocGlobal, I: Read + Drop, P: Pace, O: Write + Drop,
                 prefix: *prefix,
                 only_new: *only_new,
             };
-            let input = open_input(rt, Some(*file), &mut Some(standard), &mut *pace)?;
-            return split_file(rt, &cut, input, output, error);
+            return split_input(rt, &cut, standard, pace, output, error);
         }
         Work::Join {
             out,
@@ -323,7 +347,7 @@ fn perform<'a, R: Files + AllocGlobal, I: Read + Drop, P: Pace, O: Write + Drop,
                 out: *out,
                 only_new: *only_new,
             };
-            return repair_numbers(rt, &repair, standard, &mut *pace, output, error);
+            return repair_numbers(rt, &repair, standard, pace, output, error);
         }
         Work::Manual => return print_manual(output),
     };

@@ -7,19 +7,19 @@ use Rattle.cwr_fields.specs.declared.codes.TransactionType.{TransactionType}
 use Rattle.cwr_fields.specs.declared.codes.TransactionType.TheVariants.{Agreement, NewWork, RevisedWork, Acknowledgement}
 use Rattle.cwr_layouts.specs.declared.kinds.Kind.{Kind}
 use Rattle.cwr_layouts.specs.declared.kinds.Kind.TheVariants as kinds
-use Rattle.cwr_layouts.specs.declared.lines.LineEnd.TheVariants.{Line}
+use Rattle.cwr_lines.specs.declared.lines.LineEnd.TheVariants.{Line}
 use Rattle.cwr_layouts.specs.Format.Kinds.{letters}
 use Rattle.cwr_fields.specs.Format.Bytes.{filled}
 use Rattle.cwr_layouts.specs.Format.Layouts.{line_width}
-use Rattle.cwr_layouts.specs.Format.Lines.{body_kind, cells_as, without_cr}
-use Rattle.cwr_layouts.specs.Format.Records.{RecordValue, record_of, row_of}
-use Rattle.cwr_layouts.specs.Steps.Carried.{record_in}
-use Rattle.cwr_layouts.specs.Steps.Held.{HeldLine, IsFilled, cell_as, filled_as, held_record}
-use Rattle.cwr_layouts.specs.Steps.Numbered.{numbered_as, numbered_part, set_as}
-use Rattle.cwr_layouts.proofs.GoodLinesAreRows.{letters-of, three-filled}
-use Rattle.cwr_layouts.proofs.HeldRecords.{first_bytes, record_held}
-use Rattle.cwr_layouts.proofs.NumberedLines.{full_line-numbered}
-use Rattle.cwr_layouts.proofs.NumbersOfKinds.{line_width_least}
+use Rattle.cwr_lines.specs.Format.Lines.{body_kind, cells_as, without_cr}
+use Rattle.cwr_lines.specs.Format.Records.{RecordValue, record_of, row_of}
+use Rattle.cwr_lines.specs.Steps.Carried.{record_in}
+use Rattle.cwr_lines.specs.Steps.Held.{HeldLine, IsFilled, cell_as, filled_as, held_record}
+use Rattle.cwr_lines.specs.Steps.Numbered.{numbered_as, numbered_part, set_as}
+use Rattle.cwr_lines.proofs.GoodLinesAreRows.{letters-of, three-filled}
+use Rattle.cwr_lines.proofs.HeldRecords.{first_bytes, record_held}
+use Rattle.cwr_lines.proofs.NumberedLines.{full_line-numbered}
+use Rattle.cwr_lines.proofs.NumbersOfKinds.{line_width_least}
 use Rattle.cwr_fields.specs.declared.codes.Role.{Role}
 use Rattle.cwr_shape.specs.declared.symbols.Symbol.{Symbol}
 use Rattle.cwr_shape.specs.declared.symbols.Symbol.TheVariants.{Plain, Ipa, Grh}

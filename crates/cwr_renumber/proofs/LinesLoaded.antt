@@ -3,10 +3,10 @@ use Rattle.std.proofs.Common.{◌≡◌, ◌≢◌, ℕ, Bool, true, false, List
 use Rattle.std.specs.Prelude.{IfSome, IsSomeAnd, option_map, if◌then◌else◌}
 use Rattle.std.specs.Io.KnownBytes.{Keeps}
 use Rattle.std.proofs.lemmas.List.{drop_all, length-append}
-use Rattle.cwr_layouts.specs.declared.lines.LineEnd.{LineEnd}
-use Rattle.cwr_layouts.specs.declared.lines.LineEnd.TheVariants.{Open}
-use Rattle.cwr_layouts.specs.Steps.Held.{HeldLine, IsHeld, ended_too_long, held_kind}
-use Rattle.cwr_layouts.specs.Steps.Numbered.{line_end, numbered_as, set_text}
+use Rattle.cwr_lines.specs.declared.lines.LineEnd.{LineEnd}
+use Rattle.cwr_lines.specs.declared.lines.LineEnd.TheVariants.{Open}
+use Rattle.cwr_lines.specs.Steps.Held.{HeldLine, IsHeld, ended_too_long, held_kind}
+use Rattle.cwr_lines.specs.Steps.Numbered.{line_end, numbered_as, set_text}
 use Rattle.cwr_shape.specs.Steps.Numberings.{NumberingValue}
 use Rattle.cwr_renumber.specs.Steps.Renumbered.{line_by, numbering_after, numbers_by, segments, renumber_from, text_from}
 use Rattle.cwr_renumber.specs.Steps.Takings.{EndsAs}

@@ -5,10 +5,10 @@ use Rattle.std.specs.List.{list_any}
 use Rattle.std.proofs.lemmas.Bool.{lt-ltb, ltb-true, ne_eqb}
 use Rattle.std.proofs.lemmas.List.{length-append}
 use Rattle.std.proofs.Math.Seq.{take-append_seam}
-use Rattle.cwr_layouts.specs.declared.lines.LineEnd.{LineEnd}
-use Rattle.cwr_layouts.specs.declared.lines.LineEnd.TheVariants.{Open, Line, Over}
-use Rattle.cwr_layouts.specs.Format.Lines.{is_lf, is_too_long, longest_line}
-use Rattle.cwr_layouts.specs.Steps.Held.{HeldLine, IsHeld, ended_too_long}
+use Rattle.cwr_lines.specs.declared.lines.LineEnd.{LineEnd}
+use Rattle.cwr_lines.specs.declared.lines.LineEnd.TheVariants.{Open, Line, Over}
+use Rattle.cwr_lines.specs.Format.Lines.{is_lf, is_too_long, longest_line}
+use Rattle.cwr_lines.specs.Steps.Held.{HeldLine, IsHeld, ended_too_long}
 use Rattle.cwr_shape.specs.Steps.Numberings.{NumberingValue}
 use Rattle.cwr_renumber.specs.Steps.Renumbered.{joined_to, line_by, line_held, numbering_after, renumber_from, segments, without_lf}
 use Rattle.cwr_renumber.specs.Steps.Takings.{EndsAs}

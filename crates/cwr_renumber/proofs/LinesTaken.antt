@@ -4,9 +4,9 @@ use Rattle.std.specs.Prelude.{Ok, IfSome, IsSomeAnd}
 use Rattle.std.specs.Io.{StartsWith}
 use Rattle.std.specs.Io.KnownBytes.{Consumes}
 use Rattle.std.proofs.lemmas.List.{get_or-append-add, get_or-take, length-append, length-take, length-take-le}
-use Rattle.cwr_layouts.specs.declared.lines.LineEnd.{LineEnd}
-use Rattle.cwr_layouts.specs.declared.lines.LineEnd.TheVariants.{Open, Line, Over}
-use Rattle.cwr_layouts.specs.Steps.Held.{HeldLine, Stops, Takes, text_by}
+use Rattle.cwr_lines.specs.declared.lines.LineEnd.{LineEnd}
+use Rattle.cwr_lines.specs.declared.lines.LineEnd.TheVariants.{Open, Line, Over}
+use Rattle.cwr_lines.specs.Steps.Held.{HeldLine, Stops, Takes, text_by}
 use Rattle.cwr_renumber.specs.Steps.Takings.{EndsAs, TakesOf}
 
 -- the byte behind those that were used

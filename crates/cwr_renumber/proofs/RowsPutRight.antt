@@ -4,10 +4,10 @@ use Rattle.std.specs.Prelude.{Some}
 use Rattle.std.specs.List.{AllZip, flat_map}
 use Rattle.std.proofs.lemmas.List.{length-append, length-map, map-append}
 use Rattle.cwr_layouts.specs.declared.kinds.Kind.{Kind}
-use Rattle.cwr_layouts.specs.declared.lines.LineEnd.TheVariants.{Open, Line}
-use Rattle.cwr_layouts.specs.Format.Lines.{body_kind, without_cr}
-use Rattle.cwr_layouts.specs.Format.Records.{RecordValue, Row}
-use Rattle.cwr_layouts.specs.Steps.Held.{IsHeld}
+use Rattle.cwr_lines.specs.declared.lines.LineEnd.TheVariants.{Open, Line}
+use Rattle.cwr_lines.specs.Format.Lines.{body_kind, without_cr}
+use Rattle.cwr_lines.specs.Format.Records.{RecordValue, Row}
+use Rattle.cwr_lines.specs.Steps.Held.{IsHeld}
 use Rattle.cwr_shape.specs.declared.limits.Limits.{Limits}
 use Rattle.cwr_shape.specs.Format.NextSymbols.{counts_of, open_type}
 use Rattle.cwr_shape.specs.Steps.Numberings.{NumberingValue, no_records, numbering_with}

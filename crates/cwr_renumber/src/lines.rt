@@ -1,12 +1,13 @@
 //! A line of the text, with the numbers that belong in it.
 
 ghost use Rattle.std.specs.Prelude.{◌≡◌, ◌≢◌, Some};
-ghost use Rattle.cwr_layouts.specs.declared.lines.LineEnd.TheVariants.{Open};
-ghost use Rattle.cwr_layouts.specs.Steps.Held.{held_kind};
+ghost use Rattle.cwr_lines.specs.declared.lines.LineEnd.TheVariants.{Open};
+ghost use Rattle.cwr_lines.specs.Steps.Held.{held_kind};
 ghost use Rattle.cwr_renumber.specs.Steps.Renumbered.{counted_as, line_by, numbering_after, numbers_by, type_named};
 
 use cwr_fields::{Cell, TransactionType};
-use cwr_layouts::{CutLine, Kind, RenumberedLine};
+use cwr_layouts::Kind;
+use cwr_lines::{CutLine, RenumberedLine};
 use cwr_shape::{Numbering, Symbol};
 
 /// The type that a line of GRH names, and that of acknowledgements where it names none.

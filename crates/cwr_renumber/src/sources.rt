@@ -1,13 +1,13 @@
 //! A source whose lines have the numbers that belong in them.
 
 ghost use Rattle.std.specs.Prelude.{◌≡◌, ◌≤◌, ◌+◌, false, length};
-ghost use Rattle.cwr_layouts.specs.declared.lines.LineEnd.TheVariants.{Open};
-ghost use Rattle.cwr_layouts.specs.Steps.Held.{ended_too_long};
+ghost use Rattle.cwr_lines.specs.declared.lines.LineEnd.TheVariants.{Open};
+ghost use Rattle.cwr_lines.specs.Steps.Held.{ended_too_long};
 
 use crate::lines::put_line;
 use crate::takings::take_line;
 use cwr_fields::{DeviceFault, Source};
-use cwr_layouts::{LineBuf, LineEnd, RenumberedLine};
+use cwr_lines::{LineBuf, LineEnd, RenumberedLine};
 use cwr_shape::Numbering;
 
 /// Whether a line ended before a byte too many.

@@ -2,12 +2,12 @@
 
 ghost use Rattle.std.specs.Prelude.{◌≡◌, IfOk};
 ghost use Rattle.cwr_fields.specs.Format.Failures.{CountsFailure};
-ghost use Rattle.cwr_layouts.specs.declared.lines.LineEnd.TheVariants.{Open};
-ghost use Rattle.cwr_layouts.specs.Steps.Held.{IsHeld};
+ghost use Rattle.cwr_lines.specs.declared.lines.LineEnd.TheVariants.{Open};
+ghost use Rattle.cwr_lines.specs.Steps.Held.{IsHeld};
 ghost use Rattle.cwr_renumber.specs.Steps.Takings.{TakesLine};
 
 use cwr_fields::{DeviceFault, Source};
-use cwr_layouts::{LineBuf, LineEnd};
+use cwr_lines::{LineBuf, LineEnd};
 
 /// Takes the rest of the open line from a source, up to its end. `Open` where the source has no more bytes, and none of the line
 /// was taken. A last line without its line feed is one that has it. Where the source fails the line is open.

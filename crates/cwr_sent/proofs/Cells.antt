@@ -3,7 +3,7 @@ use Rattle.std.proofs.Common.{◌≡◌, Bool, true, false, refl, sym, subst, in
 use Rattle.std.specs.Prelude.{◌⊎◌, ◌||◌}
 use Rattle.cwr_layouts.specs.declared.kinds.Kind.{Kind}
 use Rattle.cwr_layouts.specs.declared.kinds.Kind.TheVariants as kinds
-use Rattle.cwr_layouts.specs.Format.Records.{RecordValue}
+use Rattle.cwr_lines.specs.Format.Records.{RecordValue}
 use Rattle.cwr_levels.specs.Format.Fields.{IsField}
 use Rattle.cwr_levels.specs.Format.Findings.{is_a}
 use Rattle.cwr_levels.proofs.KindTests.{kind_of}

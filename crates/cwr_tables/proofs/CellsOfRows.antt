@@ -9,9 +9,9 @@ use Rattle.std.proofs.lemmas.Grind.{flat_map-append}
 use Rattle.std.proofs.lemmas.Option.{slice_get-get_or}
 use Rattle.cwr_layouts.specs.declared.kinds.Kind.{Kind}
 use Rattle.cwr_layouts.specs.Format.Layouts.{FieldLayout, layout, record_type}
-use Rattle.cwr_layouts.specs.Format.Records.{RecordValue, IsCellOf, IsRecord, carried_fields}
-use Rattle.cwr_layouts.specs.Format.Carried.{carried_at}
-use Rattle.cwr_layouts.proofs.CarriedCells.{carried_count}
+use Rattle.cwr_lines.specs.Format.Records.{RecordValue, IsCellOf, IsRecord, carried_fields}
+use Rattle.cwr_lines.specs.Format.Carried.{carried_at}
+use Rattle.cwr_lines.proofs.CarriedCells.{carried_count}
 use Rattle.cwr_json.specs.Format.Forms.{key_of}
 use Rattle.cwr_tables.specs.Format.RecordTables.{shown_cell}
 use Rattle.cwr_tables.specs.Steps.RowTexts.{column_of, field_cell, name_of, named_columns, next_cell, next_cells, shown_cells, shown_of}

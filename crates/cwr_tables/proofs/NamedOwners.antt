@@ -3,8 +3,8 @@ use Prim.Native.String.{String}
 use Rattle.std.proofs.Common.{◌≡◌, ℕ, ◌≤◌, List, [], length, refl, ap, ◌∙◌, arith}
 use Rattle.std.specs.Prelude.{unwrap_or}
 use Rattle.cwr_fields.specs.Format.Bytes.{trimmed}
-use Rattle.cwr_layouts.specs.Format.Records.{RecordValue, IsRecord, cell_named}
-use Rattle.cwr_layouts.specs.Format.Carried.{record_cell}
+use Rattle.cwr_lines.specs.Format.Records.{RecordValue, IsRecord, cell_named}
+use Rattle.cwr_lines.specs.Format.Carried.{record_cell}
 use Rattle.cwr_levels.specs.Format.Fields.{IsField}
 use Rattle.cwr_levels.proofs.NamedCells.{cell_width, named_cell}
 use Rattle.cwr_json.proofs.FieldsShown.{length-trimmed-le}

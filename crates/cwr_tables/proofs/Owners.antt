@@ -6,7 +6,7 @@ use Rattle.std.specs.List.{flat_map, join_by, list_any, sum_by}
 use Rattle.std.proofs.lemmas.List.Elements.{filter-append}
 use Rattle.std.proofs.lemmas.List.Folds.{list_any-append}
 use Rattle.std.proofs.lemmas.List.Sums.{sum_by-append}
-use Rattle.cwr_layouts.specs.Format.Records.{RecordValue}
+use Rattle.cwr_lines.specs.Format.Records.{RecordValue}
 use Rattle.cwr_levels.specs.Format.Findings.{share_of}
 use Rattle.cwr_levels.proofs.OneMore.{take_more}
 use Rattle.cwr_tables.specs.declared.works.Side.{Side}

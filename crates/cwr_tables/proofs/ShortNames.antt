@@ -7,8 +7,8 @@ use Rattle.std.proofs.lemmas.Bool.{and_parts}
 use Rattle.cwr_layouts.specs.declared.kinds.Kind.{Kind}
 use Rattle.cwr_layouts.specs.declared.kinds.Kind.TheVariants.{Hdr}
 use Rattle.cwr_layouts.specs.Format.Layouts.{FieldLayout, layout, field_at, field_with_start}
-use Rattle.cwr_layouts.specs.Format.Records.{RecordValue, IsRecord}
-use Rattle.cwr_layouts.specs.Format.Carried.{carried_before, record_cell}
+use Rattle.cwr_lines.specs.Format.Records.{RecordValue, IsRecord}
+use Rattle.cwr_lines.specs.Format.Carried.{carried_before, record_cell}
 use Rattle.cwr_layouts.proofs.FieldStarts.{field_at-start}
 use Rattle.cwr_json.proofs.FieldsShown.{short_line}
 

@@ -2,7 +2,7 @@
 use Rattle.std.proofs.Common.{◌≡◌, ℕ, List, ◌++◌, refl, sym, ap, ◌∙◌, append_assoc}
 use Rattle.std.specs.Prelude.{codes, decimal, map}
 use Rattle.cwr_layouts.specs.declared.kinds.Kind.{Kind}
-use Rattle.cwr_layouts.specs.Format.Records.{RecordValue}
+use Rattle.cwr_lines.specs.Format.Records.{RecordValue}
 use Rattle.cwr_values.specs.Format.Rows.{trailer}
 use Rattle.cwr_tables.specs.declared.places.RowNumbers.{RowNumbers}
 use Rattle.cwr_tables.specs.declared.places.RowNumbers.TheVariants.{Outside, InGroup, InTransaction}

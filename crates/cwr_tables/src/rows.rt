@@ -14,7 +14,8 @@ use crate::cells::{LONGEST, LONGEST_CELL, Text, push, push_cell};
 use crate::places::RowNumbers;
 use arrayvec::ArrayVec;
 use cwr_fields::trimmed;
-use cwr_layouts::{Kind, RecordRef, field, fields};
+use cwr_layouts::{Kind, field, fields};
+use cwr_lines::RecordRef;
 use itoa::Buffer;
 use std::marker::Model;
 

@@ -5,7 +5,7 @@ use Rattle.std.specs.List.{after_last, enumerate_from, flat_map}
 use Rattle.std.proofs.Math.Seq.{take-append_seam}
 use Rattle.std.proofs.lemmas.Grind.{flat_map-append}
 use Rattle.std.proofs.lemmas.List.{take-append-le}
-use Rattle.cwr_layouts.specs.Format.Records.{RecordValue}
+use Rattle.cwr_lines.specs.Format.Records.{RecordValue}
 use Rattle.cwr_values.specs.declared.items.Item.{Item}
 use Rattle.cwr_values.specs.declared.items.Item.TheVariants as items
 use Rattle.cwr_judge.specs.Format.Items.{is_transaction, item_records, opens_group, records_in}
@@ -16,8 +16,9 @@ use Rattle.cwr_levels.specs.Format.ReportLines.{finding_line}
 use Rattle.cwr_json.specs.declared.encodings.Encoding.{Encoding}
 use Rattle.cwr_json.specs.Format.Forms.{data_lines, item_line, notes_if}
 use Rattle.cwr_tools.specs.declared.totals.Totals.{Totals}
-use Rattle.cwr_tools.specs.Format.Texts.{check_lines, finding_lines, finding_lines_in, record_lines, numbered_records, show_lines}
-use Rattle.cwr_tools.specs.Format.FindingNotes.{explained_finding, explained_findings, explained_in, explained_lines}
+use Rattle.cwr_notes.specs.Format.RecordTexts.{record_lines, numbered_records}
+use Rattle.cwr_tools.specs.Format.Texts.{check_lines, finding_lines, finding_lines_in, show_lines}
+use Rattle.cwr_notes.specs.Format.FindingNotes.{explained_finding, explained_findings, explained_in, explained_lines}
 use Rattle.cwr_tools.specs.Format.Reports.{has_findings, lines_checked, transaction_lines}
 use Rattle.cwr_tools.specs.Steps.Counts.{IsCount}
 use Rattle.cwr_tools.specs.Steps.Reports.{findings_at, lines_told, notes_at}

@@ -4,7 +4,7 @@ use Rattle.std.specs.Prelude.{count_by, slice_get}
 use Rattle.std.specs.List.{after_last, enumerate_from, flat_map}
 use Rattle.std.specs.Option.{option_to_list}
 use Rattle.std.proofs.lemmas.Grind.{flat_map-append}
-use Rattle.cwr_layouts.specs.Format.Records.{RecordValue}
+use Rattle.cwr_lines.specs.Format.Records.{RecordValue}
 use Rattle.cwr_values.specs.declared.items.Item.{Item}
 use Rattle.cwr_values.specs.declared.items.Item.TheVariants.{Transaction}
 use Rattle.cwr_judge.specs.Format.Items.{records_in, opens_group, is_transaction}
@@ -12,7 +12,7 @@ use Rattle.cwr_levels.specs.declared.rules.Finding.{Finding}
 use Rattle.cwr_levels.specs.Format.Findings.{findings}
 use Rattle.cwr_levels.specs.Format.ReportLines.{finding_line}
 use Rattle.cwr_tools.specs.declared.verdicts.Verdict.{Verdict}
-use Rattle.cwr_tools.specs.Format.FindingNotes.{explained_finding, explained_findings, explained_in, explained_lines, finding_notes, notes_on}
+use Rattle.cwr_notes.specs.Format.FindingNotes.{explained_finding, explained_findings, explained_in, explained_lines, finding_notes, notes_on}
 use Rattle.cwr_tools.specs.Format.Texts.{check_lines, check_text, finding_lines, finding_lines_in, verdict_line}
 use Rattle.cwr_tools.specs.Format.Reports.{lines_of_explained, text_on}
 use Rattle.cwr_tools.specs.Format.Laws.{AreIndented, IsIndented, IsNoted}

@@ -3,7 +3,7 @@ use Rattle.std.proofs.Common.{◌≡◌, ℕ, ◌+◌, ◌≤◌, Bool, List, []
 use Rattle.std.specs.Prelude.{IfSome, IsTrue, Result, sum_by}
 use Rattle.std.specs.List.{AllByRecursion}
 use Rattle.std.proofs.lemmas.List.Sums.{sum_by-cons}
-use Rattle.cwr_layouts.specs.Format.Records.{RecordValue}
+use Rattle.cwr_lines.specs.Format.Records.{RecordValue}
 use Rattle.cwr_shape.specs.declared.limits.Limits.{Limits}
 use Rattle.cwr_values.specs.declared.items.Item.{Item}
 use Rattle.cwr_values.specs.declared.items.Item.TheVariants as items
@@ -15,7 +15,7 @@ use Rattle.cwr_decode.specs.Steps.Readings.{Reads, answer_of}
 use Rattle.cwr_decode.specs.Steps.Runs.{IsReadingOn}
 use Rattle.cwr_decode.proofs.PassedOver.{passes_nothing}
 use Rattle.cwr_decode.proofs.PassedReading.{read_passing}
-use Rattle.cwr_encode.specs.declared.sinks.Sink.{Sink}
+use Rattle.cwr_sinks.specs.declared.sinks.Sink.{Sink}
 use Rattle.cwr_tools.specs.declared.totals.Totals.{Totals}
 use Rattle.cwr_tools.specs.Format.Reports.{ItemLines}
 use Rattle.cwr_tools.specs.Steps.Counts.{IsCount}

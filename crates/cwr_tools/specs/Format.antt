@@ -1,5 +1,4 @@
 -- What is promised, in the words of the format.
-pub mod FindingNotes
 pub mod Laws
 pub mod Reports
 pub mod Texts

@@ -1,7 +1,5 @@
 -- What the code keeps, and what its calls do to that.
 pub mod Counts
-pub mod FieldLines
-pub mod OtherRecords
 pub mod Passing
 pub mod Reports
 pub mod Verdicts

@@ -2,24 +2,24 @@
 
 ghost use Rattle.std.specs.Prelude.{◌≡◌, ◌+◌, ◌≤◌, ◌∷◌, [], length, true, false, IfErr, OnOk};
 ghost use Rattle.std.specs.List.{flat_map};
-ghost use Rattle.cwr_encode.specs.Steps.Sinks.{Puts, has_failed, written_of};
+ghost use Rattle.cwr_sinks.specs.Steps.Sinks.{Puts, has_failed, written_of};
 ghost use Rattle.cwr_judge.specs.Format.Items.{item_records};
 ghost use Rattle.cwr_levels.specs.Format.ReportLines.{finding_line};
 ghost use Rattle.cwr_tools.specs.Format.Reports.{has_findings, transaction_lines};
 ghost use Rattle.cwr_tools.specs.Steps.Watching.{Sees};
 ghost use Rattle.cwr_tools.specs.Steps.Reports.{PutsLines};
 
-use crate::finding_notes::put_all_explained;
 use crate::reporting::{put_unrefused_line, put_verdict_line};
 use crate::reports::Report;
 use crate::totals::Totals;
 use crate::verdicts::{ToolFault, Verdict};
 use crate::watch::Told;
 use cwr_decode::Keeper;
-use cwr_encode::{Sink, SinkFault};
 use cwr_fields::Target;
-use cwr_layouts::RecordRef;
 use cwr_levels::{Finding, Sums, finding_line, findings};
+use cwr_lines::RecordRef;
+use cwr_notes::put_all_explained;
+use cwr_sinks::{Sink, SinkFault};
 use cwr_values::{Item, Transaction};
 use std::alloc::Global;
 

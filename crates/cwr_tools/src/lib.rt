@@ -3,14 +3,9 @@
 
 mod checking;
 mod finding_lines;
-mod finding_notes;
 mod json_lines;
 pub mod laws;
-mod note_lines;
-mod other_records;
-mod passed;
 mod reading_on;
-mod record_lines;
 mod reporting;
 mod reports;
 mod showing;
@@ -22,7 +17,6 @@ mod watch;
 pub use checking::{CheckedFront, check, check_explained, check_up_to_fault, check_watched};
 pub use finding_lines::{put_transaction_findings, writer_fault};
 pub use json_lines::json;
-pub use note_lines::level_words;
 pub use reporting::{Front, put_unrefused_line, put_verdict_line, verdict_of, write_report};
 pub use reports::{NothingKept, Report};
 pub use showing::show;

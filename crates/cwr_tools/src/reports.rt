@@ -1,9 +1,9 @@
 //! What a run over a text writes: a report.
 
 ghost use Rattle.std.specs.Prelude.{◌≡◌, ◌+◌, ◌≤◌, ◌∷◌, ◌++◌, [], List, length, IsTrue, OnOk, false};
-ghost use Rattle.cwr_encode.specs.Steps.Sinks.{has_failed};
+ghost use Rattle.cwr_sinks.specs.Steps.Sinks.{has_failed};
 ghost use Rattle.cwr_judge.specs.Format.Items.{item_records};
-ghost use Rattle.cwr_layouts.specs.Format.Records.{RecordValue};
+ghost use Rattle.cwr_lines.specs.Format.Records.{RecordValue};
 ghost use Rattle.cwr_levels.specs.Steps.Putting.{PutsText};
 ghost use Rattle.cwr_values.specs.declared.items.Item.{Item};
 ghost use Rattle.cwr_tools.specs.Format.Reports.{ItemLines};
@@ -13,9 +13,9 @@ ghost use Rattle.cwr_tools.specs.Steps.Reports.{PassesOver, PutsLines, PutsNext,
 use crate::totals::Totals;
 use crate::verdicts::{ToolFault, Verdict};
 use cwr_decode::Keeper;
-use cwr_encode::{Sink, SinkFault};
 use cwr_fields::Target;
-use cwr_layouts::RecordRef;
+use cwr_lines::RecordRef;
+use cwr_sinks::{Sink, SinkFault};
 use cwr_values::Item;
 use std::alloc::Global;
 
@@ -68,7 +68,7 @@ pub struct NothingKept;
 
 impl Keeper for NothingKept {
     ghost use Rattle.std.specs.Prelude.{List};
-    ghost use Rattle.cwr_layouts.specs.Format.Records.{RecordValue};
+    ghost use Rattle.cwr_lines.specs.Format.Records.{RecordValue};
 
     ghost stands_for = { λ kept records. Unit {0} };
 

@@ -1,20 +1,21 @@
 //! The lines of records, put to a sink.
 
 ghost use Rattle.std.specs.Prelude.{◌≡◌, ◌+◌, ◌≤◌, length, false, IfErr};
-ghost use Rattle.cwr_encode.specs.Steps.Sinks.{Puts, has_failed, written_of};
+ghost use Rattle.cwr_sinks.specs.Steps.Sinks.{Puts, has_failed, written_of};
 ghost use Rattle.cwr_judge.specs.Format.Items.{item_records};
 ghost use Rattle.cwr_values.specs.Format.Rows.{trailer};
-ghost use Rattle.cwr_tools.specs.Format.Texts.{numbered_records, record_lines};
+ghost use Rattle.cwr_notes.specs.Format.RecordTexts.{numbered_records, record_lines};
 
 use crate::finding_lines::writer_fault;
-use crate::record_lines::RecordLines;
 use crate::reporting::put_verdict_line;
 use crate::reports::{NothingKept, Report};
 use crate::totals::Totals;
 use crate::verdicts::{ToolFault, Verdict};
-use cwr_encode::{Sink, SinkFault};
 use cwr_fields::Target;
-use cwr_layouts::{Kind, RecordRef};
+use cwr_layouts::Kind;
+use cwr_lines::RecordRef;
+use cwr_notes::RecordLines;
+use cwr_sinks::{Sink, SinkFault};
 use cwr_values::{Item, Transaction};
 use std::alloc::Global;
 

@@ -13,11 +13,11 @@ use Rattle.cwr_layouts.specs.declared.kinds.Kind.{Kind}
 use Rattle.cwr_layouts.specs.declared.kinds.Kind.TheVariants as kinds
 use Rattle.cwr_layouts.specs.Format.Kinds.{letters}
 use Rattle.cwr_layouts.specs.Format.Layouts.{cell, fields_after_type}
-use Rattle.cwr_layouts.specs.Format.Records.{RecordValue, IsRecord, IsCellOf, Row, row_of, row_cells, carried_fields}
-use Rattle.cwr_layouts.specs.Format.Lines.{IsLineOf, line_cells}
-use Rattle.cwr_layouts.proofs.RowLaws.{IsRow-row_of}
-use Rattle.cwr_layouts.proofs.LineLaws.{first_line, lines_text}
-use Rattle.cwr_layouts.proofs.CutLaws.{line_is_cut}
+use Rattle.cwr_lines.specs.Format.Records.{RecordValue, IsRecord, IsCellOf, Row, row_of, row_cells, carried_fields}
+use Rattle.cwr_lines.specs.Format.Lines.{IsLineOf, line_cells}
+use Rattle.cwr_lines.proofs.RowLaws.{IsRow-row_of}
+use Rattle.cwr_lines.proofs.LineLaws.{first_line, lines_text}
+use Rattle.cwr_lines.proofs.CutLaws.{line_is_cut}
 use Rattle.cwr_shape.specs.declared.symbols.Symbol.TheVariants.{Plain}
 use Rattle.cwr_shape.specs.declared.reasons.Reason.{Reason}
 use Rattle.cwr_shape.specs.declared.reasons.Reason.TheVariants.{UnknownKind, Misplaced, Cell, Number, Limit, Excess}

@@ -7,8 +7,8 @@ use Rattle.cwr_fields.specs.Format.Bytes.{digits, filled, trimmed}
 use Rattle.cwr_layouts.specs.declared.kinds.Kind.TheVariants as kinds
 use Rattle.cwr_layouts.specs.Format.Kinds.{all_kinds}
 use Rattle.cwr_layouts.specs.Format.Layouts.{line_width, layout}
-use Rattle.cwr_layouts.specs.Format.Records.{full_line, record_of, field_number}
-use Rattle.cwr_layouts.specs.Format.Lines.{raw_lines, closed, line_kind, line_cells, has_bad_excess}
+use Rattle.cwr_lines.specs.Format.Records.{full_line, record_of, field_number}
+use Rattle.cwr_lines.specs.Format.Lines.{raw_lines, closed, line_kind, line_cells, has_bad_excess}
 use Rattle.cwr_shape.specs.declared.limits.Limits.{Limits}
 use Rattle.cwr_shape.specs.Format.Numbers.{numbers_of, lengths_of}
 use Rattle.cwr_values.specs.declared.transmissions.ValueFault.TheVariants as value_faults
@@ -18,7 +18,8 @@ use Rattle.cwr_values.specs.Format.Fits.{value_fault}
 use Rattle.cwr_values.specs.declared.items.Item.TheVariants.{Opened, GroupOpened, Transaction, GroupClosed, Ended}
 use Rattle.cwr_judge.specs.Format.Items.{items, items_after}
 use Rattle.cwr_levels.specs.Format.Findings.{findings, findings_after}
-use Rattle.cwr_tools.specs.Format.Texts.{check_text, check_lines, show_text, cell_lines, show_lines, good_verdict}
+use Rattle.cwr_notes.specs.Format.RecordTexts.{cell_lines}
+use Rattle.cwr_tools.specs.Format.Texts.{check_text, check_lines, show_text, show_lines, good_verdict}
 use Rattle.cwr_parts.specs.Format.Splits.{split_of, join_of}
 use Rattle.cwr_tools_tests.proofs.Samples
 

@@ -1,7 +1,7 @@
 -- What is a transmission in an order whose members are all of today's is one today.
 use Rattle.std.proofs.Common.{List}
 use Rattle.cwr_fields.specs.declared.codes.TransactionType.{TransactionType}
-use Rattle.cwr_layouts.specs.Format.Records.{RecordValue}
+use Rattle.cwr_lines.specs.Format.Records.{RecordValue}
 use Rattle.cwr_shape.specs.declared.symbols.Symbol.{Symbol}
 use Rattle.cwr_shape.specs.Format.Shapes.{IsShape}
 use Rattle.cwr_shape.proofs.UncarriedOrders.{all_follow}

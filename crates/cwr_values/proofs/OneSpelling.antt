@@ -9,10 +9,10 @@ use Rattle.cwr_fields.specs.declared.codes.TransactionType.TheVariants.{Agreemen
 use Rattle.cwr_fields.proofs.LineFeeds.{NoLf}
 use Rattle.cwr_layouts.specs.declared.kinds.Kind.{Kind}
 use Rattle.cwr_layouts.specs.declared.kinds.Kind.TheVariants as kinds
-use Rattle.cwr_layouts.specs.Format.Records.{RecordValue, IsRecord, Row, IsRow, row_of, record_of}
-use Rattle.cwr_layouts.specs.Format.Lines.{IsLineOf}
-use Rattle.cwr_layouts.proofs.RowLaws.{IsRow-row_of, record_of-row_of, one_row}
-use Rattle.cwr_layouts.proofs.LineLaws.{lines_agree, lines_text}
+use Rattle.cwr_lines.specs.Format.Records.{RecordValue, IsRecord, Row, IsRow, row_of, record_of}
+use Rattle.cwr_lines.specs.Format.Lines.{IsLineOf}
+use Rattle.cwr_lines.proofs.RowLaws.{IsRow-row_of, record_of-row_of, one_row}
+use Rattle.cwr_lines.proofs.LineLaws.{lines_agree, lines_text}
 use Rattle.cwr_shape.specs.declared.symbols.Symbol.{Symbol}
 use Rattle.cwr_shape.specs.declared.symbols.Symbol.TheVariants.{Plain, Grh}
 use Rattle.cwr_shape.specs.Format.Shapes.{IsShape}

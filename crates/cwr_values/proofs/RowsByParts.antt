@@ -2,7 +2,7 @@
 use Rattle.std.proofs.Common.{◌≡◌, ℕ, zero, suc, ◌+◌, List, [], ◌∷◌, ◌++◌, length, map, refl, sym, ap, ap₂, ◌∙◌, arith}
 use Rattle.std.specs.Prelude.{sum_by}
 use Rattle.std.specs.List.{flat_map, zip, range_with_len, enumerate_from}
-use Rattle.cwr_layouts.specs.Format.Records.{RecordValue, Row, row_of}
+use Rattle.cwr_lines.specs.Format.Records.{RecordValue, Row, row_of}
 use Rattle.cwr_shape.specs.Format.Numbers.{group_numbers, transaction_numbers, group_records, all_records}
 use Rattle.cwr_values.specs.Format.Values.{GroupValue, TransmissionValue}
 use Rattle.cwr_values.specs.Format.Rows.{records_of_group, trailer, lengths_of_value, rows}

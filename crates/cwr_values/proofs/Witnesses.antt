@@ -15,8 +15,8 @@ use Rattle.cwr_fields.proofs.CellTests.{holds_test, number_test, day_test, time_
 use Rattle.cwr_fields.specs.Format.Codes.{codes_of, code_width, word_text, role_code, type_code}
 use Rattle.cwr_layouts.specs.declared.kinds.Kind.{Kind}
 use Rattle.cwr_layouts.specs.declared.kinds.Kind.TheVariants as kinds
-use Rattle.cwr_layouts.specs.Format.Records.{RecordValue, IsRecord, carried_fields}
-use Rattle.cwr_layouts.proofs.RecordTest.{record_test, record_sound}
+use Rattle.cwr_lines.specs.Format.Records.{RecordValue, IsRecord, carried_fields}
+use Rattle.cwr_lines.proofs.RecordTest.{record_test, record_sound}
 use Rattle.cwr_shape.specs.declared.symbols.Symbol.{Symbol}
 use Rattle.cwr_shape.specs.declared.symbols.Symbol.TheVariants.{Plain, Ipa, Grh}
 use Rattle.cwr_shape.specs.Format.Shapes.{IsShape, pattern_of}

@@ -3,7 +3,7 @@
 ghost use Rattle.std.specs.Prelude.{◌≡◌, ◌↔◌, ◌+◌, ◌++◌, ◌∷◌, [], length, option_copied, slice_get, map, min, nat_lt, position, IsOk, IfOk, IfErr, IfSome, IsTrue, OnOk};
 ghost use Rattle.std.specs.Result.{IsErrAnd};
 ghost use Rattle.cwr_fields.specs.Format.Growth.{Outgrows};
-ghost use Rattle.cwr_layouts.specs.Format.Records.{blank_record};
+ghost use Rattle.cwr_lines.specs.Format.Records.{blank_record};
 ghost use Rattle.cwr_shape.specs.Format.Numbers.{group_records};
 ghost use Rattle.cwr_values.specs.Format.Values.{type_of, IsTransaction};
 ghost use Rattle.cwr_values.specs.Format.Begun.{HasHeaderOf, IsBegunGroup, IsWholeTransaction};
@@ -11,7 +11,8 @@ ghost use Rattle.cwr_values.specs.Format.Begun.{HasHeaderOf, IsBegunGroup, IsWho
 use crate::symbols::symbol_of;
 use crate::transactions::Transaction;
 use cwr_fields::{TransactionType, make_room};
-use cwr_layouts::{Draft, Kind, Record};
+use cwr_layouts::Kind;
+use cwr_lines::{Draft, Record};
 use cwr_shape::Symbol;
 use std::alloc::Global;
 use std::error::Error;

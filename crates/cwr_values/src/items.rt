@@ -1,7 +1,7 @@
 //! The items of a transmission, in the order in which reading hands them out and writing takes them.
 
 use crate::transactions::Transaction;
-use cwr_layouts::Record;
+use cwr_lines::Record;
 
 /// One item of a transmission: a transaction, or one of the records that stand around transactions.
 #[derive(Debug, Drop)]

@@ -4,7 +4,8 @@ ghost use Rattle.std.specs.Prelude.{◌≡◌};
 ghost use Rattle.cwr_values.specs.Format.Values.{symbol_of};
 
 use cwr_fields::{Role, TransactionType};
-use cwr_layouts::{Kind, RecordRef};
+use cwr_layouts::Kind;
+use cwr_lines::RecordRef;
 use cwr_shape::Symbol;
 
 /// What the order of records sees of a record: its kind, and of IPA and GRH the role or the type too.

@@ -1,7 +1,7 @@
 //! Transactions as values.
 
 ghost use Rattle.std.specs.Prelude.{◌≡◌, ◌↔◌, List, [], ◌∷◌, ◌++◌, length, option_map, slice_get, IsTrue, IsSome, IfSome, IfOk, OnOk, OnErr, Some, Err};
-ghost use Rattle.cwr_layouts.specs.Format.Growth.{AsksMemory};
+ghost use Rattle.cwr_lines.specs.Format.Growth.{AsksMemory};
 ghost use Rattle.cwr_shape.specs.Format.Shapes.{BeginsShape};
 ghost use Rattle.cwr_shape.specs.Steps.Left.{StandsAtStep};
 ghost use Rattle.cwr_values.specs.Format.Values.{symbol_of};
@@ -9,7 +9,8 @@ ghost use Rattle.cwr_values.specs.Format.Begun.{HasHeaderOf, IsBegun, IsWholeTra
 
 use crate::symbols::symbol_of;
 use cwr_fields::TransactionType;
-use cwr_layouts::{Kind, RecordList, RecordRef};
+use cwr_layouts::Kind;
+use cwr_lines::{RecordList, RecordRef};
 use cwr_shape::{Symbol, TransactionStep};
 use std::alloc::Global;
 use std::error::Error;
@@ -68,7 +69,7 @@ pub struct Transaction {
 
 impl Model for Transaction {
     ghost use Rattle.std.specs.Prelude.{List};
-    ghost use Rattle.cwr_layouts.specs.Format.Records.{RecordValue};
+    ghost use Rattle.cwr_lines.specs.Format.Records.{RecordValue};
     ghost use Rattle.cwr_values.specs.Steps.Begun.{KeepsTransaction};
 
     ghost Value = { List RecordValue };

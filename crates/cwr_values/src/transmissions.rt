@@ -10,7 +10,8 @@ ghost use Rattle.cwr_values.specs.Format.Fits.{first_too_long, value_fault};
 
 use crate::groups::Group;
 use cwr_fields::make_room;
-use cwr_layouts::{Kind, Record};
+use cwr_layouts::Kind;
+use cwr_lines::Record;
 use cwr_shape::Limits;
 use std::alloc::Global;
 use std::error::Error;

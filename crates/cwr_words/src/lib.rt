@@ -1,7 +1,6 @@
 //! The words of the command line of `cwr`, and what they ask for.
 #![tactic(auto)]
 
-mod grammar;
 mod words;
 
 pub use words::{Judging, Rows, Task, Work, task_of};

@@ -7,13 +7,13 @@ ghost use Rattle.clap.specs.Words.{found_of, has_subcommand, one_text};
 ghost use Rattle.cwr_shape.specs.Format.Ranges.{limit_values};
 ghost use Rattle.cwr_words.specs.Format.Words.{AreNamesOf, IsAcksOf, IsAdviceOf, IsAskedBy, IsExportOf, IsImportOf, IsJoinOf, IsJudgingOf, IsLintOf, IsPlainCheck, IsRenumberingOf, IsSplitOf, IsTableOf, IsWorkOf, level_named, rows_named};
 
-use crate::grammar::{
+use clap::error::ErrorKind;
+use clap::{ArgMatches, Error};
+use cwr_grammar::{
     ACKS, ADVISE, AS_JSON, CSV, EXPLAIN, EXPLAINED, FAIL_ON, FILE, GROUPS, JOIN, JSON, KIND, LINE,
     LINT, MANUAL, NEW, NO_PROGRESS, NUMBER, NUMBERS, OUT, PREFIX, PROGRESS, QUIET, RECORDS,
     RENUMBER, SENT, SHOW, SPLIT, TRANSACTION, UTF8, WHOLE, WORKS, WRITE, command,
 };
-use clap::error::ErrorKind;
-use clap::{ArgMatches, Error};
 use cwr_layouts::Kind;
 use cwr_shape::{Level, Limits};
 use std::alloc::{AllocError, Global};

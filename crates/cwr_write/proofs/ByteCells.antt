@@ -16,8 +16,8 @@ use Rattle.cwr_fields.specs.Format.Cells.{Allows, SpellsDay, SpellsTime, SpellsC
 use Rattle.cwr_layouts.specs.declared.kinds.Kind.{Kind}
 use Rattle.cwr_layouts.specs.declared.kinds.Kind.TheVariants.{Hdr}
 use Rattle.cwr_layouts.specs.Format.Layouts.{FieldLayout, layout, field_at}
-use Rattle.cwr_layouts.specs.Format.Carried.{carried_at}
-use Rattle.cwr_layouts.proofs.CarriedCells.{open_some}
+use Rattle.cwr_lines.specs.Format.Carried.{carried_at}
+use Rattle.cwr_lines.proofs.CarriedCells.{open_some}
 use Rattle.cwr_write.specs.Format.Faults.{AreBytes}
 use Rattle.cwr_write.specs.Steps.Filling.{FitsField}
 

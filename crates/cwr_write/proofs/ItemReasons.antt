@@ -14,7 +14,7 @@ use Rattle.json.specs.Find.{as_array}
 use Rattle.json.specs.Strict.{keys}
 use Rattle.cwr_layouts.specs.declared.kinds.Kind.{Kind}
 use Rattle.cwr_layouts.specs.Format.Layouts.{FieldLayout, field_at}
-use Rattle.cwr_layouts.specs.Format.Records.{RecordValue}
+use Rattle.cwr_lines.specs.Format.Records.{RecordValue}
 use Rattle.cwr_values.specs.Format.Begun.{IsBegun}
 use Rattle.cwr_json.specs.declared.encodings.Encoding.{Encoding}
 use Rattle.cwr_json.specs.Format.Forms.{AreListData, AreRecordsData, IsItemData, first_of, key_of, kind_key, records_key, told}

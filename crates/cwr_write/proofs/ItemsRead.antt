@@ -9,7 +9,7 @@ use Rattle.json.specs.declared.value.Value.{Value}
 use Rattle.json.specs.Value.{items_of, items_view, members_view, value_view}
 use Rattle.cwr_layouts.specs.declared.kinds.Kind.{Kind}
 use Rattle.cwr_layouts.specs.declared.kinds.Kind.TheVariants.{Hdr, Grh, Grt, Trl}
-use Rattle.cwr_layouts.specs.Format.Records.{RecordValue, IsRecord}
+use Rattle.cwr_lines.specs.Format.Records.{RecordValue, IsRecord}
 use Rattle.cwr_values.specs.Format.Rows.{trailer}
 use Rattle.cwr_values.proofs.OneTransmissionOfRecords.{is_trailer}
 use Rattle.cwr_json.specs.declared.encodings.Encoding.{Encoding}

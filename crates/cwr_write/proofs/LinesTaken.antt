@@ -7,7 +7,7 @@ use Rattle.std.specs.List.{AllZip, filter, list_any}
 use Rattle.json.specs.Json.{Json, document}
 use Rattle.cwr_fields.specs.declared.codes.TransactionType.{TransactionType}
 use Rattle.cwr_fields.specs.declared.codes.TransactionType.TheVariants.{Acknowledgement}
-use Rattle.cwr_layouts.specs.Format.Records.{RecordValue}
+use Rattle.cwr_lines.specs.Format.Records.{RecordValue}
 use Rattle.cwr_shape.specs.Format.Ranges.{LimitValues}
 use Rattle.std.proofs.lemmas.List.Elements.{filter-append}
 use Rattle.cwr_values.specs.declared.items.Item.{Item}
@@ -28,7 +28,7 @@ use Rattle.cwr_write.proofs.ItemsInOrder.{AreOwn, next_type, own_first, own_head
 use Rattle.cwr_write.proofs.TakenItems.{value_ends}
 use Rattle.std.proofs.lemmas.List.{length-append, take-append-drop}
 use Rattle.std.proofs.lemmas.List.Folds.{list_any-append}
-use Rattle.cwr_layouts.specs.Format.Lines.{is_lf}
+use Rattle.cwr_lines.specs.Format.Lines.{is_lf}
 use Rattle.cwr_write.specs.Steps.Lines.{Exceeds, ExceedsWith, IsTakenOf, NoFeed, SoFar, TakesLineOf, TakesPart}
 
 no_feed_both : (xs ys : List ℕ) → NoFeed xs → NoFeed ys → NoFeed (xs ++ ys)

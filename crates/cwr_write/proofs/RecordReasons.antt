@@ -12,10 +12,10 @@ use Rattle.json.specs.Strict.{keys}
 use Rattle.cwr_layouts.specs.declared.kinds.Kind.{Kind}
 use Rattle.cwr_fields.specs.Format.Bytes.{filled}
 use Rattle.cwr_fields.specs.Format.Cells.{HasFault}
-use Rattle.cwr_layouts.specs.Format.Carried.{Sets, carried_at, carried_before}
+use Rattle.cwr_lines.specs.Format.Carried.{Sets, carried_at, carried_before}
 use Rattle.cwr_layouts.specs.Format.Layouts.{FieldLayout, field_at, layout}
-use Rattle.cwr_layouts.specs.Format.Records.{RecordValue, carried_fields}
-use Rattle.cwr_layouts.proofs.CarriedCells.{open_some}
+use Rattle.cwr_lines.specs.Format.Records.{RecordValue, carried_fields}
+use Rattle.cwr_lines.proofs.CarriedCells.{open_some}
 use Rattle.cwr_json.specs.declared.encodings.Encoding.{Encoding}
 use Rattle.cwr_json.specs.Format.Encodings.{StandFor}
 use Rattle.cwr_json.specs.Format.Forms.{IsCellFrom, first_of, key_of}

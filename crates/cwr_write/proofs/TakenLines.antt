@@ -11,7 +11,7 @@ use Rattle.cwr_values.specs.Format.Rows.{trailer}
 use Rattle.cwr_json.specs.declared.encodings.Encoding.{Encoding}
 use Rattle.cwr_write.specs.declared.writing.Reached.{Reached}
 use Rattle.cwr_write.specs.declared.writing.Reached.TheVariants as reached_to
-use Rattle.cwr_layouts.specs.Format.Records.{RecordValue}
+use Rattle.cwr_lines.specs.Format.Records.{RecordValue}
 use Rattle.cwr_values.specs.declared.items.Item.{Item}
 use Rattle.cwr_values.specs.declared.items.Item.TheVariants.{Opened, GroupOpened, Transaction, GroupClosed, Ended}
 use Rattle.cwr_encode.specs.declared.encoders.Encoder.{Encoder}

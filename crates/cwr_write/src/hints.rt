@@ -1,10 +1,11 @@
 //! What is told below a refusal: which keys there are, how wide a field is, and what an item lacks.
 
 use crate::refusals::{Key, Refusal, Why, put_key_of, put_name};
-use cwr_encode::{Sink, SinkFault};
 use cwr_fields::Target;
 use cwr_json::Encoding;
-use cwr_layouts::{Kind, RecordRef, field, fields, letters};
+use cwr_layouts::{Kind, field, fields, letters};
+use cwr_lines::RecordRef;
+use cwr_sinks::{Sink, SinkFault};
 use cwr_values::{Item, Transaction};
 use itoa::Buffer;
 

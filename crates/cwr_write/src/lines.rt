@@ -2,7 +2,7 @@
 
 ghost use Rattle.std.specs.Prelude.{◌≡◌, ◌<◌, ◌≤◌, ◌+◌, ◌++◌, [], length, take, slice_index, IfErr, IfOk, IsFalse, MatchOption, OnOk};
 ghost use Rattle.std.specs.List.{list_any};
-ghost use Rattle.cwr_layouts.specs.Format.Lines.{is_lf};
+ghost use Rattle.cwr_lines.specs.Format.Lines.{is_lf};
 ghost use Rattle.cwr_write.specs.Format.Imports.{is_blank_line};
 ghost use Rattle.cwr_write.specs.Steps.Lines.{ExceedsWith, TakesLineOf, TakesPart};
 ghost use Rattle.cwr_write.specs.Steps.Taking.{CountsReading, IsUnfailed};

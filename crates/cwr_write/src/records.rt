@@ -6,8 +6,8 @@ ghost use Rattle.json.specs.Json.{Members, no_members, string};
 ghost use Rattle.json.specs.Value.{members_view, value_view};
 ghost use Rattle.cwr_layouts.specs.Format.Kinds.{letters};
 ghost use Rattle.cwr_layouts.specs.Format.Layouts.{FieldLayout, field_at};
-ghost use Rattle.cwr_layouts.specs.Format.Records.{IsRecord, RecordValue};
-ghost use Rattle.cwr_layouts.specs.Format.Carried.{Sets, carried_at};
+ghost use Rattle.cwr_lines.specs.Format.Records.{IsRecord, RecordValue};
+ghost use Rattle.cwr_lines.specs.Format.Carried.{Sets, carried_at};
 ghost use Rattle.cwr_json.specs.declared.encodings.Encoding.{Encoding};
 ghost use Rattle.cwr_json.specs.Format.Encodings.{StandFor, are_read_as_is, byte_by_byte, character};
 ghost use Rattle.cwr_json.specs.Format.Forms.{IsDataOf, IsRecordData, first_of, is_note, kind_key, says, told};
@@ -18,7 +18,8 @@ use crate::keys::field_of_key;
 use crate::refusals::{Key, LineFault, Why, text_key};
 use arrayvec::ArrayVec;
 use cwr_json::{Encoding, has_escape};
-use cwr_layouts::{Draft, DraftFault, Kind, Record, SetFault, field};
+use cwr_layouts::{Kind, field};
+use cwr_lines::{Draft, DraftFault, Record, SetFault};
 use json::Value;
 
 /// The members of an object.

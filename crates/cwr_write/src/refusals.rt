@@ -5,10 +5,10 @@ ghost use Rattle.cwr_write.specs.Format.Faults.{IsOfLine, TellsKey};
 
 use crate::hints::Lack;
 use arrayvec::ArrayVec;
-use cwr_encode::{Sink, SinkFault};
 use cwr_fields::{CellFault, Target};
 use cwr_layouts::{Kind, field, letters};
 use cwr_shape::LimitKind;
+use cwr_sinks::{Sink, SinkFault};
 use itoa::Buffer;
 
 /// The most bytes that are shown of a key.

@@ -1,7 +1,7 @@
 //! From lines of JSON to a transmission.
 
 ghost use Rattle.std.specs.Prelude.{◌≡◌, ◌≢◌, ◌<◌, ◌^◌, ◌-◌, IfOk, IfSome, OnErr, OnOk, ℕ, List, [], length, map, Option, true, false};
-ghost use Rattle.cwr_layouts.specs.Format.Records.{RecordValue};
+ghost use Rattle.cwr_lines.specs.Format.Records.{RecordValue};
 ghost use Rattle.cwr_layouts.specs.declared.kinds.Kind.TheVariants.{Trl};
 ghost use Rattle.cwr_shape.specs.declared.symbols.Symbol.TheVariants.{Plain};
 ghost use Rattle.cwr_shape.specs.Format.NextSymbols.{MayCome};
@@ -16,10 +16,11 @@ ghost use Rattle.cwr_write.specs.Steps.Taking.{EndsLines, EndsWith, FinishesLine
 use crate::items::{ItemFault, encode_fault, item_in, write_item};
 use crate::lines::{ReadFault, is_blank, next_line};
 use crate::refusals::{Refusal, Why, of_line};
-use cwr_encode::{EncodeFault, Encoder, Sink, SinkFault};
+use cwr_encode::{EncodeFault, Encoder};
 use cwr_fields::{Source, Target};
 use cwr_json::Encoding;
 use cwr_shape::Limits;
+use cwr_sinks::{Sink, SinkFault};
 use cwr_values::Item;
 use itoa::Buffer;
 use json::{Scratch, Value};

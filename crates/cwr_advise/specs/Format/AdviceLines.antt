@@ -2,14 +2,14 @@
 use Rattle.std.specs.Prelude.{ℕ, ◌+◌, Bool, false, nat_lt, List, [], ◌∷◌, ◌++◌, codes, decimal, length, map, take, count_by, flat_map, None, slice_get, unwrap_or}
 use Rattle.std.specs.List.{after_last, enumerate_from, last_or}
 use Rattle.std.specs.Option.{option_to_list}
-use Rattle.cwr_layouts.specs.Format.Carried.{carried_at, record_cell}
-use Rattle.cwr_layouts.specs.Format.Records.{RecordValue}
+use Rattle.cwr_lines.specs.Format.Carried.{carried_at, record_cell}
+use Rattle.cwr_lines.specs.Format.Records.{RecordValue}
 use Rattle.cwr_shape.specs.Format.ReasonTexts.{level_text}
 use Rattle.cwr_values.specs.declared.items.Item.{Item}
 use Rattle.cwr_values.specs.declared.items.Item.TheVariants.{Opened, Transaction}
 use Rattle.cwr_judge.specs.Format.Items.{is_transaction, opens_group, records_in}
 use Rattle.cwr_levels.specs.Format.Findings.{findings}
-use Rattle.cwr_tools.specs.Format.FindingNotes.{explained_in, noted_line, where_line}
+use Rattle.cwr_notes.specs.Format.FindingNotes.{explained_in, noted_line, where_line}
 use Rattle.cwr_tools.specs.Format.Reports.{ItemLines}
 use Rattle.cwr_tools.specs.Format.Texts.{verdict_line}
 use Rattle.cwr_advice.specs.declared.rules.Advice.{Advice}

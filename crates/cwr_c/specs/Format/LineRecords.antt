@@ -2,8 +2,8 @@
 use Rattle.std.specs.Prelude.{◌≡◌, ◌⊎◌, ℕ, false, List, [], ◌∷◌, ◌++◌, Some}
 use Rattle.std.specs.List.{AllZip, flat_map}
 use Rattle.cwr_layouts.specs.declared.kinds.Kind.TheVariants.{Trl}
-use Rattle.cwr_layouts.specs.Format.Lines.{body_kind, closed, excess_as, without_cr}
-use Rattle.cwr_layouts.specs.Format.Records.{RecordValue, IsRecord}
+use Rattle.cwr_lines.specs.Format.Lines.{body_kind, closed, excess_as, without_cr}
+use Rattle.cwr_lines.specs.Format.Records.{RecordValue, IsRecord}
 use Rattle.cwr_decode.specs.Format.Entries.{carried}
 use Rattle.cwr_decode.specs.Format.WholeLines.{IsLine}
 

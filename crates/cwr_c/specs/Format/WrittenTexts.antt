@@ -1,6 +1,6 @@
 -- What is written for C, and what it is told of that.
 use Rattle.std.specs.Prelude.{◌≡◌, ◌≢◌, ◌⊎◌, ℕ, List, [], ◌∷◌, ◌++◌}
-use Rattle.cwr_layouts.specs.Format.Records.{RecordValue}
+use Rattle.cwr_lines.specs.Format.Records.{RecordValue}
 use Rattle.cwr_shape.specs.Format.Ranges.{LimitValues, limit_values}
 use Rattle.cwr_values.specs.Format.Values.{TransmissionValue, IsTransmission, FitsIn}
 use Rattle.cwr_values.specs.Format.Rows.{canonical_text, records_of, trailer}

@@ -2,8 +2,8 @@
 use Rattle.std.specs.Prelude.{◌≡◌, ℕ, false, List, [], ◌∷◌, ◌++◌, Option, Some, unwrap_or}
 use Rattle.std.specs.Io.KnownBytes.{Appends}
 use Rattle.cwr_layouts.specs.declared.kinds.Kind.TheVariants.{Trl}
-use Rattle.cwr_layouts.specs.Format.Records.{RecordValue, IsRecord}
-use Rattle.cwr_layouts.specs.Steps.Held.{HeldLine, held_excess, held_kind, held_record}
+use Rattle.cwr_lines.specs.Format.Records.{RecordValue, IsRecord}
+use Rattle.cwr_lines.specs.Steps.Held.{HeldLine, held_excess, held_kind, held_record}
 use Rattle.cwr_shape.specs.Format.Ranges.{LimitValues}
 use Rattle.cwr_values.specs.Format.Values.{TransmissionValue, IsTransmission, FitsIn}
 use Rattle.cwr_values.specs.Format.Rows.{canonical_text, records_of, trailer}

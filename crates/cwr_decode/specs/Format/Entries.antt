@@ -2,8 +2,8 @@
 use Rattle.std.specs.Prelude.{◌≡◌, ℕ, ◌+◌, ◌≤◌, List, [], ◌∷◌, ◌++◌, count_by, length, take, drop, Option, Some, None}
 use Rattle.cwr_fields.specs.declared.codes.TransactionType.TheVariants.{Acknowledgement}
 use Rattle.cwr_layouts.specs.declared.kinds.Kind.{Kind}
-use Rattle.cwr_layouts.specs.Format.Records.{RecordValue, record_of}
-use Rattle.cwr_layouts.specs.Format.Lines.{body_kind, cells_as}
+use Rattle.cwr_lines.specs.Format.Records.{RecordValue, record_of}
+use Rattle.cwr_lines.specs.Format.Lines.{body_kind, cells_as}
 use Rattle.cwr_shape.specs.declared.symbols.Symbol.{Symbol}
 use Rattle.cwr_shape.specs.Format.Ranges.{LimitValues}
 use Rattle.cwr_shape.specs.Format.LastSymbols.{is_grh}

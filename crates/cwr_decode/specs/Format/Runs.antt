@@ -6,7 +6,7 @@ use Rattle.cwr_layouts.specs.declared.kinds.Kind.TheVariants as kinds
 use Rattle.cwr_shape.specs.Format.Ranges.{LimitValues}
 use Rattle.cwr_values.specs.declared.items.Item.{Item}
 use Rattle.cwr_values.specs.declared.items.Item.TheVariants.{Transaction, GroupClosed}
-use Rattle.cwr_layouts.specs.Format.Records.{RecordValue}
+use Rattle.cwr_lines.specs.Format.Records.{RecordValue}
 use Rattle.cwr_values.specs.Format.Values.{TransmissionValue, IsRecordOf, IsTransaction, IsTransmission, FitsIn, type_of}
 use Rattle.cwr_values.specs.Format.Rows.{canonical_text}
 use Rattle.cwr_decode.specs.declared.readings.ReadFault.{ReadFault}

@@ -1,7 +1,7 @@
 -- Where a line stands in a text.
 use Rattle.std.specs.Prelude.{◌≡◌, ◌⊎◌, ℕ, ◌≤◌, IsFalse, List, [], ◌∷◌, ◌++◌, length, take, drop}
 use Rattle.std.specs.List.{AllByRecursion, flat_map, list_any}
-use Rattle.cwr_layouts.specs.Format.Lines.{is_lf, longest_line, without_cr}
+use Rattle.cwr_lines.specs.Format.Lines.{is_lf, longest_line, without_cr}
 
 -- a line, which has no line feed and isn't too long
 pub record IsLine (line : List ℕ) : Type 0 where

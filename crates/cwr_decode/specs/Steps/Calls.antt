@@ -1,6 +1,6 @@
 -- What a call of a decoder does to what the decoder represents, and what its answer says of the input.
 use Rattle.std.specs.Prelude.{◌≡◌, ◌≢◌, ℕ, ◌<◌, ◌≤◌, Bool, true, false, List, ◌++◌, length, take, Option, Some, None, IfSome, IfNone}
-use Rattle.cwr_layouts.specs.declared.lines.LineEnd.TheVariants as line_ends
+use Rattle.cwr_lines.specs.declared.lines.LineEnd.TheVariants as line_ends
 use Rattle.cwr_values.specs.declared.items.Item.{Item}
 use Rattle.cwr_decode.specs.declared.outcomes.Outcome.{Outcome}
 use Rattle.cwr_decode.specs.declared.outcomes.Outcome.TheVariants.{More, Memory}

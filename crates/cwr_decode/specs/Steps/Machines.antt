@@ -4,10 +4,10 @@ use Rattle.std.specs.List.{AllByRecursion}
 use Rattle.std.specs.declared.alloc.AllocError.{AllocError}
 use Rattle.cwr_layouts.specs.declared.kinds.Kind.{Kind}
 use Rattle.cwr_layouts.specs.declared.kinds.Kind.TheVariants.{Hdr, Grh, Grt, Trl}
-use Rattle.cwr_layouts.specs.declared.lines.LineEnd.TheVariants as line_ends
-use Rattle.cwr_layouts.specs.Format.Growth.{AsksMemory}
-use Rattle.cwr_layouts.specs.Format.Records.{RecordValue, IsRecord}
-use Rattle.cwr_layouts.specs.Steps.Held.{HeldLine, IsHeld, Takes, held_excess, held_kind, held_record, empty_line}
+use Rattle.cwr_lines.specs.declared.lines.LineEnd.TheVariants as line_ends
+use Rattle.cwr_lines.specs.Format.Growth.{AsksMemory}
+use Rattle.cwr_lines.specs.Format.Records.{RecordValue, IsRecord}
+use Rattle.cwr_lines.specs.Steps.Held.{HeldLine, IsHeld, Takes, held_excess, held_kind, held_record, empty_line}
 use Rattle.cwr_shape.specs.declared.symbols.Symbol.{Symbol}
 use Rattle.cwr_shape.specs.Format.Levels.{level_of}
 use Rattle.cwr_shape.specs.Format.Ranges.{AreInRange}

@@ -1,11 +1,11 @@
 -- What a decoder represents: the input so far, and the items that were handed out.
 use Rattle.std.specs.Prelude.{◌≡◌, ◌≢◌, ◌⊎◌, ℕ, ◌+◌, Bool, true, false, IsTrue, IsFalse, List, [], ◌∷◌, ◌++◌, length, map, Option, Some, None}
 use Rattle.std.specs.List.{AllZip, AllByRecursion, flat_map, list_any}
-use Rattle.cwr_layouts.specs.declared.lines.LineEnd.TheVariants as line_ends
-use Rattle.cwr_layouts.specs.Format.Growth.{AsksMemory}
-use Rattle.cwr_layouts.specs.Format.Records.{RecordValue, IsRecord}
-use Rattle.cwr_layouts.specs.Format.Lines.{IsLineOf, closed, is_lf, longest_line}
-use Rattle.cwr_layouts.specs.Steps.Held.{HeldLine, IsHeld, held_kind, held_text, held_record}
+use Rattle.cwr_lines.specs.declared.lines.LineEnd.TheVariants as line_ends
+use Rattle.cwr_lines.specs.Format.Growth.{AsksMemory}
+use Rattle.cwr_lines.specs.Format.Records.{RecordValue, IsRecord}
+use Rattle.cwr_lines.specs.Format.Lines.{IsLineOf, closed, is_lf, longest_line}
+use Rattle.cwr_lines.specs.Steps.Held.{HeldLine, IsHeld, held_kind, held_text, held_record}
 use Rattle.cwr_shape.specs.declared.symbols.Symbol.{Symbol}
 use Rattle.cwr_shape.specs.Format.Ranges.{LimitValues, AreInRange}
 use Rattle.cwr_shape.specs.Format.Levels.{level_of}

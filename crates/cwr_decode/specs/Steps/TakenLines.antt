@@ -1,8 +1,8 @@
 -- What a line at the front of a text does, and how an entry is put.
 use Rattle.std.specs.Prelude.{◌≡◌, ◌⊎◌, ℕ, ◌<◌, ◌≤◌, List, length, take, set}
-use Rattle.cwr_layouts.specs.declared.lines.LineEnd.TheVariants.{Line}
-use Rattle.cwr_layouts.specs.Format.Lines.{without_cr}
-use Rattle.cwr_layouts.specs.Steps.Held.{HeldLine, IsHeld, Takes, empty_line}
+use Rattle.cwr_lines.specs.declared.lines.LineEnd.TheVariants.{Line}
+use Rattle.cwr_lines.specs.Format.Lines.{without_cr}
+use Rattle.cwr_lines.specs.Steps.Held.{HeldLine, IsHeld, Takes, empty_line}
 use Rattle.cwr_shape.specs.declared.symbols.Symbol.{Symbol}
 use Rattle.cwr_shape.specs.Steps.Tallies.{TallyValue}
 use Rattle.cwr_judge.specs.declared.refusals.Refusal.{Refusal}

@@ -1,9 +1,9 @@
 -- The first line of a text, and what a line does to the records before it.
 use Rattle.std.specs.Prelude.{◌≡◌, ◌≢◌, ◌⊎◌, ℕ, ◌+◌, ◌<◌, ◌≤◌, Bool, IsTrue, ◌↔◌, List, [], ◌∷◌, ◌++◌, length, take}
 use Rattle.cwr_layouts.specs.declared.kinds.Kind.TheVariants.{Trl}
-use Rattle.cwr_layouts.specs.declared.lines.LineEnd.TheVariants.{Open, Line}
-use Rattle.cwr_layouts.specs.Format.Records.{RecordValue}
-use Rattle.cwr_layouts.specs.Steps.Held.{HeldLine, IsHeld, Stops, held_kind, held_text}
+use Rattle.cwr_lines.specs.declared.lines.LineEnd.TheVariants.{Open, Line}
+use Rattle.cwr_lines.specs.Format.Records.{RecordValue}
+use Rattle.cwr_lines.specs.Steps.Held.{HeldLine, IsHeld, Stops, held_kind, held_text}
 use Rattle.cwr_shape.specs.declared.symbols.Symbol.{Symbol}
 use Rattle.cwr_shape.specs.declared.symbols.Symbol.TheVariants.{Plain}
 use Rattle.cwr_shape.specs.Format.Levels.{level_of}

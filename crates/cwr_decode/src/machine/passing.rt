@@ -2,7 +2,7 @@
 
 ghost use Rattle.std.specs.Prelude.{◌≡◌, ◌≢◌, ◌≤◌, List, length, take, false, None, Some, IsTrue};
 ghost use Rattle.cwr_layouts.specs.Format.Kinds.{kind_of};
-ghost use Rattle.cwr_layouts.specs.Format.Records.{RecordValue};
+ghost use Rattle.cwr_lines.specs.Format.Records.{RecordValue};
 ghost use Rattle.cwr_decode.specs.Steps.Machines.{HasRecord, IsReady, with_line};
 ghost use Rattle.cwr_decode.specs.Steps.Passing.{BeginsHeld, BeginsWaiting, KeepsCut, KeepsFront, KeepsLine, Passes, waiting};
 
@@ -13,7 +13,8 @@ use crate::kind_types::{
 };
 use cwr_fields::SpelledPair;
 use cwr_judge::count_quickly;
-use cwr_layouts::{CutLine, Kind, LineBuf, is_in_transaction};
+use cwr_layouts::{Kind, is_in_transaction};
+use cwr_lines::{CutLine, LineBuf};
 use cwr_shape::Tally;
 
 /// Judges a line by quick tests, where a keeper stands for the records of the open transaction.

@@ -1,12 +1,9 @@
--- The words for the faults of sinks and encoders.
-use Rattle.std.specs.Prelude.{ℕ, List, ◌++◌, codes, decimal}
+-- The words for the faults of encoders.
+use Rattle.std.specs.Prelude.{ℕ, List, ◌++◌, codes}
 use Rattle.cwr_shape.specs.Format.ReasonTexts.{limit_text}
+use Rattle.cwr_sinks.specs.Format.SinkFaultTexts.{writer_fault_text}
 use Rattle.cwr_encode.specs.declared.encoders.EncodeFault.{EncodeFault}
 use Rattle.cwr_encode.specs.declared.encoders.EncodeFault.TheVariants.{OutOfOrder, WrongKind, Incomplete, Limit, Writer}
-
--- the writer failed after so many bytes
-abbrev pub writer_fault_text : ℕ → List ℕ
-writer_fault_text written = codes "the writer failed after " ++ decimal written ++ codes " bytes"
 
 -- the words for a fault of an encoder
 abbrev pub encode_fault_text : EncodeFault → List ℕ

@@ -4,7 +4,7 @@ use Rattle.std.specs.List.{AllByRecursion}
 use Rattle.cwr_fields.specs.Format.Failures.{one_more_failure}
 use Rattle.cwr_fields.specs.declared.codes.TransactionType.{TransactionType}
 use Rattle.cwr_layouts.specs.declared.kinds.Kind.{Kind}
-use Rattle.cwr_layouts.specs.Format.Records.{RecordValue, IsRecord}
+use Rattle.cwr_lines.specs.Format.Records.{RecordValue, IsRecord}
 use Rattle.cwr_shape.specs.declared.symbols.Symbol.{Symbol}
 use Rattle.cwr_shape.specs.declared.stages.Stage.{Stage}
 use Rattle.cwr_shape.specs.declared.stages.Stage.TheVariants as stages
@@ -27,7 +27,7 @@ use Rattle.cwr_encode.specs.declared.encoders.Reached.{Reached}
 use Rattle.cwr_encode.specs.declared.encoders.Reached.TheVariants as reached_to
 use Rattle.cwr_encode.specs.declared.encoders.EncodeFault.{EncodeFault}
 use Rattle.cwr_encode.specs.declared.encoders.EncodeFault.TheVariants.{OutOfOrder, Incomplete, Limit, Writer}
-use Rattle.cwr_encode.specs.Steps.Sinks.{HasWritten, has_failed, written_of, writer_of}
+use Rattle.cwr_sinks.specs.Steps.Sinks.{HasWritten, has_failed, written_of, writer_of}
 use Rattle.cwr_encode.specs.Format.Encoders.{part_of, reached, IsBetween, IsInGroup}
 
 -- at a stage

@@ -1,7 +1,7 @@
 -- What finishing does to an encoder's writer.
 use Rattle.std.specs.Prelude.{◌≡◌, ℕ, List, Option, Result, Ok, Err}
 use Rattle.cwr_fields.specs.Format.Failures.{one_more_failure}
-use Rattle.cwr_layouts.specs.Format.Records.{RecordValue}
+use Rattle.cwr_lines.specs.Format.Records.{RecordValue}
 use Rattle.cwr_values.specs.Format.Values.{TransmissionValue}
 use Rattle.cwr_values.specs.Format.Rows.{canonical_text}
 use Rattle.cwr_encode.specs.declared.encoders.Encoder.{Encoder}

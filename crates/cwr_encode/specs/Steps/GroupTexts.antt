@@ -1,7 +1,7 @@
 -- The canonical text of groups, part by part, and how many records they may have.
 use Rattle.std.specs.Prelude.{ℕ, ◌≤◌, List, [], ◌∷◌, ◌++◌, length, map, sum_by}
 use Rattle.std.specs.List.{AllByRecursion, flat_map, enumerate_from}
-use Rattle.cwr_layouts.specs.Format.Records.{RecordValue, row_of}
+use Rattle.cwr_lines.specs.Format.Records.{RecordValue, row_of}
 use Rattle.cwr_shape.specs.Format.Numbers.{group_records, all_records}
 use Rattle.cwr_values.specs.Format.Values.{GroupValue, TransmissionValue}
 use Rattle.cwr_values.specs.Format.Rows.{canonical_line, lengths_of_value}

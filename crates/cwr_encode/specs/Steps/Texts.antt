@@ -1,6 +1,6 @@
 -- The canonical text of records, part by part.
 use Rattle.std.specs.Prelude.{ℕ, ◌+◌, List, [], ◌∷◌, ◌++◌}
-use Rattle.cwr_layouts.specs.Format.Records.{RecordValue, row_of}
+use Rattle.cwr_lines.specs.Format.Records.{RecordValue, row_of}
 use Rattle.cwr_values.specs.Format.Rows.{canonical_line}
 
 -- the text of records from record k of transaction j on

@@ -1,7 +1,7 @@
 -- The line with which the bytes end that were read.
 use Rattle.std.specs.Prelude.{◌≡◌, ◌⊎◌, ◌↔◌, ℕ, ◌-◌, ◌^◌, ◌<◌, ◌≤◌, Bool, true, false, IsFalse, List, [], ◌∷◌, ◌++◌, length}
 use Rattle.std.specs.List.{list_any}
-use Rattle.cwr_layouts.specs.Format.Lines.{is_lf, longest_line}
+use Rattle.cwr_lines.specs.Format.Lines.{is_lf, longest_line}
 use Rattle.cwr_decode.specs.Steps.Represents.{EndsInLf}
 use Rattle.cwr_explain.specs.declared.lines_at_end.LineAtEnd.{LineAtEnd}
 

@@ -11,7 +11,7 @@ use Rattle.cwr_fields.specs.Format.Bytes.{is_spaces, trimmed, filled}
 use Rattle.cwr_layouts.specs.declared.kinds.Kind.{Kind}
 use Rattle.cwr_layouts.specs.Format.Kinds.{letters}
 use Rattle.cwr_layouts.specs.Format.Layouts.{FieldLayout}
-use Rattle.cwr_layouts.specs.Format.Records.{RecordValue, IsRecord, blank_cell, carried_fields}
+use Rattle.cwr_lines.specs.Format.Records.{RecordValue, IsRecord, blank_cell, carried_fields}
 use Rattle.cwr_values.specs.declared.items.Item.{Item}
 use Rattle.cwr_values.specs.declared.items.Item.TheVariants.{Opened, GroupOpened, Transaction, GroupClosed, Ended}
 use Rattle.cwr_judge.specs.Format.Items.{is_transaction, item_records, opens_group, records_in}

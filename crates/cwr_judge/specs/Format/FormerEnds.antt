@@ -1,6 +1,6 @@
 -- Texts that are accepted as transmissions in another order of records, for the laws on the orders without copies.
 use Rattle.std.specs.Prelude.{◌≡◌, ℕ, min, List, ◌++◌, length}
-use Rattle.cwr_layouts.specs.Format.Lines.{closed}
+use Rattle.cwr_lines.specs.Format.Lines.{closed}
 use Rattle.cwr_shape.specs.declared.limits.Limits.{Limits}
 use Rattle.cwr_values.specs.Format.FormerOrders.{Order, IsTransmissionIn}
 use Rattle.cwr_values.specs.Format.Rows.{Spells}

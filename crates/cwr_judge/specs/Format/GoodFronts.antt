@@ -3,9 +3,9 @@ use Rattle.std.specs.Prelude.{◌≡◌, ℕ, suc, ◌<◌, IsFalse, List, ◌�
 use Rattle.std.specs.List.{AllZip, AllByRecursion, IsAmong}
 use Rattle.cwr_layouts.specs.declared.kinds.Kind.{Kind}
 use Rattle.cwr_layouts.specs.Format.Layouts.{layout, fields_after_type}
-use Rattle.cwr_layouts.specs.Format.Records.{RecordValue, IsRecord}
-use Rattle.cwr_layouts.specs.Format.GoodCells.{AreGood}
-use Rattle.cwr_layouts.specs.Format.Lines.{IsLineOf, line_kind, line_cells, has_bad_excess}
+use Rattle.cwr_lines.specs.Format.Records.{RecordValue, IsRecord}
+use Rattle.cwr_lines.specs.Format.GoodCells.{AreGood}
+use Rattle.cwr_lines.specs.Format.Lines.{IsLineOf, line_kind, line_cells, has_bad_excess}
 use Rattle.cwr_shape.specs.declared.symbols.Symbol.{Symbol}
 use Rattle.cwr_shape.specs.Format.Ranges.{LimitValues}
 use Rattle.cwr_shape.specs.Format.Outlines.{Continues, IsWithin}

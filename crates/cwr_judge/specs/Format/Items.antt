@@ -5,7 +5,7 @@ use Rattle.cwr_fields.specs.Format.Bytes.{number_of}
 use Rattle.cwr_layouts.specs.declared.kinds.Kind.{Kind}
 use Rattle.cwr_layouts.specs.declared.kinds.Kind.TheVariants.{Hdr, Grh, Grt, Trl}
 use Rattle.cwr_layouts.specs.Format.Kinds.{is_in_transaction}
-use Rattle.cwr_layouts.specs.Format.Records.{RecordValue, Row, record_of}
+use Rattle.cwr_lines.specs.Format.Records.{RecordValue, Row, record_of}
 use Rattle.cwr_values.specs.declared.items.Item.{Item}
 use Rattle.cwr_values.specs.declared.items.Item.TheVariants.{Opened, GroupOpened, Transaction, GroupClosed, Ended}
 use Rattle.cwr_shape.specs.declared.limits.Limits.{Limits}

@@ -3,8 +3,8 @@ use Rattle.std.specs.Prelude.{◌≡◌, ℕ, ◌+◌, ◌<◌, ◌≤◌, ◌�
 use Rattle.std.specs.List.{AllZip}
 use Rattle.cwr_layouts.specs.declared.kinds.Kind.{Kind}
 use Rattle.cwr_layouts.specs.Format.Layouts.{layout}
-use Rattle.cwr_layouts.specs.Format.Records.{Row}
-use Rattle.cwr_layouts.specs.Format.Lines.{IsLineOf, closed, raw_lines, line_kind, line_cells, has_bad_excess}
+use Rattle.cwr_lines.specs.Format.Records.{Row}
+use Rattle.cwr_lines.specs.Format.Lines.{IsLineOf, closed, raw_lines, line_kind, line_cells, has_bad_excess}
 use Rattle.cwr_shape.specs.declared.limits.Limits.{Limits}
 use Rattle.cwr_values.specs.Format.Values.{TransmissionValue, IsTransmission, FitsIn}
 use Rattle.cwr_values.specs.Format.Rows.{rows}

@@ -5,8 +5,8 @@ use Rattle.std.specs.List.{prefix_len}
 use Rattle.std.specs.Str.{bytes_eq}
 use Rattle.cwr_layouts.specs.declared.kinds.Kind.{Kind}
 use Rattle.cwr_layouts.specs.Format.Layouts.{FieldLayout}
-use Rattle.cwr_layouts.specs.Format.Carried.{carried_at, carried_before}
-use Rattle.cwr_layouts.specs.Format.Records.{carried_fields}
+use Rattle.cwr_lines.specs.Format.Carried.{carried_at, carried_before}
+use Rattle.cwr_lines.specs.Format.Records.{carried_fields}
 
 -- the place of the first field of that name
 abbrev pub index_of_name : List ℕ → List FieldLayout → ℕ

@@ -11,7 +11,7 @@ use Rattle.cwr_fields.specs.Format.Iswc.{is_iswc}
 use Rattle.cwr_layouts.specs.declared.kinds.Kind.{Kind}
 use Rattle.cwr_layouts.specs.declared.kinds.Kind.TheVariants as kinds
 use Rattle.cwr_layouts.specs.Format.Kinds.{letters}
-use Rattle.cwr_layouts.specs.Format.Records.{RecordValue, cell_named, field_number}
+use Rattle.cwr_lines.specs.Format.Records.{RecordValue, cell_named, field_number}
 use Rattle.cwr_shape.specs.declared.reasons.Level.{Level}
 use Rattle.cwr_shape.specs.declared.reasons.Level.TheVariants.{T, R, F}
 use Rattle.cwr_levels.specs.declared.rules.Rule.{Rule}

@@ -3,7 +3,7 @@ use Rattle.std.specs.Prelude.{◌≡◌, ◌≢◌, ℕ, ◌-◌, ◌≤◌, tru
 use Rattle.std.specs.List.{AllZip, flat_map, list_any}
 use Rattle.cwr_layouts.specs.declared.kinds.Kind.{Kind}
 use Rattle.cwr_layouts.specs.Format.Layouts.{FieldLayout, field_at}
-use Rattle.cwr_layouts.specs.Format.Lines.{IsLineOf, closed, has_bad_excess, is_lf, line_cells, line_kind}
+use Rattle.cwr_lines.specs.Format.Lines.{IsLineOf, closed, has_bad_excess, is_lf, line_cells, line_kind}
 use Rattle.cwr_shape.specs.declared.limits.Limits.{Limits}
 use Rattle.cwr_shape.specs.Format.Ranges.{AreInRange}
 use Rattle.cwr_values.specs.Format.Rows.{rows}

@@ -7,8 +7,8 @@ use Rattle.cwr_shape.specs.declared.limits.Limits.{Limits}
 use Rattle.cwr_judge.specs.declared.refusals.Refusal.{Refusal}
 use Rattle.cwr_values.specs.declared.items.Item.{Item}
 use Rattle.cwr_decode.specs.declared.readings.ReadFault.TheVariants as read_faults
-use Rattle.cwr_layouts.specs.Format.Lines.{IsLineOf, is_lf}
-use Rattle.cwr_layouts.specs.Format.Records.{RecordValue, IsRecord}
+use Rattle.cwr_lines.specs.Format.Lines.{IsLineOf, is_lf}
+use Rattle.cwr_lines.specs.Format.Records.{RecordValue, IsRecord}
 use Rattle.cwr_shape.specs.Steps.Tallies.{TallyValue, IsTallyOf}
 use Rattle.cwr_values.specs.Format.Begins.{rows_so_far}
 use Rattle.cwr_values.specs.Format.Values.{symbol_of}

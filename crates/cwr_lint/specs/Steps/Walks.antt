@@ -1,7 +1,7 @@
 -- How a lint goes from line to line: what it holds between two of them, and what it tells.
 use Rattle.std.specs.Prelude.{◌≡◌, ◌⊎◌, ℕ, ◌+◌, ◌-◌, ◌^◌, ◌==◌, min, Bool, true, false, ◌&&◌, is_some, List, [], ◌∷◌, ◌++◌, length, Option, Some, None, if◌then◌else◌}
-use Rattle.cwr_layouts.specs.Format.Records.{RecordValue, IsRecord}
-use Rattle.cwr_layouts.specs.Steps.Held.{carried_by}
+use Rattle.cwr_lines.specs.Format.Records.{RecordValue, IsRecord}
+use Rattle.cwr_lines.specs.Steps.Held.{carried_by}
 use Rattle.cwr_values.specs.Format.Begun.{BeginsWithOneMore}
 use Rattle.cwr_judge.specs.declared.refusals.Refusal.{Refusal}
 use Rattle.cwr_levels.specs.Format.ReportLines.{faults_line}

@@ -10,7 +10,7 @@ use Rattle.cwr_fields.specs.Format.Bytes.{are_digits, is_spaces, number_of}
 use Rattle.cwr_fields.specs.Format.Codes.{word_text}
 use Rattle.cwr_layouts.specs.declared.kinds.Kind.{Kind}
 use Rattle.cwr_layouts.specs.declared.kinds.Kind.TheVariants as kinds
-use Rattle.cwr_layouts.specs.Steps.Held.{HeldLine, cell_as, held_body, held_cells, held_excess, held_kind}
+use Rattle.cwr_lines.specs.Steps.Held.{HeldLine, cell_as, held_body, held_cells, held_excess, held_kind}
 use Rattle.cwr_shape.specs.declared.symbols.Symbol.{Symbol}
 use Rattle.cwr_shape.specs.declared.symbols.Symbol.TheVariants.{Plain, Ipa, Grh}
 use Rattle.cwr_shape.specs.Format.Candidates.{role_in as role_spelled, type_in as type_spelled}

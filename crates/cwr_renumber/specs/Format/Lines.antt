@@ -1,8 +1,8 @@
 -- The lines of a text, and the records that they carry, whatever their numbers.
 use Rattle.std.specs.Prelude.{◌≡◌, ◌⊎◌, ℕ, false, List, [], ◌∷◌, ◌++◌, Some}
 use Rattle.std.specs.List.{AllZip, flat_map}
-use Rattle.cwr_layouts.specs.Format.Lines.{body_kind, excess_as, without_cr}
-use Rattle.cwr_layouts.specs.Format.Records.{RecordValue}
+use Rattle.cwr_lines.specs.Format.Lines.{body_kind, excess_as, without_cr}
+use Rattle.cwr_lines.specs.Format.Records.{RecordValue}
 use Rattle.cwr_decode.specs.Format.Entries.{carried}
 use Rattle.cwr_decode.specs.Format.WholeLines.{IsLine}
 

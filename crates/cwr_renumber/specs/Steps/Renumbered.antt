@@ -4,10 +4,10 @@ use Rattle.cwr_fields.specs.declared.codes.TransactionType.{TransactionType}
 use Rattle.cwr_fields.specs.declared.codes.TransactionType.TheVariants.{Acknowledgement}
 use Rattle.cwr_layouts.specs.declared.kinds.Kind.{Kind}
 use Rattle.cwr_layouts.specs.declared.kinds.Kind.TheVariants as kinds
-use Rattle.cwr_layouts.specs.declared.lines.LineEnd.TheVariants.{Line, Over}
-use Rattle.cwr_layouts.specs.Format.Lines.{is_lf, is_too_long, longest_line}
-use Rattle.cwr_layouts.specs.Steps.Held.{HeldLine, ended_too_long, held_cell, held_kind}
-use Rattle.cwr_layouts.specs.Steps.Numbered.{renumbered}
+use Rattle.cwr_lines.specs.declared.lines.LineEnd.TheVariants.{Line, Over}
+use Rattle.cwr_lines.specs.Format.Lines.{is_lf, is_too_long, longest_line}
+use Rattle.cwr_lines.specs.Steps.Held.{HeldLine, ended_too_long, held_cell, held_kind}
+use Rattle.cwr_lines.specs.Steps.Numbered.{renumbered}
 use Rattle.cwr_shape.specs.declared.symbols.Symbol.{Symbol}
 use Rattle.cwr_shape.specs.declared.symbols.Symbol.TheVariants.{Plain, Grh}
 use Rattle.cwr_shape.specs.Format.Candidates.{type_in}

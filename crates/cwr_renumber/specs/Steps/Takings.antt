@@ -1,8 +1,8 @@
 -- What taking the next line of a source does.
 use Rattle.std.specs.Prelude.{◌≡◌, ◌≢◌, ◌⊎◌, ℕ, ◌<◌, List, [], ◌∷◌, ◌++◌, length, slice_index, Option, Result, Ok, Err, IfSome, IsSomeAnd}
-use Rattle.cwr_layouts.specs.declared.lines.LineEnd.{LineEnd}
-use Rattle.cwr_layouts.specs.declared.lines.LineEnd.TheVariants.{Open, Line, Over}
-use Rattle.cwr_layouts.specs.Steps.Held.{HeldLine}
+use Rattle.cwr_lines.specs.declared.lines.LineEnd.{LineEnd}
+use Rattle.cwr_lines.specs.declared.lines.LineEnd.TheVariants.{Open, Line, Over}
+use Rattle.cwr_lines.specs.Steps.Held.{HeldLine}
 
 -- The text is the line and what comes after it. Of a text without a line feed all is the line; without a byte there is none. A line
 -- that is too long stops before a byte too many.

@@ -2,7 +2,7 @@
 use Rattle.std.specs.Prelude.{◌≡◌, ℕ, Bool, true, false, nat_lt, length, List, [], ◌++◌, drop, Option, Some, IfSome, Result, Err}
 use Rattle.std.specs.Io.KnownBytes.{Appends}
 use Rattle.cwr_fields.specs.Format.Failures.{one_more_failure}
-use Rattle.cwr_layouts.specs.Format.Records.{RecordValue}
+use Rattle.cwr_lines.specs.Format.Records.{RecordValue}
 use Rattle.cwr_shape.specs.declared.limits.Limits.{Limits}
 use Rattle.cwr_values.specs.declared.items.Item.{Item}
 use Rattle.cwr_values.specs.declared.items.Item.TheVariants.{Transaction}
@@ -18,7 +18,7 @@ use Rattle.cwr_tools.specs.declared.verdicts.Verdict.TheVariants.{Refused}
 use Rattle.cwr_tools.specs.declared.verdicts.ToolFault.{ToolFault}
 use Rattle.cwr_tools.specs.declared.verdicts.ToolFault.TheVariants.{Reader, Writer}
 use Rattle.cwr_tools.specs.Format.Texts.{check_lines, finding_lines_in, good_verdict, show_lines, verdict_line}
-use Rattle.cwr_tools.specs.Format.FindingNotes.{explained_in, explained_lines}
+use Rattle.cwr_notes.specs.Format.FindingNotes.{explained_in, explained_lines}
 
 -- the lines of items, in order, what stands after them for the verdict, and for which items they take memory
 pub record ItemLines : Type 0 where

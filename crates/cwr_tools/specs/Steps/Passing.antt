@@ -1,6 +1,6 @@
 -- Transactions of which nothing is told are passed over.
 use Rattle.std.specs.Prelude.{◌≡◌, ℕ, ◌+◌, ◌^◌, ◌<◌, Bool, IsTrue, List, Option, Result}
-use Rattle.cwr_layouts.specs.Format.Records.{RecordValue}
+use Rattle.cwr_lines.specs.Format.Records.{RecordValue}
 use Rattle.cwr_values.specs.declared.items.Item.{Item}
 use Rattle.cwr_decode.specs.declared.machine.Passed.{Passed}
 use Rattle.cwr_decode.specs.declared.readings.ReadFault.{ReadFault}

@@ -3,7 +3,7 @@ use Rattle.std.specs.Prelude.{◌≡◌, ◌⊎◌, ℕ, ◌+◌, Bool, true, fa
 use Rattle.std.specs.Io.KnownBytes.{Appends}
 use Rattle.cwr_fields.specs.Format.Failures.{one_more_failure}
 use Rattle.cwr_shape.specs.declared.limits.Limits.{Limits}
-use Rattle.cwr_layouts.specs.Format.Records.{RecordValue}
+use Rattle.cwr_lines.specs.Format.Records.{RecordValue}
 use Rattle.cwr_values.specs.declared.items.Item.{Item}
 use Rattle.cwr_values.specs.declared.items.Item.TheVariants.{Transaction}
 use Rattle.cwr_judge.specs.Format.Items.{opens_group}
@@ -11,15 +11,15 @@ use Rattle.cwr_json.specs.declared.notes.Notes.{Notes}
 use Rattle.cwr_decode.specs.declared.readings.ReadFault.TheVariants as read_faults
 use Rattle.cwr_decode.specs.Steps.Machines.{Standing}
 use Rattle.cwr_decode.specs.Steps.Runs.{HasRead}
-use Rattle.cwr_encode.specs.declared.sinks.Sink.{Sink}
-use Rattle.cwr_encode.specs.Steps.Sinks.{HasWritten, Puts, has_failed, writer_of, written_of}
+use Rattle.cwr_sinks.specs.declared.sinks.Sink.{Sink}
+use Rattle.cwr_sinks.specs.Steps.Sinks.{HasWritten, Puts, has_failed, writer_of, written_of}
 use Rattle.cwr_encode.specs.Format.Finishing.{HasFront}
 use Rattle.cwr_tools.specs.declared.verdicts.Verdict.{Verdict}
 use Rattle.cwr_tools.specs.declared.verdicts.ToolFault.{ToolFault}
 use Rattle.cwr_tools.specs.declared.verdicts.ToolFault.TheVariants.{Reader, Writer, Memory}
 use Rattle.cwr_tools.specs.declared.totals.Totals.{Totals}
 use Rattle.cwr_tools.specs.Format.Texts.{finding_lines_in}
-use Rattle.cwr_tools.specs.Format.FindingNotes.{explained_in}
+use Rattle.cwr_notes.specs.Format.FindingNotes.{explained_in}
 use Rattle.cwr_tools.specs.Steps.Verdicts.{StopsAfter, IsRightVerdict}
 use Rattle.cwr_tools.specs.Format.Reports.{ItemLines, lines_checked, lines_up_to_fault, text_on}
 use Rattle.cwr_tools.specs.Steps.Counts.{IsCount}

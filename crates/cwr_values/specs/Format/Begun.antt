@@ -3,7 +3,7 @@ use Rattle.std.specs.Prelude.{◌≡◌, List, [], ◌∷◌, ◌++◌, map, sli
 use Rattle.std.specs.List.{AllByRecursion}
 use Rattle.cwr_fields.specs.declared.codes.TransactionType.{TransactionType}
 use Rattle.cwr_layouts.specs.declared.kinds.Kind.TheVariants as kinds
-use Rattle.cwr_layouts.specs.Format.Records.{RecordValue, IsRecord}
+use Rattle.cwr_lines.specs.Format.Records.{RecordValue, IsRecord}
 use Rattle.cwr_shape.specs.Format.Shapes.{IsShape, BeginsShape}
 use Rattle.cwr_shape.specs.Format.NextSymbols.{header_kind}
 use Rattle.cwr_values.specs.Format.Values.{GroupValue, TransmissionValue, symbol_of, type_of, IsTransaction, IsRecordOf, IsGroup}

@@ -11,7 +11,7 @@ use Rattle.cwr_layouts.specs.declared.kinds.Kind.{Kind}
 use Rattle.cwr_layouts.specs.declared.kinds.Kind.TheVariants.{Hdr, Grh, Grt}
 use Rattle.cwr_layouts.specs.Format.Kinds.{kind_of, letters}
 use Rattle.cwr_layouts.specs.Format.Layouts.{FieldLayout, field_at, layout}
-use Rattle.cwr_layouts.specs.Format.Records.{RecordValue}
+use Rattle.cwr_lines.specs.Format.Records.{RecordValue}
 use Rattle.cwr_values.specs.declared.items.Item.{Item}
 use Rattle.cwr_values.specs.declared.items.Item.TheVariants.{Opened, GroupOpened, Transaction, GroupClosed, Ended}
 use Rattle.cwr_shape.specs.Format.Ranges.{LimitValues}

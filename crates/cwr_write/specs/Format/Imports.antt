@@ -11,7 +11,7 @@ use Rattle.cwr_values.specs.declared.items.Item.{Item}
 use Rattle.cwr_judge.specs.Format.Items.{item_records, records_in}
 use Rattle.cwr_json.specs.declared.encodings.Encoding.{Encoding}
 use Rattle.cwr_json.specs.Format.Forms.{IsItemData}
-use Rattle.cwr_layouts.specs.Format.Lines.{is_lf}
+use Rattle.cwr_lines.specs.Format.Lines.{is_lf}
 use Rattle.cwr_encode.specs.Format.Finishing.{HasAll}
 use Rattle.cwr_write.specs.declared.writing.WriteFault.{WriteFault}
 use Rattle.cwr_write.specs.declared.writing.WriteFault.TheVariants.{Reader, Writer}

@@ -1,6 +1,6 @@
 use Rattle.std.proofs.Common.{◌≡◌, List, ℕ, ◌++◌, refl, ap, ap₂, ◌∙◌}
 use Rattle.std.specs.Prelude.{codes, decimal}
-use Rattle.cwr_layouts.specs.Format.Records.{cell_named}
+use Rattle.cwr_lines.specs.Format.Records.{cell_named}
 use Rattle.cwr_acks.specs.Format.SentAnswers.{group_of, sequence_of}
 use Rattle.cwr_acks.specs.Steps.DataTexts.{cell_at, cell_member}
 use Rattle.cwr_acks.proofs.AckFields.{original_type}

@@ -1,7 +1,7 @@
 use Rattle.std.proofs.Common.{Bool, List, ap, sym, ◌∙◌, arith, ℕ, take}
 use Rattle.std.specs.Prelude.{◌||◌, Ok, Err}
 use Rattle.std.specs.List.{list_any}
-use Rattle.cwr_layouts.specs.Format.Records.{RecordValue}
+use Rattle.cwr_lines.specs.Format.Records.{RecordValue}
 use Rattle.cwr_encode.proofs.PutRows.{found_within}
 use Rattle.cwr_encode.proofs.Numbered.{puts_as, step_more, steps_refused, steps_whole}
 use Rattle.cwr_acks.specs.Format.Acknowledgements.{is_message}

@@ -1,5 +1,5 @@
 use Rattle.std.proofs.Common.{refl, sym, ap, ◌∙◌}
-use Rattle.cwr_layouts.specs.Format.Records.{cell_named}
+use Rattle.cwr_lines.specs.Format.Records.{cell_named}
 use Rattle.cwr_levels.proofs.NamedCells.{named_cell}
 use Rattle.cwr_advice.specs.Format.Rules.{is_publisher, names_agent}
 use Rattle.cwr_advice.proofs.AdvisedFields.{and_true, type_of_publisher}

@@ -1,6 +1,6 @@
 use Rattle.std.proofs.Common.{refl, ap, ◌∙◌}
 use Rattle.cwr_fields.specs.Format.Bytes.{number_of}
-use Rattle.cwr_layouts.specs.Format.Records.{cell_named}
+use Rattle.cwr_lines.specs.Format.Records.{cell_named}
 use Rattle.cwr_levels.proofs.AddedShares.{share_is_short}
 use Rattle.cwr_levels.proofs.NamedCells.{named_cell}
 use Rattle.cwr_levels.proofs.NumberCells.{share_is_number}

@@ -1,5 +1,5 @@
 use Rattle.std.proofs.Common.{List, take, sym, subst, ◌∙◌, arith}
-use Rattle.cwr_layouts.specs.Format.Records.{RecordValue}
+use Rattle.cwr_lines.specs.Format.Records.{RecordValue}
 use Rattle.cwr_levels.proofs.OneMore.{take_more}
 use Rattle.cwr_advice.specs.Steps.Facts.{AreCollectedIn}
 use Rattle.cwr_advice.proofs.BegunChains.{none_within}

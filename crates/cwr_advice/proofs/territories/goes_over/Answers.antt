@@ -1,6 +1,6 @@
 use Rattle.std.proofs.Common.{◌≡◌, ◌+◌, ℕ, List, true, take, sym, ap, ◌∙◌}
 use Rattle.std.specs.Prelude.{not}
-use Rattle.cwr_layouts.specs.Format.Records.{cell_named}
+use Rattle.cwr_lines.specs.Format.Records.{cell_named}
 use Rattle.cwr_advice.specs.Format.Rules.{are_over_in, is_compared}
 use Rattle.cwr_advice.proofs.AdvisedFields.{all_three, second_fails}
 use Rattle.cwr_advice.proofs.SinceParty.{compared_territory}

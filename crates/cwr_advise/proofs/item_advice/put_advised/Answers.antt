@@ -4,7 +4,7 @@ use Rattle.std.specs.List.{flat_map}
 use Rattle.cwr_levels.specs.Format.Findings.{findings}
 use Rattle.cwr_values.specs.declared.items.Item.TheVariants.{Transaction}
 use Rattle.cwr_tools.specs.declared.verdicts.ToolFault.{ToolFault}
-use Rattle.cwr_tools.specs.Format.FindingNotes.{explained_in}
+use Rattle.cwr_notes.specs.Format.FindingNotes.{explained_in}
 use Rattle.cwr_tools.specs.Format.Reports.{has_findings}
 use Rattle.cwr_tools.specs.Steps.Reports.{PutsLines}
 use Rattle.cwr_tools.proofs.ReportsOn.{same_fault}

@@ -1,6 +1,6 @@
 use Rattle.std.proofs.Common.{List, Option, sym, subst}
 use Rattle.std.specs.Prelude.{OnOk}
-use Rattle.cwr_layouts.specs.Format.Records.{RecordValue}
+use Rattle.cwr_lines.specs.Format.Records.{RecordValue}
 use Rattle.cwr_c.specs.Steps.Writings.{GoesOn, held_records}
 use Rattle.cwr_c.proofs.writing.end_transaction.Goals as goal
 

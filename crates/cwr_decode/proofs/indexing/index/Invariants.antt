@@ -1,5 +1,5 @@
 use Rattle.std.proofs.Common.{◌≡◌, ◌-◌, length}
-use Rattle.cwr_layouts.specs.Steps.Held.{empty_line}
+use Rattle.cwr_lines.specs.Steps.Held.{empty_line}
 use Rattle.cwr_decode.proofs.IndexedText.{IndexedTo}
 use Rattle.cwr_decode.proofs.indexing.index.Given as goal
 

@@ -1,7 +1,7 @@
 use Rattle.std.proofs.Common.{ℕ, take, length, ◌≡◌, ◌≤◌, subst}
 use Rattle.std.specs.Prelude.{◌↔◌, IsTrue}
 use Rattle.cwr_layouts.specs.declared.kinds.Kind.TheVariants.{Trl}
-use Rattle.cwr_layouts.specs.Format.Lines.{without_cr}
+use Rattle.cwr_lines.specs.Format.Lines.{without_cr}
 use Rattle.cwr_shape.specs.declared.symbols.Symbol.{Symbol}
 use Rattle.cwr_shape.specs.declared.symbols.Symbol.TheVariants.{Plain}
 use Rattle.cwr_decode.specs.declared.indexing.Accepted.{Accepted}

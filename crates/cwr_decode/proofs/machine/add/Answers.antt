@@ -1,7 +1,7 @@
 use Rattle.std.proofs.Common.{List, Option, sym, subst, ◌∙◌}
 use Rattle.std.specs.Prelude.{Result, Ok, Err, OnErr}
-use Rattle.cwr_layouts.specs.Format.Growth.{AsksMemory}
-use Rattle.cwr_layouts.specs.Format.Records.{RecordValue}
+use Rattle.cwr_lines.specs.Format.Growth.{AsksMemory}
+use Rattle.cwr_lines.specs.Format.Records.{RecordValue}
 use Rattle.cwr_decode.specs.Steps.Machines.{held_list}
 use Rattle.cwr_decode.proofs.machine.add.Goals as goal
 

@@ -1,6 +1,6 @@
 use Rattle.std.proofs.Common.{rules, ◌≡◌, ◌∷◌, ◌++◌, List, map, sym, ap, subst, ◌∙◌}
 use Rattle.std.specs.Vec.Iter.{into_iter_items}
-use Rattle.cwr_layouts.specs.Format.Records.{RecordValue}
+use Rattle.cwr_lines.specs.Format.Records.{RecordValue}
 use Rattle.cwr_values.specs.declared.items.Item.{Item}
 use Rattle.cwr_values.specs.declared.items.Item.TheVariants.{Transaction, GroupClosed}
 use Rattle.cwr_values.specs.Format.Values.{GroupValue, IsTransaction, type_of}

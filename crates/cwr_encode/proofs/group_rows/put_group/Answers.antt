@@ -1,5 +1,5 @@
 use Rattle.std.proofs.Common.{[], ◌∷◌, ◌++◌, length, map, ap, ◌∙◌}
-use Rattle.cwr_layouts.specs.Format.Records.{row_of}
+use Rattle.cwr_lines.specs.Format.Records.{row_of}
 use Rattle.cwr_shape.specs.Format.Numbers.{group_records}
 use Rattle.cwr_values.specs.Format.Rows.{canonical_line}
 use Rattle.cwr_encode.specs.Steps.GroupTexts.{text_of_transactions}

@@ -1,5 +1,5 @@
 use Rattle.std.proofs.Common.{[], ◌++◌, sym, ap, ◌∙◌}
-use Rattle.cwr_layouts.specs.Format.Records.{row_of}
+use Rattle.cwr_lines.specs.Format.Records.{row_of}
 use Rattle.cwr_values.specs.Format.Rows.{canonical_line, trailer}
 use Rattle.cwr_encode.specs.Steps.GroupTexts.{text_of_groups}
 use Rattle.cwr_encode.proofs.Numbered.{puts_both, puts_cut, puts_as}

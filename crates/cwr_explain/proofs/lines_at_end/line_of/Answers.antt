@@ -1,5 +1,5 @@
 use Rattle.std.proofs.Common.{subst}
-use Rattle.cwr_layouts.specs.Steps.Held.{HeldLine, Takes}
+use Rattle.cwr_lines.specs.Steps.Held.{HeldLine, Takes}
 use Rattle.cwr_explain.proofs.LastLines.{taken_whole}
 use Rattle.cwr_explain.proofs.lines_at_end.line_of.Goals as goal
 

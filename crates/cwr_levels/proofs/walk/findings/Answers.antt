@@ -1,6 +1,6 @@
 use Rattle.std.proofs.Common.{List, [], ◌++◌, take, sym, ap, subst, ◌∙◌, arith}
 use Rattle.std.specs.Prelude.{◌≢◌}
-use Rattle.cwr_layouts.specs.Format.Records.{RecordValue}
+use Rattle.cwr_lines.specs.Format.Records.{RecordValue}
 use Rattle.cwr_levels.specs.declared.rules.Finding.{Finding}
 use Rattle.cwr_levels.specs.Format.Findings.{findings, findings_at}
 use Rattle.cwr_levels.specs.Steps.Walks.{IsBefore}

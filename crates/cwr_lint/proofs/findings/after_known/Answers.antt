@@ -1,7 +1,7 @@
 use Rattle.std.proofs.Common.{Bool, true≢false, List, Option, Some, None, refl, sym, inr}
 use Rattle.std.specs.Prelude.{IsSomeAnd}
-use Rattle.cwr_layouts.specs.Format.Records.{RecordValue, IsRecord}
-use Rattle.cwr_layouts.specs.Steps.Held.{held_record}
+use Rattle.cwr_lines.specs.Format.Records.{RecordValue, IsRecord}
+use Rattle.cwr_lines.specs.Steps.Held.{held_record}
 use Rattle.cwr_lint_lines.specs.declared.takings.Taking.{Taking}
 use Rattle.cwr_lint.specs.Steps.Walks.{AfterCarried}
 use Rattle.cwr_lint.proofs.findings.after_known.Goals as goal

@@ -1,6 +1,6 @@
 use Rattle.std.proofs.Common.{◌≡◌, ◌-◌, ◌++◌, length}
 use Rattle.std.specs.Prelude.{IfSome, IsSomeAnd}
-use Rattle.cwr_layouts.specs.declared.lines.LineEnd.TheVariants.{Open}
+use Rattle.cwr_lines.specs.declared.lines.LineEnd.TheVariants.{Open}
 use Rattle.cwr_renumber.proofs.takings.take_line.Given as goal
 
 abbrev pub invariant-loop-piece : goal.invariant-loop-piece

@@ -1,6 +1,6 @@
 use Rattle.std.proofs.Common.{◌≡◌, Bool, cond, [], refl, sym, ap, ◌∙◌}
 use Rattle.cwr_fields.specs.Format.Bytes.{trimmed}
-use Rattle.cwr_layouts.specs.Format.Records.{cell_named}
+use Rattle.cwr_lines.specs.Format.Records.{cell_named}
 use Rattle.cwr_levels.proofs.NamedCells.{named_cell}
 use Rattle.cwr_sent.specs.Format.SentFacts.{title_check}
 use Rattle.cwr_sent.proofs.Cells.{title}

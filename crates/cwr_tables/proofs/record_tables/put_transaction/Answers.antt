@@ -1,5 +1,5 @@
 use Rattle.std.proofs.Common.{ℕ, List, ◌∙◌, arith}
-use Rattle.cwr_layouts.specs.Format.Records.{RecordValue}
+use Rattle.cwr_lines.specs.Format.Records.{RecordValue}
 use Rattle.cwr_tables.specs.declared.places.RowNumbers.TheVariants.{InTransaction}
 use Rattle.cwr_tables.specs.Format.RecordTables.{row_of_kind}
 use Rattle.cwr_encode.proofs.PutRows.{found_within}

@@ -1,5 +1,5 @@
 use Rattle.std.proofs.Common.{◌∙◌, refl, arith}
-use Rattle.cwr_tools.specs.Format.Texts.{record_lines}
+use Rattle.cwr_notes.specs.Format.RecordTexts.{record_lines}
 use Rattle.cwr_encode.proofs.PutRows.{found_within}
 use Rattle.cwr_encode.proofs.Numbered.{step_more, steps_refused, steps_whole}
 use Rattle.cwr_tools.proofs.shown_records.put_transaction.Goals as goal

@@ -1,6 +1,6 @@
 use Rattle.std.proofs.Common.{◌≡◌, ◌≤◌, ◌-◌, ◌++◌, ℕ, List, Option, length, take, false}
-use Rattle.cwr_encode.specs.Steps.Sinks.{HasWritten, has_failed, writer_of}
-use Rattle.cwr_tools.specs.Format.Texts.{numbered_records}
+use Rattle.cwr_sinks.specs.Steps.Sinks.{HasWritten, has_failed, writer_of}
+use Rattle.cwr_notes.specs.Format.RecordTexts.{numbered_records}
 use Rattle.cwr_tools.proofs.shown_records.put_transaction.Given as goal
 
 abbrev pub invariant-loop-shown : goal.invariant-loop-shown

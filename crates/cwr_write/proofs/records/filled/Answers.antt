@@ -4,7 +4,7 @@ use Rattle.json.specs.Value.{members_view, value_view}
 use Rattle.cwr_layouts.specs.declared.kinds.Kind.{Kind}
 use Rattle.cwr_json.specs.Format.Forms.{says, told}
 use Rattle.cwr_write.specs.Steps.Filling.{IsFilled, with_last}
-use Rattle.cwr_layouts.specs.Format.Records.{RecordValue}
+use Rattle.cwr_lines.specs.Format.Records.{RecordValue}
 use Rattle.cwr_json.specs.Format.Forms.{IsDataOf}
 use Rattle.cwr_write.specs.Steps.Filling.{NoneFrom}
 use Rattle.cwr_write.proofs.FaultsPassed.{passed_on}

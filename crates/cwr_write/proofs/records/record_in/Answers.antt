@@ -1,7 +1,7 @@
 use Rattle.cwr_json.specs.Format.Forms.{told}
 use Rattle.json.specs.Value.{members_view}
 use Rattle.cwr_write.proofs.FilledDrafts.{data_done, data_undone, kind_named}
-use Rattle.cwr_layouts.specs.Format.Records.{RecordValue}
+use Rattle.cwr_lines.specs.Format.Records.{RecordValue}
 use Rattle.cwr_json.specs.Format.Forms.{IsDataOf}
 use Rattle.cwr_write.proofs.FaultsPassed.{passed_on}
 use Rattle.cwr_write.proofs.RecordReasons.{draft_reason}

@@ -1,7 +1,7 @@
 use Rattle.std.proofs.Common.{◌≡◌, ℕ, List, ◌++◌, length, ap, ap₂, ◌∙◌, arith}
 use Rattle.std.specs.Prelude.{codes}
 use Rattle.cwr_fields.specs.Format.Bytes.{trimmed}
-use Rattle.cwr_layouts.specs.Format.Records.{cell_named}
+use Rattle.cwr_lines.specs.Format.Records.{cell_named}
 use Rattle.cwr_acks.specs.Format.AckTexts.{cell_part, number_part}
 use Rattle.cwr_acks.proofs.AckFields.{level, message_text, message_type, record_number, record_type, validation}
 use Rattle.cwr_acks.proofs.NamedParts.{cell_is, cell_long, trimmed_long}

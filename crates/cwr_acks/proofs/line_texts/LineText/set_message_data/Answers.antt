@@ -1,6 +1,6 @@
 use Rattle.std.proofs.Common.{◌≡◌, List, ℕ, ◌++◌, refl, ap, ap₂, ◌∙◌, arith}
 use Rattle.std.specs.Prelude.{codes}
-use Rattle.cwr_layouts.specs.Format.Records.{cell_named}
+use Rattle.cwr_lines.specs.Format.Records.{cell_named}
 use Rattle.cwr_acks.specs.Format.AckTexts.{number_part}
 use Rattle.cwr_acks.specs.Steps.DataTexts.{cell_at, cell_member, cell_member_if, comma_if}
 use Rattle.cwr_acks.proofs.AckFields.{level, message_text, message_type, record_number, record_type, validation}

@@ -1,5 +1,5 @@
 use Rattle.std.proofs.Common.{◌≡◌, length, sym, ap, subst, ◌∙◌, arith}
-use Rattle.cwr_layouts.specs.declared.lines.LineEnd.TheVariants.{Open}
+use Rattle.cwr_lines.specs.declared.lines.LineEnd.TheVariants.{Open}
 use Rattle.cwr_decode.specs.declared.machine.State.{State}
 use Rattle.cwr_decode.specs.Steps.Machines.{IsReady, Standing}
 use Rattle.cwr_decode.specs.Steps.Passing.{BeginsHeld}

@@ -1,7 +1,7 @@
 use Rattle.std.proofs.Common.{List, Option, ◌+◌, ◌-◌, ◌<◌, arith, drop, length, refl, Some, None, ap, subst, sym, ◌∙◌}
 use Rattle.std.specs.Prelude.{IfSome, IsNone}
 use Rattle.std.proofs.lemmas.List.{take_rest}
-use Rattle.cwr_layouts.specs.Format.Records.{RecordValue}
+use Rattle.cwr_lines.specs.Format.Records.{RecordValue}
 use Rattle.cwr_decode.specs.Steps.Calls.{Advances, Fed}
 use Rattle.cwr_decode.specs.Steps.Machines.{Standing, Judges, emptied}
 use Rattle.cwr_decode.specs.declared.outcomes.Outcome.TheVariants as outcomes

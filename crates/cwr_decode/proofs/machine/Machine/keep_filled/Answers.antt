@@ -1,6 +1,6 @@
 use Rattle.std.proofs.Common.{◌≡◌, sym, ap, subst, ◌∙◌}
-use Rattle.cwr_layouts.specs.declared.lines.LineEnd.TheVariants.{Line}
-use Rattle.cwr_layouts.specs.Steps.Held.{HeldLine, IsHeld, Takes, empty_line}
+use Rattle.cwr_lines.specs.declared.lines.LineEnd.TheVariants.{Line}
+use Rattle.cwr_lines.specs.Steps.Held.{HeldLine, IsHeld, Takes, empty_line}
 use Rattle.cwr_decode.proofs.PassedOver.{kept_front}
 use Rattle.cwr_decode.proofs.machine.Machine.keep_filled.Goals as goal
 

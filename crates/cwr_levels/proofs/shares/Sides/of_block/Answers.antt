@@ -1,5 +1,5 @@
 use Rattle.std.proofs.Common.{List, [], ◌∷◌, ◌++◌, sym, subst, ◌∙◌, true≢false}
-use Rattle.cwr_layouts.specs.Format.Records.{RecordValue}
+use Rattle.cwr_lines.specs.Format.Records.{RecordValue}
 use Rattle.cwr_levels.specs.Steps.Walks.{SidesAddUpTo}
 use Rattle.cwr_levels.proofs.OneMore.{none_there_is_end}
 use Rattle.cwr_levels.proofs.BlockParties.{all_seen, one_more_seen, end_seen, one_passed}

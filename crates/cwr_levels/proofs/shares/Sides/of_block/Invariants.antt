@@ -1,5 +1,5 @@
 use Rattle.std.proofs.Common.{◌≡◌, List, ◌++◌, drop}
-use Rattle.cwr_layouts.specs.Format.Records.{RecordValue}
+use Rattle.cwr_lines.specs.Format.Records.{RecordValue}
 use Rattle.cwr_levels.specs.Format.Findings.{parties_after}
 use Rattle.cwr_levels.specs.Steps.Walks.{SidesAddUpTo}
 use Rattle.cwr_levels.proofs.BlockParties.{parties_left}

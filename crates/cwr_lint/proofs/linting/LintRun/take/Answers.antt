@@ -1,5 +1,5 @@
 use Rattle.std.proofs.Common.{Option, List, ap, subst, ◌∙◌}
-use Rattle.cwr_layouts.specs.Format.Records.{RecordValue}
+use Rattle.cwr_lines.specs.Format.Records.{RecordValue}
 use Rattle.std.specs.Option.{is_some}
 use Rattle.cwr_lint_lines.specs.Format.FaultsAtFields.{one_more_line}
 use Rattle.cwr_lint_lines.specs.Steps.JudgedLines.{judged_at, scope_by}

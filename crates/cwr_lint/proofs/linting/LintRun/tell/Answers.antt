@@ -2,7 +2,7 @@ use Rattle.std.proofs.Common.{sym, subst, add-one, arith}
 use Rattle.std.specs.Prelude.{ℕ, Option}
 use Rattle.std.specs.Option.{is_some}
 use Rattle.cwr_judge.specs.declared.refusals.Refusal.{Refusal}
-use Rattle.cwr_layouts.specs.Steps.Held.{held_kind}
+use Rattle.cwr_lines.specs.Steps.Held.{held_kind}
 use Rattle.cwr_lint_lines.specs.Format.FaultsAtFields.{fields_end}
 use Rattle.cwr_lint_lines.specs.Steps.JudgedLines.{IsFaultFrom, judged_at, scope_by}
 use Rattle.cwr_lint.specs.Steps.Runs.{TellsSoMany}

@@ -1,7 +1,7 @@
 use Rattle.std.proofs.Common.{◌≡◌, ℕ, List, Bool, subst}
 use Rattle.std.specs.Prelude.{Ok}
 use Rattle.std.specs.Option.{is_some}
-use Rattle.cwr_layouts.specs.Steps.Held.{held_kind}
+use Rattle.cwr_lines.specs.Steps.Held.{held_kind}
 use Rattle.cwr_lint_lines.specs.Format.FaultsAtFields.{fields_end}
 use Rattle.cwr_lint.specs.Format.FaultsOfLines.{ended_lines}
 use Rattle.cwr_lint.specs.Steps.Walks.{ended_by}

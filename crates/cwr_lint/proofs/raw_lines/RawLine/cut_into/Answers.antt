@@ -2,8 +2,8 @@ use Rattle.cwr_lint.proofs.RawLines.{full_length, raw_held}
 use Rattle.std.proofs.Common.{List, ℕ, length, ap, sym, subst, ◌∙◌}
 use Rattle.std.specs.Prelude.{IsFalse}
 use Rattle.std.specs.List.{list_any}
-use Rattle.cwr_layouts.specs.Format.Lines.{is_lf}
-use Rattle.cwr_layouts.specs.Steps.Held.{HeldLine}
+use Rattle.cwr_lines.specs.Format.Lines.{is_lf}
+use Rattle.cwr_lines.specs.Steps.Held.{HeldLine}
 use Rattle.cwr_lint.proofs.raw_lines.RawLine.cut_into.Goals as goal
 
 pub take_whole-requires-clause-no_lf : goal.take_whole-requires-clause-no_lf

@@ -1,8 +1,8 @@
 use Rattle.std.proofs.Common.{◌++◌, refl, subst, sym, ap, ◌∙◌}
 use Rattle.std.specs.Prelude.{IfSome, IsSomeAnd}
 use Rattle.std.specs.Io.KnownBytes.{Keeps}
-use Rattle.cwr_layouts.specs.declared.lines.LineEnd.{LineEnd}
-use Rattle.cwr_layouts.specs.Steps.Held.{HeldLine}
+use Rattle.cwr_lines.specs.declared.lines.LineEnd.{LineEnd}
+use Rattle.cwr_lines.specs.Steps.Held.{HeldLine}
 use Rattle.cwr_renumber.specs.Steps.Renumbered.{line_by, numbering_after}
 use Rattle.cwr_renumber.specs.Steps.Sources.{left_of}
 use Rattle.cwr_renumber.specs.Steps.Takings.{EndsAs}

@@ -1,7 +1,7 @@
 use Rattle.std.proofs.Common.{List, Err, refl, ap, map, subst}
 use Rattle.std.specs.Prelude.{is_some}
-use Rattle.cwr_layouts.specs.Format.Growth.{AsksMemory}
-use Rattle.cwr_layouts.specs.Format.Records.{RecordValue}
+use Rattle.cwr_lines.specs.Format.Growth.{AsksMemory}
+use Rattle.cwr_lines.specs.Format.Records.{RecordValue}
 use Rattle.cwr_values.specs.declared.transactions.PushFault.TheVariants.{Memory}
 use Rattle.cwr_values.specs.Format.Values.{symbol_of}
 use Rattle.cwr_values.proofs.Beginnings.{more_exact, none_is_some, keeps_more, ok_is_refused, memory_is_misplaced}

@@ -1,0 +1,615 @@
+//! The words that the program takes: its subcommands, their options and their names of files.
+
+use clap::{Arg, ArgAction, Command, value_parser};
+use std::alloc::{AllocError, Global};
+
+/// The name of the subcommand that checks.
+const CHECK: &str = "check";
+
+/// The name of the subcommand that shows.
+pub const SHOW: &str = "show";
+
+/// The name of the subcommand that explains.
+pub const EXPLAIN: &str = "explain";
+
+/// The name of the subcommand that tells every fault.
+pub const LINT: &str = "lint";
+
+/// The name of the subcommand that advises.
+pub const ADVISE: &str = "advise";
+
+/// The name of the subcommand that writes JSON.
+pub const JSON: &str = "json";
+
+/// The name of the subcommand that writes tables.
+pub const CSV: &str = "csv";
+
+/// The name of the subcommand that tells what acknowledgements say.
+pub const ACKS: &str = "acks";
+
+/// The id of the file of the transmission that acknowledgements answer.
+pub const SENT: &str = "sent";
+
+/// The id of the flag that asks for lines of JSON.
+pub const AS_JSON: &str = "json";
+
+/// The name of the subcommand that reads JSON.
+pub const WRITE: &str = "write";
+
+/// The name of the subcommand that splits.
+pub const SPLIT: &str = "split";
+
+/// The name of the subcommand that joins.
+pub const JOIN: &str = "join";
+
+/// The name of the subcommand that puts numbers right.
+pub const RENUMBER: &str = "renumber";
+
+/// The name of the subcommand that prints the manual.
+pub const MANUAL: &str = "manual";
+
+/// The id of the one file of a subcommand, or of its files.
+pub const FILE: &str = "FILE";
+
+/// The id of the number of transactions of a part.
+pub const NUMBER: &str = "N";
+
+/// The id of the flag that adds numbers.
+pub const NUMBERS: &str = "numbers";
+
+/// The id of the flag that shows cells in UTF-8 as their texts.
+pub const UTF8: &str = "utf8";
+
+/// The id of the flag that asks for explanations.
+pub const EXPLAINED: &str = "explain";
+
+/// The id of the flag that leaves out what is good.
+pub const QUIET: &str = "quiet";
+
+/// The id of the level of findings that end a run as a refusal does.
+pub const FAIL_ON: &str = "fail-on";
+
+/// The id of the flag that wants nothing after a transmission.
+pub const WHOLE: &str = "whole";
+
+/// The id of the flag that shows how far a long run is.
+pub const PROGRESS: &str = "progress";
+
+/// The id of the flag that doesn't.
+pub const NO_PROGRESS: &str = "no-progress";
+
+/// The id of the flag that wants no file replaced.
+pub const NEW: &str = "new";
+
+/// The levels by their letters.
+const LEVELS: [&str; 5] = ["F", "R", "T", "G", "E"];
+
+/// The id of what a table has rows of.
+pub const KIND: &str = "KIND";
+
+/// The word for the table of works.
+pub const WORKS: &str = "works";
+
+/// What tables have rows of: the works, or the records of a kind, by its letters.
+#[rattlefmt::skip]
+const TABLES: [&str; 41] = [
+    "works", "HDR", "GRH", "GRT", "TRL", "AGR", "TER", "IPA", "NWR", "REV", "SPU", "OPU", "SPT", "SWR", "OWR", "SWT", "PWR", "ALT", "EWT",
+    "VER", "PER", "REC", "ORN", "COM", "ACK", "MSG", "OPT", "OWT", "NPN", "NPR", "NWN", "NPA", "NET", "NOW", "NCT", "NVT", "NAT",
+    "INS", "IND", "ARI", "XRF",
+];
+
+/// The id of the most bytes of a line.
+pub const LINE: &str = "line";
+
+/// The id of what the names of the parts' files begin with.
+pub const PREFIX: &str = "PREFIX";
+
+/// The id of the file that is written.
+pub const OUT: &str = "OUT";
+
+/// The id of the most records of a transmission.
+pub const RECORDS: &str = "records";
+
+/// The id of the most groups of a transmission.
+pub const GROUPS: &str = "groups";
+
+/// The id of the most records of one transaction.
+pub const TRANSACTION: &str = "transaction";
+
+/// What stands on the command line for a word.
+#[derive(Clone, Copy, Debug)]
+enum Form {
+    /// `--ID`.
+    Flag,
+    /// `--ID NUMBER`, a whole number from the least to the most, which is that one where it isn't given.
+    Limit {
+        least: i64,
+        most: i64,
+        default: &'static str,
+    },
+    /// `--ID LEVEL`, one of the levels.
+    Level,
+    /// `--ID NAME`, where NAME is this.
+    Name(&'static str),
+    /// `-LETTER ID`.
+    Letter(char),
+    /// `-LETTER ID`, a whole number from 1 to the most, which may not be left out.
+    Count {
+        letter: char,
+        most: i64,
+    },
+    /// One of these, which may not be left out.
+    OneOf(&'static [&'static str]),
+    /// The name of a file.
+    File,
+    /// Names of files.
+    Files,
+    /// A name that may not be left out.
+    Needed,
+    /// Names of files, of which there is one at least.
+    NeededFiles,
+}
+
+/// A word of a subcommand.
+#[derive(Clone, Copy, Debug)]
+struct Word {
+    id: &'static str,
+    form: Form,
+    help: &'static str,
+}
+
+/// The three limits, each with its largest number where it isn't given.
+const LIMITS: [Word; 3] = [
+    Word {
+        id: RECORDS,
+        form: Form::Limit {
+            least: 5,
+            most: 99_999_999,
+            default: "99999999",
+        },
+        help: "The most records of a transmission, 5 to 99999999",
+    },
+    Word {
+        id: GROUPS,
+        form: Form::Limit {
+            least: 1,
+            most: 99_999,
+            default: "99999",
+        },
+        help: "The most groups of a transmission, 1 to 99999",
+    },
+    Word {
+        id: TRANSACTION,
+        form: Form::Limit {
+            least: 1,
+            most: 999_999,
+            default: "999999",
+        },
+        help: "The most records of one transaction, 1 to 999999",
+    },
+];
+
+/// The flag that wants nothing after a transmission.
+const ENDS: [Word; 1] = [Word {
+    id: WHOLE,
+    form: Form::Flag,
+    help: "Status 1 where bytes follow the transmission",
+}];
+
+/// The flags on how far a long run is.
+const SHOWS: [Word; 2] = [
+    Word {
+        id: PROGRESS,
+        form: Form::Flag,
+        help: "Shows on standard error how far a long run is, as it does on a terminal",
+    },
+    Word {
+        id: NO_PROGRESS,
+        form: Form::Flag,
+        help: "Doesn't show it",
+    },
+];
+
+/// A transmission that may be standard input.
+const ONE: Word = Word {
+    id: FILE,
+    form: Form::File,
+    help: "The transmission; without it standard input is read, as it is for -",
+};
+
+/// Transmissions, of which one may be standard input.
+const MANY: Word = Word {
+    id: FILE,
+    form: Form::Files,
+    help: "The transmissions; without one standard input is read, as it is for -",
+};
+
+/// The flag that leaves out what is good.
+const SILENT: Word = Word {
+    id: QUIET,
+    form: Form::Flag,
+    help: "Prints only what isn't good",
+};
+
+/// The flag that shows cells in UTF-8 as their texts.
+const TEXTS: Word = Word {
+    id: UTF8,
+    form: Form::Flag,
+    help: "A cell stands as the Unicode text that it is, or else by escapes",
+};
+
+/// The flag that wants no file replaced.
+const KEEPS: Word = Word {
+    id: NEW,
+    form: Form::Flag,
+    help: "Refuses to replace a file that is there",
+};
+
+/// Which words stand before a subcommand's own.
+#[derive(Clone, Copy, Debug, PartialEq, Eq)]
+enum Common {
+    /// None.
+    Nothing,
+    /// The limits, and the flags on how far a long run is.
+    Limits,
+    /// Those, and the flag that wants nothing after a transmission.
+    Reading,
+}
+
+/// A subcommand.
+#[derive(Clone, Copy, Debug)]
+struct Subcommand {
+    name: &'static str,
+    about: &'static str,
+    common: Common,
+    own: &'static [Word],
+}
+
+/// The words of subcommands that judge transmissions.
+const JUDGED: [Word; 3] = [
+    Word {
+        id: FAIL_ON,
+        form: Form::Level,
+        help: "Status 1 where a finding has that level or a worse one; F is the least, E the worst",
+    },
+    SILENT,
+    MANY,
+];
+
+/// The words of the lint.
+const LINTED: [Word; 3] = [
+    Word {
+        id: EXPLAINED,
+        form: Form::Flag,
+        help: "Explains each fault and each finding",
+    },
+    SILENT,
+    MANY,
+];
+
+/// The words of the export.
+const EXPORTED: [Word; 3] = [
+    ONE,
+    Word {
+        id: NUMBERS,
+        form: Form::Flag,
+        help: "Adds the notes _group, _transaction and _line to each line",
+    },
+    TEXTS,
+];
+
+/// The words of tables.
+const TABULATED: [Word; 2] = [
+    Word {
+        id: KIND,
+        form: Form::OneOf(&TABLES),
+        help: "What the table has rows of: the works, or the records of this type",
+    },
+    ONE,
+];
+
+/// The words of what acknowledgements say.
+const ANSWERED: [Word; 3] = [
+    ONE,
+    Word {
+        id: SENT,
+        form: Form::Name("SENT"),
+        help: "The transmission that they answer: tells what of it isn't answered, and what wasn't sent",
+    },
+    Word {
+        id: AS_JSON,
+        form: Form::Flag,
+        help: "Writes lines of JSON, an object for each acknowledgement",
+    },
+];
+
+/// The words of the import.
+const IMPORTED: [Word; 4] = [
+    Word {
+        id: LINE,
+        form: Form::Limit {
+            least: 1,
+            most: 1_000_000_000,
+            default: "64000000",
+        },
+        help: "The most bytes of a line, 1 to 1000000000",
+    },
+    TEXTS,
+    Word {
+        id: OUT,
+        form: Form::Letter('o'),
+        help: "The file that is written; without it standard output is",
+    },
+    Word {
+        id: FILE,
+        form: Form::File,
+        help: "The lines; without it standard input is read, as it is for -",
+    },
+];
+
+/// The words of a split.
+const PARTED: [Word; 4] = [
+    KEEPS,
+    Word {
+        id: NUMBER,
+        form: Form::Count {
+            letter: 'n',
+            most: 99_999_999,
+        },
+        help: "The transactions of a part, 1 to 99999999; the last part may have fewer",
+    },
+    Word {
+        id: FILE,
+        form: Form::Needed,
+        help: "The transmission; - is standard input",
+    },
+    Word {
+        id: PREFIX,
+        form: Form::Needed,
+        help: "The parts are written to PREFIX00000001, PREFIX00000002 and so on",
+    },
+];
+
+/// The words of a join.
+const JOINED: [Word; 3] = [
+    KEEPS,
+    Word {
+        id: OUT,
+        form: Form::Needed,
+        help: "The file that the result is written to; it is none of the inputs",
+    },
+    Word {
+        id: FILE,
+        form: Form::NeededFiles,
+        help: "The transmissions, in their order; - is standard input",
+    },
+];
+
+/// The words of a renumbering.
+const RENUMBERED: [Word; 3] = [
+    KEEPS,
+    Word {
+        id: FILE,
+        form: Form::File,
+        help: "The transmission; - is standard input, and so it is without a file",
+    },
+    Word {
+        id: OUT,
+        form: Form::File,
+        help: "The file that the result is written to; without it that is standard output",
+    },
+];
+
+/// The subcommands, in the order of the help.
+const SUBCOMMANDS: [Subcommand; 13] = [
+    Subcommand {
+        name: CHECK,
+        about: "Judges transmissions",
+        common: Common::Reading,
+        own: &JUDGED,
+    },
+    Subcommand {
+        name: SHOW,
+        about: "Shows the records of a transmission, and judges it",
+        common: Common::Reading,
+        own: &[ONE],
+    },
+    Subcommand {
+        name: EXPLAIN,
+        about: "Judges transmissions, and explains what is wrong with them",
+        common: Common::Reading,
+        own: &JUDGED,
+    },
+    Subcommand {
+        name: LINT,
+        about: "Tells every fault of transmissions in one pass",
+        common: Common::Reading,
+        own: &LINTED,
+    },
+    Subcommand {
+        name: ADVISE,
+        about: "Judges transmissions, and tells what a society may send back all the same",
+        common: Common::Reading,
+        own: &[MANY],
+    },
+    Subcommand {
+        name: JSON,
+        about: "Writes the data of a transmission as lines of JSON, and its verdict to standard error",
+        common: Common::Reading,
+        own: &EXPORTED,
+    },
+    Subcommand {
+        name: CSV,
+        about: "Writes a table (CSV) of a transmission, and its verdict to standard error",
+        common: Common::Reading,
+        own: &TABULATED,
+    },
+    Subcommand {
+        name: ACKS,
+        about: "Tells what the acknowledgements of a transmission say, and its verdict to standard error",
+        common: Common::Reading,
+        own: &ANSWERED,
+    },
+    Subcommand {
+        name: WRITE,
+        about: "Writes the transmission that lines of JSON are, and to standard error how that ended",
+        common: Common::Limits,
+        own: &IMPORTED,
+    },
+    Subcommand {
+        name: SPLIT,
+        about: "Cuts a transmission into parts",
+        common: Common::Reading,
+        own: &PARTED,
+    },
+    Subcommand {
+        name: JOIN,
+        about: "Joins transmissions to one",
+        common: Common::Reading,
+        own: &JOINED,
+    },
+    Subcommand {
+        name: RENUMBER,
+        about: "Puts the numbers of a transmission right",
+        common: Common::Reading,
+        own: &RENUMBERED,
+    },
+    Subcommand {
+        name: MANUAL,
+        about: "Prints the manual",
+        common: Common::Nothing,
+        own: &[],
+    },
+];
+
+/// A word, as `clap` has it.
+fn argument<'a>(alloc: Global, word: Word) -> Arg<'a> {
+    let arg = Arg::new(alloc, word.id).help(word.help);
+    match word.form {
+        Form::Flag => arg.long(word.id).action(ArgAction::SetTrue),
+        Form::Limit {
+            least,
+            most,
+            default,
+        } => arg
+            .long(word.id)
+            .value_name("NUMBER")
+            .value_parser(value_parser!(u32).range(least..=most))
+            .default_value(default),
+        Form::Level => arg
+            .long(word.id)
+            .value_name("LEVEL")
+            .value_parser(&LEVELS[..]),
+        Form::Name(name) => arg.long(word.id).value_name(name),
+        Form::Letter(letter) => arg.short(letter).value_name(word.id),
+        Form::Count { letter, most } => arg
+            .short(letter)
+            .value_name(word.id)
+            .required(true)
+            .value_parser(value_parser!(u32).range(1..=most)),
+        Form::OneOf(words) => arg.required(true).value_parser(words),
+        Form::File => arg,
+        Form::Files => arg.num_args(1..),
+        Form::Needed => arg.required(true),
+        Form::NeededFiles => arg.required(true).num_args(1..),
+    }
+}
+
+/// Adds words, in their order.
+fn with<'a>(
+    alloc: Global,
+    mut command: Command<'a>,
+    words: &[Word],
+) -> Result<Command<'a>, AllocError> {
+    for word in words {
+        command = command.arg(argument(alloc, *word))?;
+    }
+    Ok(command)
+}
+
+/// A subcommand, as `clap` has it.
+fn made_of<'a>(alloc: Global, it: Subcommand) -> Result<Command<'a>, AllocError> {
+    let mut command = Command::new(alloc, it.name).about(it.about);
+    if it.common != Common::Nothing {
+        command = with(alloc, command, &LIMITS)?;
+    }
+    if it.common == Common::Reading {
+        command = with(alloc, command, &ENDS)?;
+    }
+    if it.common != Common::Nothing {
+        command = with(alloc, command, &SHOWS)?;
+    }
+    with(alloc, command, it.own)
+}
+
+/// The version of the program.
+const VERSION: &str = "0.1.0";
+
+/// What stands at the end of the program's help.
+const OUTCOMES: &str = "\
+The last line on standard output:
+  GOOD groups G transactions T records R     the input begins with a transmission
+  REFUSED record R field F level L REASON    no transmission continues from that field of line R
+  TRUNCATED records R                        the input ended too early, after R records
+  SPLIT outputs O transactions T             the parts are written
+  JOINED inputs I groups G transactions T records R
+                                             the result is written
+  FILES N good G refused R truncated T failed X
+                                             several files were judged
+  input I: LIMIT records, groups or transaction
+                                             the result would pass that limit with input I
+
+In the place of REFUSED `cwr lint` writes a line for each fault, and then:
+  FAULTS F findings N records R              so many faults and findings were told, in R lines
+
+`cwr json` and `cwr csv` write it to standard error, and the lines of JSON or the table alone to standard output. So does
+`cwr renumber` without OUT; GOOD then has the numbers of what is written. So does `cwr acks`, whose last line has counts:
+  ACKS N CO C DU D ...                       so many acknowledgements, and so many of each status
+
+With --sent it writes what was never sent, or with another title, or is answered again, and before ACKS what isn't answered:
+  UNSENT group G transaction T TYPE ...
+  RETITLED group G transaction T TYPE ...
+  AGAIN group G transaction T TYPE ...
+  UNANSWERED group G transaction T TYPE
+
+With --json it writes all this as lines of JSON, an object for each acknowledgement.
+
+`cwr write` writes to standard error:
+  WRITTEN lines L bytes B                    the transmission is written
+  REFUSED line L ...                         that line isn't taken, and why
+  REFUSED the input ends before the trailer  no line is TRL's
+
+Before it `cwr check` writes a line for each finding in a transaction, and `cwr show` each record with its cells:
+  FINDING group G transaction T record S field F level L rule V
+
+`cwr advise` writes such lines too, and after those of a transaction a line for each piece of advice on it:
+  ADVICE group G transaction T record S field F level L rule A
+
+Indented, `cwr explain` and `cwr advise` write under each what it says in words, and the cells that it speaks of. After the
+last line `cwr explain` writes what a refusal speaks of, what stands there and what may.
+
+Before REFUSED and TRUNCATED `cwr join` writes the number of the input.
+
+Exit status: 0 good, 1 refused, truncated or a limit, 2 a wrong command line (or help), 3 a file, a device or memory failed
+
+Examples: cwr check works.cwr
+          cwr explain works.cwr
+          cwr lint --explain works.cwr
+          cwr advise works.cwr
+          cwr csv works works.cwr
+          cwr acks acknowledgement.cwr
+          cwr split -n 1000 works.cwr part-
+          cwr join whole.cwr part-00000001 part-00000002";
+
+/// The program's words.
+pub fn command<'a>(alloc: Global) -> Result<Command<'a>, AllocError> {
+    let mut command = Command::new(alloc, "cwr")
+        .version(VERSION)
+        .about("Reads CWR 2.1 transmissions; without words it is `cwr check`")
+        .after_help(OUTCOMES);
+    for it in SUBCOMMANDS.iter() {
+        let next = made_of(alloc, *it)?;
+        command = command.subcommand(next)?;
+    }
+    Ok(command)
+}

@@ -1,0 +1,10 @@
+//! The grammar of the command line of `cwr`: its subcommands, their options and their names of files, and its help.
+#![tactic(auto)]
+
+mod grammar;
+
+pub use grammar::{
+    ACKS, ADVISE, AS_JSON, CSV, EXPLAIN, EXPLAINED, FAIL_ON, FILE, GROUPS, JOIN, JSON, KIND, LINE,
+    LINT, MANUAL, NEW, NO_PROGRESS, NUMBER, NUMBERS, OUT, PREFIX, PROGRESS, QUIET, RECORDS,
+    RENUMBER, SENT, SHOW, SPLIT, TRANSACTION, UTF8, WHOLE, WORKS, WRITE, command,
+};

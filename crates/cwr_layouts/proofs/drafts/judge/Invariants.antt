@@ -1,7 +1,0 @@
-use Rattle.std.proofs.Common.{ℕ, ◌+◌, ◌<◌}
-use Rattle.cwr_layouts.specs.Format.Carried.{FitsAt}
-use Rattle.cwr_layouts.specs.Steps.Carried.{record_in}
-use Rattle.cwr_layouts.proofs.drafts.judge.Given as goal
-
-abbrev pub invariant-loop-before : goal.invariant-loop-before
-invariant-loop-before l = (i : ℕ) → i < l.before + 1 → FitsAt (record_in l.kind l.line) i

@@ -1,8 +1,0 @@
-use Rattle.cwr_layouts.specs.declared.kinds.Kind.TheVariants.{Grt}
-use Rattle.cwr_layouts.proofs.JudgedCells.{carries}
-use Rattle.cwr_layouts.proofs.kind_cells.grt_fits.Goals as goal
-
-pub returns : goal.returns
-returns c = λ yes.
-    carries Grt c.args.line.now c.requires.whole c.requires.plain
-    (tt, (tt, (tt, (tt, (tt, (c.fits_at.ensures yes, tt))))))

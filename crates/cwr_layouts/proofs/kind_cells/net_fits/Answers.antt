@@ -1,8 +1,0 @@
-use Rattle.cwr_layouts.specs.declared.kinds.Kind.TheVariants.{Net}
-use Rattle.cwr_layouts.proofs.JudgedCells.{carries}
-use Rattle.cwr_layouts.proofs.kind_cells.net_fits.Goals as goal
-
-pub returns : goal.returns
-returns c = λ yes.
-    carries Net c.args.line.now c.requires.whole c.requires.plain
-    (tt, (tt, (tt, (tt, tt))))

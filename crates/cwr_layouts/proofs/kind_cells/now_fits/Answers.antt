@@ -1,8 +1,0 @@
-use Rattle.cwr_layouts.specs.declared.kinds.Kind.TheVariants.{Now}
-use Rattle.cwr_layouts.proofs.JudgedCells.{carries}
-use Rattle.cwr_layouts.proofs.kind_cells.now_fits.Goals as goal
-
-pub returns : goal.returns
-returns c = λ yes.
-    carries Now c.args.line.now c.requires.whole c.requires.plain
-    (tt, (tt, (tt, (tt, tt))))

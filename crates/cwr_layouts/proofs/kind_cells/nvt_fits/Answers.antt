@@ -1,8 +1,0 @@
-use Rattle.cwr_layouts.specs.declared.kinds.Kind.TheVariants.{Nvt}
-use Rattle.cwr_layouts.proofs.JudgedCells.{carries}
-use Rattle.cwr_layouts.proofs.kind_cells.nvt_fits.Goals as goal
-
-pub returns : goal.returns
-returns c = λ yes.
-    carries Nvt c.args.line.now c.requires.whole c.requires.plain
-    (tt, (tt, (tt, (tt, tt))))

@@ -1,5 +1,0 @@
-use Rattle.cwr_layouts.proofs.CellLaws.{record_cell-row}
-use Rattle.cwr_layouts.proofs.laws.cells_are_those_of_rows.Goals as goal
-
-pub returns : goal.returns
-returns c = record_cell-row

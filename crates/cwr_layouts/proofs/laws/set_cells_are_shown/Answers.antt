@@ -1,5 +1,0 @@
-use Rattle.cwr_layouts.proofs.CellLaws.{shows_set}
-use Rattle.cwr_layouts.proofs.laws.set_cells_are_shown.Goals as goal
-
-pub returns : goal.returns
-returns c = shows_set

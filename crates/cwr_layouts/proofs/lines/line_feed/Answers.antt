@@ -1,5 +1,0 @@
-use Rattle.cwr_layouts.proofs.LineFeedFound.{first_line_feed}
-use Rattle.cwr_layouts.proofs.lines.line_feed.Goals as goal
-
-pub returns : goal.returns
-returns c = first_line_feed c.args.piece.now c.memchr.result c.memchr.ensures

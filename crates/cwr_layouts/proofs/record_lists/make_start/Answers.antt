@@ -1,5 +1,0 @@
-use Rattle.std.proofs.Common.{refl}
-use Rattle.cwr_layouts.proofs.record_lists.make_start.Goals as goal
-
-pub make_room-requires-clause-power : goal.make_room-requires-clause-power
-make_room-requires-clause-power c = (4, refl)

@@ -1,0 +1,10 @@
+use Rattle.std.proofs.lemmas.Bool.{and_parts}
+use Rattle.cwr_layouts.specs.declared.kinds.Kind.TheVariants.{Alt}
+use Rattle.cwr_lines.proofs.JudgedCells.{carries}
+use Rattle.cwr_lines.proofs.kind_cells.alt_fits.Goals as goal
+
+pub returns : goal.returns
+returns c = λ yes.
+    let b2 = and_parts _ _ yes in
+    carries Alt c.args.line.now c.requires.whole c.requires.plain
+    (tt, (tt, (tt, (c.fits_at.ensures b2.0, (c.fits_at-2.ensures b2.1, (tt, tt))))))

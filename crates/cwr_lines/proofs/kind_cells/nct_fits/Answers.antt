@@ -1,0 +1,8 @@
+use Rattle.cwr_layouts.specs.declared.kinds.Kind.TheVariants.{Nct}
+use Rattle.cwr_lines.proofs.JudgedCells.{carries}
+use Rattle.cwr_lines.proofs.kind_cells.nct_fits.Goals as goal
+
+pub returns : goal.returns
+returns c = λ yes.
+    carries Nct c.args.line.now c.requires.whole c.requires.plain
+    (tt, (tt, (tt, (tt, tt))))

@@ -1,0 +1,8 @@
+use Rattle.cwr_layouts.specs.declared.kinds.Kind.TheVariants.{Opt}
+use Rattle.cwr_lines.proofs.JudgedCells.{carries}
+use Rattle.cwr_lines.proofs.kind_cells.opt_fits.Goals as goal
+
+pub returns : goal.returns
+returns c = λ yes.
+    carries Opt c.args.line.now c.requires.whole c.requires.plain
+    (tt, (tt, (tt, (tt, tt))))

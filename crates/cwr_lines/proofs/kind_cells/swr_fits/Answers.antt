@@ -1,0 +1,18 @@
+use Rattle.std.proofs.lemmas.Bool.{and_parts}
+use Rattle.cwr_layouts.specs.declared.kinds.Kind.TheVariants.{Swr}
+use Rattle.cwr_lines.proofs.JudgedCells.{carries}
+use Rattle.cwr_lines.proofs.kind_cells.swr_fits.Goals as goal
+
+pub returns : goal.returns
+returns c = λ yes.
+    let b10 = and_parts _ _ yes in
+    let b9 = and_parts _ _ b10.0 in
+    let b8 = and_parts _ _ b9.0 in
+    let b7 = and_parts _ _ b8.0 in
+    let b6 = and_parts _ _ b7.0 in
+    let b5 = and_parts _ _ b6.0 in
+    let b4 = and_parts _ _ b5.0 in
+    let b3 = and_parts _ _ b4.0 in
+    let b2 = and_parts _ _ b3.0 in
+    carries Swr c.args.line.now c.requires.whole c.requires.plain
+    (tt, (tt, (tt, (c.fits_at.ensures b2.0, (c.fits_at-2.ensures b2.1, (tt, (c.fits_at-3.ensures b3.1, (c.fits_at-4.ensures b4.1, (tt, (tt, (tt, (c.fits_at-5.ensures b5.1, (tt, (c.fits_at-6.ensures b6.1, (tt, (c.fits_at-7.ensures b7.1, (c.fits_at-8.ensures b8.1, (c.fits_at-9.ensures b9.1, (c.fits_at-10.ensures b10.1, (tt, (tt, (tt, (tt, tt)))))))))))))))))))))))

@@ -1,7 +1,0 @@
-use Rattle.std.proofs.Common.{◌≤◌}
-use Rattle.cwr_layouts.specs.Format.Layouts.{layout}
-use Rattle.cwr_levels.specs.Format.Fields.{index_of_name}
-use Rattle.cwr_tools.proofs.note_lines.number_of_field.Given as goal
-
-abbrev pub invariant-loop-before : goal.invariant-loop-before
-invariant-loop-before l = l.before ≤ index_of_name l.name (layout l.kind)
