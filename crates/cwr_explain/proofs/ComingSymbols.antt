@@ -1,6 +1,6 @@
 -- The table of symbols has each symbol, and those that may come are found in it one after another.
 use Rattle.std.proofs.Common.{◌≡◌, zero, suc, true, false, List, [], ◌∷◌, ◌++◌, refl, sym, subst, ◌∙◌, arith, inl, inr}
-use Rattle.std.specs.Prelude.{◌↔◌, ◌⊎◌, Bool, Some, Contains, IsTrue, find}
+use Rattle.std.specs.Prelude.{◌↔◌, ◌⊎◌, Bool, Some, Contains, IsTrue, OnErr, Result, Ok, Err, find}
 use Rattle.std.specs.Str.{bytes_eq}
 use Rattle.std.proofs.lemmas.List.Elements.{Contains-append_cases, Contains-append_left, Contains-append_right}
 use Rattle.cwr_fields.specs.declared.codes.Role.TheVariants as roles
@@ -14,6 +14,11 @@ use Rattle.cwr_shape.specs.Format.Outlines.{Continues}
 use Rattle.cwr_shape.specs.Format.AnyTransmission.{Any}
 use Rattle.cwr_shape.specs.Steps.Left.{StandsAt}
 use Rattle.cwr_explain.specs.Steps.Coming.{AreComing, HaveCome}
+
+-- what holds also holds where a call failed
+pub on_err : {X E P : Type 0} (result : Result X E) → P → OnErr result P
+on_err (Ok x) p = tt
+on_err (Err e) p = p
 
 -- each symbol
 abbrev pub all_symbols : List Symbol

@@ -1,11 +1,11 @@
 //! Which records may come next.
 
-ghost use Rattle.std.specs.Prelude.{◌↔◌, List, [], ◌∷◌, ◌++◌, IsTrue, IfOk, OnOk};
+ghost use Rattle.std.specs.Prelude.{◌↔◌, List, [], ◌∷◌, ◌++◌, IsTrue, IfOk, OnErr, OnOk};
 ghost use Rattle.cwr_shape.specs.declared.symbols.Symbol.{Symbol};
 ghost use Rattle.cwr_shape.specs.Format.Outlines.{Continues};
 ghost use Rattle.cwr_shape.specs.Format.AnyTransmission.{Any};
 ghost use Rattle.cwr_shape.specs.Steps.Left.{StandsAt};
-ghost use Rattle.cwr_explain.specs.Steps.Coming.{AreComing, AsksOne};
+ghost use Rattle.cwr_explain.specs.Steps.Coming.{AreComing, AsksOne, ComesAt};
 
 use cwr_fields::{Role, TransactionType};
 use cwr_layouts::Kind;
@@ -71,7 +71,8 @@ pub fn may_come(stage: Stage, symbol: Symbol) -> bool
 
 /// Adds the symbol, where it may come at the stage.
 fn ask(found: &mut Vec<Symbol>, stage: Stage, symbol: Symbol) -> Result<(), AllocError>
-    ensures { OnOk result (AsksOne stage symbol found.old.items found.new.items) }
+    ensures ok { OnOk result (AsksOne stage symbol found.old.items found.new.items) }
+    ensures err { OnErr result (ComesAt stage symbol) }
 {
     if may_come(stage, symbol) {
         found.push(symbol)?;
@@ -81,7 +82,9 @@ fn ask(found: &mut Vec<Symbol>, stage: Stage, symbol: Symbol) -> Result<(), Allo
 
 /// The symbols that may come at the stage, in their order.
 pub fn coming(alloc: Global, stage: Stage) -> Result<Vec<Symbol>, AllocError>
-    ensures { IfOk result (λ found. AreComing stage found.items) }
+    ensures ok { IfOk result (λ found. AreComing stage found.items) }
+    // Memory is asked for only where some symbol may come.
+    ensures memory { OnErr result ((symbol : Symbol) × ComesAt stage symbol) }
 {
     let mut found = Vec::new(alloc);
     for symbol in &SYMBOLS {

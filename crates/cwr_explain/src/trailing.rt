@@ -1,8 +1,8 @@
 //! What stands after a transmission.
 
-ghost use Rattle.std.specs.Prelude.{◌≡◌, ◌+◌, ◌-◌, ◌^◌, min, length, IfOk, OnErr};
-ghost use Rattle.cwr_explain.specs.Format.Explained.{IsTrailing, ReadsOnly, TakesMore};
-ghost use Rattle.cwr_explain.specs.Steps.Explained.{TakesPiece};
+ghost use Rattle.std.specs.Prelude.{◌≡◌, ◌+◌, ◌-◌, ◌^◌, ◌<◌, ◌∷◌, [], false, min, length, IfOk, OnErr};
+ghost use Rattle.cwr_explain.specs.Format.Explained.{IsTrailing, ReadsAlone, TakesMore};
+ghost use Rattle.cwr_explain.specs.Steps.Explained.{TakesPiece, begins_with, byte_with};
 
 use cwr_fields::Source;
 use cwr_tools::ToolFault;
@@ -24,7 +24,9 @@ pub struct Trailing {
 impl Trailing {
     /// Nothing was read.
     fn new() -> Trailing
-        ensures { result.bytes ≡ 0 }
+        ensures bytes { result.bytes ≡ 0 }
+        ensures begins { result.begins ≡ 0 ∷ 0 ∷ 0 ∷ [] }
+        ensures goes_on { result.is_all ≡ false }
     {
         Trailing {
             bytes: 0,
@@ -33,22 +35,35 @@ impl Trailing {
         }
     }
 
-    /// The first three bytes once those of a piece follow.
-    fn begins_with(&self, piece: &[u8]) -> [u8; 3] {
-        match (self.bytes, piece) {
-            (0, [a, b, c, ..]) => [*a, *b, *c],
-            (0, [a, b]) => [*a, *b, 0],
-            (0, [a]) => [*a, 0, 0],
-            (1, [b, c, ..]) => [self.begins[0], *b, *c],
-            (1, [b]) => [self.begins[0], *b, 0],
-            (2, [c, ..]) => [self.begins[0], self.begins[1], *c],
-            _ => self.begins,
+    /// The byte at one of the first three places once those of a piece follow, and 0 where there is none.
+    fn byte_with(&self, piece: &[u8], place: usize) -> u8
+        requires { place < 3 }
+        ensures { result ≡ byte_with self.now.bytes self.now.begins piece.now place }
+    {
+        let count = self.bytes;
+        if (place as u64) < count {
+            self.begins[place]
+        } else {
+            piece.get(place - count as usize).copied().unwrap_or(0)
         }
+    }
+
+    /// The first three bytes once those of a piece follow.
+    fn begins_with(&self, piece: &[u8]) -> [u8; 3]
+        ensures { result ≡ begins_with self.now.bytes self.now.begins piece.now }
+    {
+        [
+            self.byte_with(piece, 0),
+            self.byte_with(piece, 1),
+            self.byte_with(piece, 2),
+        ]
     }
 
     /// Counts a piece more.
     fn add(&mut self, piece: &[u8])
-        ensures { self.new.bytes ≡ min (self.old.bytes + length piece.now) (2 ^ 64 - 1) }
+        ensures bytes { self.new.bytes ≡ min (self.old.bytes + length piece.now) (2 ^ 64 - 1) }
+        ensures begins { self.new.begins ≡ begins_with self.old.bytes self.old.begins piece.now }
+        ensures is_all { self.new.is_all ≡ self.old.is_all }
     {
         self.begins = self.begins_with(piece);
         self.bytes = self.bytes.saturating_add(piece.len() as u64);
@@ -59,7 +74,7 @@ impl Trailing {
 fn take_piece<R: Source>(reader: &mut R, found: &mut Trailing) -> Result<bool, ToolFault>
     ensures ok { IfOk result (TakesPiece (R.remaining reader.old) (R.remaining reader.new) found.old found.new) }
     ensures err { OnErr result (TakesMore (R.remaining reader.old) (R.remaining reader.new)) }
-    ensures failures { ReadsOnly result (R.failures reader.old) (R.failures reader.new) }
+    ensures failures { ReadsAlone result (R.failures reader.old) (R.failures reader.new) }
 {
     let piece = match reader.fill() {
         Ok(piece) => piece,
@@ -75,15 +90,14 @@ fn take_piece<R: Source>(reader: &mut R, found: &mut Trailing) -> Result<bool, T
 pub fn read_trailing<R: Source>(reader: &mut R) -> Result<Trailing, ToolFault>
     ensures taken { TakesMore (R.remaining reader.old) (R.remaining reader.new) }
     ensures counted { IfOk result (IsTrailing (R.remaining reader.old) (R.remaining reader.new)) }
-    ensures failures { ReadsOnly result (R.failures reader.old) (R.failures reader.new) }
+    ensures failures { ReadsAlone result (R.failures reader.old) (R.failures reader.new) }
 {
     let mut found = Trailing::new();
-    found.is_all = take_piece(reader, &mut found)?;
-    for _ in 1..MOST_PIECES {
-        if found.is_all {
-            break;
+    for _pieces in 0..MOST_PIECES {
+        if take_piece(reader, &mut found)? {
+            found.is_all = true;
+            return Ok(found);
         }
-        found.is_all = take_piece(reader, &mut found)?;
     }
     Ok(found)
 }

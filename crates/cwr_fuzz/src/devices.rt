@@ -114,6 +114,8 @@ impl Outputs for Shelf {
 
     ghost lent = { λ shelf. shelf.lent };
 
+    ghost had = { λ shelf. None };
+
     fn next(&mut self) -> Result<Counted<Vec<u8>>, OutputFault> {
         if self.failures == u64::MAX || self.lent == u64::MAX {
             self.failures = self.failures.saturating_add(1);

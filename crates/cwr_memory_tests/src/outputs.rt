@@ -60,6 +60,8 @@ impl Outputs for Numbered {
 
     ghost lent = { λ numbered. numbered.lent };
 
+    ghost had = { λ numbered. None };
+
     fn next(&mut self) -> Result<Counted<Nowhere>, OutputFault> {
         if self.failures == u64::MAX || self.lent == u64::MAX {
             self.failures = self.failures.saturating_add(1);

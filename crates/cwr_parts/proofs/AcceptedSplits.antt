@@ -1,4 +1,4 @@
--- Where the input is accepted a split stops only where a device or memory failed.
+-- What a split answers is right of its input, and where that is accepted it stops only where a device or memory failed.
 use Rattle.std.proofs.Common.{◌≡◌, ℕ, List, drop, length, map, Option, Some, None, ap, subst, ◌∙◌}
 use Rattle.std.specs.Prelude.{Result, Ok, Err, MatchResult}
 use Rattle.cwr_shape.specs.declared.limits.Limits.{Limits}
@@ -11,7 +11,7 @@ use Rattle.cwr_tools.specs.declared.verdicts.ToolFault.{ToolFault}
 use Rattle.cwr_tools.specs.declared.verdicts.ToolFault.TheVariants.{Reader, Writer, Memory, Refused, Truncated, Limit, Output}
 use Rattle.cwr_parts.specs.Format.Outputs.{AddsTexts}
 use Rattle.cwr_parts.specs.Format.Splits.{split_of}
-use Rattle.cwr_parts.specs.Format.Splitting.{IsOfSplitDevice, SplitsAccepted, split_report}
+use Rattle.cwr_parts.specs.Format.Splitting.{IsOfSplitDevice, JudgesSplit, SplitsAccepted, split_report}
 use Rattle.cwr_parts.specs.Steps.Splitting.{Splits}
 
 pub splits_accepted : (limits : Limits) (n : ℕ) (before after : Option (List ℕ)) (old new : Option (List (List ℕ))) (result : Result SplitReport ToolFault) → Splits limits n before after old new result → SplitsAccepted limits n before after old new result
@@ -33,3 +33,16 @@ splits_accepted limits n (Some text) after old new result h = λ v count a. by r
     by (Err (Refused refusal)) k v count a = absurd (k.1.0.right.ends.unaccepted v count a)
     by (Err (Truncated records)) k v count a = absurd (k.1.0.right.ends.unaccepted v count a)
     by (Err (Limit limit)) k v count a = absurd k
+
+pub splits_judged : (limits : Limits) (n : ℕ) (before after : Option (List ℕ)) (old new : Option (List (List ℕ))) (result : Result SplitReport ToolFault) → Splits limits n before after old new result → JudgesSplit limits before after result
+splits_judged limits n None after old new (Ok report) h = tt
+splits_judged limits n (Some text) after old new (Ok report) h = (h.value, length h.taken.input, h.taken.front.0, h.taken.front.1)
+splits_judged limits n None after old new (Err (Refused refusal)) h = tt
+splits_judged limits n (Some text) after old new (Err (Refused refusal)) h = h.1.0.right.ends
+splits_judged limits n None after old new (Err (Truncated records)) h = tt
+splits_judged limits n (Some text) after old new (Err (Truncated records)) h = h.1.0.right.ends
+splits_judged limits n before after old new (Err Reader) h = tt
+splits_judged limits n before after old new (Err Memory) h = tt
+splits_judged limits n before after old new (Err (Writer written)) h = tt
+splits_judged limits n before after old new (Err Output) h = tt
+splits_judged limits n before after old new (Err (Limit limit)) h = absurd h

@@ -28,3 +28,4 @@ mod StagesPassed
 mod SplittingOn
 mod SplitsEnded
 mod AcceptedSplits
+mod WritersCounted

@@ -5,4 +5,5 @@ pub mod SplitItems
 pub mod SplitOutputs
 pub mod SplitStages
 pub mod SplitSteps
+pub mod SplitWriters
 pub mod Splitting

@@ -28,6 +28,9 @@ pub trait Outputs {
     // How many writers that `next` gave haven't come back.
     ghost lent: { Self → ℕ };
 
+    // The bytes of the writer that was given up last, where the texts are known.
+    ghost had: { Self → Option (List ℕ) };
+
     /// The writer of a new output. It hasn't failed, and where the texts are known it has no bytes.
     fn next(&mut self) -> Result<Self::W, OutputFault>
         ensures unfailed { IfOk result (λ writer. Self.W.failures writer ≡ 0) }
@@ -53,5 +56,6 @@ pub trait Outputs {
         ensures kept { texts self.new ≡ texts self.old }
         ensures failures { failures self.new ≡ failures self.old }
         ensures given_up { given_up self.new ≡ given_up_with (Self.W.failures writer) (given_up self.old) }
+        ensures had { IfSome (texts self.old) (λ _. had self.new ≡ Self.W.contents writer) }
         ensures lent { lent self.new ≡ lent self.old - 1 };
 }

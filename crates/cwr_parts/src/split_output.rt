@@ -4,7 +4,9 @@ ghost use Rattle.std.specs.Prelude.{◌≡◌, ◌≢◌, ℕ, ◌+◌, ◌-◌,
 ghost use Rattle.cwr_values.specs.declared.items.Item.{Item};
 ghost use Rattle.cwr_judge.specs.Format.Items.{records_in};
 ghost use Rattle.cwr_encode.specs.Steps.Encoders.{Encodes, is_stopped, encoder_limits, target_of};
+ghost use Rattle.cwr_parts.specs.Format.Splitting.{TellsWritten};
 ghost use Rattle.cwr_parts.specs.Steps.SplitOutputs.{HandsOver, MayHandOver, MayPut, PutsItems, blank_end, end_of, front_of, opening_of, head_of, told_by};
+ghost use Rattle.cwr_parts.specs.Steps.SplitWriters.{BeganEmpty, CountsBytes};
 
 use crate::joined::{fault_of, put_item};
 use crate::outputs::Outputs;
@@ -31,7 +33,8 @@ fn put<W: Target>(encoder: &mut Encoder<W>, item: &Item) -> Result<(), ToolFault
     requires unfailed { is_stopped encoder.old ≡ false }
     requires not_ended { item.now ≢ Item.Ended }
     requires may { MayPut W.contents (item.now ∷ []) encoder.old }
-    ensures { PutsItems W.contents W.failures (item.now ∷ []) result encoder.old encoder.new }
+    ensures puts { PutsItems W.contents W.failures (item.now ∷ []) result encoder.old encoder.new }
+    ensures written { CountsBytes W.contents result encoder.old encoder.new }
 {
     match put_item(encoder, item) {
         Ok(()) => Ok(()),
@@ -79,6 +82,7 @@ impl<W: Target> SplitOutput<W> {
         requires not_ended { opening.now ≢ Item.Ended }
         requires may { MayPut W.contents (opening_of opening.now self.old) self.old.encoder }
         ensures puts { PutsItems W.contents W.failures (opening_of opening.now self.old) result self.old.encoder self.new.encoder }
+        ensures written { CountsBytes W.contents result self.old.encoder self.new.encoder }
         ensures counted { self.new.transactions ≡ self.old.transactions }
         ensures group { self.new.in_group ≡ self.old.in_group }
     {
@@ -94,6 +98,7 @@ impl<W: Target> SplitOutput<W> {
         requires not_ended { head.now ≢ Item.Ended }
         requires may { MayPut W.contents (head_of head.now self.old) self.old.encoder }
         ensures puts { PutsItems W.contents W.failures (head_of head.now self.old) result self.old.encoder self.new.encoder }
+        ensures written { CountsBytes W.contents result self.old.encoder self.new.encoder }
         ensures counted { self.new.transactions ≡ self.old.transactions }
         ensures group { OnOk result (self.new.in_group ≡ true) }
     {
@@ -119,6 +124,7 @@ impl<W: Target> SplitOutput<W> {
         requires few { self.old.transactions < 199999999 }
         requires may { MayPut W.contents (front_of opening.now head.now self.old ++ transaction.now ∷ []) self.old.encoder }
         ensures puts { PutsItems W.contents W.failures (front_of opening.now head.now self.old ++ transaction.now ∷ []) result self.old.encoder self.new.encoder }
+        ensures written { CountsBytes W.contents result self.old.encoder self.new.encoder }
         ensures counted { OnOk result (self.new.transactions ≡ self.old.transactions + 1) }
         ensures group { OnOk result (self.new.in_group ≡ true) }
     {
@@ -134,6 +140,7 @@ impl<W: Target> SplitOutput<W> {
         requires unfailed { is_stopped self.old.encoder ≡ false }
         requires may { MayPut W.contents (end_of self.old) self.old.encoder }
         ensures puts { PutsItems W.contents W.failures (end_of self.old) result self.old.encoder self.new.encoder }
+        ensures written { CountsBytes W.contents result self.old.encoder self.new.encoder }
         ensures counted { self.new.transactions ≡ self.old.transactions }
         ensures group { OnOk result (self.new.in_group ≡ false) }
     {
@@ -163,6 +170,7 @@ pub(crate) fn hand_over<O: Outputs>(
     requires may { MayHandOver O.W.contents output }
     ensures hands_over { HandsOver (told_by O.texts O.failures O.given_up) O.W.contents output result outputs.old outputs.new }
     ensures lent { O.lent outputs.new ≡ O.lent outputs.old - 1 }
+    ensures written { IfSome (O.texts outputs.old) (λ _. BeganEmpty O.W.contents output.encoder → TellsWritten result (O.had outputs.new)) }
 {
     let (writer, outcome) = output.encoder.finish();
     match outcome {

@@ -1,13 +1,14 @@
 //! Splitting a transmission.
 
-ghost use Rattle.std.specs.Prelude.{◌≡◌, ◌≢◌, ℕ, ◌+◌, ◌<◌, None, OnOk};
+ghost use Rattle.std.specs.Prelude.{◌≡◌, ◌≢◌, ℕ, ◌+◌, ◌<◌, List, Option, Some, None, IfSome, OnOk};
 ghost use Rattle.cwr_values.specs.declared.items.Item.{Item};
 ghost use Rattle.cwr_parts.specs.Format.Outputs.{given_up_with};
 ghost use Rattle.cwr_parts.specs.Steps.SplitOutputs.{open_failures, told_by};
 ghost use Rattle.cwr_parts.specs.Steps.SplitItems.{MayTake, SplitsItems, TakesItem};
-ghost use Rattle.cwr_parts.specs.Format.Splitting.{CountsSplitOutput, CountsSplitReader, CountsSplitWriter, SplitsAccepted};
+ghost use Rattle.cwr_parts.specs.Format.Splitting.{CountsSplitOutput, CountsSplitReader, CountsSplitWriter, JudgesSplit, SplitsAccepted, TellsWritten};
 ghost use Rattle.cwr_parts.specs.Steps.Splitting.{Splits};
 ghost use Rattle.cwr_parts.specs.Steps.SplitSteps.{AddsTransaction, EndsGroup, FinishesOutput, GivesUp, MayAddTransaction, MayEndGroup, MayFinish, KeepsLent, MayWrite, OpensOutput, Writes, has_all, is_new, open_outputs};
+ghost use Rattle.cwr_parts.specs.Steps.SplitWriters.{CountsOpen, CountsWritten, had_after};
 
 use crate::joining::reading_fault;
 use crate::outputs::Outputs;
@@ -60,6 +61,7 @@ impl<W: Target> Splitting<W> {
         requires may { MayWrite W.contents transaction.now self.old }
         ensures writes { Writes W.contents W.failures transaction.now result self.old self.new }
         ensures output { open_outputs self.new.output ≡ open_outputs self.old.output }
+        ensures written { (had : Option (List ℕ)) → CountsOpen W.contents result self.old.output self.new.output had }
     {
         let Some(opening) = &self.opening else {
             unreachable!();
@@ -90,6 +92,7 @@ impl<W: Target> Splitting<W> {
         requires { MayEndGroup W.contents self.old.output }
         ensures ends { EndsGroup W.contents W.failures result self.old self.new }
         ensures output { open_outputs self.new.output ≡ open_outputs self.old.output }
+        ensures written { (had : Option (List ℕ)) → CountsOpen W.contents result self.old.output self.new.output had }
     {
         match &mut self.output {
             Some(output) => output.end_group(),
@@ -105,6 +108,7 @@ fn open_output<O: Outputs>(
 ) -> Result<(), ToolFault>
     ensures opens { OpensOutput (told_by O.texts O.failures O.given_up) O.W.contents O.W.failures result splitting.old splitting.new outputs.old outputs.new }
     ensures lent { KeepsLent (O.lent outputs.old) splitting.old.output (O.lent outputs.new) splitting.new.output }
+    ensures written { CountsWritten O.W.contents (O.texts outputs.old) result splitting.old.output splitting.new.output (O.had outputs.new) }
 {
     if splitting.output.is_some() {
         return Ok(());
@@ -127,6 +131,7 @@ fn finish_output<O: Outputs>(
     requires may { MayFinish (told_by O.texts O.failures O.given_up) O.W.contents O.W.failures splitting.old outputs.old }
     ensures finishes { FinishesOutput (told_by O.texts O.failures O.given_up) O.W.contents O.W.failures result splitting.old splitting.new outputs.old outputs.new }
     ensures lent { KeepsLent (O.lent outputs.old) splitting.old.output (O.lent outputs.new) splitting.new.output }
+    ensures written { CountsWritten O.W.contents (O.texts outputs.old) result splitting.old.output splitting.new.output (O.had outputs.new) }
 {
     splitting.end_group()?;
     match splitting.output.take() {
@@ -149,6 +154,7 @@ fn add_transaction<O: Outputs>(
     requires may { MayAddTransaction (told_by O.texts O.failures O.given_up) O.W.contents O.W.failures transaction.now splitting.old outputs.old }
     ensures adds { AddsTransaction (told_by O.texts O.failures O.given_up) O.W.contents O.W.failures transaction.now result splitting.old splitting.new outputs.old outputs.new }
     ensures lent { KeepsLent (O.lent outputs.old) splitting.old.output (O.lent outputs.new) splitting.new.output }
+    ensures written { CountsWritten O.W.contents (O.texts outputs.old) result splitting.old.output splitting.new.output (O.had outputs.new) }
 {
     open_output(splitting, outputs)?;
     splitting.put(transaction)?;
@@ -167,6 +173,7 @@ fn take_item<O: Outputs>(
     requires { MayTake (told_by O.texts O.failures O.given_up) O.W.contents O.W.failures item splitting.old outputs.old }
     ensures takes { TakesItem (told_by O.texts O.failures O.given_up) O.W.contents O.W.failures item result splitting.old splitting.new outputs.old outputs.new }
     ensures lent { KeepsLent (O.lent outputs.old) splitting.old.output (O.lent outputs.new) splitting.new.output }
+    ensures written { CountsWritten O.W.contents (O.texts outputs.old) result splitting.old.output splitting.new.output (O.had outputs.new) }
 {
     match &item {
         Item::Opened(_) => {
@@ -187,6 +194,7 @@ fn take_item<O: Outputs>(
 fn give_up<O: Outputs>(output: Option<SplitOutput<O::W>>, outputs: &mut O)
     ensures gives_up { GivesUp (told_by O.texts O.failures O.given_up) O.W.failures output outputs.old outputs.new }
     ensures lent { (others : ℕ) → O.lent outputs.old ≡ others + open_outputs output → O.lent outputs.new ≡ others }
+    ensures written { IfSome (O.texts outputs.old) (λ _. O.had outputs.new ≡ had_after O.W.contents output (O.had outputs.old)) }
 {
     if let Some(output) = output {
         outputs.give_up(output.abandon());
@@ -206,6 +214,7 @@ fn split_items<R: Source, O: Outputs>(
     ensures splits { SplitsItems limits splitting.old.size (R.remaining reader.old) (R.remaining reader.new) (O.texts outputs.old) (O.texts outputs.new) splitting.new.report result }
     ensures ended { OnOk result (splitting.new.output ≡ None) }
     ensures lent { KeepsLent (O.lent outputs.old) splitting.old.output (O.lent outputs.new) splitting.new.output }
+    ensures written { CountsWritten O.W.contents (O.texts outputs.old) result splitting.old.output splitting.new.output (O.had outputs.new) }
     ensures reader_failures { CountsSplitReader result (R.failures reader.old) (R.failures reader.new) }
     ensures failures { CountsSplitOutput result (O.failures outputs.old) (O.failures outputs.new) }
     ensures given_up { CountsSplitWriter result (O.given_up outputs.old) (given_up_with (open_failures O.W.failures splitting.new.output) (O.given_up outputs.new)) }
@@ -234,8 +243,8 @@ fn split_items<R: Source, O: Outputs>(
 /// it stops at the first fault: `ToolFault::Refused` or `ToolFault::Truncated` where the input isn't accepted,
 /// `ToolFault::Reader` and `ToolFault::Memory` where the reader failed or memory for a transaction was refused,
 /// `ToolFault::Output` where an output couldn't be made or finished, and `ToolFault::Writer` where the writer of one
-/// failed. The outputs that are done are then the first ones, each whole, and the writer of an open one is given up. It
-/// never answers `ToolFault::Limit`.
+/// failed, with how many bytes that one has. The outputs that are done are then the first ones, each whole, and the writer
+/// of an open one is given up. It never answers `ToolFault::Limit`.
 ///
 /// It holds one transaction and one line, whatever the input.
 pub fn split<R: Source, O: Outputs>(
@@ -253,6 +262,10 @@ pub fn split<R: Source, O: Outputs>(
     ensures given_up { CountsSplitWriter result (O.given_up outputs.old) (O.given_up outputs.new) }
     // No writer is lost: each that was given came back, done or given up.
     ensures lent { O.lent outputs.new ≡ O.lent outputs.old }
+    // Where the input isn't accepted, its refusal or its truncation is answered.
+    ensures judged { JudgesSplit limits (R.remaining reader.old) (R.remaining reader.new) result }
+    // A writer's fault tells how many bytes that writer had.
+    ensures written { IfSome (O.texts outputs.old) (λ _. TellsWritten result (O.had outputs.new)) }
     ensures accepted { SplitsAccepted limits n (R.remaining reader.old) (R.remaining reader.new) (O.texts outputs.old) (O.texts outputs.new) result }
 {
     let mut splitting = Splitting::new(limits, n);

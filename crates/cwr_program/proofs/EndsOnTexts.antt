@@ -1,6 +1,6 @@
 -- A run over a text ends as that text does.
-use Rattle.std.proofs.Common.{◌≡◌, ℕ, ◌+◌, ◌<◌, Bool, true, false, not, ◌||◌, List, [], ◌∷◌, ◌++◌, length, drop, zero, suc, Option, Some, None, refl, sym, ap, ap₂, subst, ◌∙◌, inl, inr, arith, true≢false}
-use Rattle.std.specs.Prelude.{◌≢◌, ◌^◌, ◌-◌, min, nat_lt, if◌then◌else◌, IfOk, IfSome, IsSomeAnd, OnOk, Result, Ok, Err}
+use Rattle.std.proofs.Common.{◌≡◌, ℕ, ◌+◌, ◌<◌, ◌≤◌, Bool, true, false, not, ◌||◌, List, [], ◌∷◌, ◌++◌, length, drop, zero, suc, Option, Some, None, refl, sym, ap, ap₂, subst, ◌∙◌, inl, inr, arith, true≢false}
+use Rattle.std.specs.Prelude.{◌≢◌, ◌^◌, ◌-◌, min, nat_lt, if◌then◌else◌, IfOk, IfSome, IsSomeAnd, OnErr, OnOk, Result, Ok, Err}
 use Rattle.std.specs.List.{list_any}
 use Rattle.std.specs.Io.KnownBytes.{prepend_known}
 use Rattle.std.proofs.KnownBytes.{prepend_known-nil}
@@ -17,7 +17,7 @@ use Rattle.cwr_tools.specs.declared.verdicts.Verdict.TheVariants as verdicts
 use Rattle.cwr_tools.specs.declared.verdicts.ToolFault.{ToolFault}
 use Rattle.cwr_tools.specs.declared.verdicts.ToolFault.TheVariants as tool_faults
 use Rattle.cwr_tools.specs.declared.watch.Watch.{Watch}
-use Rattle.cwr_tools.specs.Format.Reports.{CountsWriterFault, ItemLines, JudgesAccepted}
+use Rattle.cwr_tools.specs.Format.Reports.{CountsReaderFault, CountsWriterFault, ItemLines, JudgesAccepted}
 use Rattle.cwr_tools.specs.Format.Verdicts.{IsVerdictOn, JudgesText}
 use Rattle.cwr_tools.specs.Format.Watching.{SeesAccepted, any_from, item_has_from, watched}
 use Rattle.cwr_explain.specs.declared.trailing.Trailing.{Trailing}
@@ -28,12 +28,13 @@ use Rattle.cwr_program.specs.declared.endings.Status.{Status}
 use Rattle.cwr_program.specs.declared.endings.Status.TheVariants as statuses
 use Rattle.cwr_program.specs.declared.endings.Wanted.{Wanted}
 use Rattle.cwr_program.specs.declared.faults.Told.{Told}
+use Rattle.cwr_program.specs.declared.faults.Fault.{Fault}
 use Rattle.cwr_program.specs.declared.faults.Fault.TheVariants as faults
 use Rattle.cwr_program.specs.declared.reports.Judgement.{Judgement}
 use Rattle.cwr_program.specs.declared.reports.Telling.{Telling}
-use Rattle.cwr_program.specs.Format.Endings.{EndsOnInput, FallsShort, IsStatusOn, Meets}
+use Rattle.cwr_program.specs.Format.Endings.{EndsOnInput, FallsShort, IsStatusOn, Meets, StatusOnInput, fault_status}
 use Rattle.cwr_program.specs.Format.Inputs.{are_standard, is_standard}
-use Rattle.cwr_program.specs.Steps.Tellings.{CountsLook, CountsWriting, TellsText, TellsUpTo}
+use Rattle.cwr_program.specs.Steps.Tellings.{CountsInput, CountsLook, CountsReading, CountsWriting, TellsText, TellsUpTo}
 use Rattle.cwr_program.specs.Steps.Looks.{IsLook, JudgesOn, LooksAfter, LooksOnce, follows, good_status, judged_with, judgement_in, look_of, status_after, status_in}
 
 -- ---- what stands after a transmission
@@ -67,7 +68,7 @@ follows_some text None t h f = absurd h.consumed
 follows_some text (Some rest) t h f = λ e. not_empty h.more rest (by (nat_lt 0 t.bytes) t.is_all refl refl f) (sym h.consumed ∙ e) where
   by : (b a : Bool) → nat_lt 0 t.bytes ≡ b → t.is_all ≡ a → (b || not a) ≡ true → 0 < length h.more
   by true a b e f = let some : 0 < t.bytes = ltb-true 0 t.bytes b in omega (arith, some, h.counted)
-  by false false b e f = let some : 0 < t.bytes = h.some e in omega (arith, some, h.counted)
+  by false false b e f = let some : 1000000 ≤ length h.more = h.some e in omega (arith, some)
   by false true b e f = absurd (true≢false (sym f))
 
 -- ---- the status of a verdict
@@ -90,7 +91,7 @@ status_calm limits wanted text v n look status true is accepted calm after h e =
 status_calm limits wanted text v n look status false is accepted calm after h e = let good : statuses.Good ≡ status = cc e in
     subst (IsStatusOn limits wanted text) good (v, n, accepted, record { whole = λ w. absurd (true≢false (sym w ∙ is)); calm = calm })
 
-status_good : (limits : Limits) (wanted : Wanted) (text : List ℕ) (v : TransmissionValue) (n : ℕ) (look : Look) (found : Bool) (status : Status) → IsAccepted limits text v n → any_from wanted.fail_on (value_items v) ≡ found
+pub status_good : (limits : Limits) (wanted : Wanted) (text : List ℕ) (v : TransmissionValue) (n : ℕ) (look : Look) (found : Bool) (status : Status) → IsAccepted limits text v n → any_from wanted.fail_on (value_items v) ≡ found
     → (after : Option (List ℕ)) → IsLook (Some (drop n text)) after look → good_status wanted look found ≡ Some status → IsStatusOn limits wanted text status
 status_good limits wanted text v n look true status accepted saw after h e = let refused : statuses.Refused ≡ status = cc e in
     subst (IsStatusOn limits wanted text) refused (inr (inr (v, n, accepted, inr saw)))
@@ -120,7 +121,7 @@ from_source P remaining input inner ahead i a p = subst P (ap₂ (λ (xs : List 
 
 -- ---- what is seen and looked for
 
-none_from : (given : List Item) → any_from None given ≡ false
+pub none_from : (given : List Item) → any_from None given ≡ false
 none_from [] = refl
 none_from (items.Transaction t ∷ given) = none_from given
 none_from (items.Opened r ∷ given) = none_from given
@@ -182,10 +183,49 @@ pub told_as : {W : Type 0} (telling by : Telling) (limits : Limits) (before afte
     → TellsText telling limits before contents old new outcome
 told_as telling by limits before after contents old new outcome is told = (after, subst (λ (t : Telling). TellsUpTo t limits before after contents old new outcome) (sym is) told)
 
--- a look that found something, or that wasn't asked for, counts no failure
-pub found_counts_none : (found : Option Trailing) (n : ℕ) → CountsLook (look_of found) n n
-found_counts_none None n = refl
-found_counts_none (Some trailing) n = refl
+-- after a run the look is made only where there is a verdict
+pub counts_reading : (outcome : Result Verdict ToolFault) (look : Look) (old mid new : ℕ) → CountsReaderFault outcome old mid → OnErr outcome (look ≡ looks.Unasked) → CountsLook look mid new → CountsReading outcome look old new
+counts_reading (Ok verdict) look old mid new run unasked looked = subst (λ (n : ℕ). CountsLook look n new) run looked
+counts_reading (Err fault) look old mid new run unasked looked =
+    let same : new ≡ mid = subst (λ (l : Look). CountsLook l mid new) unasked looked in subst (λ (n : ℕ). CountsReaderFault (Err fault) old n) (sym same) run
+
+-- an explanation looks itself
+pub counts_explained : (outcome : Result Verdict ToolFault) (found : Option Trailing) (old new : ℕ) → CountsReaderFault outcome old new → CountsReading outcome (look_of found) old new
+counts_explained (Ok verdict) None old new run = run
+counts_explained (Ok verdict) (Some trailing) old new run = run
+counts_explained (Err fault) found old new run = run
+
+-- a good verdict has no status only where the look failed
+look_failed : (look : Look) → status_after look ≡ None → look ≡ looks.Failed
+look_failed (looks.Found trailing) e = by (follows trailing) e
+  where
+    by : (b : Bool) → (if b then Some statuses.Refused else Some statuses.Good) ≡ None → looks.Found trailing ≡ looks.Failed
+    by true f = absurd (cc f)
+    by false f = absurd (cc f)
+look_failed looks.Failed e = refl
+look_failed looks.Unasked e = absurd (cc e)
+
+failed_whole : (whole : Bool) (look : Look) → (if whole then status_after look else Some statuses.Good) ≡ None → look ≡ looks.Failed
+failed_whole true look e = look_failed look e
+failed_whole false look e = absurd (cc e)
+
+failed_good : (wanted : Wanted) (look : Look) (found : Bool) → good_status wanted look found ≡ None → look ≡ looks.Failed
+failed_good wanted look true e = absurd (cc e)
+failed_good wanted look false e = failed_whole wanted.whole look e
+
+failed_in : (wanted : Wanted) (verdict : Verdict) (look : Look) (found : Bool) → status_in wanted verdict look found ≡ None → look ≡ looks.Failed
+failed_in wanted (verdicts.Good groups transactions records) look found e = failed_good wanted look found e
+failed_in wanted (verdicts.Refused refusal) look found e = absurd (cc e)
+failed_in wanted (verdicts.Truncated records) look found e = absurd (cc e)
+
+-- what is judged counts the input's failures as the run did
+pub counts_input : (wanted : Wanted) (outcome : Result Verdict ToolFault) (look : Look) (found : Bool) (old new : ℕ) → CountsReading outcome look old new → CountsInput (judgement_in wanted outcome look found) old new
+counts_input wanted (Err fault) look found old new counted = counted
+counts_input wanted (Ok verdict) look found old new counted = by (status_in wanted verdict look found) refl
+  where
+    by : (o : Option Status) → status_in wanted verdict look found ≡ o → CountsInput (judged_with verdict look o) old new
+    by (Some status) e = counted
+    by None e = subst (λ (l : Look). CountsLook l old new) (failed_in wanted verdict look found e) counted
 
 -- what holds of the outcome holds of the verdict that was judged
 pub judged_told : (P : Result Verdict ToolFault → Type 0) (wanted : Wanted) (outcome : Result Verdict ToolFault) (look : Look) (found : Bool) → P outcome → IfOk (judgement_in wanted outcome look found) (λ judgement. P (Ok judgement.verdict))
@@ -240,6 +280,29 @@ ends_write limits wanted (Some text) told = tt
 pub ends_memory : (limits : Limits) (wanted : Wanted) (before : Option (List ℕ)) → EndsOnInput limits wanted before (Err faults.Memory)
 ends_memory limits wanted None = tt
 ends_memory limits wanted (Some text) = tt
+
+-- and as which status
+pub status_ends : (limits : Limits) (wanted : Wanted) (before : Option (List ℕ)) (status : Status) → EndsOnInput limits wanted before (Ok status) → StatusOnInput limits wanted before status
+status_ends limits wanted before statuses.Good h = h
+status_ends limits wanted before statuses.Refused h = h
+status_ends limits wanted before statuses.CommandLine h = h
+status_ends limits wanted before statuses.Fault h = tt
+
+status_failed : (limits : Limits) (wanted : Wanted) (before : Option (List ℕ)) (fault : Fault) → EndsOnInput limits wanted before (Err fault) → StatusOnInput limits wanted before (fault_status fault)
+status_failed limits wanted None (faults.IsInput name) h = tt
+status_failed limits wanted None (faults.IsThere name) h = tt
+status_failed limits wanted None (faults.IsTwice name) h = tt
+status_failed limits wanted (Some text) (faults.IsInput name) h = absurd h
+status_failed limits wanted (Some text) (faults.IsThere name) h = absurd h
+status_failed limits wanted (Some text) (faults.IsTwice name) h = absurd h
+status_failed limits wanted before (faults.Open name reason) h = tt
+status_failed limits wanted before (faults.Read told) h = tt
+status_failed limits wanted before (faults.Write told) h = tt
+status_failed limits wanted before (faults.Output name reason) h = tt
+status_failed limits wanted before faults.Memory h = tt
+
+pub fault_ends : (limits : Limits) (wanted : Wanted) (before : Option (List ℕ)) (fault : Fault) (status : Status) → EndsOnInput limits wanted before (Err fault) → status ≡ fault_status fault → StatusOnInput limits wanted before status
+fault_ends limits wanted before fault status h e = subst (StatusOnInput limits wanted before) (sym e) (status_failed limits wanted before fault h)
 
 -- the words that name standard input
 one_standard : (names : List (List ℕ)) → are_standard names ≡ true → 1 < length names → ⊥

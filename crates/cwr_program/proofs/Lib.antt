@@ -1,1 +1,2 @@
 pub mod EndsOnTexts
+pub mod SplitsEnd

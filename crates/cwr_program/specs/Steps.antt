@@ -3,3 +3,4 @@ pub mod Inputs
 pub mod Looks
 pub mod Tellings
 pub mod NumberedFiles
+pub mod Splits

@@ -2,7 +2,7 @@
 
 ghost use Rattle.std.specs.Prelude.{◌≡◌};
 ghost use Rattle.cwr_program.specs.Format.Endings.{EndsAfterFault};
-ghost use Rattle.cwr_program.specs.Steps.Looks.{follows, status_in};
+ghost use Rattle.cwr_program.specs.Steps.Looks.{follows, status_in, whole_status};
 
 use crate::faults::{Fault, Told};
 use cwr_explain::Trailing;
@@ -49,6 +49,17 @@ pub(crate) fn follows(trailing: &Trailing) -> bool
     trailing.bytes > 0 || !trailing.is_all
 }
 
+/// The status of a run on a transmission that is good, by what follows that where nothing may. `None` where the input failed there.
+pub(crate) fn status_after(whole: bool, look: Look) -> Option<Status>
+    ensures { result ≡ whole_status whole look }
+{
+    match look {
+        Look::Found(trailing) if whole && follows(&trailing) => Some(Status::Refused),
+        Look::Failed if whole => None,
+        Look::Found(_) | Look::Failed | Look::Unasked => Some(Status::Good),
+    }
+}
+
 /// The status of a verdict, where `found` says whether a finding came that is unwanted. `None` where nothing may follow the
 /// transmission, and the input failed there.
 pub(crate) fn status_of(
@@ -62,11 +73,7 @@ pub(crate) fn status_of(
     if found || !matches!(verdict, Verdict::Good { .. }) {
         return Some(Status::Refused);
     }
-    match look {
-        Look::Found(trailing) if wanted.whole && follows(&trailing) => Some(Status::Refused),
-        Look::Failed if wanted.whole => None,
-        Look::Found(_) | Look::Failed | Look::Unasked => Some(Status::Good),
-    }
+    status_after(wanted.whole, look)
 }
 
 /// What the end of a run means for the program, by the fault at which it stopped: that of the input, that of the output, or another.

@@ -1,9 +1,9 @@
 //! Files that are written, and that have their names only once they are whole.
 
-ghost use Rattle.std.specs.Prelude.{◌≡◌, ℕ, None, Some, IfOk};
+ghost use Rattle.std.specs.Prelude.{◌≡◌, ◌+◌, ℕ, None, Some, IfOk, string_bytes};
 ghost use Rattle.cwr_fields.specs.Steps.Counted.{failures_of};
 ghost use Rattle.cwr_fields.specs.Format.Failures.{one_more_failure};
-ghost use Rattle.cwr_program.specs.Steps.NumberedFiles.{failed_calls_of, given_up_of, lent_of};
+ghost use Rattle.cwr_program.specs.Steps.NumberedFiles.{asked_of, failed_calls_of, given_up_of, lent_of, part_name};
 
 use crate::faults::{Fault, Name, Reason};
 use crate::outputs::{Gathered, gathered, told_of};
@@ -112,6 +112,13 @@ pub(crate) fn create_output<'a, R: Files>(
     }
 }
 
+/// The name of the part of that number: what the names begin with, and eight digits.
+fn numbered_name(alloc: Global, prefix: &str, number: u32) -> Result<String, AllocError>
+    ensures { IfOk result (λ name. string_bytes name ≡ part_name prefix.now number) }
+{
+    format!(in alloc; "{prefix}{number:08}")
+}
+
 /// The files of a split, whose names are a prefix and eight digits, from `00000001` on.
 #[derive(Drop)]
 pub(crate) struct NumberedFiles<'r, 'a, R: Files> {
@@ -166,8 +173,10 @@ impl<'r, 'a, R: Files> NumberedFiles<'r, 'a, R> {
         Name::Part(self.prefix, self.asked)
     }
 
-    /// Makes the file of that name.
+    /// Makes the file of that name, which is the one that was asked for last.
     fn create(&mut self, name: String) -> Result<Gathered<'a, R::File>, Fault<'a>>
+        requires { string_bytes name ≡ part_name self.old.prefix.now (asked_of self.old) }
+        ensures asked { asked_of self.new ≡ asked_of self.old }
         ensures failed_calls { failed_calls_of self.new ≡ failed_calls_of self.old }
         ensures given_up { given_up_of self.new ≡ given_up_of self.old }
         ensures unfailed { IfOk result (λ writer. failures_of writer ≡ 0) }
@@ -190,6 +199,7 @@ impl<'r, 'a, R: Files> NumberedFiles<'r, 'a, R> {
 
     /// Makes the next file.
     fn make(&mut self) -> Result<Gathered<'a, R::File>, Fault<'a>>
+        ensures asked { IfOk result (λ writer. asked_of self.new ≡ asked_of self.old + 1) }
         ensures failed_calls { failed_calls_of self.new ≡ failed_calls_of self.old }
         ensures given_up { given_up_of self.new ≡ given_up_of self.old }
         ensures unfailed { IfOk result (λ writer. failures_of writer ≡ 0) }
@@ -199,8 +209,7 @@ impl<'r, 'a, R: Files> NumberedFiles<'r, 'a, R> {
             return Err(Fault::Output(self.name(), None));
         };
         self.asked = number;
-        let prefix = self.prefix;
-        match format!(in self.alloc; "{prefix}{number:08}") {
+        match numbered_name(self.alloc, self.prefix, number) {
             Ok(name) => self.create(name),
             Err(_) => Err(Fault::Memory),
         }
@@ -254,6 +263,8 @@ impl<'a, R: Files> Outputs for NumberedFiles<'_, 'a, R> {
 
     // One file is written at a time.
     ghost lent = { lent_of };
+
+    ghost had = { λ files. None };
 
     fn next(&mut self) -> Result<Gathered<'a, R::File>, OutputFault> {
         if self.open_file.is_some() || self.failed_calls == u64::MAX {

@@ -1,8 +1,10 @@
 //! The program between its words and its devices.
 
 ghost use Rattle.std.specs.Prelude.{◌≡◌, ◌≢◌, ◌≤◌, ◌||◌, map, option_map, true, false, None, if◌then◌else◌};
+ghost use Rattle.std.specs.IoError.{error_kind};
+ghost use Rattle.std.specs.declared.io.ErrorKind.TheVariants.{OutOfMemory as lacks_memory};
 ghost use Rattle.clap.specs.Values.{kind_of};
-ghost use Rattle.cwr_program.specs.Format.Endings.{EndsOnInput, IsOfInput, fault_status, wanted_in};
+ghost use Rattle.cwr_program.specs.Format.Endings.{EndsOnInput, IsOfInput, StatusOnInput, fault_status, wanted_in};
 ghost use Rattle.cwr_program.specs.Format.Inputs.{are_standard, is_standard};
 ghost use Rattle.cwr_program.specs.Format.Tables.{table_of};
 ghost use Rattle.cwr_program.specs.Steps.Looks.{tells_findings};
@@ -46,10 +48,7 @@ pub fn run<
     let status = match task_of(rt.alloc(), words) {
         Ok(task) => {
             let mut progress = Progress::new(rt, terminal, task.progress.unwrap_or(is_terminal));
-            match perform(rt, &task, input, &mut progress, output, &mut error) {
-                Ok(status) => status,
-                Err(fault) => report(&mut error, &fault),
-            }
+            carry_out(rt, &task, input, &mut progress, output, &mut error)
         }
         Err(answer) => answer_words(error, &answer, file_in_place(rt, words, &answer)),
     };
@@ -58,9 +57,10 @@ pub fn run<
 
 /// The exit status where the system couldn't hand out the words.
 pub fn refuse_words<E: Write + Drop>(fault: &io::Error, mut error: E) -> u8
-    ensures { result ≤ 3 }
+    ensures memory { error_kind fault.now ≡ lacks_memory → result ≡ 3 }
+    ensures words { error_kind fault.now ≢ lacks_memory → result ≡ 2 }
 {
-    let status = if fault.kind() == io::ErrorKind::OutOfMemory {
+    let status = if matches!(fault.kind(), io::ErrorKind::OutOfMemory) {
         report(&mut error, &Fault::Memory)
     } else {
         let _ = error.write_all(b"error: a word of the command line is not UTF-8\n");
@@ -214,6 +214,23 @@ fn table_of(rows: Rows) -> Table
     match rows {
         Rows::Records(kind) => Table::Records(kind),
         Rows::Works => Table::Works,
+    }
+}
+
+/// Does what is asked for, and tells of a fault. The answer is the status.
+fn carry_out<'a, R: Files + AllocGlobal, I: Read + Drop, P: Pace, O: Write + Drop, E: Write>(
+    rt: &R,
+    task: &Task<'a>,
+    standard: I,
+    pace: &mut P,
+    output: O,
+    error: &mut E,
+) -> Status
+    ensures { IsOfInput task.now.work → StatusOnInput task.now.limits (wanted_in task.now.whole task.now.work) (I.remaining standard) result }
+{
+    match perform(rt, task, standard, pace, output, error) {
+        Ok(status) => status,
+        Err(fault) => report(error, &fault),
     }
 }
 

@@ -1,12 +1,12 @@
 //! Transmissions that are judged, shown, or written as data.
 
-ghost use Rattle.std.specs.Prelude.{◌≡◌, ◌||◌, true, false, not, IfOk, Ok, OnOk, None};
+ghost use Rattle.std.specs.Prelude.{◌≡◌, ◌||◌, true, false, not, IfOk, Ok, OnErr, OnOk, None};
 ghost use Rattle.cwr_tools.specs.Format.Reports.{CountsWriterFault};
 ghost use Rattle.cwr_tools.specs.Format.Verdicts.{JudgesText};
 ghost use Rattle.cwr_tools.specs.Format.Watching.{SeesAccepted};
 ghost use Rattle.cwr_program.specs.Format.Endings.{EndsOnInput};
 ghost use Rattle.cwr_program.specs.Steps.Inputs.{remaining_of};
-ghost use Rattle.cwr_program.specs.Steps.Tellings.{CountsLook, CountsReading, CountsWriting, TellsText};
+ghost use Rattle.cwr_program.specs.Steps.Tellings.{CountsInput, CountsLook, CountsReading, CountsWriting, TellsText};
 ghost use Rattle.cwr_program.specs.Steps.Looks.{IsLook, JudgesOn, LooksAfter, LooksOnce, judgement_in, look_of, tells_findings};
 
 use crate::endings::{Look, Status, Wanted, follows, status_of};
@@ -104,6 +104,7 @@ pub(crate) fn look_beyond<R: Source>(reader: &mut R) -> Look
 /// Looks so where the verdict is good.
 pub(crate) fn look_after<R: Source>(reader: &mut R, outcome: &Result<Verdict, ToolFault>) -> Look
     ensures looks { LooksOnce (R.remaining reader.old) (R.remaining reader.new) outcome.now result }
+    ensures unasked { OnErr outcome.now (result ≡ Look.Unasked) }
     ensures failures { CountsLook result (R.failures reader.old) (R.failures reader.new) }
 {
     match outcome {
@@ -208,6 +209,34 @@ pub(crate) fn judgement_of(
     }
 }
 
+/// Judges what a reader has, and writes what is told of it. The writer comes back.
+fn judge_source<R: Source, W: Target + Drop>(
+    asked: &Asked,
+    telling: Telling<'_>,
+    reader: &mut R,
+    writer: W,
+) -> (W, Result<Judgement, ToolFault>)
+    requires { tells_findings telling ≡ false → asked.now.wanted.fail_on ≡ None }
+    ensures judges { JudgesOn asked.now.limits asked.now.wanted (R.remaining reader.old) result.1 }
+    ensures told { IfOk result.1 (λ judgement. TellsText telling.entry asked.now.limits (R.remaining reader.old) W.contents writer result.0 (Ok judgement.verdict)) }
+    ensures handed_on { OnOk result.1 (W.handed_on result.0 ≡ true) }
+    // A fault of a device is answered exactly where that device counted one more failure.
+    ensures reader_failures { CountsInput result.1 (R.failures reader.old) (R.failures reader.new) }
+    ensures writer_failures { CountsWriting result.1 (W.failures writer) (W.failures result.0) }
+{
+    let mut watch = Watch::new(asked.wanted.fail_on);
+    let (writer, outcome, look) = tell(
+        asked.alloc,
+        asked.limits,
+        telling,
+        &mut watch,
+        reader,
+        writer,
+    );
+    let judged = judgement_of(asked.wanted, outcome, look, watch.found);
+    (writer, judged)
+}
+
 /// Judges an input, and writes what is told of it. The writer comes back, and what is known of the input where it fails.
 pub(crate) fn judge_input<'a, F: Read + Drop, I: Read + Drop, P: Pace + Drop, W: Target + Drop>(
     asked: &Asked,
@@ -222,17 +251,8 @@ pub(crate) fn judge_input<'a, F: Read + Drop, I: Read + Drop, P: Pace + Drop, W:
     ensures writer_failures { CountsWriting result.1 (W.failures writer) (W.failures result.0) }
 {
     let mut reader = Counted::new(input);
-    let mut watch = Watch::new(asked.wanted.fail_on);
-    let (writer, outcome, look) = tell(
-        asked.alloc,
-        asked.limits,
-        telling,
-        &mut watch,
-        &mut reader,
-        writer,
-    );
+    let (writer, judged) = judge_source(asked, telling, &mut reader, writer);
     let told = reader.into_inner().told();
-    let judged = judgement_of(asked.wanted, outcome, look, watch.found);
     (writer, judged, told)
 }
 

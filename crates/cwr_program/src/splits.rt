@@ -1,6 +1,11 @@
 //! Transmissions that are cut into files.
 
-use crate::endings::{Look, Status, ended_by, follows};
+ghost use Rattle.cwr_program.specs.Format.Endings.{EndsAsSplit};
+ghost use Rattle.cwr_program.specs.Steps.Inputs.{remaining_of};
+ghost use Rattle.cwr_program.specs.Steps.Looks.{whole_status};
+ghost use Rattle.cwr_program.specs.Steps.Splits.{JudgesCut, SplitEndsAs};
+
+use crate::endings::{Look, Status, ended_by, status_after};
 use crate::faults::{Fault, Name, Told};
 use crate::inputs::Input;
 use crate::new_files::NumberedFiles;
@@ -8,8 +13,8 @@ use crate::outputs::{Gathered, gathered, told_of};
 use crate::progress::Pace;
 use crate::reports::{look_beyond, tell_following};
 use crate::same_files::{Identity, identity_of_input, part_number, part_that_is};
-use cwr_fields::{Counted, Target};
-use cwr_parts::{put_split_outcome, split};
+use cwr_fields::{Counted, Source, Target};
+use cwr_parts::{Outputs, put_split_outcome, split};
 use cwr_shape::Limits;
 use cwr_sinks::{Sink, SinkFault};
 use cwr_tools::{SplitReport, ToolFault};
@@ -60,6 +65,21 @@ fn part_of_input<R: Files>(
     }
 }
 
+/// Cuts the transmission of a reader into outputs, and looks what stands after it there.
+fn cut_source<R: Source, O: Outputs>(
+    alloc: Global,
+    cut: &Cut<'_>,
+    reader: &mut R,
+    outputs: &mut O,
+) -> (Result<SplitReport, ToolFault>, Look)
+    ensures { JudgesCut cut.now.limits (R.remaining reader.old) result.0 result.1 }
+{
+    match split(alloc, cut.limits, reader, cut.transactions.get(), outputs) {
+        Ok(report) => (Ok(report), look_beyond(reader)),
+        Err(fault) => (Err(fault), Look::Unasked),
+    }
+}
+
 /// Cuts the transmission of an input into files of so many transactions, and writes the line that says how that ended.
 pub(crate) fn split_file<
     'a,
@@ -74,7 +94,9 @@ pub(crate) fn split_file<
     input: Input<'a, R::File, I, P>,
     output: O,
     error: &mut E,
-) -> Result<Status, Fault<'a>> {
+) -> Result<Status, Fault<'a>>
+    ensures { EndsAsSplit cut.now.limits cut.now.whole (remaining_of R.File.remaining I.remaining input.entry) result }
+{
     let alloc = rt.alloc();
     let own = identity_of_input(rt, cut.file);
     match part_of_input(rt, alloc, cut, own) {
@@ -85,13 +107,7 @@ pub(crate) fn split_file<
     let lines = gathered(alloc, output, Name::StandardOutput).map_err(|_| Fault::Memory)?;
     let mut reader = Counted::new(input);
     let mut files = NumberedFiles::new(rt, alloc, cut.prefix, own, cut.only_new);
-    let transactions = cut.transactions.get();
-    let outcome = split(alloc, cut.limits, &mut reader, transactions, &mut files);
-    let look = if outcome.is_ok() {
-        look_beyond(&mut reader)
-    } else {
-        Look::Unasked
-    };
+    let (outcome, look) = cut_source(alloc, cut, &mut reader, &mut files);
     let told = reader.into_inner().told();
     let mut sink = Sink::new(lines);
     let put = put_split_outcome(&outcome, &mut sink);
@@ -107,12 +123,16 @@ fn split_ending<'a>(
     look: Look,
     told: Told<'a>,
     made: Fault<'a>,
-) -> Result<Status, Fault<'a>> {
-    match (outcome, look) {
-        (Ok(_), Look::Found(trailing)) if whole && follows(&trailing) => Ok(Status::Refused),
-        (Ok(_), Look::Failed) if whole => Err(Fault::Read(told)),
+) -> Result<Status, Fault<'a>>
+    ensures { SplitEndsAs told.entry made.entry outcome (whole_status whole look) result }
+{
+    match outcome {
+        Ok(_) => match status_after(whole, look) {
+            Some(status) => Ok(status),
+            None => Err(Fault::Read(told)),
+        },
         // A part's writer tells what it is.
-        (Err(ToolFault::Writer { .. }), _) => Err(made),
-        (outcome, _) => ended_by(outcome.err(), told, told, made),
+        Err(ToolFault::Writer { .. }) => Err(made),
+        Err(fault) => ended_by(Some(fault), told, told, made),
     }
 }

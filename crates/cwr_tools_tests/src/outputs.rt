@@ -1,6 +1,6 @@
 //! Outputs of a split over memory, which fail where a test wants them to.
 
-ghost use Rattle.std.specs.Prelude.{◌≡◌, Some, map};
+ghost use Rattle.std.specs.Prelude.{◌≡◌, Some, map, option_map};
 ghost use Rattle.cwr_fields.specs.Format.Failures.{one_more_failure};
 
 use crate::checks::check_equal;
@@ -111,6 +111,8 @@ impl Outputs for Shelf {
     ghost given_up = { λ shelf. shelf.failed_writers };
 
     ghost lent = { λ shelf. shelf.lent };
+
+    ghost had = { λ shelf. option_map (λ text. text.items) shelf.given_up };
 
     fn next(&mut self) -> Result<Counted<Bounded>, OutputFault> {
         self.asked = self.asked.saturating_add(1);

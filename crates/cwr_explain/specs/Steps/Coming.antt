@@ -6,6 +6,10 @@ use Rattle.cwr_shape.specs.Format.Outlines.{Continues}
 use Rattle.cwr_shape.specs.Format.AnyTransmission.{Any}
 use Rattle.cwr_shape.specs.Steps.Left.{StandsAt}
 
+-- after records that stand at the stage the symbol may come
+abbrev pub ComesAt : Stage → Symbol → Type 0
+ComesAt stage symbol = (xs : List Symbol) → StandsAt xs stage → Continues Any (xs ++ symbol ∷ [])
+
 -- after records that stand at the stage the symbols that may come are just these: some transmission continues so
 abbrev pub AreComing : Stage → List Symbol → Type 0
 AreComing stage symbols = (xs : List Symbol) → StandsAt xs stage → (s : Symbol) → Contains symbols s ↔ Continues Any (xs ++ s ∷ [])

@@ -1,5 +1,5 @@
 -- What the outputs of a split have had.
-use Rattle.std.specs.Prelude.{◌≡◌, ℕ, ◌+◌, ◌==◌, List, [], ◌∷◌, ◌++◌, Option, Some, None, Result, Ok, Err, if◌then◌else◌}
+use Rattle.std.specs.Prelude.{◌≡◌, ℕ, ◌+◌, ◌-◌, ◌^◌, ◌==◌, min, List, [], ◌∷◌, ◌++◌, length, Option, Some, None, Result, Ok, Err, if◌then◌else◌}
 use Rattle.cwr_fields.specs.Format.Failures.{one_more_failure}
 
 -- texts that were known stay at the front, and these come after them
@@ -11,6 +11,11 @@ AddsTexts (Some texts) (Some now) added = now ≡ texts ++ added
 -- one text does
 abbrev pub AddsText : Option (List (List ℕ)) → Option (List (List ℕ)) → List ℕ → Type 0
 AddsText old new text = AddsTexts old new (text ∷ [])
+
+-- the bytes are known, and are so many; the highest number stands for more too
+abbrev pub HasBytes : Option (List ℕ) → ℕ → Type 0
+HasBytes None n = ⊥
+HasBytes (Some bytes) n = n ≡ min (length bytes) (2 ^ 64 - 1)
 
 -- how many failed writers were given up, with one more that has so many failures
 abbrev pub given_up_with : ℕ → ℕ → ℕ

@@ -5,13 +5,13 @@ use Rattle.cwr_shape.specs.declared.limits.Limits.{Limits}
 use Rattle.cwr_values.specs.declared.items.Item.{Item}
 use Rattle.cwr_values.specs.Format.Values.{TransmissionValue, IsTransmission, FitsIn}
 use Rattle.cwr_values.specs.Format.Rows.{canonical_text}
-use Rattle.cwr_judge.specs.Format.Ends.{IsAccepted}
+use Rattle.cwr_judge.specs.Format.Ends.{IsAccepted, IsRefused, IsTruncated}
 use Rattle.cwr_judge.specs.Format.Items.{AreFirstItems, is_transaction, value_items}
 use Rattle.cwr_decode.specs.Format.Runs.{TakesFront}
 use Rattle.cwr_tools.specs.declared.verdicts.SplitReport.{SplitReport}
 use Rattle.cwr_tools.specs.declared.verdicts.ToolFault.{ToolFault}
-use Rattle.cwr_tools.specs.declared.verdicts.ToolFault.TheVariants.{Output}
-use Rattle.cwr_parts.specs.Format.Outputs.{AddsTexts}
+use Rattle.cwr_tools.specs.declared.verdicts.ToolFault.TheVariants.{Writer, Refused, Truncated, Output, Limit}
+use Rattle.cwr_parts.specs.Format.Outputs.{AddsTexts, HasBytes}
 use Rattle.cwr_parts.specs.Format.Splits.{split_of}
 use Rattle.cwr_parts.specs.Format.Joins.{CountsInputFault, CountsOutputFault, IsOfDevice}
 
@@ -52,6 +52,26 @@ CountsSplitOutput result old new = new ≡ old
 abbrev pub CountsSplitWriter : {A : Type 0} → Result A ToolFault → ℕ → ℕ → Type 0
 CountsSplitWriter (Ok x) old new = new ≡ old
 CountsSplitWriter (Err fault) old new = CountsOutputFault fault old new
+
+-- the fault of a writer tells how many bytes the one had that was given up last
+abbrev pub TellsBytes : ToolFault → Option (List ℕ) → Type 0
+TellsBytes (Writer written) had = HasBytes had written
+TellsBytes fault had = Unit {0}
+
+abbrev pub TellsWritten : {A : Type 0} → Result A ToolFault → Option (List ℕ) → Type 0
+TellsWritten (Ok x) had = Unit {0}
+TellsWritten (Err fault) had = TellsBytes fault had
+
+-- ---- what is answered
+
+-- The answer is right of the text: all is split where that begins with a transmission within the limits, of which it loses just that
+-- front, and the refusal or the number of records is the text's. No limit is a fault of its own.
+abbrev pub JudgesSplit : Limits → Option (List ℕ) → Option (List ℕ) → Result SplitReport ToolFault → Type 0
+JudgesSplit limits before after (Ok report) = IfSome before (λ text. (v : TransmissionValue) × (n : ℕ) × IsAccepted limits text v n × (after ≡ Some (drop n text)))
+JudgesSplit limits before after (Err (Refused refusal)) = IfSome before (λ text. IsRefused limits text refusal)
+JudgesSplit limits before after (Err (Truncated records)) = IfSome before (λ text. IsTruncated limits text records)
+JudgesSplit limits before after (Err (Limit limit)) = ⊥
+JudgesSplit limits before after (Err fault) = Unit {0}
 
 -- ---- what is answered where the input is accepted
 

@@ -65,6 +65,16 @@ EndsOn limits wanted text (Err fault) = ⊥
 abbrev pub EndsOnInput : Limits → Wanted → Option (List ℕ) → Result Status Fault → Type 0
 EndsOnInput limits wanted input ending = IfSome input (λ text. EndsOn limits wanted text ending)
 
+-- the status that the run then has: that of a fault where an input, standard output or memory failed
+abbrev pub StatusOnInput : Limits → Wanted → Option (List ℕ) → Status → Type 0
+StatusOnInput limits wanted input statuses.Fault = Unit {0}
+StatusOnInput limits wanted input status = IfSome input (λ text. IsStatusOn limits wanted text status)
+
+-- A split of the text ends so too, but that each of its files may fail.
+abbrev pub EndsAsSplit : Limits → Bool → Option (List ℕ) → Result Status Fault → Type 0
+EndsAsSplit limits whole input (Ok status) = IfSome input (λ text. IsStatusOn limits (record { whole = whole; fail_on = None }) text status)
+EndsAsSplit limits whole input (Err fault) = Unit {0}
+
 -- an import that is written ends the run well, and one that is refused otherwise; the fault of a device or of memory is reported
 abbrev pub ImportEndsAs : Told → Told → Result Written WriteFault → Result Status Fault → Type 0
 ImportEndsAs input output (Ok written) ending = ending ≡ Ok statuses.Good

@@ -29,10 +29,13 @@ status_after (looks.Found trailing) = if follows trailing then Some statuses.Ref
 status_after looks.Failed = None
 status_after looks.Unasked = Some statuses.Good
 
+abbrev pub whole_status : Bool → Look → Option Status
+whole_status whole look = if whole then status_after look else Some statuses.Good
+
 -- the status of a good verdict, where a finding is unwanted or none is
 abbrev pub good_status : Wanted → Look → Bool → Option Status
 good_status wanted look true = Some statuses.Refused
-good_status wanted look false = if wanted.whole then status_after look else Some statuses.Good
+good_status wanted look false = whole_status wanted.whole look
 
 -- the status of a verdict
 abbrev pub status_in : Wanted → Verdict → Look → Bool → Option Status

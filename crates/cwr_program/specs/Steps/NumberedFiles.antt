@@ -1,11 +1,20 @@
--- What the files of a split count.
-use Rattle.std.specs.Prelude.{ℕ, Option, Some, None}
+-- What the files of a split count, and their names.
+use Rattle.std.specs.Prelude.{ℕ, ◌-◌, ◌^◌, List, ◌++◌, Option, Some, None}
+use Rattle.std.specs.Fmt.{format_spec, styled_decimal}
 use Rattle.cwr_program.specs.declared.new_files.NumberedFiles.{NumberedFiles}
 use Rattle.cwr_program.specs.declared.new_files.NewFile.{NewFile}
 
 -- how many calls failed
 abbrev pub failed_calls_of : {R F D : Type 0} → NumberedFiles R F D → ℕ
 failed_calls_of files = files.failed_calls
+
+-- how many were asked for
+abbrev pub asked_of : {R F D : Type 0} → NumberedFiles R F D → ℕ
+asked_of files = files.asked
+
+-- the name of a part: the prefix, and its number in eight digits
+abbrev pub part_name : List ℕ → ℕ → List ℕ
+part_name prefix number = prefix ++ styled_decimal (format_spec 32 0 4 8 (2 ^ 64 - 1)) number
 
 -- how many failed writers were given up
 abbrev pub given_up_of : {R F D : Type 0} → NumberedFiles R F D → ℕ

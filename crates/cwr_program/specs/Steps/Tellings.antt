@@ -35,14 +35,20 @@ TellsUpTo tellings.Advice limits before after contents old new outcome = Reports
 abbrev pub TellsText : {W : Type 0} → Telling → Limits → Option (List ℕ) → (W → Option (List ℕ)) → W → W → Result Verdict ToolFault → Type 0
 TellsText telling limits before contents old new outcome = (after : Option (List ℕ)) × TellsUpTo telling limits before after contents old new outcome
 
--- a look at what follows counts no failure, unless it failed
+-- a look at what follows counts one more failure where it failed, and else none
 abbrev pub CountsLook : Look → ℕ → ℕ → Type 0
-CountsLook Failed old new = Unit {0}
+CountsLook Failed old new = new ≡ one_more_failure old
 CountsLook look old new = new ≡ old
 
--- the reader's failures are those of the run that had this outcome, and then of the look
+-- the reader's failures are those of the look after a verdict, and else of the run, whose fault is answered
 abbrev pub CountsReading : Result Verdict ToolFault → Look → ℕ → ℕ → Type 0
-CountsReading outcome look old new = (between : ℕ) × CountsReaderFault outcome old between × CountsLook look between new
+CountsReading (Ok verdict) look old new = CountsLook look old new
+CountsReading (Err fault) look old new = CountsReaderFault (Err fault) old new
+
+-- so it is once that was judged: a look that failed where nothing may follow is the reader's fault
+abbrev pub CountsInput : Result Judgement ToolFault → ℕ → ℕ → Type 0
+CountsInput (Ok judgement) old new = CountsLook judgement.look old new
+CountsInput (Err fault) old new = CountsReaderFault (Err fault) old new
 
 -- the writer's failures count one more where its fault is answered, and else they stay
 abbrev pub CountsWriting : Result Judgement ToolFault → ℕ → ℕ → Type 0

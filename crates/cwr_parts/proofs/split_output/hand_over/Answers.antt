@@ -7,6 +7,7 @@ use Rattle.cwr_encode.specs.Steps.Encoders.{encoder_limits}
 use Rattle.cwr_encode.specs.Format.Finishing.{JudgesEnd}
 use Rattle.cwr_encode.specs.Steps.Finishing.{FinishesWriting}
 use Rattle.cwr_parts.specs.Steps.SplitOutputs.{told_by}
+use Rattle.cwr_parts.proofs.WritersCounted.{given_back, known_so}
 use Rattle.cwr_parts.proofs.OutputHandedOver.{handed_over, right_last}
 use Rattle.cwr_parts.proofs.split_output.hand_over.Goals as goal
 
@@ -22,3 +23,12 @@ returns-in-Ok-done-clause-hands_over g c =
     handed_over (told_by g.O.Outputs.texts g.O.Outputs.failures g.O.Outputs.given_up) g.O.W.Target.contents g.O.W.Target.failures c.args.output c.finish-writer.result.0 c.in-Ok.field-0 c.args.outputs.now c.done.new.self
     (subst (λ (r : Result ℕ EncodeFault). FinishesWriting g.O.W.Target.contents g.O.W.Target.failures c.args.output.encoder c.finish-writer.result.0 r) c.in-Ok.is (c.finish-writer.ensures.finishes c.requires.unfailed))
     c.in-Ok-done.ensures.failures.0 c.in-Ok-done.ensures.given_up c.in-Ok-done.ensures.added
+
+pub returns-in-Ok-done-clause-written : goal.returns-in-Ok-done-clause-written
+returns-in-Ok-done-clause-written g c = known_so (g.O.Outputs.texts c.args.outputs.now) (λ known e began. tt)
+
+pub returns-in-Err-clause-written : goal.returns-in-Err-clause-written
+returns-in-Err-clause-written g c =
+    given_back g.O.W.Target.contents g.O.W.Target.failures c.args.output.encoder c.finish-writer.result.0 c.in-Err.fault c.fault_of.result (g.O.Outputs.texts c.args.outputs.now) (g.O.Outputs.had c.give_up.new.self)
+    (subst (λ (r : Result ℕ EncodeFault). FinishesWriting g.O.W.Target.contents g.O.W.Target.failures c.args.output.encoder c.finish-writer.result.0 r) c.in-Err.is (c.finish-writer.ensures.finishes c.requires.unfailed))
+    c.fault_of.ensures c.give_up.ensures.had

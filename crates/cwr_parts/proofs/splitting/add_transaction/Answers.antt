@@ -1,6 +1,8 @@
 use Rattle.std.proofs.Common.{ℕ, ◌+◌, sym, ap, ◌∙◌}
 use Rattle.cwr_parts.specs.Steps.SplitOutputs.{told_by}
 use Rattle.cwr_parts.proofs.TransactionsAdded.{filled, may_finish, may_write, went_on}
+use Rattle.std.specs.Prelude.{Err, Ok}
+use Rattle.cwr_parts.proofs.WritersCounted.{open_failed, open_then}
 use Rattle.cwr_parts.proofs.splitting.add_transaction.Goals as goal
 
 pub put-requires-clause-may : goal.put-requires-clause-may
@@ -31,3 +33,23 @@ returns-then-is_full-clause-lent g c = λ others e. c.finish_output.ensures.lent
 
 pub returns-clause-lent : goal.returns-clause-lent
 returns-clause-lent g c = λ others e. c.in_ok-open_output.ensures.lent others e ∙ ap (λ (k : ℕ). others + k) (sym c.in_ok-put.ensures.output)
+
+pub returns-then-is_full-clause-written : goal.returns-then-is_full-clause-written
+returns-then-is_full-clause-written g c = λ known e.
+    let contents = g.O.W.Target.contents in
+    let had = g.O.Outputs.had c.open_output.new.outputs in
+    let put = open_then contents tt (Ok tt) c.args.splitting.now.output c.open_output.new.splitting.output c.put.new.self.output had had (c.in_ok-open_output.ensures.written known e) (c.in_ok-put.ensures.written had) in
+    open_then contents tt c.finish_output.result c.args.splitting.now.output c.put.new.self.output c.finish_output.new.splitting.output had (g.O.Outputs.had c.finish_output.new.outputs) put
+    (c.finish_output.ensures.written known (c.in_ok-open_output.ensures.opens.quiet.texts ∙ e))
+
+pub returns-clause-written : goal.returns-clause-written
+returns-clause-written g c = λ known e.
+    let had = g.O.Outputs.had c.open_output.new.outputs in
+    open_then g.O.W.Target.contents tt (Ok tt) c.args.splitting.now.output c.open_output.new.splitting.output c.put.new.self.output had had (c.in_ok-open_output.ensures.written known e) (c.in_ok-put.ensures.written had)
+
+pub returns-in_err-put-clause-written : goal.returns-in_err-put-clause-written
+returns-in_err-put-clause-written g c = λ known e.
+    let had = g.O.Outputs.had c.open_output.new.outputs in
+    let fault = c.in_err-put.field-0.0 in
+    open_failed g.O.W.Target.contents c.args.splitting.now.output c.put.new.self.output had fault c.from_residual-in_err-put.result c.from_residual-in_err-put.ensures.1
+    (open_then g.O.W.Target.contents tt (Err fault) c.args.splitting.now.output c.open_output.new.splitting.output c.put.new.self.output had had (c.in_ok-open_output.ensures.written known e) (c.in_err-put.ensures.written had))

@@ -10,6 +10,8 @@ use Rattle.cwr_tools.specs.Steps.Verdicts.{StopsAfter}
 use Rattle.cwr_tools.proofs.ReportsOn.{same_fault, stops_after}
 use Rattle.cwr_parts.proofs.SplittingOn.{few_handed_out, item_taken, leaves_item, may_take, next_item, none_split}
 use Rattle.cwr_parts.proofs.SplitsEnded.{all_split, no_output_left, output_stopped, reading_stopped}
+use Rattle.cwr_parts.specs.Steps.SplitWriters.{TellsOpen}
+use Rattle.cwr_parts.proofs.WritersCounted.{known_still, ok_tells, open_failed, reading_tells}
 use Rattle.cwr_parts.proofs.splitting.split_items.Goals as goal
 
 pub items-init : goal.items-init
@@ -20,6 +22,7 @@ items-init g c =
       splitting = none_split c.args.limits c.args.splitting.now.size c.new-reading.result.decoder (g.R.Source.remaining c.args.reader.now) (g.R.Source.remaining c.new-reading.result.reader.now) (told_by g.O.Outputs.texts g.O.Outputs.failures g.O.Outputs.given_up) g.O.W.Target.contents g.O.W.Target.failures
           c.args.splitting.now c.args.outputs.now c.requires.fresh reading;
       lent = λ others e. e;
+      began = λ known e b. b;
       failures = ap g.R.Source.failures new.kept;
       same = refl;
     }
@@ -61,6 +64,9 @@ items-preserved g c =
       splitting = item_taken c.args.limits c.args.splitting.now.size c.items.reading.decoder c.next_item.new.self.decoder (g.R.Source.remaining c.args.reader.now) _ _ (told_by g.O.Outputs.texts g.O.Outputs.failures g.O.Outputs.given_up) g.O.W.Target.contents g.O.W.Target.failures c.items.handed_out c.args.outputs.now c.items.splitting c.take_item.new.splitting c.items.outputs
           c.take_item.new.outputs c.in-Ok-Some.item c.requires.some c.items.invariant.splitting reading (leaves_item c.in-Ok-Some.field-0 c.in-Ok-Some.item c.next_item.new.self.decoder.state c.in-Ok-Some.field-0-is c.in-Ok-Some.ensures.reads.leaves) may.0.stage may.1 (c.in_ok-take_item-in-Ok-Some.ensures.takes may.0);
       lent = λ others e. c.in_ok-take_item-in-Ok-Some.ensures.lent others (c.items.invariant.lent others e);
+      began = λ known e b.
+          let now = known_still (g.O.Outputs.texts c.args.outputs.now) (g.O.Outputs.texts c.items.outputs) _ known e c.items.invariant.splitting.texts in
+          (c.in_ok-take_item-in-Ok-Some.ensures.written now.0 now.1 (c.items.invariant.began known e b)).0;
       failures = c.in-Ok-Some.ensures.failures ∙ c.items.invariant.failures;
       same = c.in-Ok-Some.ensures.same_reference ∙ c.items.invariant.same;
     }
@@ -106,3 +112,18 @@ returns-in-Ok-None-clause-ended g c =
 
 pub returns-in_err-take_item-in-Ok-Some-clause-lent : goal.returns-in_err-take_item-in-Ok-Some-clause-lent
 returns-in_err-take_item-in-Ok-Some-clause-lent g c = λ others e. c.in_err-take_item-in-Ok-Some.ensures.lent others (c.items.invariant.lent others e)
+
+pub returns-in-Ok-None-clause-written : goal.returns-in-Ok-None-clause-written
+returns-in-Ok-None-clause-written g c = λ known e b. (c.items.invariant.began known e b, ok_tells tt c.items.splitting.output (g.O.Outputs.had c.items.outputs))
+
+pub returns-in-Err-clause-written : goal.returns-in-Err-clause-written
+returns-in-Err-clause-written g c = λ known e b. (
+  c.items.invariant.began known e b,
+  subst (λ (f : ToolFault). TellsOpen (Err f) c.items.splitting.output (g.O.Outputs.had c.items.outputs)) (sym c.reading_fault.ensures) (reading_tells c.in-Err.fault c.items.splitting.output (g.O.Outputs.had c.items.outputs)),
+)
+
+pub returns-in_err-take_item-in-Ok-Some-clause-written : goal.returns-in_err-take_item-in-Ok-Some-clause-written
+returns-in_err-take_item-in-Ok-Some-clause-written g c = λ known e b.
+    let now = known_still (g.O.Outputs.texts c.args.outputs.now) (g.O.Outputs.texts c.items.outputs) _ known e c.items.invariant.splitting.texts in
+    open_failed g.O.W.Target.contents c.items.splitting.output c.take_item.new.splitting.output (g.O.Outputs.had c.take_item.new.outputs) c.in_err-take_item-in-Ok-Some.field-0.0 c.from_residual.result c.from_residual.ensures.1
+    (c.in_err-take_item-in-Ok-Some.ensures.written now.0 now.1) (c.items.invariant.began known e b)

@@ -36,3 +36,6 @@ pub returns-in-Ended-clause-takes : goal.returns-in-Ended-clause-takes
 returns-in-Ended-clause-takes g c =
     takes_end (told_by g.O.Outputs.texts g.O.Outputs.failures g.O.Outputs.given_up) g.O.W.Target.contents g.O.W.Target.failures c.args.item c.args.splitting.now c.finish_output.new.splitting c.args.outputs.now c.finish_output.new.outputs
     c.finish_output.result c.in-Ended.is c.finish_output.ensures.finishes
+
+pub returns-in-GroupClosed-clause-written : goal.returns-in-GroupClosed-clause-written
+returns-in-GroupClosed-clause-written g c = λ known e. c.end_group.ensures.written (g.O.Outputs.had c.args.outputs.now)

@@ -1,32 +1,17 @@
-use Rattle.std.proofs.Common.{◌≡◌, List, ℕ, Option, true, sym, subst}
-use Rattle.std.specs.Prelude.{IfOk, Ok, OnOk, Result}
-use Rattle.cwr_tools.specs.declared.verdicts.ToolFault.{ToolFault}
-use Rattle.cwr_program.specs.declared.reports.Judgement.{Judgement}
+use Rattle.std.proofs.Common.{List, ℕ, Option}
+use Rattle.std.specs.Prelude.{IfOk, Ok}
 use Rattle.cwr_program.specs.Steps.Inputs.{remaining_of}
-use Rattle.cwr_program.specs.Steps.Looks.{JudgesOn, judgement_in}
-use Rattle.cwr_program.specs.Steps.Tellings.{CountsWriting, TellsText}
-use Rattle.cwr_program.proofs.EndsOnTexts.{from_source, judged_counts, judged_on, judges_on, told_verdict}
+use Rattle.cwr_program.specs.Steps.Looks.{JudgesOn}
+use Rattle.cwr_program.specs.Steps.Tellings.{TellsText}
+use Rattle.cwr_program.proofs.EndsOnTexts.{from_source}
 use Rattle.cwr_program.proofs.reports.judge_input.Goals as goal
 
 pub returns-clause-judges : goal.returns-clause-judges
 returns-clause-judges g c =
-    subst (λ (r : Result Judgement ToolFault). JudgesOn c.args.asked.now.limits c.args.asked.now.wanted (remaining_of g.F.Read.remaining g.I.Read.remaining c.args.input) r) (sym c.judgement_of-judged.ensures)
-    (from_source (λ (known : Option (List ℕ)). JudgesOn c.args.asked.now.limits c.args.asked.now.wanted known (judgement_in c.args.asked.now.wanted c.tell-writer.result.1 c.tell-writer.result.2 c.tell-writer.new.watch.found)) (remaining_of g.F.Read.remaining g.I.Read.remaining) c.args.input c.new-reader.result.inner _ c.new-reader.ensures.inner c.new-reader.ensures.ahead
-    (judges_on c.args.asked.now.limits c.args.asked.now.wanted _ c.tell-writer.result.1 c.tell-writer.result.2 c.new-watch.result c.tell-writer.new.watch c.new-watch.ensures c.tell-writer.ensures.judged c.tell-writer.ensures.seen c.tell-writer.ensures.looks))
+    from_source (λ (known : Option (List ℕ)). JudgesOn c.args.asked.now.limits c.args.asked.now.wanted known c.judge_source-writer.result.1) (remaining_of g.F.Read.remaining g.I.Read.remaining) c.args.input c.new-reader.result.inner _ c.new-reader.ensures.inner c.new-reader.ensures.ahead
+    c.judge_source-writer.ensures.judges
 
 pub returns-clause-told : goal.returns-clause-told
 returns-clause-told g c =
-    subst (λ (r : Result Judgement ToolFault). IfOk r (λ judgement. TellsText c.args.telling c.args.asked.now.limits (remaining_of g.F.Read.remaining g.I.Read.remaining c.args.input) g.W.Target.contents c.args.writer c.tell-writer.result.0 (Ok judgement.verdict))) (sym c.judgement_of-judged.ensures)
-    (from_source (λ (known : Option (List ℕ)). IfOk (judgement_in c.args.asked.now.wanted c.tell-writer.result.1 c.tell-writer.result.2 c.tell-writer.new.watch.found) (λ judgement. TellsText c.args.telling c.args.asked.now.limits known g.W.Target.contents c.args.writer c.tell-writer.result.0 (Ok judgement.verdict)))
-    (remaining_of g.F.Read.remaining g.I.Read.remaining) c.args.input c.new-reader.result.inner _ c.new-reader.ensures.inner c.new-reader.ensures.ahead
-    (told_verdict c.args.telling c.args.asked.now.limits _ g.W.Target.contents c.args.writer c.tell-writer.result.0 c.args.asked.now.wanted c.tell-writer.result.1 c.tell-writer.result.2 c.tell-writer.new.watch.found c.tell-writer.ensures.told))
-
-pub returns-clause-writer_failures : goal.returns-clause-writer_failures
-returns-clause-writer_failures g c =
-    subst (λ (r : Result Judgement ToolFault). CountsWriting r (g.W.Target.failures c.args.writer) (g.W.Target.failures c.tell-writer.result.0)) (sym c.judgement_of-judged.ensures)
-    (judged_counts c.args.asked.now.wanted c.tell-writer.result.1 c.tell-writer.result.2 c.tell-writer.new.watch.found (g.W.Target.failures c.args.writer) (g.W.Target.failures c.tell-writer.result.0) c.tell-writer.ensures.writer_failures)
-
-pub returns-clause-handed_on : goal.returns-clause-handed_on
-returns-clause-handed_on g c =
-    subst (λ (r : Result Judgement ToolFault). OnOk r (g.W.Target.handed_on c.tell-writer.result.0 ≡ true)) (sym c.judgement_of-judged.ensures)
-    (judged_on (g.W.Target.handed_on c.tell-writer.result.0 ≡ true) c.args.asked.now.wanted c.tell-writer.result.1 c.tell-writer.result.2 c.tell-writer.new.watch.found c.tell-writer.ensures.handed_on)
+    from_source (λ (known : Option (List ℕ)). IfOk c.judge_source-writer.result.1 (λ judgement. TellsText c.args.telling c.args.asked.now.limits known g.W.Target.contents c.args.writer c.judge_source-writer.result.0 (Ok judgement.verdict)))
+    (remaining_of g.F.Read.remaining g.I.Read.remaining) c.args.input c.new-reader.result.inner _ c.new-reader.ensures.inner c.new-reader.ensures.ahead c.judge_source-writer.ensures.told

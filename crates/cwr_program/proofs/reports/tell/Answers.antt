@@ -7,8 +7,8 @@ use Rattle.cwr_advise.specs.Format.AdviceLines.{lines_of_advice}
 use Rattle.cwr_csv.specs.Format.TableLines.{lines_of_table}
 use Rattle.cwr_program.specs.declared.endings.Look.{Look}
 use Rattle.cwr_program.specs.Steps.Looks.{LooksAfter, tells_findings}
-use Rattle.cwr_program.specs.Steps.Tellings.{CountsLook}
-use Rattle.cwr_program.proofs.EndsOnTexts.{found_counts_none, looks_after, looks_found, sees_nothing, told_as}
+use Rattle.cwr_program.specs.Steps.Tellings.{CountsReading}
+use Rattle.cwr_program.proofs.EndsOnTexts.{counts_explained, counts_reading, looks_after, looks_found, sees_nothing, told_as}
 use Rattle.cwr_program.proofs.reports.tell.Goals as goal
 
 pub returns-in-Findings-clause-looks : goal.returns-in-Findings-clause-looks
@@ -58,46 +58,49 @@ returns-in-Findings-clause-told g c =
     told_as c.args.telling _ c.args.limits (g.R.Source.remaining c.args.reader.now) (g.R.Source.remaining c.check_watched-writer.new.reader) g.W.Target.contents c.args.writer c.check_watched-writer.result.0 c.check_watched-writer.result.1 c.in-Findings.is c.check_watched-writer.ensures.reported
 
 pub returns-in-Findings-clause-reader_failures : goal.returns-in-Findings-clause-reader_failures
-returns-in-Findings-clause-reader_failures g c = (g.R.Source.failures c.check_watched-writer.new.reader, c.check_watched-writer.ensures.reader_failures, c.look_after-look.ensures.failures)
+returns-in-Findings-clause-reader_failures g c =
+    counts_reading c.check_watched-writer.result.1 c.look_after-look.result (g.R.Source.failures c.args.reader.now) (g.R.Source.failures c.check_watched-writer.new.reader) (g.R.Source.failures c.look_after-look.new.reader) c.check_watched-writer.ensures.reader_failures c.look_after-look.ensures.unasked c.look_after-look.ensures.failures
 
 pub returns-in-Records-clause-told : goal.returns-in-Records-clause-told
 returns-in-Records-clause-told g c =
     told_as c.args.telling _ c.args.limits (g.R.Source.remaining c.args.reader.now) (g.R.Source.remaining c.show-writer.new.reader) g.W.Target.contents c.args.writer c.show-writer.result.0 c.show-writer.result.1 c.in-Records.is c.show-writer.ensures.reported
 
 pub returns-in-Records-clause-reader_failures : goal.returns-in-Records-clause-reader_failures
-returns-in-Records-clause-reader_failures g c = (g.R.Source.failures c.show-writer.new.reader, c.show-writer.ensures.reader_failures, c.look_after-look-in-Records.ensures.failures)
+returns-in-Records-clause-reader_failures g c =
+    counts_reading c.show-writer.result.1 c.look_after-look-in-Records.result (g.R.Source.failures c.args.reader.now) (g.R.Source.failures c.show-writer.new.reader) (g.R.Source.failures c.look_after-look-in-Records.new.reader) c.show-writer.ensures.reader_failures c.look_after-look-in-Records.ensures.unasked c.look_after-look-in-Records.ensures.failures
 
 pub returns-in-Data-clause-told : goal.returns-in-Data-clause-told
 returns-in-Data-clause-told g c =
     told_as c.args.telling _ c.args.limits (g.R.Source.remaining c.args.reader.now) (g.R.Source.remaining c.json-writer.new.reader) g.W.Target.contents c.args.writer c.json-writer.result.0 c.json-writer.result.1 c.in-Data.is c.json-writer.ensures.reported
 
 pub returns-in-Data-clause-reader_failures : goal.returns-in-Data-clause-reader_failures
-returns-in-Data-clause-reader_failures g c = (g.R.Source.failures c.json-writer.new.reader, c.json-writer.ensures.reader_failures, c.look_after-look-in-Data.ensures.failures)
+returns-in-Data-clause-reader_failures g c =
+    counts_reading c.json-writer.result.1 c.look_after-look-in-Data.result (g.R.Source.failures c.args.reader.now) (g.R.Source.failures c.json-writer.new.reader) (g.R.Source.failures c.look_after-look-in-Data.new.reader) c.json-writer.ensures.reader_failures c.look_after-look-in-Data.ensures.unasked c.look_after-look-in-Data.ensures.failures
 
 pub returns-in-Rows-clause-told : goal.returns-in-Rows-clause-told
 returns-in-Rows-clause-told g c =
     told_as c.args.telling _ c.args.limits (g.R.Source.remaining c.args.reader.now) (g.R.Source.remaining c.csv-writer.new.reader) g.W.Target.contents c.args.writer c.csv-writer.result.0 c.csv-writer.result.1 c.in-Rows.is c.csv-writer.ensures.reported
 
 pub returns-in-Rows-clause-reader_failures : goal.returns-in-Rows-clause-reader_failures
-returns-in-Rows-clause-reader_failures g c = (g.R.Source.failures c.csv-writer.new.reader, c.csv-writer.ensures.reader_failures, c.look_after-look-in-Rows.ensures.failures)
+returns-in-Rows-clause-reader_failures g c =
+    counts_reading c.csv-writer.result.1 c.look_after-look-in-Rows.result (g.R.Source.failures c.args.reader.now) (g.R.Source.failures c.csv-writer.new.reader) (g.R.Source.failures c.look_after-look-in-Rows.new.reader) c.csv-writer.ensures.reader_failures c.look_after-look-in-Rows.ensures.unasked c.look_after-look-in-Rows.ensures.failures
 
 pub returns-in-Explained-clause-told : goal.returns-in-Explained-clause-told
 returns-in-Explained-clause-told g c =
     told_as c.args.telling _ c.args.limits (g.R.Source.remaining c.args.reader.now) (g.R.Source.remaining c.explain-writer.new.reader) g.W.Target.contents c.args.writer c.explain-writer.result.0 c.explain-writer.result.1 c.in-Explained.is c.explain-writer.ensures.explains
 
 pub returns-in-Explained-clause-reader_failures : goal.returns-in-Explained-clause-reader_failures
-returns-in-Explained-clause-reader_failures g c = (
-  g.R.Source.failures c.explain-writer.new.reader,
-  c.explain-writer.ensures.reader_failures,
-  subst (λ (l : Look). CountsLook l (g.R.Source.failures c.explain-writer.new.reader) (g.R.Source.failures c.explain-writer.new.reader)) (sym c.look_of.ensures) (found_counts_none c.explain-writer.result.2 (g.R.Source.failures c.explain-writer.new.reader)),
-)
+returns-in-Explained-clause-reader_failures g c =
+    subst (λ (l : Look). CountsReading c.explain-writer.result.1 l (g.R.Source.failures c.args.reader.now) (g.R.Source.failures c.explain-writer.new.reader)) (sym c.look_of.ensures)
+    (counts_explained c.explain-writer.result.1 c.explain-writer.result.2 (g.R.Source.failures c.args.reader.now) (g.R.Source.failures c.explain-writer.new.reader) c.explain-writer.ensures.reader_failures)
 
 pub returns-in-Faults-clause-told : goal.returns-in-Faults-clause-told
 returns-in-Faults-clause-told g c =
     told_as c.args.telling _ c.args.limits (g.R.Source.remaining c.args.reader.now) (g.R.Source.remaining c.lint-writer.new.reader) g.W.Target.contents c.args.writer c.lint-writer.result.0 c.lint-writer.result.1 c.in-Faults.is (c.lint-writer.ensures.lints, c.lint-writer.ensures.tells)
 
 pub returns-in-Faults-clause-reader_failures : goal.returns-in-Faults-clause-reader_failures
-returns-in-Faults-clause-reader_failures g c = (g.R.Source.failures c.lint-writer.new.reader, c.lint-writer.ensures.reader_failures, c.look_after-look-in-Faults.ensures.failures)
+returns-in-Faults-clause-reader_failures g c =
+    counts_reading c.lint-writer.result.1 c.look_after-look-in-Faults.result (g.R.Source.failures c.args.reader.now) (g.R.Source.failures c.lint-writer.new.reader) (g.R.Source.failures c.look_after-look-in-Faults.new.reader) c.lint-writer.ensures.reader_failures c.look_after-look-in-Faults.ensures.unasked c.look_after-look-in-Faults.ensures.failures
 
 pub returns-in-Answers-clause-seen : goal.returns-in-Answers-clause-seen
 returns-in-Answers-clause-seen g c = sees_nothing c.args.limits (g.R.Source.remaining c.args.reader.now) c.args.watch.now c.acks-writer.result.1 (c.requires (ap tells_findings c.in-Answers.is))
@@ -112,7 +115,8 @@ returns-in-Answers-clause-told g c =
     told_as c.args.telling _ c.args.limits (g.R.Source.remaining c.args.reader.now) (g.R.Source.remaining c.acks-writer.new.reader) g.W.Target.contents c.args.writer c.acks-writer.result.0 c.acks-writer.result.1 c.in-Answers.is c.acks-writer.ensures.reported
 
 pub returns-in-Answers-clause-reader_failures : goal.returns-in-Answers-clause-reader_failures
-returns-in-Answers-clause-reader_failures g c = (g.R.Source.failures c.acks-writer.new.reader, c.acks-writer.ensures.reader_failures, c.look_after-look-in-Answers.ensures.failures)
+returns-in-Answers-clause-reader_failures g c =
+    counts_reading c.acks-writer.result.1 c.look_after-look-in-Answers.result (g.R.Source.failures c.args.reader.now) (g.R.Source.failures c.acks-writer.new.reader) (g.R.Source.failures c.look_after-look-in-Answers.new.reader) c.acks-writer.ensures.reader_failures c.look_after-look-in-Answers.ensures.unasked c.look_after-look-in-Answers.ensures.failures
 
 pub returns-in-Advice-clause-seen : goal.returns-in-Advice-clause-seen
 returns-in-Advice-clause-seen g c = sees_nothing c.args.limits (g.R.Source.remaining c.args.reader.now) c.args.watch.now c.advise-writer.result.1 (c.requires (ap tells_findings c.in-Advice.is))
@@ -127,4 +131,5 @@ returns-in-Advice-clause-told g c =
     told_as c.args.telling _ c.args.limits (g.R.Source.remaining c.args.reader.now) (g.R.Source.remaining c.advise-writer.new.reader) g.W.Target.contents c.args.writer c.advise-writer.result.0 c.advise-writer.result.1 c.in-Advice.is c.advise-writer.ensures.reported
 
 pub returns-in-Advice-clause-reader_failures : goal.returns-in-Advice-clause-reader_failures
-returns-in-Advice-clause-reader_failures g c = (g.R.Source.failures c.advise-writer.new.reader, c.advise-writer.ensures.reader_failures, c.look_after-look-in-Advice.ensures.failures)
+returns-in-Advice-clause-reader_failures g c =
+    counts_reading c.advise-writer.result.1 c.look_after-look-in-Advice.result (g.R.Source.failures c.args.reader.now) (g.R.Source.failures c.advise-writer.new.reader) (g.R.Source.failures c.look_after-look-in-Advice.new.reader) c.advise-writer.ensures.reader_failures c.look_after-look-in-Advice.ensures.unasked c.look_after-look-in-Advice.ensures.failures
