@@ -13,14 +13,15 @@ use Rattle.cwr_levels.specs.Format.Findings.{is_a, is_blank, share_of}
 use Rattle.cwr_levels.specs.Steps.Walks.{capped}
 use Rattle.cwr_levels.proofs.OneMore.{any_there}
 use Rattle.cwr_advice.specs.declared.rules.AdviceRule.{AdviceRule}
-use Rattle.cwr_advice.specs.declared.rules.AdviceRule.TheVariants.{A1a, A1b, A2a, A2b, A2c, A2d, A3a, A3b, A4a, A4b, A4c, A4d, A6a, A6b, A6c, A7a, A8a, A8b, A8c, A8d, A9a}
+use Rattle.cwr_advice.specs.declared.rules.AdviceRule.TheVariants.{A1a, A1b, A2a, A2b, A2c, A2d, A3a, A3b, A4a, A4b, A4c, A4d, A5a, A6a, A6b, A6c, A7a, A8a, A8b, A8c, A8d, A8e, A9a}
 use Rattle.cwr_advice.specs.declared.rules.Asked.{Asked}
 use Rattle.cwr_advice.specs.declared.rules.Advice.{Advice}
 use Rattle.cwr_advice.specs.declared.kept.AdviceSums.{AdviceSums}
 use Rattle.cwr_advice.specs.Format.Rules.{advice_at, advice_of, advice_of_asked, are_over_in, asked_of, begins_with_agent, breaks, cell_at, collects_in, collects_nowhere, goes_over, has_composite_type, has_few_territories, has_no_composite_type, has_no_publisher, has_no_territory, is_acknowledgement, is_compared, is_over_in, is_stray_component, is_territory, is_territory_of, is_version, lacks_components, lacks_original, records_of_writer, stands_twice, writers_own_less}
-use Rattle.cwr_advice.specs.declared.characters.Characters.{Characters}
+use Rattle.cwr_advice.specs.declared.said.Said.{Said}
 use Rattle.cwr_advice.specs.Steps.Kept.{AreKept, StandsFor, is_owning_writer, may_break_alone, may_break_some}
 use Rattle.cwr_advice.proofs.AsciiTexts.{never_unlike}
+use Rattle.cwr_advice.proofs.EarlyDays.{never_to_come}
 use Rattle.cwr_advice.proofs.OwingWriters.{nobody_owes}
 
 -- ---- a record that breaks no rule
@@ -38,7 +39,7 @@ record IsUnadvised (t : List RecordValue) (k : ℕ) (r : RecordValue) : Type 0 w
   stray : is_stray_component t r ≡ false
   original : lacks_original t r ≡ false
 
-unbroken : (said : Characters) (t : List RecordValue) (k : ℕ) (r : RecordValue) → IsUnadvised t k r → (rule : AdviceRule) (j : ℕ) → may_break_alone rule r j ≡ false → breaks said rule t k r j ≡ false
+unbroken : (said : Said) (t : List RecordValue) (k : ℕ) (r : RecordValue) → IsUnadvised t k r → (rule : AdviceRule) (j : ℕ) → may_break_alone rule r j ≡ false → breaks said rule t k r j ≡ false
 unbroken said t k r h A1a j e = h.over
 unbroken said t k r h A1b j e = h.twice
 unbroken said t k r h A2a j e = h.agent
@@ -51,6 +52,7 @@ unbroken said t k r h A4a j e = e
 unbroken said t k r h A4b j e = e
 unbroken said t k r h A4c j e = e
 unbroken said t k r h A4d j e = e
+unbroken said t k r h A5a j e = refl
 unbroken said t k r h A6a j e = h.components
 unbroken said t k r h A6b j e = h.stray
 unbroken said t k r h A6c j e = h.original
@@ -59,23 +61,24 @@ unbroken said t k r h A8a j e = e
 unbroken said t k r h A8b j e = e
 unbroken said t k r h A8c j e = e
 unbroken said t k r h A8d j e = e
-unbroken said t k r h A9a j e = never_unlike said (cell_at r j) e
+unbroken said t k r h A8e j e = never_to_come said.sent (cell_at r j) e
+unbroken said t k r h A9a j e = never_unlike said.characters (cell_at r j) e
 
 none_kept : {X : Type 0} → (b : Bool) (x : X) (l : List X) → b ≡ false → l ≡ [] → cond b (x ∷ l) l ≡ []
 none_kept true x l e none = absurd (cc e)
 none_kept false x l e none = none
 
-none_asked : (said : Characters) (t : List RecordValue) (k : ℕ) (r : RecordValue) → IsUnadvised t k r → (l : List Asked) → list_any (λ asked. may_break_alone asked.rule r asked.field) l ≡ false
+none_asked : (said : Said) (t : List RecordValue) (k : ℕ) (r : RecordValue) → IsUnadvised t k r → (l : List Asked) → list_any (λ asked. may_break_alone asked.rule r asked.field) l ≡ false
     → filter (λ asked. breaks said asked.rule t k r asked.field) l ≡ []
 none_asked said t k r h [] e = refl
 none_asked said t k r h (a ∷ l) e =
     let parts = or_parts (may_break_alone a.rule r a.field) (list_any (λ asked. may_break_alone asked.rule r asked.field) l) e in
     none_kept (breaks said a.rule t k r a.field) a (filter (λ asked. breaks said asked.rule t k r asked.field) l) (unbroken said t k r h a.rule a.field parts.0) (none_asked said t k r h l parts.1)
 
-none_at : (said : Characters) (t : List RecordValue) (k : ℕ) (r : RecordValue) → IsUnadvised t k r → may_break_some r ≡ false → advice_at said t k r ≡ []
+none_at : (said : Said) (t : List RecordValue) (k : ℕ) (r : RecordValue) → IsUnadvised t k r → may_break_some r ≡ false → advice_at said t k r ≡ []
 none_at said t k r h e = ap (map (advice_of_asked k)) (none_asked said t k r h (asked_of r.kind) e)
 
-none_from : (said : Characters) (t rest : List RecordValue) (i : ℕ) → ((k : ℕ) (r : RecordValue) → slice_get rest k ≡ Some r → advice_at said t (i + k) r ≡ []) → flat_map (λ p. advice_at said t p.0 p.1) (enumerate_from i rest) ≡ []
+none_from : (said : Said) (t rest : List RecordValue) (i : ℕ) → ((k : ℕ) (r : RecordValue) → slice_get rest k ≡ Some r → advice_at said t (i + k) r ≡ []) → flat_map (λ p. advice_at said t p.0 p.1) (enumerate_from i rest) ≡ []
 none_from said t [] i h = refl
 none_from said t (x ∷ rest) i h =
     let here : i + 0 ≡ i = omega arith in
@@ -87,14 +90,14 @@ either_none : (b : Bool) (l : List Advice) → l ≡ [] → cond b [] l ≡ []
 either_none true l e = refl
 either_none false l e = e
 
-none_of : (said : Characters) (t : List RecordValue) → ((k : ℕ) (r : RecordValue) → slice_get t k ≡ Some r → advice_at said t k r ≡ []) → advice_of said t ≡ []
+none_of : (said : Said) (t : List RecordValue) → ((k : ℕ) (r : RecordValue) → slice_get t k ≡ Some r → advice_at said t k r ≡ []) → advice_of said t ≡ []
 unfolding advice_of
 none_of said t h =
     either_none (is_acknowledgement t) (flat_map (λ p. advice_at said t p.0 p.1) (enumerate_from 0 t))
     (none_from said t t 0 (λ k r e. let same : 0 + k ≡ k = omega arith in subst (λ (m : ℕ). advice_at said t m r ≡ []) (sym same) (h k r e)))
 
 -- an acknowledgement
-none_of_answer : (said : Characters) (t : List RecordValue) → is_acknowledgement t ≡ true → advice_of said t ≡ []
+none_of_answer : (said : Said) (t : List RecordValue) → is_acknowledgement t ≡ true → advice_of said t ≡ []
 unfolding advice_of
 none_of_answer said t e = ap (λ (b : Bool). cond b [] (flat_map (λ (p : ℕ × RecordValue). advice_at said t p.0 p.1) (enumerate_from 0 t))) e
 
@@ -206,7 +209,7 @@ unadvised s t h clean k r there = record {
     stray_one (inr other) = and_left (is_a kinds.Com r) _ other
 
 -- there is no advice on it
-pub none_on_clean : (said : Characters) (s : AdviceSums) (t : List RecordValue) → AreKept s t → IsClean s t → advice_of said t ≡ []
+pub none_on_clean : (said : Said) (s : AdviceSums) (t : List RecordValue) → AreKept s t → IsClean s t → advice_of said t ≡ []
 none_on_clean said s t h clean = none_of said t (λ k r there. none_at said t k r (unadvised s t h clean k r there) (h.calm k r there).alone)
 
 -- ---- a transaction, which may be an acknowledgement
@@ -230,10 +233,10 @@ pub work_more : (old new : AdviceSums) (t : List RecordValue) (r : RecordValue) 
 work_more old new t r isnt same (inl h) more = absurd (not_both old.is_acknowledgement h.0 isnt)
 work_more old new t r isnt same (inr h) more = inr (same ∙ isnt, more h.1)
 
-pub none_on_answer : (said : Characters) (s : AdviceSums) (t : List RecordValue) → s.is_acknowledgement ≡ true → StandsFor s t → advice_of said t ≡ []
+pub none_on_answer : (said : Said) (s : AdviceSums) (t : List RecordValue) → s.is_acknowledgement ≡ true → StandsFor s t → advice_of said t ≡ []
 none_on_answer said s t is (inl h) = none_of_answer said t h.1
 none_on_answer said s t is (inr h) = absurd (not_both s.is_acknowledgement is h.0)
 
-pub none_on_work : (said : Characters) (s : AdviceSums) (t : List RecordValue) → s.is_acknowledgement ≡ false → StandsFor s t → (AreKept s t → advice_of said t ≡ []) → advice_of said t ≡ []
+pub none_on_work : (said : Said) (s : AdviceSums) (t : List RecordValue) → s.is_acknowledgement ≡ false → StandsFor s t → (AreKept s t → advice_of said t ≡ []) → advice_of said t ≡ []
 none_on_work said s t isnt (inl h) clean = absurd (not_both s.is_acknowledgement h.0 isnt)
 none_on_work said s t isnt (inr h) clean = clean h.1

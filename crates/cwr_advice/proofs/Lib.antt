@@ -11,5 +11,6 @@ pub mod OwnedShares
 pub mod OwingWriters
 pub mod CalmRecords
 pub mod AsciiTexts
+pub mod EarlyDays
 pub mod CleanWorks
 pub mod LastFields

@@ -7,7 +7,7 @@ use crate::rules::{AdviceRule, Asked};
 use cwr_layouts::Kind;
 
 /// NWR, REV: what is asked of them, in this order.
-static WORK: [Asked; 10] = [
+static WORK: [Asked; 11] = [
     Asked {
         rule: AdviceRule::A2b,
         field: 1,
@@ -39,6 +39,10 @@ static WORK: [Asked; 10] = [
     Asked {
         rule: AdviceRule::A8d,
         field: 11,
+    },
+    Asked {
+        rule: AdviceRule::A8e,
+        field: 8,
     },
     Asked {
         rule: AdviceRule::A9a,
@@ -512,6 +516,12 @@ static ORIGIN: [Asked; 6] = [
     },
 ];
 
+/// AGR: what is asked of them, in this order.
+static AGREEMENT: [Asked; 1] = [Asked {
+    rule: AdviceRule::A8e,
+    field: 14,
+}];
+
 /// What is asked of a record of the kind, in this order: rules, each at a field.
 #[inline(always)]
 pub(crate) fn asked_of(kind: Kind) -> &'static [Asked]
@@ -532,6 +542,7 @@ pub(crate) fn asked_of(kind: Kind) -> &'static [Asked]
         Kind::Rec => &RECORDING,
         Kind::Com => &COMPONENT,
         Kind::Pwr => &WRITER_PUBLISHER,
+        Kind::Agr => &AGREEMENT,
         Kind::Orn => &ORIGIN,
         _ => &[],
     }

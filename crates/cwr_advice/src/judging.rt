@@ -6,11 +6,13 @@ ghost use Rattle.cwr_lines.specs.Format.Records.{RecordValue};
 ghost use Rattle.cwr_advice.specs.Format.Rules.{begins_with_agent, breaks, breaks_alone, collects_nowhere, has_composite_type, has_no_composite_type, in_chain, is_agent, is_header, is_stray_component, is_version, lacks_components, lacks_original, names_agent};
 ghost use Rattle.cwr_advice.specs.Steps.Facts.{AreFacts};
 
-use crate::characters::{Characters, is_unlike};
+use crate::characters::is_unlike;
 use crate::checked_cells::is_wrong;
+use crate::days::is_to_come;
 use crate::facts::Facts;
 use crate::owners::{is_publisher, owns_over_half};
 use crate::rules::AdviceRule;
+use crate::said::Said;
 use crate::shifts::is_shifted;
 use crate::territories::{goes_over, stands_twice};
 use crate::writers::{has_no_publisher, has_no_territory};
@@ -161,12 +163,7 @@ fn lacks_original(facts: &Facts, shown: &RecordRef<'_>) -> bool
 
 /// Whether the record breaks the rule by itself, at that field where the rule judges a cell.
 #[inline(always)]
-pub(crate) fn breaks_alone(
-    said: Characters,
-    rule: AdviceRule,
-    shown: &RecordRef<'_>,
-    field: u8,
-) -> bool
+pub(crate) fn breaks_alone(said: Said, rule: AdviceRule, shown: &RecordRef<'_>, field: u8) -> bool
     ensures { result ≡ breaks_alone said rule shown.now field }
 {
     match rule {
@@ -180,14 +177,15 @@ pub(crate) fn breaks_alone(
         | AdviceRule::A8b
         | AdviceRule::A8c
         | AdviceRule::A8d => is_wrong(rule, cell(shown, field)),
-        AdviceRule::A9a => is_unlike(said, cell(shown, field)),
+        AdviceRule::A8e => is_to_come(said.sent, cell(shown, field)),
+        AdviceRule::A9a => is_unlike(said.characters, cell(shown, field)),
         _ => false,
     }
 }
 
 /// Whether the record, which stands after so many others, breaks the rule, at that field where the rule judges a cell.
 pub(crate) fn breaks(
-    said: Characters,
+    said: Said,
     rule: AdviceRule,
     transaction: &Transaction,
     facts: &Facts,

@@ -2,18 +2,20 @@
 
 ghost use Rattle.std.specs.Prelude.{◌≡◌, ◌≤◌, ℕ, ◌++◌, ◌∷◌, [], List, length, option_map, true, false, Some, IfSome, IsTrue, IsFalse};
 ghost use Rattle.cwr_lines.specs.Format.Records.{RecordValue};
-ghost use Rattle.cwr_advice.specs.declared.characters.Characters.{Characters};
+ghost use Rattle.cwr_advice.specs.declared.said.Said.{Said};
 ghost use Rattle.cwr_advice.specs.Format.Rules.{advice_of, begins_with_agent};
 ghost use Rattle.cwr_advice.specs.Steps.Kept.{AreAllCollected, AreCollectedAnywhere, AreKept, AreSinceParty, is_among, IsBegun, IsCalm, may_break_alone, may_break_some, stands_again, StandsFor};
 
 use crate::asking::asked_of;
-use crate::characters::{Characters, is_ascii};
+use crate::characters::is_ascii;
+use crate::days::names_day;
 use crate::facts::Facts;
 use crate::judging::{CHAIN, breaks_alone, collects_nowhere, is_agent};
 use crate::kept_headers::Headers;
 use crate::owing::Owing;
 use crate::owners::{Owned, is_publisher, is_writer, owned_by};
 use crate::rules::AdviceRule;
+use crate::said::Said;
 use crate::territory_cells::{code_of, collection_of, is_territory};
 use arrayvec::ArrayVec;
 use cwr_fields::is_spaces;
@@ -102,14 +104,15 @@ fn collected_anywhere(shown: &RecordRef<'_>) -> Owned
     collection_of(shown)
 }
 
-/// Whether the record may break the rule by itself, whatever is said of characters.
+/// Whether the record may break the rule by itself, whatever is said of the transmission.
 #[inline(always)]
 fn may_break_alone(rule: AdviceRule, shown: &RecordRef<'_>, field: u8) -> bool
     ensures { result ≡ may_break_alone rule shown.now field }
 {
     match rule {
+        AdviceRule::A8e => names_day(cell(shown, field)),
         AdviceRule::A9a => !is_ascii(cell(shown, field)),
-        _ => breaks_alone(Characters::Other, rule, shown, field),
+        _ => breaks_alone(Said::nothing(), rule, shown, field),
     }
 }
 
@@ -277,7 +280,7 @@ impl AdviceSums {
 
     /// Whether there surely is no advice on the work, where these were all its records. A no says nothing.
     fn is_work_clean(&self) -> bool
-        ensures { (rs : List RecordValue) → AreKept self.now rs → IsTrue result → (said : Characters) → advice_of said rs ≡ [] }
+        ensures { (rs : List RecordValue) → AreKept self.now rs → IsTrue result → (said : Said) → advice_of said rs ≡ [] }
     {
         let facts = &self.facts;
         let headers = &self.headers;
@@ -329,7 +332,7 @@ impl AdviceSums {
 
     /// Whether there surely is no advice on the transaction, where these were all its records. A no says nothing.
     pub fn is_clean(&self) -> bool
-        ensures { (rs : List RecordValue) → StandsFor self.now rs → IsTrue result → (said : Characters) → advice_of said rs ≡ [] }
+        ensures { (rs : List RecordValue) → StandsFor self.now rs → IsTrue result → (said : Said) → advice_of said rs ≡ [] }
     {
         if self.is_acknowledgement {
             return true;

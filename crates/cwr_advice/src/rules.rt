@@ -33,6 +33,8 @@ pub enum AdviceRule {
     A4c,
     /// An EAN has the right check digit.
     A4d,
+    /// A work has a number of its own among those of the transmission.
+    A5a,
     /// A composite work names its components.
     A6a,
     /// A work with components is a composite one.
@@ -49,6 +51,8 @@ pub enum AdviceRule {
     A8c,
     /// A duration isn't zero.
     A8d,
+    /// What has happened is no later than the transmission.
+    A8e,
     /// The characters of a text are those that the header says.
     A9a,
 }
@@ -72,6 +76,7 @@ impl AdviceRule {
             AdviceRule::A4b => "A4b",
             AdviceRule::A4c => "A4c",
             AdviceRule::A4d => "A4d",
+            AdviceRule::A5a => "A5a",
             AdviceRule::A6a => "A6a",
             AdviceRule::A6b => "A6b",
             AdviceRule::A6c => "A6c",
@@ -80,6 +85,7 @@ impl AdviceRule {
             AdviceRule::A8b => "A8b",
             AdviceRule::A8c => "A8c",
             AdviceRule::A8d => "A8d",
+            AdviceRule::A8e => "A8e",
             AdviceRule::A9a => "A9a",
         }
     }
@@ -96,6 +102,7 @@ impl AdviceRule {
             | AdviceRule::A2d
             | AdviceRule::A3a
             | AdviceRule::A3b
+            | AdviceRule::A5a
             | AdviceRule::A6a => Level::T,
             AdviceRule::A1b | AdviceRule::A6b | AdviceRule::A6c | AdviceRule::A7a => Level::R,
             _ => Level::F,
@@ -132,6 +139,8 @@ impl AdviceRule {
                 "this is no ISRC: it has two letters, three letters or digits and seven digits, without hyphens",
             AdviceRule::A4d =>
                 "this is no EAN or UPC: it has at most 13 digits, of which the last one checks the others; look it up again",
+            AdviceRule::A5a =>
+                "this work number stands in a work before: a submitter gives each work a number of its own; mend it, or leave one of the works out",
             AdviceRule::A6a =>
                 "the work has a composite type, and no COM names a work that is in it: add the COM records, or leave the type blank",
             AdviceRule::A6b =>
@@ -145,6 +154,8 @@ impl AdviceRule {
                 "this is no number of a territory: those of countries are 0001 to 0999, those of groups begin with 21, as 2136 for the world",
             AdviceRule::A8c => "this is no code of a language: it has two letters, as EN",
             AdviceRule::A8d => "the duration is zero: fill it in, or leave it blank",
+            AdviceRule::A8e =>
+                "this date is after the transmission date in HDR, and what it tells of has happened: mend it, or leave it blank",
             AdviceRule::A9a =>
                 "this text is in UTF-8, and HDR does not say so, or the other way: write UTF-8 in the character set of HDR, or mend the text",
         }

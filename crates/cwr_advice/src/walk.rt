@@ -5,10 +5,10 @@ ghost use Rattle.cwr_advice.specs.Format.Rules.{advice_at, advice_of, is_acknowl
 ghost use Rattle.cwr_advice.specs.Steps.Facts.{AreFacts};
 
 use crate::asking::asked_of;
-use crate::characters::Characters;
 use crate::facts::Facts;
 use crate::judging::breaks;
 use crate::rules::Advice;
+use crate::said::Said;
 use cwr_layouts::Kind;
 use cwr_lines::RecordRef;
 use cwr_values::Transaction;
@@ -24,7 +24,7 @@ fn is_acknowledgement(transaction: &Transaction) -> bool
 /// Adds the advice at a record that stands after so many others, as it is asked for.
 fn add_advice_at(
     found: &mut Vec<Advice>,
-    said: Characters,
+    said: Said,
     transaction: &Transaction,
     facts: &Facts,
     sequence: usize,
@@ -56,14 +56,14 @@ fn add_advice_at(
 }
 
 /// The advice on a transaction that is to be sent, whole or only begun: which record breaks which rule, by record and then as it is
-/// asked for. An acknowledgement has none. So much is said of the characters of the transmission.
+/// asked for. An acknowledgement has none. So much is said of the transmission.
 ///
 /// # Errors
 ///
 /// Out of memory, and that only where there is advice: without any it takes none.
 pub fn advice(
     alloc: Global,
-    said: Characters,
+    said: Said,
     transaction: &Transaction,
 ) -> Result<Vec<Advice>, AllocError>
     ensures ok { IfOk result (λ found. found.items ≡ advice_of said transaction.now) }

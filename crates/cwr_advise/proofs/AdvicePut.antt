@@ -11,7 +11,7 @@ use Rattle.cwr_tools.specs.declared.verdicts.ToolFault.{ToolFault}
 use Rattle.cwr_tools.specs.declared.verdicts.ToolFault.TheVariants as faults
 use Rattle.cwr_tools.specs.Steps.Reports.{PutsLines}
 use Rattle.cwr_advice.specs.declared.rules.Advice.{Advice}
-use Rattle.cwr_advise.specs.Format.AdviceLines.{lines_at_record, noted_advice}
+use Rattle.cwr_advise.specs.Format.AdviceTexts.{lines_at_record, noted_advice}
 
 -- where no record has that place nothing is written of it
 pub noted_none : (group sequence n : ℕ) (t : List RecordValue) (a : Advice) → None ≡ slice_get t a.rec → noted_advice group sequence n t a ≡ []
@@ -47,6 +47,18 @@ first_fault contents failures one both a b old new (faults.Refused r) h p = absu
 first_fault contents failures one both a b old new (faults.Truncated r) h p = absurd p
 first_fault contents failures one both a b old new faults.Output h p = absurd p
 first_fault contents failures one both a b old new (faults.Limit l) h p = absurd p
+
+-- more items may take memory
+pub more_memory : {W : Type 0} (contents : W → Option (List ℕ)) (failures : W → ℕ) (one both : Bool) (text : List ℕ) (result : Result (Unit {0}) ToolFault) (old new : Sink W) → (one ≡ true → both ≡ true)
+    → PutsLines contents failures one text result old new → PutsLines contents failures both text result old new
+more_memory contents failures one both text (Ok u) old new h p = p
+more_memory contents failures one both text (Err faults.Memory) old new h p = (h p.0, p.1)
+more_memory contents failures one both text (Err (faults.Writer n)) old new h p = p
+more_memory contents failures one both text (Err faults.Reader) old new h p = absurd p
+more_memory contents failures one both text (Err (faults.Refused r)) old new h p = absurd p
+more_memory contents failures one both text (Err (faults.Truncated r)) old new h p = absurd p
+more_memory contents failures one both text (Err faults.Output) old new h p = absurd p
+more_memory contents failures one both text (Err (faults.Limit l)) old new h p = absurd p
 
 -- the first text was put, and then the second, or the writer failed in that
 pub then_put : {W : Type 0} (contents : W → Option (List ℕ)) (failures : W → ℕ) (one both : Bool) (a b : List ℕ) (old mid new : Sink W) (u : Unit {0}) (result : Result (Unit {0}) ToolFault)

@@ -9,7 +9,7 @@ use Rattle.cwr_lines.specs.Format.Carried.{carried_at, record_cell}
 use Rattle.cwr_layouts.proofs.FieldStarts.{field_at-start}
 use Rattle.cwr_notes.specs.Format.FindingNotes.{noted_line}
 use Rattle.cwr_json.proofs.FieldsShown.{carried_field}
-use Rattle.cwr_advise.specs.Format.AdviceLines.{cell_line}
+use Rattle.cwr_advise.specs.Format.AdviceTexts.{cell_line}
 
 noted_line-none : (n : ℕ) (this_kind : Kind) (o : Option FieldLayout) → noted_line n this_kind o None ≡ []
 noted_line-none n this_kind None = refl

@@ -4,3 +4,5 @@ pub mod CellLines
 pub mod AdvicePut
 pub mod LinesOfAdvice
 pub mod SaidBefore
+pub mod WorksKept
+pub mod Begun

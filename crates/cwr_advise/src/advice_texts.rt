@@ -1,12 +1,15 @@
 //! The lines of advice at a record.
 
-ghost use Rattle.std.specs.Prelude.{◌≡◌, ◌+◌, ◌≤◌, [], ◌++◌, ◌∷◌, Some, codes, decimal, length};
+ghost use Rattle.std.specs.Prelude.{◌≡◌, ◌+◌, ◌≤◌, [], ◌++◌, ◌∷◌, Some, codes, decimal, flat_map, length};
 ghost use Rattle.cwr_layouts.specs.Steps.Views.{field_view};
 ghost use Rattle.cwr_notes.specs.Format.FindingNotes.{noted_line, value_words, where_line};
-ghost use Rattle.cwr_advise.specs.Format.AdviceLines.{advice_line, cell_line, lines_at_record, words_line};
+ghost use Rattle.std.specs.Option.{option_to_list};
+ghost use Rattle.cwr_advise.specs.Format.AdviceTexts.{advice_line, cell_line, lines_at_record, words_line};
+ghost use Rattle.cwr_advise.specs.Format.RepeatedWorks.{first_line, limit_line, repeated_advice, repeated_lines, repeated_text};
 
+use crate::repeats::{Place, Repeated, WORK_NUMBER};
 use arrayvec::ArrayVec;
-use cwr_advice::Advice;
+use cwr_advice::{Advice, AdviceRule};
 use cwr_fields::{is_spaces, trimmed};
 use cwr_layouts::{Field, Kind, field, letters};
 use cwr_lines::RecordRef;
@@ -14,7 +17,7 @@ use itoa::Buffer;
 use std::marker::Model;
 
 /// The most bytes of the lines of advice at a record: none come near.
-const LONGEST: usize = 1500;
+const LONGEST: usize = 1600;
 
 /// The lines, while they are put together.
 type Text = ArrayVec<u8, LONGEST>;
@@ -102,6 +105,7 @@ fn push_where(text: &mut Text, number: u64, kind: Kind)
 fn push_words(text: &mut Text, advice: &Advice)
     requires { length text.old.items + 220 ≤ LONGEST }
     ensures value { text.new.items ≡ text.old.items ++ words_line advice.now }
+    ensures len { length text.new.items ≤ length text.old.items + 220 }
 {
     push(text, b"  advice    ");
     push(text, advice.rule.words().as_bytes());
@@ -126,6 +130,67 @@ fn push_line(text: &mut Text, group: u32, sequence: u32, advice: &Advice)
     push(text, advice.rule.level().letter().as_bytes());
     push(text, b" rule ");
     push(text, advice.rule.name().as_bytes());
+    push(text, b"\n");
+}
+
+/// What is broken by a work whose number stands in a work before it.
+const REPEATED: Advice = Advice {
+    rec: 0,
+    field: WORK_NUMBER,
+    rule: AdviceRule::A5a,
+};
+
+/// Appends where the first work with a number stands.
+fn push_first(text: &mut Text, first: &Place)
+    requires { length text.old.items + 110 ≤ LONGEST }
+    ensures value { text.new.items ≡ text.old.items ++ first_line first.now }
+    ensures len { length text.new.items ≤ length text.old.items + 110 }
+{
+    push(text, b"  first     line ");
+    push_number(text, first.line.into());
+    push(text, b", group ");
+    push_number(text, first.group.into());
+    push(text, b" transaction ");
+    push_number(text, first.sequence.into());
+    push(text, b"\n");
+}
+
+/// Appends the lines on a work that stands there, and on the first one with its number.
+fn push_repeated(text: &mut Text, place: &Place, header: &RecordRef<'_>, first: &Place)
+    requires { length text.old.items + 1400 ≤ LONGEST }
+    ensures value { text.new.items ≡ text.old.items ++ repeated_lines place.now header.now first.now }
+    ensures len { length text.new.items ≤ length text.old.items + 1400 }
+{
+    let number = u64::from(place.line);
+    push_line(text, place.group, place.sequence, &REPEATED);
+    push_where(text, number, header.kind());
+    push_cell(text, number, header, WORK_NUMBER);
+    push_first(text, first);
+    push_words(text, &REPEATED);
+}
+
+/// Appends the same, where there is a first one.
+fn push_repeated_if(text: &mut Text, place: &Place, header: &RecordRef<'_>, first: &Option<Place>)
+    requires { length text.old.items + 1400 ≤ LONGEST }
+    ensures value { text.new.items ≡ text.old.items ++ flat_map (repeated_lines place.now header.now) (option_to_list first.now) }
+    ensures len { length text.new.items ≤ length text.old.items + 1400 }
+{
+    if let Some(first) = first {
+        push_repeated(text, place, header, first);
+    }
+}
+
+/// Appends the line on the first work whose number isn't kept.
+fn push_limit(text: &mut Text, limit: u32, place: &Place)
+    requires { length text.old.items + 110 ≤ LONGEST }
+    ensures { text.new.items ≡ text.old.items ++ limit_line limit place.now }
+{
+    push(text, b"LIMIT repeated ");
+    push_number(text, limit.into());
+    push(text, b" group ");
+    push_number(text, place.group.into());
+    push(text, b" transaction ");
+    push_number(text, place.sequence.into());
     push(text, b"\n");
 }
 
@@ -177,5 +242,22 @@ impl AdviceText {
         push_where(&mut self.text, number, shown.kind());
         push_cell(&mut self.text, number, shown, advice.field);
         push_words(&mut self.text, advice);
+    }
+
+    /// Sets the lines on a work that stands there, among those before it. The numbers of so many works are kept.
+    pub(crate) fn set_repeated(
+        &mut self,
+        limit: u32,
+        place: &Place,
+        header: &RecordRef<'_>,
+        repeated: &Repeated,
+    )
+        ensures { self.new ≡ repeated_text limit place.now header.now repeated.now.first repeated.now.is_beyond }
+    {
+        self.text.clear();
+        push_repeated_if(&mut self.text, place, header, &repeated.first);
+        if repeated.is_beyond {
+            push_limit(&mut self.text, limit, place);
+        }
     }
 }

@@ -5,18 +5,14 @@ ghost use Rattle.cwr_values.specs.declared.items.Item.{Item};
 ghost use Rattle.cwr_advise.specs.Format.AdviceLines.{said_in};
 ghost use Rattle.cwr_advise.specs.Steps.AdvisedItems.{IsBefore};
 
-use cwr_advice::Characters;
-use cwr_levels::cell;
+use cwr_advice::Said;
 use cwr_values::Item;
-
-/// HDR: character set.
-const CHARACTER_SET: u8 = 9;
 
 /// What the items so far leave behind.
 #[derive(Clone, Copy)]
 pub(crate) struct Before {
-    /// What the header says of characters.
-    characters: Characters,
+    /// What the header says.
+    said: Said,
 }
 
 impl Before {
@@ -25,7 +21,7 @@ impl Before {
         ensures { IsBefore result [] }
     {
         Before {
-            characters: Characters::Unsaid,
+            said: Said::nothing(),
         }
     }
 
@@ -35,7 +31,7 @@ impl Before {
     {
         match item {
             Item::Opened(header) => Before {
-                characters: Characters::in_cell(cell(&header.view(), CHARACTER_SET)),
+                said: Said::by(&header.view()),
             },
             Item::GroupOpened(_) | Item::Transaction(_) | Item::GroupClosed(_) | Item::Ended => {
                 self
@@ -43,10 +39,10 @@ impl Before {
         }
     }
 
-    /// What they say of characters.
-    pub(crate) fn characters(self) -> Characters
+    /// What they say.
+    pub(crate) fn said(self) -> Said
         ensures { (items : List Item) → IsBefore self items → result ≡ said_in items }
     {
-        self.characters
+        self.said
     }
 }

@@ -1,15 +1,18 @@
 //! The lines of advice on items, put to a sink.
 
-ghost use Rattle.std.specs.Prelude.{◌≡◌, ◌+◌, ◌≤◌, false, length, IfErr};
+ghost use Rattle.std.specs.Prelude.{◌≡◌, ◌+◌, ◌≤◌, ◌++◌, false, length, IfErr};
 ghost use Rattle.std.specs.List.{flat_map};
 ghost use Rattle.cwr_sinks.specs.Steps.Sinks.{Puts, has_failed, written_of};
 ghost use Rattle.cwr_judge.specs.Format.Items.{item_records};
 ghost use Rattle.cwr_tools.specs.Steps.Reports.{PutsLines};
-ghost use Rattle.cwr_advise.specs.Format.AdviceLines.{advised_in, has_advice, noted_advice};
+ghost use Rattle.cwr_advise.specs.Format.AdviceLines.{advised_transaction, has_advice, has_advised};
+ghost use Rattle.cwr_advise.specs.Format.AdviceTexts.{noted_advice};
 ghost use Rattle.cwr_advise.specs.Steps.AdvisedItems.{advised_at};
+ghost use Rattle.cwr_advise.specs.Steps.KeptWorks.{repeated_at};
 
 use crate::advice_texts::AdviceText;
-use cwr_advice::{Advice, Characters, advice};
+use crate::repeats::{Place, Repeated, work_header};
+use cwr_advice::{Advice, Said, advice};
 use cwr_fields::Target;
 use cwr_sinks::{Sink, SinkFault};
 use cwr_tools::{ToolFault, Totals, put_transaction_findings, writer_fault};
@@ -82,33 +85,36 @@ fn put_advice<W: Target>(
     }
 }
 
-/// Puts the lines of findings in the transaction of that sequence in the group of that ID, with what explains them, and then the lines
-/// of advice. Its first record is on that line of the file. So much is said of characters.
-fn put_advised<W: Target>(
+/// Puts the lines of findings in the transaction of that sequence in the group of that ID, with what explains them where that is asked
+/// for, counts them, and then puts the lines of advice. Its first record is on that line of the file. So much is said of the
+/// transmission. The lines of advice are made in the buffer.
+fn put_advised_in<W: Target>(
+    explained: bool,
     alloc: Global,
-    said: Characters,
+    said: Said,
     group: u32,
     sequence: u32,
     first: u64,
     transaction: &Transaction,
+    count: &mut u64,
     text: &mut AdviceText,
     sink: &mut Sink<W>,
 ) -> Result<(), ToolFault>
     requires unfailed { has_failed sink.old ≡ false }
     requires few { first + length transaction.now ≤ 100000000 }
-    ensures { PutsLines W.contents W.failures (has_advice (Item.Transaction transaction.now)) (advised_in said group sequence first (Item.Transaction transaction.now)) result sink.old sink.new }
+    ensures { PutsLines W.contents W.failures (has_advice transaction.now) (advised_transaction explained said group sequence first transaction.now) result sink.old sink.new }
 {
     let Ok(found) = advice(alloc, said, transaction) else {
         return Err(ToolFault::Memory);
     };
     put_transaction_findings(
-        true,
+        explained,
         alloc,
         group,
         sequence,
         first,
         transaction,
-        &mut 0,
+        count,
         sink,
     )?;
     put_advice(
@@ -122,30 +128,131 @@ fn put_advised<W: Target>(
     )
 }
 
-/// Puts what is written of an item that comes after items with these numbers, which say so much of characters. It is made in the buffer.
-pub(crate) fn put_item<W: Target>(
+/// Puts the lines of findings in the transaction of that sequence in the group of that ID, with what explains them where that is asked
+/// for, counts them, and then puts the lines of advice. Its first record is on that line of the file. So much is said of the
+/// transmission.
+pub fn put_advised<W: Target>(
+    explained: bool,
     alloc: Global,
-    said: Characters,
+    said: Said,
+    group: u32,
+    sequence: u32,
+    first: u64,
+    transaction: &Transaction,
+    count: &mut u64,
+    sink: &mut Sink<W>,
+) -> Result<(), ToolFault>
+    requires unfailed { has_failed sink.old ≡ false }
+    requires few { first + length transaction.now ≤ 100000000 }
+    ensures { PutsLines W.contents W.failures (has_advice transaction.now) (advised_transaction explained said group sequence first transaction.now) result sink.old sink.new }
+{
+    put_advised_in(
+        explained,
+        alloc,
+        said,
+        group,
+        sequence,
+        first,
+        transaction,
+        count,
+        &mut AdviceText::new(),
+        sink,
+    )
+}
+
+/// Puts the findings and the advice of an item that comes after items with these numbers, which say so much of the transmission, and
+/// counts the findings. The lines of advice are made in the buffer.
+fn put_own<W: Target>(
+    explained: bool,
+    alloc: Global,
+    said: Said,
     counts: &Totals,
     item: &Item,
+    count: &mut u64,
     text: &mut AdviceText,
     sink: &mut Sink<W>,
 ) -> Result<(), ToolFault>
     requires unfailed { has_failed sink.old ≡ false }
     requires few { counts.now.records + length (item_records item.now) ≤ 99999999 }
-    ensures { PutsLines W.contents W.failures (has_advice item.now) (advised_at said counts.now item.now) result sink.old sink.new }
+    ensures { PutsLines W.contents W.failures (has_advised item.now) (advised_at explained said counts.now item.now) result sink.old sink.new }
 {
     match item {
-        Item::Transaction(transaction) => put_advised(
+        Item::Transaction(transaction) => put_advised_in(
+            explained,
             alloc,
             said,
             counts.groups,
             counts.in_group,
             u64::from(counts.records) + 1,
             transaction,
+            count,
             text,
             sink,
         ),
         Item::Opened(_) | Item::GroupOpened(_) | Item::GroupClosed(_) | Item::Ended => Ok(()),
     }
+}
+
+/// Puts what is told of an item among the works before it, where it comes after items with these numbers. It is made in the buffer.
+fn put_work<W: Target>(
+    limit: u32,
+    counts: &Totals,
+    item: &Item,
+    repeated: &Repeated,
+    text: &mut AdviceText,
+    sink: &mut Sink<W>,
+) -> Result<(), SinkFault>
+    requires unfailed { has_failed sink.old ≡ false }
+    requires few { counts.now.records ≤ 99999999 }
+    ensures puts { Puts W.contents W.failures (repeated_at limit counts.now item.now repeated.now) result sink.old sink.new }
+    ensures fault { IfErr result (λ f. f.written ≡ written_of sink.new) }
+{
+    let Some(header) = work_header(item) else {
+        return Ok(());
+    };
+    text.set_repeated(limit, &Place::after(counts), &header, repeated);
+    sink.put(text.as_slice())
+}
+
+/// The same, as a part of what is written of items.
+fn put_repeated<W: Target>(
+    limit: u32,
+    counts: &Totals,
+    item: &Item,
+    repeated: &Repeated,
+    text: &mut AdviceText,
+    sink: &mut Sink<W>,
+) -> Result<(), ToolFault>
+    requires unfailed { has_failed sink.old ≡ false }
+    requires few { counts.now.records ≤ 99999999 }
+    ensures { PutsLines W.contents W.failures false (repeated_at limit counts.now item.now repeated.now) result sink.old sink.new }
+{
+    match put_work(limit, counts, item, repeated, text, sink) {
+        Ok(()) => Ok(()),
+        Err(fault) => Err(writer_fault(fault)),
+    }
+}
+
+/// Puts what is written of an item that comes after items with these numbers, which say so much of the transmission: its findings, which
+/// are counted, its advice, and what is to be told of it among the works before. The numbers of so many works are kept. Lines are made in
+/// the buffer.
+pub(crate) fn put_item<W: Target>(
+    explained: bool,
+    alloc: Global,
+    said: Said,
+    limit: u32,
+    counts: &Totals,
+    item: &Item,
+    repeated: &Repeated,
+    count: &mut u64,
+    text: &mut AdviceText,
+    sink: &mut Sink<W>,
+) -> Result<(), ToolFault>
+    requires unfailed { has_failed sink.old ≡ false }
+    requires room { counts.now.records ≤ 99999999 }
+    requires few { counts.now.records + length (item_records item.now) ≤ 99999999 }
+    ensures { PutsLines W.contents W.failures (has_advised item.now) (advised_at explained said counts.now item.now ++ repeated_at limit counts.now item.now repeated.now) result sink.old sink.new }
+{
+    put_own(explained, alloc, said, counts, item, count, text, sink)?;
+    put_repeated(limit, counts, item, repeated, text, sink)
 }

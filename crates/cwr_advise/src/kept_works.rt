@@ -29,13 +29,13 @@ impl Keeper for AdvisedSums {
     ghost use Rattle.std.specs.Prelude.{◌≡◌, []};
     ghost use Rattle.cwr_levels.specs.Format.Findings.{findings};
     ghost use Rattle.cwr_levels.specs.Steps.Sums.{StandFor};
-    ghost use Rattle.cwr_advice.specs.declared.characters.Characters.{Characters};
+    ghost use Rattle.cwr_advice.specs.declared.said.Said.{Said};
     ghost use Rattle.cwr_advice.specs.Format.Rules.{advice_of};
     ghost use Rattle.cwr_advice.specs.Steps.Kept.{StandsFor};
 
     ghost stands_for = { λ kept records. StandFor kept.findings records × StandsFor kept.advice records };
 
-    ghost are_clean = { λ records. (findings records ≡ []) × ((said : Characters) → advice_of said records ≡ []) };
+    ghost are_clean = { λ records. (findings records ≡ []) × ((said : Said) → advice_of said records ≡ []) };
 
     fn begin(&mut self, header: &RecordRef<'_>) -> bool {
         if !self.findings.begin(header) {

@@ -5,6 +5,8 @@ mod advice_texts;
 mod before;
 mod item_advice;
 mod kept_works;
+mod repeats;
 mod running;
 
-pub use running::advise;
+pub use item_advice::put_advised;
+pub use running::{advise, advise_up_to_fault};

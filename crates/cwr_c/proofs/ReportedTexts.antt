@@ -11,6 +11,7 @@ use Rattle.cwr_tools.specs.Format.Verdicts.{IsVerdictOn, JudgesText}
 use Rattle.cwr_tools.specs.Steps.Reports.{Reports}
 use Rattle.cwr_explain.specs.Format.Explained.{IsAnswerAfter}
 use Rattle.cwr_explain.specs.Steps.Explained.{Explains}
+use Rattle.cwr_lint.specs.Format.Wanted.{wanting}
 use Rattle.cwr_lint.specs.Steps.Lints.{Lints, Tells}
 use Rattle.cwr_c.specs.Steps.Reported.{IsExplainedOn, IsJudged, IsLintOn, IsTextOn, IsWritten}
 
@@ -53,12 +54,12 @@ explained_on_items {W = W} limits before after text report contents old new (Ok 
     by (Err f) r same = absurd (cc same)
 
 pub lint_on_items : {W : Type 0} (explained : Bool) (limits : Limits) (before after : Option (List ℕ)) (text report : List ℕ) (contents : W → Option (List ℕ)) (old new : W) (result : Result Verdict ToolFault)
-    → Lints explained limits before after contents old new result → before ≡ Some text → contents old ≡ Some [] → contents new ≡ Some report → IfOk result (Tells explained limits before after contents old new) → IsWritten (IsLintOn (lines_checked explained) limits text report) result
+    → Lints (wanting explained false) limits before after contents old new result → before ≡ Some text → contents old ≡ Some [] → contents new ≡ Some report → IfOk result (Tells (wanting explained false) limits before after contents old new) → IsWritten (IsLintOn (lines_checked explained) limits text report) result
 lint_on_items explained limits before after text report contents old new (Err fault) l e none has h = tt
 lint_on_items explained limits before after text report contents old new (Ok (Good groups transactions records)) l e none has h =
     text_on_items (lines_checked explained) limits before after text report contents old new (Ok (Good groups transactions records)) e none has h
 lint_on_items explained limits before after text report contents old new (Ok (Truncated records)) l e none has h =
     text_on_items (lines_checked explained) limits before after text report contents old new (Ok (Truncated records)) e none has h
 lint_on_items explained limits before after text report contents old new (Ok (Refused refusal)) l e none has h =
-    let there = subst (λ (b : Option (List ℕ)). Tells explained limits b after contents old new (Refused refusal)) e h in
+    let there = subst (λ (b : Option (List ℕ)). Tells (wanting explained false) limits b after contents old new (Refused refusal)) e h in
     (there.given, there.left, there.text, there.stopped, alone (contents old) (contents new) report _ none has there.written)

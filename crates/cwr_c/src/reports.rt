@@ -110,7 +110,7 @@ fn lint_report(alloc: Global, limits: Limits, text: &[u8]) -> (Vec<u8>, Result<V
 {
     let mut reader = Counted::new(text);
     let writer = Counted::new(Vec::new(alloc));
-    let (writer, verdict) = lint(alloc, limits, None, &mut reader, writer);
+    let (writer, verdict) = lint(alloc, limits, None, false, &mut reader, writer);
     (writer.into_inner(), verdict)
 }
 
@@ -126,7 +126,7 @@ fn explained_lint_report(
 {
     let mut reader = Counted::new(text);
     let writer = Counted::new(Vec::new(alloc));
-    let (writer, verdict) = lint(alloc, limits, Some(name), &mut reader, writer);
+    let (writer, verdict) = lint(alloc, limits, Some(name), false, &mut reader, writer);
     (writer.into_inner(), verdict)
 }
 

@@ -63,6 +63,12 @@ pub const UTF8: &str = "utf8";
 /// The id of the flag that asks for explanations.
 pub const EXPLAINED: &str = "explain";
 
+/// The id of the flag that asks for advice.
+pub const ADVICE: &str = "advice";
+
+/// The id of how many works' numbers are kept.
+pub const REPEATED: &str = "repeated";
+
 /// The id of the flag that leaves out what is good.
 pub const QUIET: &str = "quiet";
 
@@ -277,13 +283,32 @@ const JUDGED: [Word; 3] = [
 ];
 
 /// The words of the lint.
-const LINTED: [Word; 3] = [
+const LINTED: [Word; 4] = [
     Word {
         id: EXPLAINED,
         form: Form::Flag,
         help: "Explains each fault and each finding",
     },
+    Word {
+        id: ADVICE,
+        form: Form::Flag,
+        help: "Tells what a society may send back, too, as cwr advise does",
+    },
     SILENT,
+    MANY,
+];
+
+/// The words of advice.
+const ADVISED: [Word; 2] = [
+    Word {
+        id: REPEATED,
+        form: Form::Limit {
+            least: 0,
+            most: 99_999_999,
+            default: "0",
+        },
+        help: "Tells work numbers that stand twice: those of so many works are kept, 0 to 99999999",
+    },
     MANY,
 ];
 
@@ -430,7 +455,7 @@ const SUBCOMMANDS: [Subcommand; 13] = [
         name: ADVISE,
         about: "Judges transmissions, and tells what a society may send back all the same",
         common: Common::Reading,
-        own: &[MANY],
+        own: &ADVISED,
     },
     Subcommand {
         name: JSON,
@@ -582,8 +607,9 @@ With --json it writes all this as lines of JSON, an object for each acknowledgem
 Before it `cwr check` writes a line for each finding in a transaction, and `cwr show` each record with its cells:
   FINDING group G transaction T record S field F level L rule V
 
-`cwr advise` writes such lines too, and after those of a transaction a line for each piece of advice on it:
+`cwr advise` and `cwr lint --advice` write such lines too, and after those of a transaction the advice on it:
   ADVICE group G transaction T record S field F level L rule A
+  LIMIT repeated N group G transaction T     the numbers of N works are kept, and not that of this one
 
 Indented, `cwr explain` and `cwr advise` write under each what it says in words, and the cells that it speaks of. After the
 last line `cwr explain` writes what a refusal speaks of, what stands there and what may.

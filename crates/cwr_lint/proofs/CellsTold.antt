@@ -12,7 +12,7 @@ use Rattle.cwr_shape.specs.declared.reasons.Reason.{Reason}
 use Rattle.cwr_shape.specs.declared.reasons.Reason.TheVariants.{Misplaced, Cell, Excess}
 use Rattle.cwr_judge.specs.declared.refusals.Refusal.{Refusal}
 use Rattle.cwr_lint_lines.specs.Format.FaultsAtFields.{IsToldAt, IsToldOfCell, IsToldOfField, JudgedLine, fault_in, fields_end, number_in, number_reason, reason_if, tells_cells}
-use Rattle.cwr_lint.specs.Format.FaultsOfLines.{Tells, TellsMore}
+use Rattle.cwr_lint.specs.Format.FaultsOfLines.{Asking, Tells, TellsMore}
 use Rattle.cwr_lint.specs.Format.Laws.{CellsAreTold, IsToldWith}
 use Rattle.cwr_lint_lines.proofs.JudgedLines.{no_field_past}
 
@@ -25,19 +25,19 @@ one_there : (x : Refusal) → Contains (x ∷ []) x
 one_there x = (0, omega arith, refl)
 
 -- what was told by one field more
-told_last : (explained : Bool) (found : Option Refusal) (before told : List Refusal) (earlier text : List ℕ) (f : Refusal) → TellsMore explained found before earlier told text → Contains told f → Contains before f ⊎ (found ≡ Some f)
-told_last explained None before told earlier text f m c = inl (subst (λ (l : List Refusal). Contains l f) m.0 c)
-told_last explained (Some fault) before told earlier text f m c = by (Contains-append_cases before (fault ∷ []) f (subst (λ (l : List Refusal). Contains l f) m.0 c))
+told_last : (asked : Asking) (found : Option Refusal) (before told : List Refusal) (earlier text : List ℕ) (f : Refusal) → TellsMore asked found before earlier told text → Contains told f → Contains before f ⊎ (found ≡ Some f)
+told_last asked None before told earlier text f m c = inl (subst (λ (l : List Refusal). Contains l f) m.0 c)
+told_last asked (Some fault) before told earlier text f m c = by (Contains-append_cases before (fault ∷ []) f (subst (λ (l : List Refusal). Contains l f) m.0 c))
   where
     by : Contains before f ⊎ Contains (fault ∷ []) f → Contains before f ⊎ (Some fault ≡ Some f)
     by (inl h) = inl h
     by (inr h) = inr (ap (λ (x : Refusal). Some x) (sym (one_only fault f h)))
 
-told_on : (explained : Bool) (found : Option Refusal) (before told : List Refusal) (earlier text : List ℕ) (f : Refusal) → TellsMore explained found before earlier told text → Contains before f ⊎ (found ≡ Some f) → Contains told f
-told_on explained None before told earlier text f m (inl h) = subst (λ (l : List Refusal). Contains l f) (sym m.0) h
-told_on explained None before told earlier text f m (inr e) = absurd (cc e)
-told_on explained (Some fault) before told earlier text f m (inl h) = subst (λ (l : List Refusal). Contains l f) (sym m.0) (Contains-append_left before (fault ∷ []) f h)
-told_on explained (Some fault) before told earlier text f m (inr e) =
+told_on : (asked : Asking) (found : Option Refusal) (before told : List Refusal) (earlier text : List ℕ) (f : Refusal) → TellsMore asked found before earlier told text → Contains before f ⊎ (found ≡ Some f) → Contains told f
+told_on asked None before told earlier text f m (inl h) = subst (λ (l : List Refusal). Contains l f) (sym m.0) h
+told_on asked None before told earlier text f m (inr e) = absurd (cc e)
+told_on asked (Some fault) before told earlier text f m (inl h) = subst (λ (l : List Refusal). Contains l f) (sym m.0) (Contains-append_left before (fault ∷ []) f h)
+told_on asked (Some fault) before told earlier text f m (inr e) =
     let same : fault ≡ f = cc e in
     subst (λ (l : List Refusal). Contains l f) (sym m.0) (Contains-append_right before (fault ∷ []) f (subst (Contains (fault ∷ [])) same (one_there fault)))
 
@@ -58,12 +58,12 @@ is_of l j (Some r) f e = let same : _ ≡ f = some_same e in (r, refl, ap (λ (x
     some_same : {x y : Refusal} → Some x ≡ Some y → x ≡ y
     some_same e = cc e
 
-pub told_only : (explained : Bool) (l : JudgedLine) (from upto : ℕ) (told : List Refusal) (text : List ℕ) (f : Refusal) → Tells explained l from upto told text → Contains told f → IsOfField l from upto f
-told_only explained l from zero told text f t c = absurd (none_there (subst (λ (x : List Refusal). Contains x f) t.0 c))
+pub told_only : (asked : Asking) (l : JudgedLine) (from upto : ℕ) (told : List Refusal) (text : List ℕ) (f : Refusal) → Tells asked l from upto told text → Contains told f → IsOfField l from upto f
+told_only asked l from zero told text f t c = absurd (none_there (subst (λ (x : List Refusal). Contains x f) t.0 c))
   where
     none_there : Contains [] f → ⊥
     none_there (k, h, e) = omega (arith, h)
-told_only explained l from (suc j) told text f (reason, is, silent, before, earlier, t, m) c = by (λ h. told_only explained l from j before earlier f t h) (told_last explained (fault_in l j reason) before told earlier text f m c)
+told_only asked l from (suc j) told text f (reason, is, silent, before, earlier, t, m) c = by (λ h. told_only asked l from j before earlier f t h) (told_last asked (fault_in l j reason) before told earlier text f m c)
   where
     early : (from ≤ j) ⊎ (j < from) → (r : Reason) → reason ≡ Some r → from ≤ j
     early (inl h) r e = h
@@ -99,10 +99,10 @@ told_only explained l from (suc j) told text f (reason, is, silent, before, earl
     }
 
 -- what is told at a field is among them
-pub told_each : (explained : Bool) (l : JudgedLine) (from upto j : ℕ) (told : List Refusal) (text : List ℕ) → Tells explained l from upto told text → from ≤ j → j < upto
+pub told_each : (asked : Asking) (l : JudgedLine) (from upto j : ℕ) (told : List Refusal) (text : List ℕ) → Tells asked l from upto told text → from ≤ j → j < upto
     → (reason : Option Reason) × IsToldAt l j reason × ((f : Refusal) → fault_in l j reason ≡ Some f → Contains told f)
-told_each explained l from zero j told text t first last = absurd (omega (arith, last))
-told_each explained l from (suc i) j told text (reason, is, silent, before, earlier, t, m) first last = by (λ h. told_each explained l from i j before earlier t first h) (same_or j i last)
+told_each asked l from zero j told text t first last = absurd (omega (arith, last))
+told_each asked l from (suc i) j told text (reason, is, silent, before, earlier, t, m) first last = by (λ h. told_each asked l from i j before earlier t first h) (same_or j i last)
   where
     same_or : (j i : ℕ) → j < suc i → (j ≡ i) ⊎ (j < i)
     same_or zero zero h = inl refl
@@ -119,10 +119,10 @@ told_each explained l from (suc i) j told text (reason, is, silent, before, earl
     by go (inl e) = (
       reason,
       subst (λ (k : ℕ). IsToldAt l k reason) (sym e) (is (omega (arith, first, e))),
-      λ f h. told_on explained (fault_in l i reason) before told earlier text f m (inr (subst (λ (k : ℕ). fault_in l k reason ≡ Some f) e h)),
+      λ f h. told_on asked (fault_in l i reason) before told earlier text f m (inr (subst (λ (k : ℕ). fault_in l k reason ≡ Some f) e h)),
     )
     by go (inr h) = let o = go h in
-        (o.0, o.1, λ f e. told_on explained (fault_in l i reason) before told earlier text f m (inl (o.2 f e)))
+        (o.0, o.1, λ f e. told_on asked (fault_in l i reason) before told earlier text f m (inl (o.2 f e)))
 
 -- the fault with a reason that is told
 with_reason : (l : JudgedLine) (j : ℕ) (told : List Refusal) (reason : Option Reason) (r : Reason) → reason ≡ Some r → ((f : Refusal) → fault_in l j reason ≡ Some f → Contains told f) → IsToldWith told j r
@@ -167,20 +167,20 @@ if_true true r e = refl
 if_true false r e = absurd (cc e)
 
 pub cells_are_told : CellsAreTold
-cells_are_told explained l kind told text known t = record {
+cells_are_told asked l kind told text known t = record {
   cells = λ f cell k fault two at there cells. (
     λ h. cell_here f cell k fault two at there cells h,
-    λ has. let o = told_each explained l 1 (fields_end l.cut.kind) k told text t (omega (arith, two)) (omega (arith, within kind k f at, end)) in
+    λ has. let o = told_each asked l 1 (fields_end l.cut.kind) k told text t (omega (arith, two)) (omega (arith, within kind k f at, end)) in
         with_reason l k told o.0 (Cell fault) (cell_told f.ty cell (number_in l k) fault o.0 (told_of (tells_cells l) f.ty cell (number_in l k) o.0 cells (o.1.cell kind f cell known two at there)) has) o.2,
   );
   excess = (
     λ h. excess_here h,
-    λ e. let o = told_each explained l 1 (fields_end l.cut.kind) (length (layout kind) + 1) told text t (omega arith) (omega (arith, end)) in
+    λ e. let o = told_each asked l 1 (fields_end l.cut.kind) (length (layout kind) + 1) told text t (omega arith) (omega (arith, end)) in
         with_reason l (length (layout kind) + 1) told o.0 Excess (o.1.excess kind known (omega (arith, some_fields)) (omega arith) ∙ ap (λ (b : Bool). reason_if b Excess) e) o.2,
   );
   order = (
     λ h. order_here h,
-    λ e. let o = told_each explained l 1 (fields_end l.cut.kind) 1 told text t (omega arith) (omega (arith, end)) in
+    λ e. let o = told_each asked l 1 (fields_end l.cut.kind) 1 told text t (omega arith) (omega (arith, end)) in
         with_reason l 1 told o.0 Misplaced (o.1.order kind known refl ∙ ap (λ (b : Bool). reason_if b Misplaced) e) o.2,
   );
 } where
@@ -192,18 +192,18 @@ cells_are_told explained l kind told text known t = record {
 
   cell_here : (f : FieldLayout) (cell : List ℕ) (k : ℕ) (fault : CellFault) → 2 ≤ k → field_at kind k ≡ Some f → slice_get l.cut.cells (k - 1) ≡ Some cell → tells_cells l ≡ true → IsToldWith told k (Cell fault) → HasFault f.ty cell fault
   cell_here f cell k fault two at there cells (r, c, is_k, is_reason) =
-      let o = told_only explained l 1 (fields_end l.cut.kind) told text r t c in
+      let o = told_only asked l 1 (fields_end l.cut.kind) told text r t c in
       let here : IsToldAt l k (Some (Cell fault)) = subst (λ (x : Reason). IsToldAt l k (Some x)) (sym o.is_reason ∙ is_reason) (subst (λ (j : ℕ). IsToldAt l j (Some o.reason)) (sym o.is_field ∙ is_k) o.told) in
       cell_of f.ty cell (number_in l k) fault (told_of (tells_cells l) f.ty cell (number_in l k) (Some (Cell fault)) cells (here.cell kind f cell known two at there))
 
   excess_here : IsToldWith told (length (layout kind) + 1) Excess → l.cut.excess ≡ true
   excess_here (r, c, is_k, is_reason) =
-      let o = told_only explained l 1 (fields_end l.cut.kind) told text r t c in
+      let o = told_only asked l 1 (fields_end l.cut.kind) told text r t c in
       let here : IsToldAt l (length (layout kind) + 1) (Some Excess) = subst (λ (x : Reason). IsToldAt l (length (layout kind) + 1) (Some x)) (sym o.is_reason ∙ is_reason) (subst (λ (j : ℕ). IsToldAt l j (Some o.reason)) (sym o.is_field ∙ is_k) o.told) in
       if_true l.cut.excess Excess (here.excess kind known (omega (arith, some_fields)) (omega arith))
 
   order_here : IsToldWith told 1 Misplaced → l.misplaced ≡ true
   order_here (r, c, is_k, is_reason) =
-      let o = told_only explained l 1 (fields_end l.cut.kind) told text r t c in
+      let o = told_only asked l 1 (fields_end l.cut.kind) told text r t c in
       let here : IsToldAt l 1 (Some Misplaced) = subst (λ (x : Reason). IsToldAt l 1 (Some x)) (sym o.is_reason ∙ is_reason) (subst (λ (j : ℕ). IsToldAt l j (Some o.reason)) (sym o.is_field ∙ is_k) o.told) in
       if_true l.misplaced Misplaced (here.order kind known refl)

@@ -1,3 +1,4 @@
+mod AdviceTold
 mod Awaited
 mod CellsTold
 mod FairStates

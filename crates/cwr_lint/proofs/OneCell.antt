@@ -155,7 +155,7 @@ over_at_end limits v last range whole within stands =
 -- ---- just that cell
 
 pub one_cell : OneCellIsTold
-one_cell explained limits text left refusal tally refused lines last over bytes written before wrong kind k d short is_refused taken read cut told =
+one_cell asked limits text left refusal tally refused lines last over bytes written before wrong kind k d short is_refused taken read cut told =
     (rec_is, field_is, first.2.nothing, later)
   where
     place : OtherPlace limits text before wrong kind k d
@@ -264,7 +264,7 @@ one_cell explained limits text left refusal tally refused lines last over bytes 
     fair = subst (λ (c : Counts). Fair tally.stage c begins.state) counted.counted (fair_at tally.stage tally.counts (refusal.rec - 1) lines_counted fits room)
 
     first : (to : Stage) × IsAfter front r tally.stage to × IsQuiet told.others to (counts_of (map symbol_of (front ++ r ∷ []))) told.between.state (is_ended to)
-    first = row_quiet explained limits front r tally.stage d.right refused k (min (refusal.field + 1) (2 ^ 8 - 1)) begins told.between told.others told.beside at right_of same derived (inl late) (omega (arith, late)) fair
+    first = row_quiet asked limits front r tally.stage d.right refused k (min (refusal.field + 1) (2 ^ 8 - 1)) begins told.between told.others told.beside at right_of same derived (inl late) (omega (arith, late)) fair
         (λ _. fresh_at tally.stage tally.counts (refusal.rec - 1)) told.tells_others
 
     assoc : (front ++ r ∷ []) ++ place.front.more ≡ records_of d.value
@@ -276,7 +276,7 @@ one_cell explained limits text left refusal tally refused lines last over bytes 
         (append_assoc place.cut.front (place.cut.at ∷ []) place.cut.rest ∙ sym place.cut.split ∙ rows_split d.value (front ++ r ∷ []) place.front.more d.whole (sym assoc))).1
 
     later : told.later ≡ []
-    later = rest_quiet explained limits (front ++ r ∷ []) place.front.more first.0 lines d.after told.between told.last told.later told.after d.range
+    later = rest_quiet asked limits (front ++ r ∷ []) place.front.more first.0 lines d.after told.between told.last told.later told.after d.range
         (all_back front r place.front.more (subst (AllByRecursion IsRecord) place.front.split (records_in_order d.value d.whole)))
         (subst (λ (rs : List RecordValue). Continues (IsWithin limits) (map symbol_of rs)) (sym (append_assoc front (r ∷ []) place.front.more)) whole) first.1.stands (not_start tally.stage first.0 (symbol_of r) first.1.next) first.2.fair first.2.over_is
         (λ end stands. over_at_end limits d.value end d.range d.whole d.within (subst (λ (rs : List RecordValue). StandsAt (map symbol_of rs) end) assoc stands))

@@ -19,7 +19,7 @@ use Rattle.cwr_shape.specs.declared.reasons.Reason.{Reason}
 use Rattle.cwr_shape.specs.declared.reasons.Reason.TheVariants.{Misplaced, Excess}
 use Rattle.cwr_judge.specs.declared.refusals.Refusal.{Refusal}
 use Rattle.cwr_lint_lines.specs.Format.FaultsAtFields.{IsToldAt, IsToldOfCell, IsToldOfField, JudgedLine, LineCut, fault_in, number_in, number_reason, reason_if}
-use Rattle.cwr_lint.specs.Format.FaultsOfLines.{Tells, TellsMore}
+use Rattle.cwr_lint.specs.Format.FaultsOfLines.{Asking, Tells, TellsMore}
 
 -- ---- nothing is told
 
@@ -32,16 +32,16 @@ compared (suc a) (suc b) = step (compared a b)
     step (inl h) = inl (omega (arith, h))
     step (inr h) = inr (omega (arith, h))
 
-pub nothing_told : (explained : Bool) (l : JudgedLine) (from upto : ℕ) (told : List Refusal) (text : List ℕ) → ((j : ℕ) (found : Option Reason) → from ≤ j → j < upto → IsToldAt l j found → found ≡ None) → Tells explained l from upto told text → told ≡ []
-nothing_told explained l from zero told text quiet t = t.0
-nothing_told explained l from (suc j) told text quiet (reason, is, silent, before, earlier, t, m) =
-    by reason (none (compared from j)) m ∙ nothing_told explained l from j before earlier (λ i found a b. quiet i found a (omega (arith, b))) t
+pub nothing_told : (asked : Asking) (l : JudgedLine) (from upto : ℕ) (told : List Refusal) (text : List ℕ) → ((j : ℕ) (found : Option Reason) → from ≤ j → j < upto → IsToldAt l j found → found ≡ None) → Tells asked l from upto told text → told ≡ []
+nothing_told asked l from zero told text quiet t = t.0
+nothing_told asked l from (suc j) told text quiet (reason, is, silent, before, earlier, t, m) =
+    by reason (none (compared from j)) m ∙ nothing_told asked l from j before earlier (λ i found a b. quiet i found a (omega (arith, b))) t
   where
     none : (from ≤ j) ⊎ (j < from) → reason ≡ None
     none (inl h) = quiet j reason h (omega arith) (is h)
     none (inr h) = silent h
 
-    by : (o : Option Reason) → o ≡ None → TellsMore explained (fault_in l j o) before earlier told text → told ≡ before
+    by : (o : Option Reason) → o ≡ None → TellsMore asked (fault_in l j o) before earlier told text → told ≡ before
     by None e m = m.0
     by (Some r) e m = absurd (cc e)
 

@@ -3,6 +3,7 @@ use Rattle.std.proofs.Common.{◌≡◌, ◌≢◌, ℕ, ◌<◌, ◌≤◌, Boo
 use Rattle.std.specs.Prelude.{◌⊎◌, ◌==◌, is_some}
 use Rattle.std.specs.List.{AllByRecursion, AllZip}
 use Rattle.std.proofs.lemmas.List.{map-append}
+use Rattle.cwr_lint.specs.Format.FaultsOfLines.{Asking}
 use Rattle.cwr_layouts.specs.declared.kinds.Kind.{Kind}
 use Rattle.cwr_lines.specs.Format.Lines.{IsLineOf}
 use Rattle.cwr_lines.specs.Format.Records.{RecordValue, IsRecord, row_of}
@@ -44,10 +45,10 @@ pub record IsQuiet (told : List Refusal) (stage : Stage) (c : Counts) (st : Lint
   pub fair : Fair stage c st
   pub over_is : st.over ≡ over
 
-pub quiet_line : (explained : Bool) (old new : Walk) (l : LineCut) (kind : Kind) (k from : ℕ) (stage : Stage) (c : Counts) (over : Bool) (told : List Refusal) (text : List ℕ) → GoesOn l kind k stage c old.state over → AllowsFrom l kind from → l.kind ≡ Some kind → l.excess ≡ false
-    → 1 ≤ from → ((j : ℕ) → from ≤ j → j ≢ k) → WalksLine explained old l from told text new → IsQuiet told stage c new.state over
-quiet_line explained old new l kind k from stage c over told text goes allows known excess one apart w = record {
-  nothing = nothing_told explained (judged_line old.state l) from (fields_end l.kind) told w.tells.lines
+pub quiet_line : (asked : Asking) (old new : Walk) (l : LineCut) (kind : Kind) (k from : ℕ) (stage : Stage) (c : Counts) (over : Bool) (told : List Refusal) (text : List ℕ) → GoesOn l kind k stage c old.state over → AllowsFrom l kind from → l.kind ≡ Some kind → l.excess ≡ false
+    → 1 ≤ from → ((j : ℕ) → from ≤ j → j ≢ k) → WalksLine asked old l from told text new → IsQuiet told stage c new.state over
+quiet_line asked old new l kind k from stage c over told text goes allows known excess one apart w = record {
+  nothing = nothing_told asked (judged_line old.state l) from (fields_end l.kind) told w.tells.lines
       (λ j found a b t. quiet_at (judged_line old.state l) kind from j found known placed excess (number j (apart j a)) allows (omega (arith, one, a)) a t) w.tells.tells;
   fair = subst (Fair stage c) (sym state) goes.fair;
   over_is = ap (λ (s : LintState). s.over) state ∙ goes.over_is;
@@ -81,10 +82,10 @@ pub record IsAfter (before : List RecordValue) (r : RecordValue) (stage to : Sta
   pub next : next_stage stage (symbol_of r) ≡ Some to
   pub stands : StandsAt (map symbol_of (before ++ r ∷ [])) to
 
-pub row_quiet : (explained : Bool) (limits : LimitValues) (before : List RecordValue) (r : RecordValue) (stage : Stage) (line other : List ℕ) (k from : ℕ) (old new : Walk) (told : List Refusal) (text : List ℕ) → IsAt limits before r stage → IsLineOf (row_after before r) line
-    → HasOtherCell k line other → IsDerivedIn r.kind k → (k < from) ⊎ (k ≡ 0) → 1 ≤ from → Fair stage (counts_of (map symbol_of before)) old.state → (k ≢ 0 → Fresh old.state) → WalksLine explained old (cut_of other) from told text new
+pub row_quiet : (asked : Asking) (limits : LimitValues) (before : List RecordValue) (r : RecordValue) (stage : Stage) (line other : List ℕ) (k from : ℕ) (old new : Walk) (told : List Refusal) (text : List ℕ) → IsAt limits before r stage → IsLineOf (row_after before r) line
+    → HasOtherCell k line other → IsDerivedIn r.kind k → (k < from) ⊎ (k ≡ 0) → 1 ≤ from → Fair stage (counts_of (map symbol_of before)) old.state → (k ≢ 0 → Fresh old.state) → WalksLine asked old (cut_of other) from told text new
     → (to : Stage) × IsAfter before r stage to × IsQuiet told to (counts_of (map symbol_of (before ++ r ∷ []))) new.state (is_ended to)
-row_quiet explained limits before r stage line other k from old new told text at l same derived late one fair fresh w =
+row_quiet asked limits before r stage line other k from old new told text at l same derived late one fair fresh w =
     let xs : List Symbol = map symbol_of before in
     let s : Symbol = symbol_of r in
     let on = comes_next limits xs stage s at.range at.stands at.comes in
@@ -92,7 +93,7 @@ row_quiet explained limits before r stage line other k from old new told text at
     let goes = line_goes_on limits (record { limits = limits; stage = stage; counts = counts_of xs }) xs r on.to line other old.state k from at.begun tally at.in_order at.comes on.next on.small l same derived late fair fresh in
     let grown : map symbol_of (before ++ r ∷ []) ≡ xs ++ s ∷ [] = map-append symbol_of before (r ∷ []) in
     let counted : counts_with (stage_type stage) (counts_of xs) s ≡ counts_of (map symbol_of (before ++ r ∷ [])) = counted_next (record { limits = limits; stage = stage; counts = counts_of xs }) xs s tally (ap is_some on.next) ∙ sym (ap counts_of grown) in
-    let quiet = quiet_line explained old new (cut_of other) r.kind k from on.to (counts_with (stage_type stage) (counts_of xs) s) (is_ended on.to) told text goes.0 goes.1 goes.2 same.excess one (λ j a q. apart late j a q) w in (
+    let quiet = quiet_line asked old new (cut_of other) r.kind k from on.to (counts_with (stage_type stage) (counts_of xs) s) (is_ended on.to) told text goes.0 goes.1 goes.2 same.excess one (λ j a q. apart late j a q) w in (
       on.to,
       record { next = on.next; stands = subst (λ (ys : List Symbol). StandsAt ys on.to) (sym grown) on.stands },
       subst (λ (c : Counts). IsQuiet told on.to c new.state (is_ended on.to)) counted quiet,
@@ -130,21 +131,21 @@ not_start stage to s e q = never stage s (e ∙ ap (λ (x : Stage). Some x) q)
     never Closed (Plain kinds.Trl) e = cc e
     never x y e = cc e
 
-pub rest_quiet : (explained : Bool) (limits : LimitValues) (before rest : List RecordValue) (stage : Stage) (lines rows : List (List ℕ)) (old new : Walk) (told : List Refusal) (text : List ℕ) → AreInRange limits → AllByRecursion IsRecord rest
+pub rest_quiet : (asked : Asking) (limits : LimitValues) (before rest : List RecordValue) (stage : Stage) (lines rows : List (List ℕ)) (old new : Walk) (told : List Refusal) (text : List ℕ) → AreInRange limits → AllByRecursion IsRecord rest
     → Continues (IsWithin limits) (map symbol_of (before ++ rest)) → StandsAt (map symbol_of before) stage → stage ≢ Start → Fair stage (counts_of (map symbol_of before)) old.state → old.state.over ≡ is_ended stage → ((last : Stage) → StandsAt (map symbol_of (before ++ rest)) last → is_ended last ≡ true)
-    → AllZip IsLineOf (rows_after before rest) rows → Agree lines rows → WalksLines explained old lines told text new → told ≡ []
+    → AllZip IsLineOf (rows_after before rest) rows → Agree lines rows → WalksLines asked old lines told text new → told ≡ []
 unfolding rows_after
-rest_quiet explained limits before rest stage [] rows old new told text range order w st begun fair over last z agree walks = walks.0
-rest_quiet explained limits before [] stage (line ∷ lines) rows old new told text range order w st begun fair over last z agree walks = absurd (true≢false (sym (last stage (subst (λ (l : List RecordValue). StandsAt (map symbol_of l) stage) (sym (append-nil before)) st)) ∙ sym over ∙ walks.0))
-rest_quiet explained limits before (r ∷ rest) stage (line ∷ lines) [] old new told text range order w st begun fair over last z agree walks = absurd z
-rest_quiet explained limits before (r ∷ rest) stage (line ∷ lines) (row ∷ rows) old new told text range order w st begun fair over last z agree (on, between, here, first, later, more, one, walks, e, f) =
+rest_quiet asked limits before rest stage [] rows old new told text range order w st begun fair over last z agree walks = walks.0
+rest_quiet asked limits before [] stage (line ∷ lines) rows old new told text range order w st begun fair over last z agree walks = absurd (true≢false (sym (last stage (subst (λ (l : List RecordValue). StandsAt (map symbol_of l) stage) (sym (append-nil before)) st)) ∙ sym over ∙ walks.0))
+rest_quiet asked limits before (r ∷ rest) stage (line ∷ lines) [] old new told text range order w st begun fair over last z agree walks = absurd z
+rest_quiet asked limits before (r ∷ rest) stage (line ∷ lines) (row ∷ rows) old new told text range order w st begun fair over last z agree (on, between, here, first, later, more, one, walks, e, f) =
     let xs : List Symbol = map symbol_of before in
     let whole : Continues (IsWithin limits) (xs ++ symbol_of r ∷ map symbol_of rest) = subst (Continues (IsWithin limits)) (map-append symbol_of before (r ∷ rest)) w in
     let at : IsAt limits before r stage = record { range = range; stands = st; begun = begun; within = front_itself limits xs (symbol_of r ∷ map symbol_of rest) whole; in_order = order.0; comes = front_continues limits xs (symbol_of r) (map symbol_of rest) whole } in
     let l : IsLineOf (row_after before r) line = subst (IsLineOf (row_after before r)) (sym agree.0) z.0 in
-    let q = row_quiet explained limits before r stage line line 0 1 old between here first at l (same_line line (numbers_after xs r.kind) r order.0 l) (inl refl) (inr refl) (omega arith) fair (λ zero_is. absurd (zero_is refl)) one in
+    let q = row_quiet asked limits before r stage line line 0 1 old between here first at l (same_line line (numbers_after xs r.kind) r order.0 l) (inl refl) (inr refl) (omega arith) fair (λ zero_is. absurd (zero_is refl)) one in
     let assoc : (before ++ r ∷ []) ++ rest ≡ before ++ r ∷ rest = append_assoc before (r ∷ []) rest in
-    let none : later ≡ [] = rest_quiet explained limits (before ++ r ∷ []) rest q.0 lines rows between new later more range order.1
+    let none : later ≡ [] = rest_quiet asked limits (before ++ r ∷ []) rest q.0 lines rows between new later more range order.1
     (subst (λ (rs : List RecordValue). Continues (IsWithin limits) (map symbol_of rs)) (sym assoc) w) q.1.stands (not_start stage q.0 (symbol_of r) q.1.next) q.2.fair q.2.over_is
     (λ end stands. last end (subst (λ (rs : List RecordValue). StandsAt (map symbol_of rs) end) assoc stands)) z.1 agree.1 walks in
     e ∙ ap (λ (t : List Refusal). t ++ later) q.2.nothing ∙ none

@@ -12,7 +12,7 @@ use Rattle.cwr_lint.specs.declared.linting.LintRun.{LintRun}
 use Rattle.cwr_lint.specs.declared.raw_lines.RawLine.{RawLine}
 use Rattle.cwr_lines.specs.Format.Records.{RecordValue}
 use Rattle.cwr_lint_lines.specs.Format.FaultsAtFields.{LineCut, cut_of, one_more_line}
-use Rattle.cwr_lint.specs.Format.FaultsOfLines.{count_after}
+use Rattle.cwr_lint.specs.Format.FaultsOfLines.{Asking, count_after}
 use Rattle.cwr_lint.specs.Steps.Walks.{Walk, WalksLine, WalksLines}
 use Rattle.cwr_lint.specs.Format.Told.{truncated_unless}
 use Rattle.cwr_lint_lines.specs.Steps.Cells.{held_cut}
@@ -22,10 +22,10 @@ use Rattle.cwr_lint.proofs.RawLines.{ends_with, goes_both, goes_line, goes_none,
 
 -- ---- one line
 
-pub next_taken : (explained : Bool) (left after : Option (List ℕ)) (before raw : RawLine) (old new : LintRun) (more : Bool) (text : List ℕ) → old.state.over ≡ false → before.ended ≡ true → ReadsLine left after raw → TakesRead explained (held_cut (held_raw raw)) old new more text
-    → TakesNextIf explained left after before raw old new more text
-next_taken explained left after before raw old new true text on ended r t = record { on = on; goes = ended; read = r; takes = subst (λ (c : LineCut). TakesLine explained c 1 old new text) (raw_cut r.line raw r.holds) t }
-next_taken explained left after before raw old new false text on ended r t = absurd t
+pub next_taken : (asked : Asking) (left after : Option (List ℕ)) (before raw : RawLine) (old new : LintRun) (more : Bool) (text : List ℕ) → old.state.over ≡ false → before.ended ≡ true → ReadsLine left after raw → TakesRead asked (held_cut (held_raw raw)) old new more text
+    → TakesNextIf asked left after before raw old new more text
+next_taken asked left after before raw old new true text on ended r t = record { on = on; goes = ended; read = r; takes = subst (λ (c : LineCut). TakesLine asked c 1 old new text) (raw_cut r.line raw r.holds) t }
+next_taken asked left after before raw old new false text on ended r t = absurd t
 
 pub none_left : (left : Option (List ℕ)) (before : RawLine) (run : LintRun) → (run.state.over ≡ true) ⊎ (before.ended ≡ false) → TakesNone left left before run run []
 none_left left before run (inl e) = record { nothing = refl; same = refl; kept = Consumes-nil left; why = inl e }
@@ -36,21 +36,21 @@ none_read left after before run r = record { nothing = refl; same = refl; kept =
 
 -- ---- lines
 
-walks_more : (explained : Bool) (old between new : Walk) (lines : List (List ℕ)) (line : List ℕ) (told here : List Refusal) (text more : List ℕ) → WalksLines explained old lines told text between → between.state.over ≡ false → WalksLine explained between (cut_of line) 1 here more new
-    → WalksLines explained old (lines ++ line ∷ []) (told ++ here) (text ++ more) new
-walks_more explained old between new [] line told here text more p on q = (
+walks_more : (asked : Asking) (old between new : Walk) (lines : List (List ℕ)) (line : List ℕ) (told here : List Refusal) (text more : List ℕ) → WalksLines asked old lines told text between → between.state.over ≡ false → WalksLine asked between (cut_of line) 1 here more new
+    → WalksLines asked old (lines ++ line ∷ []) (told ++ here) (text ++ more) new
+walks_more asked old between new [] line told here text more p on q = (
   ap (λ (w : Walk). w.state.over) (sym p.2) ∙ on,
   new,
   here,
   more,
   [],
   [],
-  subst (λ (w : Walk). WalksLine explained w (cut_of line) 1 here more new) p.2 q,
+  subst (λ (w : Walk). WalksLine asked w (cut_of line) 1 here more new) p.2 q,
   (refl, refl, refl),
   ap (λ (l : List Refusal). l ++ here) p.0 ∙ sym (append-nil here),
   ap (λ (l : List ℕ). l ++ more) p.1 ∙ sym (append-nil more),
 )
-walks_more explained old between new (first ∷ lines) line told here text more (opened_now, w, a, b, c, d, p, rest, e, f) on q = (
+walks_more asked old between new (first ∷ lines) line told here text more (opened_now, w, a, b, c, d, p, rest, e, f) on q = (
   opened_now,
   w,
   a,
@@ -58,7 +58,7 @@ walks_more explained old between new (first ∷ lines) line told here text more 
   c ++ here,
   d ++ more,
   p,
-  walks_more explained w between new lines line c here d more rest on q,
+  walks_more asked w between new lines line c here d more rest on q,
   ap (λ (l : List Refusal). l ++ here) e ∙ append_assoc a c here,
   ap (λ (l : List ℕ). l ++ more) f ∙ append_assoc b d more,
 )
@@ -71,8 +71,8 @@ count_more : (n : ℕ) (lines : List (List ℕ)) (line : List ℕ) → count_aft
 count_more n [] line = refl
 count_more n (first ∷ lines) line = count_more (one_more_line n) lines line
 
-pub lines_none : (explained : Bool) (left : Option (List ℕ)) (ended : Bool) (run : LintRun) → TakesLines explained left left ended ended run run []
-lines_none explained left ended run = record {
+pub lines_none : (asked : Asking) (left : Option (List ℕ)) (ended : Bool) (run : LintRun) → TakesLines asked left left ended ended run run []
+lines_none asked left ended run = record {
   bytes = [];
   taken = Consumes-nil left;
   lines = [];
@@ -85,9 +85,9 @@ lines_none explained left ended run = record {
   over = λ e. inl (refl, e);
 }
 
-pub lines_more : (explained : Bool) (left mid after : Option (List ℕ)) (ended : Bool) (before raw : RawLine) (old between new : LintRun) (text more : List ℕ) → TakesLines explained left mid ended before.ended old between text → TakesNext explained mid after before raw between new more
-    → TakesLines explained left after ended raw.ended old new (text ++ more)
-lines_more explained left mid after ended before raw old between new text more p q =
+pub lines_more : (asked : Asking) (left mid after : Option (List ℕ)) (ended : Bool) (before raw : RawLine) (old between new : LintRun) (text more : List ℕ) → TakesLines asked left mid ended before.ended old between text → TakesNext asked mid after before raw between new more
+    → TakesLines asked left after ended raw.ended old new (text ++ more)
+lines_more asked left mid after ended before raw old between new text more p q =
     let line : List ℕ = q.read.line in record {
       bytes = p.bytes ++ spelled raw.ended line;
       taken = Consumes-trans left mid after p.bytes (spelled raw.ended line) p.taken q.read.taken;
@@ -95,27 +95,27 @@ lines_more explained left mid after ended before raw old between new text more p
       goes = goes_both ended before.ended raw.ended p.bytes (spelled raw.ended line) p.lines (line ∷ []) p.goes (subst (λ (b : Bool). GoesOn b (spelled raw.ended line) (line ∷ []) raw.ended) (sym q.goes) (goes_line line raw.ended));
       no_lf = all_more p.lines line p.no_lf q.read.holds.no_lf;
       told = p.told ++ q.takes.told;
-      walks = walks_more explained (walk_of old) (walk_of between) (walk_of new) p.lines line p.told q.takes.told text more p.walks q.on q.takes.walks;
+      walks = walks_more asked (walk_of old) (walk_of between) (walk_of new) p.lines line p.told q.takes.told text more p.walks q.on q.takes.walks;
       counted = q.takes.lines ∙ ap one_more_line p.counted ∙ sym (count_more old.state.lines p.lines line);
       faults = λ few. omega (arith, p.faults few, q.takes.faults, length-append p.told q.takes.told);
       over = λ e. inr (p.lines, line, refl, q.takes.over e);
     }
 
 -- the lines that were read so far, of which the last one is this
-pub record RunSoFar (explained : Bool) (left now : Option (List ℕ)) (ended : Bool) (before : RawLine) (old new : LintRun) (count : ℕ) (text : List ℕ) : Type 0 where
-  pub takes : TakesLines explained left now ended before.ended old new text
+pub record RunSoFar (asked : Asking) (left now : Option (List ℕ)) (ended : Bool) (before : RawLine) (old new : LintRun) (count : ℕ) (text : List ℕ) : Type 0 where
+  pub takes : TakesLines asked left now ended before.ended old new text
   pub all : before.ended ≡ false → (ended ≡ false) ⊎ IsAllRead left now takes.bytes
   pub many : count ≤ length takes.bytes
 
-pub run_none : (explained : Bool) (left : Option (List ℕ)) (first : RawLine) (run : LintRun) → RunSoFar explained left left first.ended first run run 0 []
+pub run_none : (asked : Asking) (left : Option (List ℕ)) (first : RawLine) (run : LintRun) → RunSoFar asked left left first.ended first run run 0 []
 unfolding lines_none
-run_none explained left first run = record { takes = lines_none explained left first.ended run; all = λ e. inl e; many = omega arith }
+run_none asked left first run = record { takes = lines_none asked left first.ended run; all = λ e. inl e; many = omega arith }
 
-pub run_more : (explained : Bool) (left mid after : Option (List ℕ)) (ended : Bool) (before raw : RawLine) (old between new : LintRun) (count : ℕ) (text more : List ℕ) → RunSoFar explained left mid ended before old between count text
-    → TakesNext explained mid after before raw between new more → RunSoFar explained left after ended raw old new (count + 1) (text ++ more)
+pub run_more : (asked : Asking) (left mid after : Option (List ℕ)) (ended : Bool) (before raw : RawLine) (old between new : LintRun) (count : ℕ) (text more : List ℕ) → RunSoFar asked left mid ended before old between count text
+    → TakesNext asked mid after before raw between new more → RunSoFar asked left after ended raw old new (count + 1) (text ++ more)
 unfolding lines_more
-run_more explained left mid after ended before raw old between new count text more p q = record {
-  takes = lines_more explained left mid after ended before raw old between new text more p.takes q;
+run_more asked left mid after ended before raw old between new count text more p q = record {
+  takes = lines_more asked left mid after ended before raw old between new text more p.takes q;
   all = λ e. inr (by (q.read.all e));
   many = omega (arith, p.many, q.read.some, length-append p.takes.bytes (spelled raw.ended q.read.line));
 } where
@@ -135,9 +135,9 @@ kept_end (Some xs) (Some ys) None bytes c k e = absurd k
 kept_end (Some xs) (Some ys) (Some zs) bytes c k e = sym k ∙ e
 
 -- up to the end
-pub run_ends : (explained : Bool) (left mid after : Option (List ℕ)) (ended : Bool) (before : RawLine) (old between new : LintRun) (count : ℕ) (text more : List ℕ) → RunSoFar explained left mid ended before old between count text → TakesNone mid after before between new more
-    → TakesAll explained left after ended old new (text ++ more)
-run_ends explained left mid after ended before old between new count text more p q = record {
+pub run_ends : (asked : Asking) (left mid after : Option (List ℕ)) (ended : Bool) (before : RawLine) (old between new : LintRun) (count : ℕ) (text more : List ℕ) → RunSoFar asked left mid ended before old between count text → TakesNone mid after before between new more
+    → TakesAll asked left after ended old new (text ++ more)
+run_ends asked left mid after ended before old between new count text more p q = record {
   last = before.ended;
   takes = takes;
   cut = λ e. or_read (p.all e);
@@ -149,7 +149,7 @@ run_ends explained left mid after ended before old between new count text more p
   told_text : text ≡ text ++ more
   told_text = sym (append-nil text) ∙ ap (λ (l : List ℕ). text ++ l) (sym q.nothing)
 
-  takes : TakesLines explained left after ended before.ended old new (text ++ more)
+  takes : TakesLines asked left after ended before.ended old new (text ++ more)
   takes = record {
     bytes = p.takes.bytes;
     taken = bytes_taken;
@@ -157,8 +157,8 @@ run_ends explained left mid after ended before old between new count text more p
     goes = p.takes.goes;
     no_lf = p.takes.no_lf;
     told = p.takes.told;
-    walks = subst (λ (w : Walk). WalksLines explained (walk_of old) p.takes.lines p.takes.told (text ++ more) w) (sym (ap walk_of q.same))
-        (subst (λ (l : List ℕ). WalksLines explained (walk_of old) p.takes.lines p.takes.told l (walk_of between)) told_text p.takes.walks);
+    walks = subst (λ (w : Walk). WalksLines asked (walk_of old) p.takes.lines p.takes.told (text ++ more) w) (sym (ap walk_of q.same))
+        (subst (λ (l : List ℕ). WalksLines asked (walk_of old) p.takes.lines p.takes.told l (walk_of between)) told_text p.takes.walks);
     counted = ap (λ (r : LintRun). r.state.lines) q.same ∙ p.takes.counted;
     faults = λ few. ap (λ (r : LintRun). r.faults) q.same ∙ p.takes.faults few;
     over = λ e. p.takes.over (sym (ap (λ (r : LintRun). r.state.over) q.same) ∙ e);
@@ -177,18 +177,18 @@ run_ends explained left mid after ended before old between new count text more p
   by e (inr (inl feedless)) = or_read (p.all feedless)
   by e (inr (inr end)) = inr (inl (ends_with left mid after p.takes.bytes p.takes.taken end))
 
-pub run_many : (explained : Bool) (left now : Option (List ℕ)) (ended : Bool) (before : RawLine) (old new : LintRun) (count : ℕ) (text : List ℕ) → 2 ^ 64 - 1 ≤ count → RunSoFar explained left now ended before old new count text → TakesAll explained left now ended old new text
-run_many explained left now ended before old new count text n p = record { last = before.ended; takes = p.takes; cut = p.all; all = λ e. inr (inr (omega (arith, n, p.many))) }
+pub run_many : (asked : Asking) (left now : Option (List ℕ)) (ended : Bool) (before : RawLine) (old new : LintRun) (count : ℕ) (text : List ℕ) → 2 ^ 64 - 1 ≤ count → RunSoFar asked left now ended before old new count text → TakesAll asked left now ended old new text
+run_many asked left now ended before old new count text n p = record { last = before.ended; takes = p.takes; cut = p.all; all = λ e. inr (inr (omega (arith, n, p.many))) }
 
 -- ---- all that is told
 
-pub from_taken : (explained : Bool) (refusal : Refusal) (left after : Option (List ℕ)) (raw : RawLine) (old between new : LintRun) (beside later : List ℕ) → TakesFirst explained refusal (held_cut (held_raw raw)) old between beside → TakesAll explained left after raw.ended between new later
-    → TakesFrom explained refusal left after raw old new (beside ++ later)
-from_taken explained refusal left after raw old between new beside later p q = record { between = between; beside = beside; first = p; later = later; rest = q; whole = refl }
+pub from_taken : (asked : Asking) (refusal : Refusal) (left after : Option (List ℕ)) (raw : RawLine) (old between new : LintRun) (beside later : List ℕ) → TakesFirst asked refusal (held_cut (held_raw raw)) old between beside → TakesAll asked left after raw.ended between new later
+    → TakesFrom asked refusal left after raw old new (beside ++ later)
+from_taken asked refusal left after raw old between new beside later p q = record { between = between; beside = beside; first = p; later = later; rest = q; whole = refl }
 
-pub told_to_end : (explained : Bool) (refusal : Refusal) (left after : Option (List ℕ)) (raw : RawLine) (old new : LintRun) (findings : ℕ) (text end : List ℕ) → BeginsAt refusal old → TakesFrom explained refusal left after raw old new text
-    → IsEndText new.state.over new.faults findings new.state.lines end → TellsToEnd explained old.state refusal left after raw (text ++ end)
-told_to_end explained refusal left after raw old new findings text end begins p e = record {
+pub told_to_end : (asked : Asking) (refusal : Refusal) (left after : Option (List ℕ)) (raw : RawLine) (old new : LintRun) (findings : ℕ) (text end : List ℕ) → BeginsAt refusal old → TakesFrom asked refusal left after raw old new text
+    → IsEndText new.state.over new.faults findings new.state.lines end → TellsToEnd asked old.state refusal left after raw (text ++ end)
+told_to_end asked refusal left after raw old new findings text end begins p e = record {
   bytes = p.rest.takes.bytes;
   taken = p.rest.takes.taken;
   lines = p.rest.takes.lines;
@@ -203,8 +203,8 @@ told_to_end explained refusal left after raw old new findings text end begins p 
     others = p.first.takes.told;
     beside = p.first.beside;
     between = walk_of p.between;
-    tells_others = subst (λ (c : LineCut). WalksLine explained (record { state = old.state; begun = None }) c (min (refusal.field + 1) (2 ^ 8 - 1)) p.first.takes.told p.first.beside (walk_of p.between)) (raw_cut refused raw holds)
-        (subst (λ (b : Option (List RecordValue)). WalksLine explained (record { state = old.state; begun = b }) (held_cut (held_raw raw)) (min (refusal.field + 1) (2 ^ 8 - 1)) p.first.takes.told p.first.beside (walk_of p.between)) begins.begun p.first.takes.walks);
+    tells_others = subst (λ (c : LineCut). WalksLine asked (record { state = old.state; begun = None }) c (min (refusal.field + 1) (2 ^ 8 - 1)) p.first.takes.told p.first.beside (walk_of p.between)) (raw_cut refused raw holds)
+        (subst (λ (b : Option (List RecordValue)). WalksLine asked (record { state = old.state; begun = b }) (held_cut (held_raw raw)) (min (refusal.field + 1) (2 ^ 8 - 1)) p.first.takes.told p.first.beside (walk_of p.between)) begins.begun p.first.takes.walks);
     later = p.rest.takes.told;
     after = p.later;
     last = walk_of new;

@@ -13,7 +13,10 @@ use Rattle.cwr_decode.specs.Steps.Represents.{IsStopped, RepresentsIn, text_of}
 use Rattle.cwr_decode.specs.Steps.Runs.{StopsRun}
 use Rattle.cwr_decode.proofs.ClosedTexts.{text_of-push}
 use Rattle.cwr_explain.proofs.RefusedLines.{refused_last}
-use Rattle.cwr_tools.specs.Steps.Verdicts.{IsReadLast, StopsAt}
+use Rattle.cwr_tools.specs.Steps.Verdicts.{IsReadLast, StopsAfter, StopsAt}
+use Rattle.cwr_advise.specs.Format.AdviceLines.{said_in}
+use Rattle.cwr_lint.specs.Format.FaultsOfLines.{Asking}
+use Rattle.cwr_lint.specs.Format.Wanted.{Wanted, asking_for, lines_before_fault, lines_linted, lines_up_to, lines_with, said_when}
 use Rattle.cwr_lint.specs.Steps.LinesRead.{HoldsRaw, IsAllRead, IsTextOf, spelled}
 use Rattle.cwr_lint.specs.Steps.Runs.{TellsRun}
 use Rattle.cwr_lint_lines.specs.Steps.Fronts.{state_at}
@@ -27,7 +30,7 @@ use Rattle.cwr_explain.specs.Format.Explained.{AddsWords, IsAnswerAfter, IsAnswe
 use Rattle.cwr_tools.specs.declared.verdicts.Verdict.{Verdict}
 use Rattle.cwr_tools.specs.declared.verdicts.Verdict.TheVariants.{Good, Refused, Truncated}
 use Rattle.cwr_tools.specs.declared.verdicts.ToolFault.{ToolFault}
-use Rattle.cwr_tools.specs.Format.Reports.{ItemLines, JudgesAccepted, lines_checked, lines_up_to_fault, text_on}
+use Rattle.cwr_tools.specs.Format.Reports.{ItemLines, JudgesAccepted, text_on}
 use Rattle.cwr_tools.specs.Format.Texts.{good_verdict}
 use Rattle.cwr_tools.specs.Format.Verdicts.{JudgesText}
 use Rattle.cwr_tools.specs.Steps.Verdicts.{IsRightVerdict}
@@ -36,19 +39,28 @@ use Rattle.cwr_values.specs.Format.Values.{TransmissionValue}
 use Rattle.cwr_judge.specs.Format.Ends.{IsAccepted}
 use Rattle.cwr_judge.specs.Format.Items.{value_items}
 use Rattle.cwr_judge.proofs.Accepted.{accepted_once}
-use Rattle.cwr_tools.specs.Steps.Reports.{Reports}
+use Rattle.cwr_tools.specs.Steps.Reports.{Reports, StandsAfter}
+use Rattle.cwr_advice.specs.declared.said.Said.{Said}
 use Rattle.cwr_lint.specs.Steps.Lints.{AreLinesRead, Lints, Tells, TellsFaults}
 
 -- nothing follows a verdict that is no refusal: what was written is what a check writes
-pub tells_good : {W : Type 0} (explained : Bool) (limits : Limits) (before after : Option (List ℕ)) (contents : W → Option (List ℕ)) (old new : W) (groups transactions records : ℕ)
-    → Reports (lines_up_to_fault explained) limits before after contents old new (Ok (Good groups transactions records)) → Tells explained limits before after contents old new (Good groups transactions records)
-tells_good false limits before after contents old new groups transactions records h = h
-tells_good true limits before after contents old new groups transactions records h = h
+pub tells_good : {W : Type 0} (wanted : Wanted) (limits : Limits) (before after : Option (List ℕ)) (contents : W → Option (List ℕ)) (old new : W) (groups transactions records : ℕ)
+    → Reports (lines_up_to wanted) limits before after contents old new (Ok (Good groups transactions records)) → Tells wanted limits before after contents old new (Good groups transactions records)
+tells_good wanted limits before after contents old new groups transactions records h = good_with wanted.advised wanted.explained h
+  where
+    good_with : (a e : Bool) → Reports (lines_before_fault a e) limits before after contents old new (Ok (Good groups transactions records)) → Reports (lines_with a e) limits before after contents old new (Ok (Good groups transactions records))
+    good_with false false h = h
+    good_with false true h = h
+    good_with true e h = h
 
-pub tells_truncated : {W : Type 0} (explained : Bool) (limits : Limits) (before after : Option (List ℕ)) (contents : W → Option (List ℕ)) (old new : W) (records : ℕ)
-    → Reports (lines_up_to_fault explained) limits before after contents old new (Ok (Truncated records)) → Tells explained limits before after contents old new (Truncated records)
-tells_truncated false limits before after contents old new records h = h
-tells_truncated true limits before after contents old new records h = h
+pub tells_truncated : {W : Type 0} (wanted : Wanted) (limits : Limits) (before after : Option (List ℕ)) (contents : W → Option (List ℕ)) (old new : W) (records : ℕ)
+    → Reports (lines_up_to wanted) limits before after contents old new (Ok (Truncated records)) → Tells wanted limits before after contents old new (Truncated records)
+tells_truncated wanted limits before after contents old new records h = truncated_with wanted.advised wanted.explained h
+  where
+    truncated_with : (a e : Bool) → Reports (lines_before_fault a e) limits before after contents old new (Ok (Truncated records)) → Reports (lines_with a e) limits before after contents old new (Ok (Truncated records))
+    truncated_with false false h = h
+    truncated_with false true h = h
+    truncated_with true e h = h
 
 -- all was read, by the bytes that are known
 at_end_kept : (left after : Option (List ℕ)) (bytes : List ℕ) → Consumes left after bytes → IsAtEnd left → IfSome left (λ known. IsAtEnd after)
@@ -71,11 +83,22 @@ all_read (Some known) (Some xs) (Some ys) (Some zs) input first later a b c (inl
 all_read (Some known) (Some xs) (Some ys) (Some zs) input first later a b c (inr (inl e)) = inl e
 all_read (Some known) (Some xs) (Some ys) (Some zs) input first later a b c (inr (inr n)) = inr (omega (arith, n, ap length a, length-append input xs, ap length b, length-append first ys, ap length c, length-append later zs))
 
+-- of a refusal nothing is written
+refused_text : (advised explained : Bool) (given : List Item) (refusal : Refusal) → text_on (lines_before_fault advised explained) given (Refused refusal) ≡ (lines_with advised explained).lines given
+refused_text false explained given refusal = append-nil ((lines_with false explained).lines given)
+refused_text true explained given refusal = append-nil ((lines_with true explained).lines given)
+
+-- what is asked for, by what was heard before the same stop
+pub record Hears (wanted : Wanted) (limits : Limits) (before left : Option (List ℕ)) (refusal : Refusal) (asking : Asking) : Type 0 where
+  pub heard : List Item
+  pub stopped : StopsAfter limits (read_faults.Refused refusal) before left heard
+  pub asks : asking ≡ asking_for wanted (said_in heard)
+
 -- the faults follow
-built : {W : Type 0} (explained : Bool) (limits : Limits) (before left after : Option (List ℕ)) (contents : W → Option (List ℕ)) (old between new : W) (refusal : Refusal) (last : LastRead) (text : List ℕ)
-    → Reports (lines_up_to_fault explained) limits before left contents old between (Ok (Refused refusal)) → (s : StopsAt limits (read_faults.Refused refusal) before left last) → (t : TellsRun explained (state_at last.stage last.counts (refusal.rec - 1)) refusal last.bytes left after text) → Appends (contents between) (contents new) text
-    → (refused : List ℕ) → HoldsRaw refused t.raw → IfSome before (λ known. (bytes : List ℕ) × Consumes before after bytes × AreLinesRead refusal s.0.decoder.tally t.tells.last bytes refused t.tells.lines) → TellsFaults explained limits before after contents old new refusal
-built explained limits before left after contents old between new refusal last text h s t written refused holds read = record {
+built : {W : Type 0} (wanted : Wanted) (limits : Limits) (before left after : Option (List ℕ)) (contents : W → Option (List ℕ)) (old between new : W) (refusal : Refusal) (asking : Asking) (last : LastRead) (text : List ℕ)
+    → Reports (lines_up_to wanted) limits before left contents old between (Ok (Refused refusal)) → (s : StopsAt limits (read_faults.Refused refusal) before left last) → (x : Hears wanted limits before left refusal asking) → (t : TellsRun asking (state_at last.stage last.counts (refusal.rec - 1)) refusal last.bytes left after text) → Appends (contents between) (contents new) text
+    → (refused : List ℕ) → HoldsRaw refused t.raw → IfSome before (λ known. (bytes : List ℕ) × Consumes before after bytes × AreLinesRead refusal s.0.decoder.tally t.tells.last bytes refused t.tells.lines) → TellsFaults wanted limits before after contents old new refusal
+built wanted limits before left after contents old between new refusal asking last text h s x t written refused holds read = record {
   given = h.0;
   left = left;
   stopped = h.1;
@@ -87,10 +110,13 @@ built explained limits before left after contents old between new refusal last t
   text = text;
   last = t.tells.last;
   tally = s.0.decoder.tally;
-  told = subst (λ (c : Counts). IsTold explained (state_at s.0.decoder.tally.stage c (refusal.rec - 1)) refusal refused t.tells.lines t.tells.over text) s.3
-      (subst (λ (g : Stage). IsTold explained (state_at g last.counts (refusal.rec - 1)) refusal refused t.tells.lines t.tells.over text) s.1 (t.tells.told refused holds));
-  written = subst (λ (l : List ℕ). Appends (contents old) (contents new) (l ++ text)) (append-nil ((lines_checked explained).lines h.0))
-      (Appends-trans (contents old) (contents between) (contents new) ((lines_checked explained).lines h.0 ++ []) text h.2 written);
+  heard = x.heard;
+  heard_before = x.stopped;
+  told = subst (λ (a : Asking). IsTold a (state_at s.0.decoder.tally.stage s.0.decoder.tally.counts (refusal.rec - 1)) refusal refused t.tells.lines t.tells.over text) x.asks
+      (subst (λ (c : Counts). IsTold asking (state_at s.0.decoder.tally.stage c (refusal.rec - 1)) refusal refused t.tells.lines t.tells.over text) s.3
+      (subst (λ (g : Stage). IsTold asking (state_at g last.counts (refusal.rec - 1)) refusal refused t.tells.lines t.tells.over text) s.1 (t.tells.told refused holds)));
+  written = subst (λ (l : List ℕ). Appends (contents old) (contents new) (l ++ text)) (refused_text wanted.advised wanted.explained h.0 refusal)
+      (Appends-trans (contents old) (contents between) (contents new) (text_on (lines_up_to wanted) h.0 (Refused refusal)) text h.2 written);
   read = read;
   cut = λ e. all_read before left t.between after s.0.read.input t.read.bytes t.tells.bytes s.0.read.consumed t.read.taken t.tells.taken (rest (t.tells.cut e));
   ends = λ over. t.tells.ends over refused holds;
@@ -100,13 +126,13 @@ built explained limits before left after contents old between new refusal last t
   rest (inl e) = inl (t.read.all e)
   rest (inr r) = inr r
 
-tells_faults : {W : Type 0} (explained : Bool) (limits : Limits) (before left after : Option (List ℕ)) (contents : W → Option (List ℕ)) (old between new : W) (refusal : Refusal) (last : LastRead) (text : List ℕ)
-    → Reports (lines_up_to_fault explained) limits before left contents old between (Ok (Refused refusal)) → StopsAt limits (read_faults.Refused refusal) before left last → TellsRun explained (state_at last.stage last.counts (refusal.rec - 1)) refusal last.bytes left after text → Appends (contents between) (contents new) text
-    → Tells explained limits before after contents old new (Refused refusal)
-tells_faults explained limits None left after contents old between new refusal last text h s t written =
-    built explained limits None left after contents old between new refusal last text h s t written t.held.line t.held.holds tt
-tells_faults explained limits (Some known) left after contents old between new refusal last text h s t written =
-    built explained limits (Some known) left after contents old between new refusal last text h s t written (stopped.line.bytes ++ found.0) found.1 (
+tells_faults : {W : Type 0} (wanted : Wanted) (limits : Limits) (before left after : Option (List ℕ)) (contents : W → Option (List ℕ)) (old between new : W) (refusal : Refusal) (asking : Asking) (last : LastRead) (text : List ℕ)
+    → Reports (lines_up_to wanted) limits before left contents old between (Ok (Refused refusal)) → StopsAt limits (read_faults.Refused refusal) before left last → Hears wanted limits before left refusal asking → TellsRun asking (state_at last.stage last.counts (refusal.rec - 1)) refusal last.bytes left after text → Appends (contents between) (contents new) text
+    → Tells wanted limits before after contents old new (Refused refusal)
+tells_faults wanted limits None left after contents old between new refusal asking last text h s x t written =
+    built wanted limits None left after contents old between new refusal asking last text h s x t written t.held.line t.held.holds tt
+tells_faults wanted limits (Some known) left after contents old between new refusal asking last text h s x t written =
+    built wanted limits (Some known) left after contents old between new refusal asking last text h s x t written (stopped.line.bytes ++ found.0) found.1 (
       stop.read.input ++ (t.read.bytes ++ t.tells.bytes),
       Consumes-trans (Some known) left after stop.read.input (t.read.bytes ++ t.tells.bytes) stop.read.consumed (Consumes-trans left t.between after t.read.bytes t.tells.bytes t.read.taken t.tells.taken),
       record {
@@ -137,18 +163,18 @@ tells_faults explained limits (Some known) left after contents old between new r
     first_text false e = ap (λ (l : List ℕ). l ++ 10 ∷ []) e ∙ append_assoc (text_of stopped.lines) (stopped.line.bytes ++ found.0) (10 ∷ []) ∙ sym (text_of-push stopped.lines (stopped.line.bytes ++ found.0))
 
 -- where the answer is a verdict
-pub tells_after : {W : Type 0} (explained : Bool) (limits : Limits) (before left after : Option (List ℕ)) (contents : W → Option (List ℕ)) (old between new : W) (refusal : Refusal) (last : LastRead) (result : Result Verdict ToolFault)
-    → Reports (lines_up_to_fault explained) limits before left contents old between (Ok (Refused refusal)) → StopsAt limits (read_faults.Refused refusal) before left last
-    → IsAnswerTo (Refused refusal) result → OnOk result ((text : List ℕ) × TellsRun explained (state_at last.stage last.counts (refusal.rec - 1)) refusal last.bytes left after text × Appends (contents between) (contents new) text)
-    → IfOk result (Tells explained limits before after contents old new)
-tells_after explained limits before left after contents old between new refusal last (Ok verdict) h s answered told =
-    subst (Tells explained limits before after contents old new) (sym answered) (tells_faults explained limits before left after contents old between new refusal last told.0 h s told.1 told.2)
-tells_after explained limits before left after contents old between new refusal last (Err fault) h s answered told = tt
+pub tells_after : {W : Type 0} (wanted : Wanted) (limits : Limits) (before left after : Option (List ℕ)) (contents : W → Option (List ℕ)) (old between new : W) (refusal : Refusal) (asking : Asking) (last : LastRead) (result : Result Verdict ToolFault)
+    → Reports (lines_up_to wanted) limits before left contents old between (Ok (Refused refusal)) → StopsAt limits (read_faults.Refused refusal) before left last → Hears wanted limits before left refusal asking
+    → IsAnswerTo (Refused refusal) result → OnOk result ((text : List ℕ) × TellsRun asking (state_at last.stage last.counts (refusal.rec - 1)) refusal last.bytes left after text × Appends (contents between) (contents new) text)
+    → IfOk result (Tells wanted limits before after contents old new)
+tells_after wanted limits before left after contents old between new refusal asking last (Ok verdict) h s x answered told =
+    subst (Tells wanted limits before after contents old new) (sym answered) (tells_faults wanted limits before left after contents old between new refusal asking last told.0 h s x told.1 told.2)
+tells_after wanted limits before left after contents old between new refusal asking last (Err fault) h s x answered told = tt
 
 -- a check and words after it
-pub lints_after : {W : Type 0} (explained : Bool) (limits : Limits) (before left after : Option (List ℕ)) (contents : W → Option (List ℕ)) (old between new : W) (checked result : Result Verdict ToolFault)
-    → Reports (lines_up_to_fault explained) limits before left contents old between checked → AddsWords contents between new → TakesMore left after → IsAnswerAfter checked result → Lints explained limits before after contents old new result
-lints_after explained limits before left after contents old between new checked result r w t a = record {
+pub lints_after : {W : Type 0} (wanted : Wanted) (limits : Limits) (before left after : Option (List ℕ)) (contents : W → Option (List ℕ)) (old between new : W) (checked result : Result Verdict ToolFault)
+    → Reports (lines_up_to wanted) limits before left contents old between checked → AddsWords contents between new → TakesMore left after → IsAnswerAfter checked result → Lints wanted limits before after contents old new result
+lints_after wanted limits before left after contents old between new checked result r w t a = record {
   between = between;
   left = left;
   checked = checked;
@@ -165,9 +191,9 @@ answer_same : (checked : Result Verdict ToolFault) → IsAnswerAfter checked che
 answer_same (Ok verdict) = refl
 answer_same (Err fault) = refl
 
-pub lints_alone : {W : Type 0} (explained : Bool) (limits : Limits) (before after : Option (List ℕ)) (contents : W → Option (List ℕ)) (old new : W) (checked result : Result Verdict ToolFault)
-    → Reports (lines_up_to_fault explained) limits before after contents old new checked → checked ≡ result → Lints explained limits before after contents old new result
-lints_alone explained limits before after contents old new checked result h e = record {
+pub lints_alone : {W : Type 0} (wanted : Wanted) (limits : Limits) (before after : Option (List ℕ)) (contents : W → Option (List ℕ)) (old new : W) (checked result : Result Verdict ToolFault)
+    → Reports (lines_up_to wanted) limits before after contents old new checked → checked ≡ result → Lints wanted limits before after contents old new result
+lints_alone wanted limits before after contents old new checked result h e = record {
   between = new;
   left = after;
   checked = checked;
@@ -181,10 +207,10 @@ lints_alone explained limits before after contents old new checked result h e = 
 
 -- ---- where the test that is passed on says the same
 
-pub lints_at : {W : Type 0} (flag explained : Bool) (limits : Limits) (before after : Option (List ℕ)) (contents : W → Option (List ℕ)) (old new : W) (checked result : Result Verdict ToolFault)
-    → flag ≡ explained → Reports (lines_up_to_fault flag) limits before after contents old new checked → checked ≡ result → Lints explained limits before after contents old new result
-lints_at flag explained limits before after contents old new checked result same h e =
-    subst (λ (b : Bool). Lints b limits before after contents old new result) same (lints_alone flag limits before after contents old new checked result h e)
+pub lints_at : {W : Type 0} (flag wanted : Wanted) (limits : Limits) (before after : Option (List ℕ)) (contents : W → Option (List ℕ)) (old new : W) (checked result : Result Verdict ToolFault)
+    → flag ≡ wanted → Reports (lines_up_to flag) limits before after contents old new checked → checked ≡ result → Lints wanted limits before after contents old new result
+lints_at flag wanted limits before after contents old new checked result same h e =
+    subst (λ (b : Wanted). Lints b limits before after contents old new result) same (lints_alone flag limits before after contents old new checked result h e)
 
 -- the verdict is no refusal
 abbrev pub IsUnrefused : Verdict → Type 0
@@ -192,31 +218,31 @@ IsUnrefused (Good groups transactions records) = Unit {0}
 IsUnrefused (Refused refusal) = ⊥
 IsUnrefused (Truncated records) = Unit {0}
 
-tells_unrefused : {W : Type 0} (explained : Bool) (limits : Limits) (before after : Option (List ℕ)) (contents : W → Option (List ℕ)) (old new : W) (verdict : Verdict)
-    → IsUnrefused verdict → Reports (lines_up_to_fault explained) limits before after contents old new (Ok verdict) → Tells explained limits before after contents old new verdict
-tells_unrefused explained limits before after contents old new (Good groups transactions records) is h = tells_good explained limits before after contents old new groups transactions records h
-tells_unrefused explained limits before after contents old new (Refused refusal) is h = absurd is
-tells_unrefused explained limits before after contents old new (Truncated records) is h = tells_truncated explained limits before after contents old new records h
+tells_unrefused : {W : Type 0} (wanted : Wanted) (limits : Limits) (before after : Option (List ℕ)) (contents : W → Option (List ℕ)) (old new : W) (verdict : Verdict)
+    → IsUnrefused verdict → Reports (lines_up_to wanted) limits before after contents old new (Ok verdict) → Tells wanted limits before after contents old new verdict
+tells_unrefused wanted limits before after contents old new (Good groups transactions records) is h = tells_good wanted limits before after contents old new groups transactions records h
+tells_unrefused wanted limits before after contents old new (Refused refusal) is h = absurd is
+tells_unrefused wanted limits before after contents old new (Truncated records) is h = tells_truncated wanted limits before after contents old new records h
 
-pub unrefused_at : {W : Type 0} (flag explained : Bool) (limits : Limits) (before after : Option (List ℕ)) (contents : W → Option (List ℕ)) (old new : W) (checked : Result Verdict ToolFault) (verdict : Verdict)
-    → flag ≡ explained → Reports (lines_up_to_fault flag) limits before after contents old new checked → checked ≡ Ok verdict → IsUnrefused verdict → Tells explained limits before after contents old new verdict
-unrefused_at flag explained limits before after contents old new checked verdict same h e is =
-    subst (λ (b : Bool). Tells b limits before after contents old new verdict) same
-    (tells_unrefused flag limits before after contents old new verdict is (subst (Reports (lines_up_to_fault flag) limits before after contents old new) e h))
+pub unrefused_at : {W : Type 0} (flag wanted : Wanted) (limits : Limits) (before after : Option (List ℕ)) (contents : W → Option (List ℕ)) (old new : W) (checked : Result Verdict ToolFault) (verdict : Verdict)
+    → flag ≡ wanted → Reports (lines_up_to flag) limits before after contents old new checked → checked ≡ Ok verdict → IsUnrefused verdict → Tells wanted limits before after contents old new verdict
+unrefused_at flag wanted limits before after contents old new checked verdict same h e is =
+    subst (λ (b : Wanted). Tells b limits before after contents old new verdict) same
+    (tells_unrefused flag limits before after contents old new verdict is (subst (Reports (lines_up_to flag) limits before after contents old new) e h))
 
-pub refused_at : {W : Type 0} (flag explained : Bool) (limits : Limits) (before left after : Option (List ℕ)) (contents : W → Option (List ℕ)) (old between new : W) (refusal : Refusal) (last : LastRead) (checked result : Result Verdict ToolFault)
-    → flag ≡ explained → Reports (lines_up_to_fault flag) limits before left contents old between checked → StopsAt limits (read_faults.Refused refusal) before left last → checked ≡ Ok (Refused refusal)
-    → IsAnswerTo (Refused refusal) result → OnOk result ((text : List ℕ) × TellsRun explained (state_at last.stage last.counts (refusal.rec - 1)) refusal last.bytes left after text × Appends (contents between) (contents new) text)
-    → IfOk result (Tells explained limits before after contents old new)
-refused_at flag explained limits before left after contents old between new refusal last checked result same h s e answered told =
-    tells_after explained limits before left after contents old between new refusal last result
-    (subst (λ (b : Bool). Reports (lines_up_to_fault b) limits before left contents old between (Ok (Refused refusal))) same (subst (Reports (lines_up_to_fault flag) limits before left contents old between) e h)) s answered told
+pub refused_at : {W : Type 0} (flag wanted : Wanted) (limits : Limits) (before left after : Option (List ℕ)) (contents : W → Option (List ℕ)) (old between new : W) (refusal : Refusal) (asking : Asking) (last : LastRead) (checked result : Result Verdict ToolFault)
+    → flag ≡ wanted → Reports (lines_up_to flag) limits before left contents old between checked → StopsAt limits (read_faults.Refused refusal) before left last → Hears wanted limits before left refusal asking → checked ≡ Ok (Refused refusal)
+    → IsAnswerTo (Refused refusal) result → OnOk result ((text : List ℕ) × TellsRun asking (state_at last.stage last.counts (refusal.rec - 1)) refusal last.bytes left after text × Appends (contents between) (contents new) text)
+    → IfOk result (Tells wanted limits before after contents old new)
+refused_at flag wanted limits before left after contents old between new refusal asking last checked result same h s x e answered told =
+    tells_after wanted limits before left after contents old between new refusal asking last result
+    (subst (λ (b : Wanted). Reports (lines_up_to b) limits before left contents old between (Ok (Refused refusal))) same (subst (Reports (lines_up_to flag) limits before left contents old between) e h)) s x answered told
 
-pub faults_at : {W : Type 0} (flag explained : Bool) (limits : Limits) (before left after : Option (List ℕ)) (contents : W → Option (List ℕ)) (old between new : W) (refusal : Refusal) (checked result : Result Verdict ToolFault)
-    → flag ≡ explained → Reports (lines_up_to_fault flag) limits before left contents old between checked → checked ≡ Ok (Refused refusal) → AddsWords contents between new → TakesMore left after → IsAnswerTo (Refused refusal) result
-    → Lints explained limits before after contents old new result
-faults_at flag explained limits before left after contents old between new refusal checked result same h e words more answered =
-    subst (λ (b : Bool). Lints b limits before after contents old new result) same
+pub faults_at : {W : Type 0} (flag wanted : Wanted) (limits : Limits) (before left after : Option (List ℕ)) (contents : W → Option (List ℕ)) (old between new : W) (refusal : Refusal) (checked result : Result Verdict ToolFault)
+    → flag ≡ wanted → Reports (lines_up_to flag) limits before left contents old between checked → checked ≡ Ok (Refused refusal) → AddsWords contents between new → TakesMore left after → IsAnswerTo (Refused refusal) result
+    → Lints wanted limits before after contents old new result
+faults_at flag wanted limits before left after contents old between new refusal checked result same h e words more answered =
+    subst (λ (b : Wanted). Lints b limits before after contents old new result) same
     (lints_after flag limits before left after contents old between new checked result h words more (subst (λ (r : Result Verdict ToolFault). IsAnswerAfter r result) (sym e) answered))
 
 -- the verdict on an accepted text, and what is written of it
@@ -239,31 +265,31 @@ judges_accepted of limits (Some text) after contents old new verdict h = λ v n 
     by (Truncated records) v n a t written = absurd (t.0.right.ends.unaccepted v n a)
 
 -- where a text is accepted
-pub accepted_at : {W : Type 0} (explained : Bool) (limits : Limits) (before after : Option (List ℕ)) (contents : W → Option (List ℕ)) (old new : W) (verdict : Verdict) (result : Result Verdict ToolFault) → result ≡ Ok verdict → JudgesText limits before result → IfOk result (Tells explained limits before after contents old new)
-    → IfOk result (JudgesAccepted (lines_checked explained) limits before after contents old new)
-accepted_at explained limits before after contents old new (Good groups transactions records) result e judged told =
-    subst (λ (r : Result Verdict ToolFault). IfOk r (JudgesAccepted (lines_checked explained) limits before after contents old new)) (sym e)
-    (judges_accepted (lines_checked explained) limits before after contents old new (Good groups transactions records) (subst (λ (r : Result Verdict ToolFault). IfOk r (Tells explained limits before after contents old new)) e told))
-accepted_at explained limits before after contents old new (Truncated records) result e judged told =
-    subst (λ (r : Result Verdict ToolFault). IfOk r (JudgesAccepted (lines_checked explained) limits before after contents old new)) (sym e)
-    (judges_accepted (lines_checked explained) limits before after contents old new (Truncated records) (subst (λ (r : Result Verdict ToolFault). IfOk r (Tells explained limits before after contents old new)) e told))
-accepted_at explained limits before after contents old new (Refused refusal) result e judged told =
-    subst (λ (r : Result Verdict ToolFault). IfOk r (JudgesAccepted (lines_checked explained) limits before after contents old new)) (sym e) (none before (subst (JudgesText limits before) e judged))
+pub accepted_at : {W : Type 0} (wanted : Wanted) (limits : Limits) (before after : Option (List ℕ)) (contents : W → Option (List ℕ)) (old new : W) (verdict : Verdict) (result : Result Verdict ToolFault) → result ≡ Ok verdict → JudgesText limits before result → IfOk result (Tells wanted limits before after contents old new)
+    → IfOk result (JudgesAccepted (lines_linted wanted) limits before after contents old new)
+accepted_at wanted limits before after contents old new (Good groups transactions records) result e judged told =
+    subst (λ (r : Result Verdict ToolFault). IfOk r (JudgesAccepted (lines_linted wanted) limits before after contents old new)) (sym e)
+    (judges_accepted (lines_linted wanted) limits before after contents old new (Good groups transactions records) (subst (λ (r : Result Verdict ToolFault). IfOk r (Tells wanted limits before after contents old new)) e told))
+accepted_at wanted limits before after contents old new (Truncated records) result e judged told =
+    subst (λ (r : Result Verdict ToolFault). IfOk r (JudgesAccepted (lines_linted wanted) limits before after contents old new)) (sym e)
+    (judges_accepted (lines_linted wanted) limits before after contents old new (Truncated records) (subst (λ (r : Result Verdict ToolFault). IfOk r (Tells wanted limits before after contents old new)) e told))
+accepted_at wanted limits before after contents old new (Refused refusal) result e judged told =
+    subst (λ (r : Result Verdict ToolFault). IfOk r (JudgesAccepted (lines_linted wanted) limits before after contents old new)) (sym e) (none before (subst (JudgesText limits before) e judged))
   where
-    none : (known : Option (List ℕ)) → JudgesText limits known (Ok (Refused refusal)) → JudgesAccepted (lines_checked explained) limits known after contents old new (Refused refusal)
+    none : (known : Option (List ℕ)) → JudgesText limits known (Ok (Refused refusal)) → JudgesAccepted (lines_linted wanted) limits known after contents old new (Refused refusal)
     none None h = tt
     none (Some text) h = λ v n a. absurd (h.unaccepted v n a)
 
 -- it isn't where it is refused, whatever is answered after that
-pub accepted_after : {W : Type 0} (explained : Bool) (limits : Limits) (before after : Option (List ℕ)) (contents : W → Option (List ℕ)) (old new : W) (refusal : Refusal) (checked result : Result Verdict ToolFault) → checked ≡ Ok (Refused refusal) → JudgesText limits before checked → IsAnswerTo (Refused refusal) result
-    → IfOk result (JudgesAccepted (lines_checked explained) limits before after contents old new)
-accepted_after explained limits before after contents old new refusal checked (Ok verdict) e judged answered =
-    subst (JudgesAccepted (lines_checked explained) limits before after contents old new) (sym answered) (none before (subst (JudgesText limits before) e judged))
+pub accepted_after : {W : Type 0} (wanted : Wanted) (limits : Limits) (before after : Option (List ℕ)) (contents : W → Option (List ℕ)) (old new : W) (refusal : Refusal) (checked result : Result Verdict ToolFault) → checked ≡ Ok (Refused refusal) → JudgesText limits before checked → IsAnswerTo (Refused refusal) result
+    → IfOk result (JudgesAccepted (lines_linted wanted) limits before after contents old new)
+accepted_after wanted limits before after contents old new refusal checked (Ok verdict) e judged answered =
+    subst (JudgesAccepted (lines_linted wanted) limits before after contents old new) (sym answered) (none before (subst (JudgesText limits before) e judged))
   where
-    none : (known : Option (List ℕ)) → JudgesText limits known (Ok (Refused refusal)) → JudgesAccepted (lines_checked explained) limits known after contents old new (Refused refusal)
+    none : (known : Option (List ℕ)) → JudgesText limits known (Ok (Refused refusal)) → JudgesAccepted (lines_linted wanted) limits known after contents old new (Refused refusal)
     none None h = tt
     none (Some text) h = λ v n a. absurd (h.unaccepted v n a)
-accepted_after explained limits before after contents old new refusal checked (Err fault) e judged answered = tt
+accepted_after wanted limits before after contents old new refusal checked (Err fault) e judged answered = tt
 
 -- what was read last
 pub read_last : (limits : Limits) (before left : Option (List ℕ)) (checked : Result Verdict ToolFault) (refusal : Refusal) (found : Option LastRead) (last : LastRead) → IfOk checked (λ verdict. IsSomeAnd found (IsReadLast limits before left verdict)) → checked ≡ Ok (Refused refusal) → found ≡ Some last
@@ -273,3 +299,27 @@ read_last limits before left checked refusal found last h e f =
 
 pub known_ok : (checked : Result Verdict ToolFault) (v w : Verdict) → checked ≡ Ok v → v ≡ w → checked ≡ Ok w
 known_ok checked v w p q = subst (λ (x : Verdict). checked ≡ Ok x) q p
+
+-- ---- what the header says
+
+said_at : (verdict : Verdict) (refusal : Refusal) (wanted : Wanted) (limits : Limits) (before left : Option (List ℕ)) (asking : Asking) (said : Option Said) → verdict ≡ Refused refusal → asking ≡ record { explained = wanted.explained; said = said }
+    → StandsAfter (λ given. said ≡ said_when wanted.advised (said_in given)) limits before left verdict → Hears wanted limits before left refusal asking
+said_at verdict refusal wanted limits before left asking said e asks h =
+    let stands : StandsAfter (λ given. said ≡ said_when wanted.advised (said_in given)) limits before left (Refused refusal) = subst (λ (v : Verdict). StandsAfter (λ given. said ≡ said_when wanted.advised (said_in given)) limits before left v) e h in
+    record { heard = stands.0; stopped = stands.1; asks = asks ∙ ap (λ (o : Option Said). record { explained = wanted.explained; said = o }) stands.2 }
+
+pub hears : (checked : Result Verdict ToolFault) (refusal : Refusal) (wanted : Wanted) (limits : Limits) (before left : Option (List ℕ)) (asking : Asking) (said : Option Said) → checked ≡ Ok (Refused refusal) → asking ≡ record { explained = wanted.explained; said = said }
+    → IfOk checked (StandsAfter (λ given. said ≡ said_when wanted.advised (said_in given)) limits before left) → Hears wanted limits before left refusal asking
+hears checked refusal wanted limits before left asking said e asks h =
+    said_at (Refused refusal) refusal wanted limits before left asking said refl asks (subst (λ (r : Result Verdict ToolFault). IfOk r (StandsAfter (λ given. said ≡ said_when wanted.advised (said_in given)) limits before left)) e h)
+
+-- where no advice is wanted nothing is said
+pub nothing_said_when : (of : ItemLines) {W : Type 0} (checked : Result Verdict ToolFault) (limits : Limits) (before left : Option (List ℕ)) (contents : W → Option (List ℕ)) (old new : W) → Reports of limits before left contents old new checked
+    → IfOk checked (StandsAfter (λ (given : List Item). None ≡ said_when false (said_in given)) limits before left)
+nothing_said_when of (Ok verdict) limits before left contents old new h = (h.0, h.1, refl)
+nothing_said_when of (Err fault) limits before left contents old new h = tt
+
+pub something_said_when : (checked : Result Verdict ToolFault) (limits : Limits) (before left : Option (List ℕ)) (said : Said) → IfOk checked (StandsAfter (λ (given : List Item). said ≡ said_in given) limits before left)
+    → IfOk checked (StandsAfter (λ (given : List Item). Some said ≡ said_when true (said_in given)) limits before left)
+something_said_when (Ok verdict) limits before left said h = (h.0, h.1, ap Some h.2)
+something_said_when (Err fault) limits before left said h = tt

@@ -10,7 +10,7 @@ use Rattle.cwr_tools.specs.declared.verdicts.ToolFault.TheVariants as faults
 use Rattle.cwr_tools.specs.Steps.Reports.{PutsLines}
 use Rattle.cwr_judge.specs.declared.refusals.Refusal.{Refusal}
 use Rattle.cwr_levels.specs.Format.ReportLines.{fault_line}
-use Rattle.cwr_lint.specs.Format.FaultsOfLines.{IsFaultText}
+use Rattle.cwr_lint.specs.Format.FaultsOfLines.{Asking, IsFaultText}
 use Rattle.cwr_lint.specs.Steps.Runs.{AreWords}
 use Rattle.cwr_lint.specs.Steps.Puts.{CountsPut, PutsAfter, PutsWith, tool_result}
 
@@ -58,14 +58,14 @@ if_ok (Ok x) P p = p
 if_ok (Err e) P p = tt
 
 -- the line of a fault, and words under it
-pub fault_put : {W : Type 0} (explained : Bool) (fault : Refusal) (contents : W → Option (List ℕ)) (failures : W → ℕ) (u : Unit {0}) (result : Result (Unit {0}) ToolFault) (old mid new : Sink W) → PutsAfter {A = Unit {0}} contents failures (fault_line fault) (Ok u) old mid
-    → PutsWith (λ (x : Unit {0}). AreWords explained) contents failures result mid new → PutsWith (λ (x : Unit {0}). IsFaultText explained fault) contents failures result old new
-fault_put explained fault contents failures u result old mid new p q = (
+pub fault_put : {W : Type 0} (asked : Asking) (fault : Refusal) (contents : W → Option (List ℕ)) (failures : W → ℕ) (u : Unit {0}) (result : Result (Unit {0}) ToolFault) (old mid new : Sink W) → PutsAfter {A = Unit {0}} contents failures (fault_line fault) (Ok u) old mid
+    → PutsWith (λ (x : Unit {0}). AreWords asked.explained) contents failures result mid new → PutsWith (λ (x : Unit {0}). IsFaultText asked fault) contents failures result old new
+fault_put asked fault contents failures u result old mid new p q = (
   fault_line fault ++ q.0,
   put_both contents failures u result (fault_line fault) q.0 old mid new p q.1,
   by result q.2,
 ) where
-  by : (r : Result (Unit {0}) ToolFault) → IfOk r (λ (x : Unit {0}). AreWords explained q.0) → IfOk r (λ (x : Unit {0}). IsFaultText explained fault (fault_line fault ++ q.0))
+  by : (r : Result (Unit {0}) ToolFault) → IfOk r (λ (x : Unit {0}). AreWords asked.explained q.0) → IfOk r (λ (x : Unit {0}). IsFaultText asked fault (fault_line fault ++ q.0))
   by (Ok x) h = (q.0, h, refl)
   by (Err e) h = tt
 

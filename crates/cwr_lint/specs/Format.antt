@@ -3,3 +3,4 @@ pub mod FaultsOfLines
 pub mod Laws
 pub mod OneCells
 pub mod Told
+pub mod Wanted

@@ -1,17 +1,20 @@
 //! The open transaction's records, as long as it has no fault, and its findings.
 
-ghost use Rattle.std.specs.Prelude.{◌≡◌, ◌⊎◌, ◌&&◌, ◌++◌, ◌∷◌, [], ◌+◌, ◌-◌, ◌^◌, min, nat_le, length, false, IfOk, None, Some, if◌then◌else◌};
+ghost use Rattle.std.specs.Prelude.{◌≡◌, ◌⊎◌, ◌&&◌, ◌++◌, ◌∷◌, [], ◌+◌, ◌-◌, ◌≤◌, ◌^◌, min, nat_le, length, true, false, IfOk, None, Some, if◌then◌else◌};
 ghost use Rattle.cwr_sinks.specs.Steps.Sinks.{has_failed};
 ghost use Rattle.cwr_lines.specs.Steps.Held.{held_record};
 ghost use Rattle.cwr_values.specs.Format.Begun.{BeginsWithOneMore};
-ghost use Rattle.cwr_lint.specs.Format.FaultsOfLines.{ended_lines};
+ghost use Rattle.cwr_lint.specs.Format.FaultsOfLines.{ended_lines, said_if, told_lines};
+ghost use Rattle.cwr_lint.specs.Steps.Runs.{asking_of};
 ghost use Rattle.cwr_lint_lines.specs.Steps.Cells.{held_cut};
 ghost use Rattle.cwr_lint.specs.Steps.Puts.{PutsWith};
 ghost use Rattle.cwr_lint_lines.specs.Steps.States.{is_whole};
 ghost use Rattle.cwr_lint_lines.specs.declared.takings.Taking.{Taking};
 ghost use Rattle.cwr_lint.specs.Steps.Walks.{AfterCarried, AfterJudged, AfterRecord, GoesOnWith, ended_by, ended_in, ends_by_taking, ends_transaction};
 
-use crate::puts::report_number;
+use crate::puts::{Asked, report_number};
+use cwr_advice::Said;
+use cwr_advise::put_advised;
 use cwr_fields::Target;
 use cwr_lines::{CutLine, RecordRef};
 use cwr_lint_lines::{Judged, Known, LintState, OpenGroup, Taking};
@@ -132,17 +135,72 @@ fn ends_whole(state: &LintState, judged: &Judged) -> bool
     ends_transaction(judged) && state.is_whole()
 }
 
-/// Whether words stand under findings in so many records from that line on.
-fn is_worded(explained: bool, first: u64, count: u64) -> bool
-    ensures { result ≡ (explained && nat_le (first + count) 100000000) }
+/// Whether so many records from that line on have numbers that words can name.
+fn is_numbered(first: u64, count: u64) -> bool
+    ensures { result ≡ nat_le (first + count) 100000000 }
 {
-    explained && first.saturating_add(count) <= MOST_EXPLAINED
+    first.saturating_add(count) <= MOST_EXPLAINED
 }
 
-/// Puts the lines of findings in a transaction, which is that of the open group, and counts them.
+/// Whether words stand under findings.
+fn is_worded(explained: bool, numbered: bool) -> bool
+    ensures { result ≡ (explained && numbered) }
+{
+    explained && numbered
+}
+
+/// What is said of the transmission, where there is to be advice on so many records from that line on.
+fn said_if(numbered: bool, said: Option<Said>) -> Option<Said>
+    ensures { result ≡ said_if numbered said }
+{
+    if numbered { said } else { None }
+}
+
+/// Puts the lines of findings in a transaction, and counts them, and then those of the advice on it, where that is asked for and its lines
+/// have numbers that words can name.
+fn put_told<W: Target>(
+    asked: &Asked<'_>,
+    numbered: bool,
+    group: u32,
+    sequence: u32,
+    first: u64,
+    transaction: &Transaction,
+    told: &mut u64,
+    sink: &mut Sink<W>,
+) -> Result<(), ToolFault>
+    requires unfailed { has_failed sink.old ≡ false }
+    requires few { numbered ≡ true → first + length transaction.now ≤ 100000000 }
+    ensures { PutsWith (λ _ text. text ≡ told_lines (asking_of asked.now) numbered group sequence first transaction.now) W.contents W.failures result sink.old sink.new }
+{
+    let explained = is_worded(asked.name.is_some(), numbered);
+    match said_if(numbered, asked.said) {
+        Some(said) => put_advised(
+            explained,
+            asked.alloc,
+            said,
+            group,
+            sequence,
+            first,
+            transaction,
+            told,
+            sink,
+        ),
+        None => put_transaction_findings(
+            explained,
+            asked.alloc,
+            group,
+            sequence,
+            first,
+            transaction,
+            told,
+            sink,
+        ),
+    }
+}
+
+/// Puts what is told of a transaction, which is that of the open group, and counts its findings.
 fn put_findings<W: Target>(
-    explained: bool,
-    alloc: Global,
+    asked: &Asked<'_>,
     state: &LintState,
     group: &OpenGroup,
     transaction: &Transaction,
@@ -150,14 +208,14 @@ fn put_findings<W: Target>(
     sink: &mut Sink<W>,
 ) -> Result<(), ToolFault>
     requires { has_failed sink.old ≡ false }
-    ensures { PutsWith (λ _ text. text ≡ ended_lines explained (ended_in state.now (Some group.now) (Some transaction.now))) W.contents W.failures result sink.old sink.new }
+    ensures { PutsWith (λ _ text. text ≡ ended_lines (asking_of asked.now) (ended_in state.now (Some group.now) (Some transaction.now))) W.contents W.failures result sink.old sink.new }
 {
     let number = group.open_transaction().number;
     let count = transaction.len() as u64;
     let first = state.lines.saturating_sub(count).saturating_add(1);
-    put_transaction_findings(
-        is_worded(explained, first, count),
-        alloc,
+    put_told(
+        asked,
+        is_numbered(first, count),
         report_number(group.id),
         report_number(number),
         first,
@@ -167,22 +225,20 @@ fn put_findings<W: Target>(
     )
 }
 
-/// Puts the lines of findings in the open transaction, where its records and its group are known, and counts them.
+/// Puts what is told of the open transaction, where its records and its group are known, and counts its findings.
 fn put_open<W: Target>(
-    explained: bool,
-    alloc: Global,
+    asked: &Asked<'_>,
     state: &LintState,
     begun: &Option<Transaction>,
     told: &mut u64,
     sink: &mut Sink<W>,
 ) -> Result<(), ToolFault>
     requires { has_failed sink.old ≡ false }
-    ensures { PutsWith (λ _ text. text ≡ ended_lines explained (ended_in state.now state.now.group begun.now)) W.contents W.failures result sink.old sink.new }
+    ensures { PutsWith (λ _ text. text ≡ ended_lines (asking_of asked.now) (ended_in state.now state.now.group begun.now)) W.contents W.failures result sink.old sink.new }
 {
     match (&state.group, begun) {
         (Some(group), Some(transaction)) => put_findings(
-            explained,
-            alloc,
+            asked,
             state,
             group,
             transaction,
@@ -193,11 +249,10 @@ fn put_open<W: Target>(
     }
 }
 
-/// Puts the lines of findings in the open transaction, where a line ends it, and counts them. Nothing is put of one that had a
-/// fault, or isn't whole.
+/// Puts what is told of the open transaction, where a line ends it, and counts its findings. Nothing is put of one that had a fault, or
+/// isn't whole.
 pub(crate) fn put_ended<W: Target>(
-    explained: bool,
-    alloc: Global,
+    asked: &Asked<'_>,
     state: &LintState,
     begun: &Option<Transaction>,
     judged: &Judged,
@@ -205,10 +260,10 @@ pub(crate) fn put_ended<W: Target>(
     sink: &mut Sink<W>,
 ) -> Result<(), ToolFault>
     requires { has_failed sink.old ≡ false }
-    ensures { PutsWith (λ _ text. text ≡ ended_lines explained (ended_by judged.now state.now begun.now)) W.contents W.failures result sink.old sink.new }
+    ensures { PutsWith (λ _ text. text ≡ ended_lines (asking_of asked.now) (ended_by judged.now state.now begun.now)) W.contents W.failures result sink.old sink.new }
 {
     if ends_whole(state, judged) {
-        put_open(explained, alloc, state, begun, told, sink)
+        put_open(asked, state, begun, told, sink)
     } else {
         Ok(())
     }

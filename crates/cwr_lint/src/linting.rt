@@ -1,12 +1,16 @@
 //! Every fault of a transmission in one pass.
 
-ghost use Rattle.std.specs.Prelude.{◌≡◌, ◌==◌, ◌&&◌, ◌+◌, ◌^◌, ◌-◌, ◌<◌, ◌≤◌, ℕ, min, true, false, List, IfOk, OnOk, IsSome};
+ghost use Rattle.std.specs.Prelude.{◌≡◌, ◌==◌, ◌&&◌, ◌+◌, ◌^◌, ◌-◌, ◌<◌, ◌≤◌, ℕ, min, true, false, List, IfOk, OnOk, IsSome, IsSomeAnd};
 ghost use Rattle.std.specs.Option.{is_some};
 ghost use Rattle.std.specs.Io.KnownBytes.{Appends, Keeps};
 ghost use Rattle.cwr_sinks.specs.Steps.Sinks.{has_failed, writer_of};
 ghost use Rattle.cwr_explain.specs.Format.Explained.{AddsWords, IsAnswerTo, TakesMore};
 ghost use Rattle.cwr_lines.specs.Steps.Held.{held_kind};
-ghost use Rattle.cwr_tools.specs.Format.Reports.{CountsReaderFault, CountsWriterFault, JudgesAccepted, lines_checked};
+ghost use Rattle.cwr_tools.specs.Format.Reports.{CountsReaderFault, CountsWriterFault, JudgesAccepted};
+ghost use Rattle.cwr_tools.specs.Steps.Reports.{Reports, StandsAfter};
+ghost use Rattle.cwr_tools.specs.Steps.Verdicts.{IsReadLast};
+ghost use Rattle.cwr_advise.specs.Format.AdviceLines.{said_in};
+ghost use Rattle.cwr_lint.specs.Format.Wanted.{lines_before_fault, lines_linted, said_when, wanting};
 ghost use Rattle.cwr_tools.specs.Format.Verdicts.{JudgesText};
 ghost use Rattle.cwr_lint_lines.specs.Format.FaultsAtFields.{fields_end, one_more_line};
 ghost use Rattle.cwr_lint_lines.specs.Steps.Fronts.{state_at};
@@ -18,11 +22,13 @@ ghost use Rattle.cwr_lint_lines.specs.Steps.Cells.{held_cut};
 ghost use Rattle.cwr_lint.specs.Steps.LinesRead.{IsOfLine, held_raw};
 ghost use Rattle.cwr_lint.specs.Steps.Lints.{EndsRun, Lints, Tells};
 ghost use Rattle.cwr_lint.specs.Steps.Puts.{PutsWith, ReadsAndPutsWith};
-ghost use Rattle.cwr_lint.specs.Steps.Runs.{BeginsAt, TakesAll, TakesFirst, TakesFrom, TakesLine, TakesNextIf, TakesRead, TellsOfLine, TellsRun, TellsSoMany, TellsToEnd};
+ghost use Rattle.cwr_lint.specs.Steps.Runs.{BeginsAt, TakesAll, TakesFirst, TakesFrom, TakesLine, TakesNextIf, TakesRead, TellsOfLine, TellsRun, TellsSoMany, TellsToEnd, asking_of};
 
 use crate::findings::{after_line, put_ended};
 use crate::puts::{Asked, Shown, put_end, report_number};
 use crate::raw_lines::RawLine;
+use cwr_advice::Said;
+use cwr_advise::advise_up_to_fault;
 use cwr_decode::{LastRead, Refusal};
 use cwr_fields::{Source, Target};
 use cwr_lines::{CutLine, LineBuf};
@@ -85,7 +91,7 @@ impl LintRun {
         requires unfailed { has_failed sink.old ≡ false }
         requires judged { IsJudged line.now judged.now }
         requires first { 1 ≤ from }
-        ensures { PutsWith (TellsSoMany (is_some asked.now.name) (judged_at self.now.state.lines (scope_by self.now.state.group) line.now judged.now) from (fields_end (held_kind line.now))) W.contents W.failures result sink.old sink.new }
+        ensures { PutsWith (TellsSoMany (asking_of asked.now) (judged_at self.now.state.lines (scope_by self.now.state.group) line.now judged.now) from (fields_end (held_kind line.now))) W.contents W.failures result sink.old sink.new }
     {
         let mut told: u64 = 0;
         for field in 1..judged.places() {
@@ -115,14 +121,13 @@ impl LintRun {
         requires unfailed { has_failed sink.old ≡ false }
         requires judged { IsJudged line.now judged.now }
         requires first { 1 ≤ from }
-        ensures puts { PutsWith (TellsOfLine (is_some asked.now.name) (judged_at self.old.state.lines (scope_by self.old.state.group) line.now judged.now) (ended_by judged.now self.old.state self.old.begun) from) W.contents W.failures result sink.old sink.new }
+        ensures puts { PutsWith (TellsOfLine (asking_of asked.now) (judged_at self.old.state.lines (scope_by self.old.state.group) line.now judged.now) (ended_by judged.now self.old.state self.old.begun) from) W.contents W.failures result sink.old sink.new }
         ensures state { self.new.state ≡ self.old.state }
         ensures begun { self.new.begun ≡ self.old.begun }
         ensures faults { self.new.faults ≡ self.old.faults }
     {
         match put_ended(
-            asked.name.is_some(),
-            asked.alloc,
+            asked,
             &self.state,
             &self.begun,
             judged,
@@ -176,7 +181,7 @@ impl LintRun {
         requires unfailed { has_failed sink.old ≡ false }
         requires first { 1 ≤ from }
         requires blank { is_blank ≡ is_spaces (held_body line.now) }
-        ensures { PutsWith (λ _. TakesLine (is_some asked.now.name) (held_cut line.now) from self.old self.new) W.contents W.failures result sink.old sink.new }
+        ensures { PutsWith (λ _. TakesLine (asking_of asked.now) (held_cut line.now) from self.old self.new) W.contents W.failures result sink.old sink.new }
     {
         let judged = Judged::of(&self.state, line);
         let told = match self.tell_all(asked, &judged, line, from, shown, sink) {
@@ -202,7 +207,7 @@ impl LintRun {
     ) -> Result<bool, ToolFault>
         requires unfailed { has_failed sink.old ≡ false }
         requires line { IsOfLine raw.now }
-        ensures { PutsWith (λ more. TakesRead (is_some asked.now.name) (held_cut (held_raw raw.now)) self.old self.new more) W.contents W.failures result sink.old sink.new }
+        ensures { PutsWith (λ more. TakesRead (asking_of asked.now) (held_cut (held_raw raw.now)) self.old self.new more) W.contents W.failures result sink.old sink.new }
     {
         raw.cut_into(cut);
         let shown = self.shown(raw, Some(before));
@@ -223,7 +228,7 @@ impl LintRun {
         sink: &mut Sink<W>,
     ) -> Result<bool, ToolFault>
         requires { has_failed sink.old ≡ false }
-        ensures { ReadsAndPutsWith (TakesNextIf (is_some asked.now.name) (R.remaining reader.old) (R.remaining reader.new) before.now raw.new self.old self.new) (R.remaining reader.old) (R.remaining reader.new) (R.failures reader.old) (R.failures reader.new) W.contents W.failures result sink.old sink.new }
+        ensures { ReadsAndPutsWith (TakesNextIf (asking_of asked.now) (R.remaining reader.old) (R.remaining reader.new) before.now raw.new self.old self.new) (R.remaining reader.old) (R.remaining reader.new) (R.failures reader.old) (R.failures reader.new) W.contents W.failures result sink.old sink.new }
     {
         if self.state.over || !before.has_ended() {
             return Ok(false);
@@ -245,7 +250,7 @@ impl LintRun {
         sink: &mut Sink<W>,
     ) -> Result<(), ToolFault>
         requires { has_failed sink.old ≡ false }
-        ensures { ReadsAndPutsWith (λ _. TakesAll (is_some asked.now.name) (R.remaining reader.old) (R.remaining reader.new) first.ended self.old self.new) (R.remaining reader.old) (R.remaining reader.new) (R.failures reader.old) (R.failures reader.new) W.contents W.failures result sink.old sink.new }
+        ensures { ReadsAndPutsWith (λ _. TakesAll (asking_of asked.now) (R.remaining reader.old) (R.remaining reader.new) first.ended self.old self.new) (R.remaining reader.old) (R.remaining reader.new) (R.failures reader.old) (R.failures reader.new) W.contents W.failures result sink.old sink.new }
     {
         let mut before = first;
         let mut raw = RawLine::new();
@@ -271,7 +276,7 @@ impl LintRun {
     ) -> Result<(), ToolFault>
         requires unfailed { has_failed sink.old ≡ false }
         requires line { IsOfLine raw.now }
-        ensures { PutsWith (λ _. TakesFirst (is_some asked.now.name) refusal.now (held_cut (held_raw raw.now)) self.old self.new) W.contents W.failures result sink.old sink.new }
+        ensures { PutsWith (λ _. TakesFirst (asking_of asked.now) refusal.now (held_cut (held_raw raw.now)) self.old self.new) W.contents W.failures result sink.old sink.new }
     {
         raw.cut_into(cut);
         let shown = self.shown(raw, None);
@@ -295,7 +300,7 @@ impl LintRun {
     ) -> Result<(), ToolFault>
         requires unfailed { has_failed sink.old ≡ false }
         requires line { IsOfLine raw }
-        ensures { ReadsAndPutsWith (λ _. TakesFrom (is_some asked.now.name) refusal.now (R.remaining reader.old) (R.remaining reader.new) raw self.old self.new) (R.remaining reader.old) (R.remaining reader.new) (R.failures reader.old) (R.failures reader.new) W.contents W.failures result sink.old sink.new }
+        ensures { ReadsAndPutsWith (λ _. TakesFrom (asking_of asked.now) refusal.now (R.remaining reader.old) (R.remaining reader.new) raw self.old self.new) (R.remaining reader.old) (R.remaining reader.new) (R.failures reader.old) (R.failures reader.new) W.contents W.failures result sink.old sink.new }
     {
         let mut cut = LineBuf::new();
         match self.take_first(asked, refusal, &raw, &mut cut, sink) {
@@ -316,7 +321,7 @@ impl LintRun {
         requires unfailed { has_failed sink.old ≡ false }
         requires line { IsOfLine raw }
         requires begins { BeginsAt refusal.now self.old }
-        ensures { ReadsAndPutsWith (λ _. TellsToEnd (is_some asked.now.name) self.old.state refusal.now (R.remaining reader.old) (R.remaining reader.new) raw) (R.remaining reader.old) (R.remaining reader.new) (R.failures reader.old) (R.failures reader.new) W.contents W.failures result sink.old sink.new }
+        ensures { ReadsAndPutsWith (λ _. TellsToEnd (asking_of asked.now) self.old.state refusal.now (R.remaining reader.old) (R.remaining reader.new) raw) (R.remaining reader.old) (R.remaining reader.new) (R.failures reader.old) (R.failures reader.new) W.contents W.failures result sink.old sink.new }
     {
         match self.tell_from(asked, refusal, reader, raw, sink) {
             Ok(()) => put_end(
@@ -342,7 +347,7 @@ impl LintRun {
     ) -> Result<(), ToolFault>
         requires unfailed { has_failed sink.old ≡ false }
         requires begins { BeginsAt refusal.now self.old }
-        ensures { ReadsAndPutsWith (λ _. TellsRun (is_some asked.now.name) self.old.state refusal.now last.now.bytes (R.remaining reader.old) (R.remaining reader.new)) (R.remaining reader.old) (R.remaining reader.new) (R.failures reader.old) (R.failures reader.new) W.contents W.failures result sink.old sink.new }
+        ensures { ReadsAndPutsWith (λ _. TellsRun (asking_of asked.now) self.old.state refusal.now last.now.bytes (R.remaining reader.old) (R.remaining reader.new)) (R.remaining reader.old) (R.remaining reader.new) (R.failures reader.old) (R.failures reader.new) W.contents W.failures result sink.old sink.new }
     {
         match RawLine::of_last(&last.bytes, reader) {
             Ok(raw) => self.tell_to_end(asked, refusal, reader, raw, sink),
@@ -398,7 +403,7 @@ fn tell_faults<R: Source, W: Target>(
     reader: &mut R,
     writer: W,
 ) -> (W, Result<Verdict, ToolFault>)
-    ensures told { OnOk result.1 ((text : List ℕ) × TellsRun (is_some asked.now.name) (state_at last.now.stage last.now.counts (refusal.rec - 1)) refusal last.now.bytes (R.remaining reader.old) (R.remaining reader.new) text × Appends (W.contents writer) (W.contents result.0) text) }
+    ensures told { OnOk result.1 ((text : List ℕ) × TellsRun (asking_of asked.now) (state_at last.now.stage last.now.counts (refusal.rec - 1)) refusal last.now.bytes (R.remaining reader.old) (R.remaining reader.new) text × Appends (W.contents writer) (W.contents result.0) text) }
     ensures words { AddsWords W.contents writer result.0 }
     ensures taken { TakesMore (R.remaining reader.old) (R.remaining reader.new) }
     ensures answered { IsAnswerTo (Verdict.Refused refusal) result.1 }
@@ -418,29 +423,72 @@ fn tell_faults<R: Source, W: Target>(
     finish(refusal, told, sink)
 }
 
+/// Checks a transmission up to its first fault, and advises on it where that is wanted. How far it came is answered too, and what the
+/// header says where there is advice.
+fn check_front<R: Source, W: Target + Drop>(
+    alloc: Global,
+    limits: Limits,
+    explained: bool,
+    advised: bool,
+    reader: &mut R,
+    writer: W,
+) -> (W, Result<Verdict, ToolFault>, CheckedFront, Option<Said>)
+    ensures reported { Reports (lines_before_fault advised explained) limits (R.remaining reader.old) (R.remaining reader.new) W.contents writer result.0 result.1 }
+    ensures judged { JudgesText limits (R.remaining reader.old) result.1 }
+    ensures said { IfOk result.1 (StandsAfter (λ given. result.3 ≡ said_when advised (said_in given)) limits (R.remaining reader.old) (R.remaining reader.new)) }
+    ensures reader_failures { CountsReaderFault result.1 (R.failures reader.old) (R.failures reader.new) }
+    ensures writer_failures { CountsWriterFault result.1 (W.failures writer) (W.failures result.0) }
+    ensures handed_on { OnOk result.1 (W.handed_on result.0 ≡ true) }
+    ensures last { IfOk result.1 (λ verdict. IsSomeAnd result.2.last (IsReadLast limits (R.remaining reader.old) (R.remaining reader.new) verdict)) }
+{
+    match advised {
+        true => {
+            let (writer, checked, front, said) = advise_up_to_fault(
+                alloc, limits, explained, reader, writer,
+            );
+            (writer, checked, front, Some(said))
+        }
+        false => {
+            let (writer, checked, front) = check_up_to_fault(
+                alloc, limits, explained, reader, writer,
+            );
+            (writer, checked, front, None)
+        }
+    }
+}
+
 /// Reads a transmission up to its end, and tells every fault of it.
 ///
 /// Up to the first fault it is a check, and writes what `check` writes. In the place of a refusal it writes a line for each fault, the
 /// refusal first, with the findings between them, and at the end how many faults and findings it told, and in how many lines. The
-/// answer is the verdict of `check`. With a name for the input, lines under each say what `explain` says of it.
+/// answer is the verdict of `check`. With a name for the input, lines under each say what `explain` says of it. Where advice is wanted,
+/// that on a transaction follows its findings.
 pub fn lint<R: Source, W: Target + Drop>(
     alloc: Global,
     limits: Limits,
     name: Option<&str>,
+    advised: bool,
     reader: &mut R,
     writer: W,
 ) -> (W, Result<Verdict, ToolFault>)
-    ensures lints { Lints (is_some name.entry) limits (R.remaining reader.old) (R.remaining reader.new) W.contents writer result.0 result.1 }
-    ensures tells { IfOk result.1 (Tells (is_some name.entry) limits (R.remaining reader.old) (R.remaining reader.new) W.contents writer result.0) }
+    ensures lints { Lints (wanting (is_some name.entry) advised) limits (R.remaining reader.old) (R.remaining reader.new) W.contents writer result.0 result.1 }
+    ensures tells { IfOk result.1 (Tells (wanting (is_some name.entry) advised) limits (R.remaining reader.old) (R.remaining reader.new) W.contents writer result.0) }
     ensures judged { JudgesText limits (R.remaining reader.old) result.1 }
-    ensures accepted { IfOk result.1 (JudgesAccepted (lines_checked (is_some name.entry)) limits (R.remaining reader.old) (R.remaining reader.new) W.contents writer result.0) }
+    ensures accepted { IfOk result.1 (JudgesAccepted (lines_linted (wanting (is_some name.entry) advised)) limits (R.remaining reader.old) (R.remaining reader.new) W.contents writer result.0) }
     // No failure is passed over: a device failed only where that is the answer.
     ensures reader_failures { CountsReaderFault result.1 (R.failures reader.old) (R.failures reader.new) }
     ensures writer_failures { CountsWriterFault result.1 (W.failures writer) (W.failures result.0) }
     // All that was written was handed on.
     ensures handed_on { OnOk result.1 (W.handed_on result.0 ≡ true) }
 {
-    let (writer, checked, front) = check_up_to_fault(alloc, limits, name.is_some(), reader, writer);
+    let (writer, checked, front, said) = check_front(
+        alloc,
+        limits,
+        name.is_some(),
+        advised,
+        reader,
+        writer,
+    );
     let CheckedFront { last, handed_out } = front;
     match checked {
         Err(fault) => (writer, Err(fault)),
@@ -453,6 +501,7 @@ pub fn lint<R: Source, W: Target + Drop>(
                         alloc,
                         limits,
                         name,
+                        said,
                     };
                     tell_faults(&asked, refusal, &last, handed_out.findings, reader, writer)
                 }

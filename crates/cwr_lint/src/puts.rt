@@ -8,9 +8,10 @@ ghost use Rattle.cwr_lint_lines.specs.Format.FaultsAtFields.{report_number};
 ghost use Rattle.cwr_lint.specs.Format.FaultsOfLines.{IsFaultText};
 ghost use Rattle.cwr_lint.specs.Format.Told.{truncated_unless};
 ghost use Rattle.cwr_lint.specs.Steps.Puts.{PutsAfter, PutsWith, tool_result};
-ghost use Rattle.cwr_lint.specs.Steps.Runs.{AreWords, IsEndText};
+ghost use Rattle.cwr_lint.specs.Steps.Runs.{AreWords, IsEndText, asking_of};
 
 use crate::raw_lines::RawLine;
+use cwr_advice::Said;
 use cwr_decode::Refusal;
 use cwr_explain::explain_fault;
 use cwr_fields::Target;
@@ -27,6 +28,8 @@ pub(crate) struct Asked<'a> {
     pub limits: Limits,
     /// The name of the input, where what is told is explained too.
     pub name: Option<&'a str>,
+    /// What the header says, where there is to be advice.
+    pub said: Option<Said>,
 }
 
 /// A line that is told, and what is held beside it.
@@ -166,7 +169,7 @@ impl Asked<'_> {
         sink: &mut Sink<W>,
     ) -> Result<(), ToolFault>
         requires { has_failed sink.old ≡ false }
-        ensures { PutsWith (λ _. IsFaultText (is_some self.now.name) fault.now) W.contents W.failures result sink.old sink.new }
+        ensures { PutsWith (λ _. IsFaultText (asking_of self.now) fault.now) W.contents W.failures result sink.old sink.new }
     {
         match put_fault_line(fault, sink) {
             Ok(()) => self.put_explanation(fault, line, is_first, sink),

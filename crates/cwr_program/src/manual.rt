@@ -67,6 +67,11 @@ COMMANDS
        --explain
               Explains each fault and each finding.
 
+       --advice
+              Tells what a society may send back, too: after the findings of a
+              transaction without a fault it prints the advice on it, as `cwr
+              advise` does.
+
        --quiet
               Prints only what isn't good, and the sums.
 
@@ -78,6 +83,12 @@ COMMANDS
        advice, each with what to do. The verdict is last. Advice changes
        neither it nor the status. Several files are told as `cwr check` tells
        them. The rules are in docs/ADVICE.md of the repository.
+
+       --repeated NUMBER
+              Tells work numbers that stand in two works of a transmission,
+              with the places of both. The numbers of its first NUMBER works
+              are kept, 0 to 99999999; of more works the first one beyond is
+              told. Without it 0.
 
    cwr json [OPTIONS] [FILE]
        Writes the data of a transmission as lines of JSON to standard output,
@@ -283,12 +294,16 @@ OUTPUT
               counted from 1, the transaction and the record from 0. The
               verdict stays as it is.
 
-       After those of a transaction `cwr advise` writes the advice on it, with
-       indented lines under each:
+       After those of a transaction `cwr advise`, and `cwr lint` with
+       `--advice`, write the advice on it, with indented lines under each:
 
        ADVICE group G transaction T record S field F level L rule A
               A society may reject that record. Numbers are as those of a
               finding. L says what is usually rejected.
+
+       LIMIT repeated N group G transaction T
+              The numbers of N works are kept, and not that of this one. It
+              and the works after it are compared with those N alone.
 
        `cwr acks` writes a line of counts last, where the transmission is
        whole:

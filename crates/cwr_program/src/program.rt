@@ -255,6 +255,7 @@ fn perform<'a, R: Files + AllocGlobal, I: Read + Drop, P: Pace, O: Write + Drop,
         quiet: false,
         faults: false,
         advised: false,
+        repeated: 0,
     };
     let (judging, explained) = match &task.work {
         Work::Check(judging) => (judging, false),
@@ -267,14 +268,17 @@ fn perform<'a, R: Files + AllocGlobal, I: Read + Drop, P: Pace, O: Write + Drop,
             files,
             quiet,
             explained,
+            advised,
         } => {
             asked.quiet = *quiet;
             asked.faults = true;
+            asked.advised = *advised;
             let names = files.as_slice();
             return judge(rt, &asked, *explained, names, standard, pace, output, error);
         }
-        Work::Advise { files } => {
+        Work::Advise { files, repeated } => {
             asked.advised = true;
+            asked.repeated = *repeated;
             let names = files.as_slice();
             return judge(rt, &asked, false, names, standard, pace, output, error);
         }

@@ -36,8 +36,11 @@ pub(crate) enum Telling<'a> {
     Findings,
     /// The same with what explains them, in which the input has that name.
     Explained(&'a str),
-    /// Every fault in the place of a refusal; with what explains them where the input's name is given.
-    Faults(Option<&'a str>),
+    /// Every fault in the place of a refusal; with what explains them where the input's name is given, and with advice or without.
+    Faults {
+        name: Option<&'a str>,
+        advised: bool,
+    },
     /// The records with their cells, and the verdict.
     Records,
     /// The data as lines of JSON, and the verdict to standard error.
@@ -51,8 +54,8 @@ pub(crate) enum Telling<'a> {
     Rows(Table),
     /// What the acknowledgements say, in that form, and the verdict to standard error.
     Answers(Form),
-    /// The findings with what explains them, the advice, and the verdict.
-    Advice,
+    /// The findings with what explains them, the advice, and the verdict. The numbers of so many works are kept.
+    Advice(u32),
 }
 
 /// What is told of an input that is judged, where it is explained too.
@@ -61,8 +64,11 @@ pub(crate) fn telling_of<'a>(asked: &Asked, explained: bool, word: &'a str) -> T
 {
     let name = shown_name(word);
     match (asked.faults, asked.advised, explained) {
-        (true, _, _) => Telling::Faults(explained.then_some(name)),
-        (false, true, _) => Telling::Advice,
+        (true, advised, _) => Telling::Faults {
+            name: explained.then_some(name),
+            advised,
+        },
+        (false, true, _) => Telling::Advice(asked.repeated),
         (false, false, true) => Telling::Explained(name),
         (false, false, false) => Telling::Findings,
     }
@@ -80,6 +86,8 @@ pub(crate) struct Asked {
     pub(crate) faults: bool,
     /// Advice is told.
     pub(crate) advised: bool,
+    /// For that the numbers of so many works are kept.
+    pub(crate) repeated: u32,
 }
 
 /// What was made of an input that could be read: the verdict, what stands after it, and the status.
@@ -153,8 +161,8 @@ fn tell<R: Source, W: Target + Drop>(
             let (writer, outcome, found) = explain(alloc, limits, name, watch, reader, writer);
             (writer, outcome, look_of(found))
         }
-        Telling::Faults(name) => {
-            let (writer, outcome) = lint(alloc, limits, name, reader, writer);
+        Telling::Faults { name, advised } => {
+            let (writer, outcome) = lint(alloc, limits, name, advised, reader, writer);
             let look = look_after(reader, &outcome);
             (writer, outcome, look)
         }
@@ -178,8 +186,8 @@ fn tell<R: Source, W: Target + Drop>(
             let look = look_after(reader, &outcome);
             (writer, outcome, look)
         }
-        Telling::Advice => {
-            let (writer, outcome) = advise(alloc, limits, reader, writer);
+        Telling::Advice(repeated) => {
+            let (writer, outcome) = advise(alloc, limits, repeated, reader, writer);
             let look = look_after(reader, &outcome);
             (writer, outcome, look)
         }
@@ -220,7 +228,7 @@ fn judge_source<R: Source, W: Target + Drop>(
     ensures judges { JudgesOn asked.now.limits asked.now.wanted (R.remaining reader.old) result.1 }
     ensures told { IfOk result.1 (λ judgement. TellsText telling.entry asked.now.limits (R.remaining reader.old) W.contents writer result.0 (Ok judgement.verdict)) }
     ensures handed_on { OnOk result.1 (W.handed_on result.0 ≡ true) }
-    // A fault of a device is answered exactly where that device counted one more failure.
+    // A fault of a device is answered only where that device counted one more failure.
     ensures reader_failures { CountsInput result.1 (R.failures reader.old) (R.failures reader.new) }
     ensures writer_failures { CountsWriting result.1 (W.failures writer) (W.failures result.0) }
 {
@@ -296,7 +304,7 @@ pub(crate) fn tell_aside<E: Write>(
     match telling {
         // What follows stands in the explanation.
         Telling::Explained(_) => {}
-        Telling::Findings | Telling::Faults(_) | Telling::Records | Telling::Advice =>
+        Telling::Findings | Telling::Faults { .. } | Telling::Records | Telling::Advice(_) =>
             tell_following(error, name, &judgement.look),
         Telling::Data { .. } | Telling::Rows(_) | Telling::Answers(_) => {
             // What standard error doesn't take is lost.

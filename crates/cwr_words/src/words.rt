@@ -10,9 +10,10 @@ ghost use Rattle.cwr_words.specs.Format.Words.{AreNamesOf, IsAcksOf, IsAdviceOf,
 use clap::error::ErrorKind;
 use clap::{ArgMatches, Error};
 use cwr_grammar::{
-    ACKS, ADVISE, AS_JSON, CSV, EXPLAIN, EXPLAINED, FAIL_ON, FILE, GROUPS, JOIN, JSON, KIND, LINE,
-    LINT, MANUAL, NEW, NO_PROGRESS, NUMBER, NUMBERS, OUT, PREFIX, PROGRESS, QUIET, RECORDS,
-    RENUMBER, SENT, SHOW, SPLIT, TRANSACTION, UTF8, WHOLE, WORKS, WRITE, command,
+    ACKS, ADVICE, ADVISE, AS_JSON, CSV, EXPLAIN, EXPLAINED, FAIL_ON, FILE, GROUPS, JOIN, JSON,
+    KIND, LINE, LINT, MANUAL, NEW, NO_PROGRESS, NUMBER, NUMBERS, OUT, PREFIX, PROGRESS, QUIET,
+    RECORDS, RENUMBER, REPEATED, SENT, SHOW, SPLIT, TRANSACTION, UTF8, WHOLE, WORKS, WRITE,
+    command,
 };
 use cwr_layouts::Kind;
 use cwr_shape::{Level, Limits};
@@ -57,11 +58,15 @@ pub enum Work<'a> {
         quiet: bool,
         /// With an explanation of each.
         explained: bool,
+        /// With advice.
+        advised: bool,
     },
     /// They are checked, and there is advice on them.
     Advise {
         /// The names of the transmissions' files; without one standard input is read.
         files: Vec<&'a str>,
+        /// The numbers of so many works are kept, and those that stand twice are told.
+        repeated: u32,
     },
     /// The data of one is written as JSON.
     Json {
@@ -213,16 +218,21 @@ fn lint_in<'a>(alloc: Global, given: &ArgMatches<'a>) -> Result<Work<'a>, AllocE
         files: names_in(alloc, given)?,
         quiet: given.get_flag(QUIET),
         explained: given.get_flag(EXPLAINED),
+        advised: given.get_flag(ADVICE),
     })
 }
 
-/// The work of advice.
-fn advice_in<'a>(alloc: Global, given: &ArgMatches<'a>) -> Result<Work<'a>, AllocError>
-    ensures { IfOk result (IsAdviceOf (found_of given.now)) }
+/// The work of advice. `None` where the number of works is missing or out of its range.
+fn advice_in<'a>(alloc: Global, given: &ArgMatches<'a>) -> Result<Option<Work<'a>>, AllocError>
+    ensures { IfOk result (λ found. IfSome found (λ work. IsAdviceOf (found_of given.now) work)) }
 {
-    Ok(Work::Advise {
+    let Some(repeated) = given.get_one::<u32>(REPEATED) else {
+        return Ok(None);
+    };
+    Ok(Some(Work::Advise {
         files: names_in(alloc, given)?,
-    })
+        repeated,
+    }))
 }
 
 /// The work of an export.
@@ -330,7 +340,7 @@ fn work_in<'a>(
     } else if name == LINT {
         Ok(Some(lint_in(alloc, given)?))
     } else if name == ADVISE {
-        Ok(Some(advice_in(alloc, given)?))
+        advice_in(alloc, given)
     } else if name == JSON {
         Ok(Some(export_in(given)))
     } else if name == CSV {

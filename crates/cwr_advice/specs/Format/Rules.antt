@@ -12,11 +12,12 @@ use Rattle.cwr_shape.specs.declared.reasons.Level.{Level}
 use Rattle.cwr_shape.specs.declared.reasons.Level.TheVariants.{T, R, F}
 use Rattle.cwr_levels.specs.Format.Findings.{is_a, is_blank, is_owner, ownership, share_of}
 use Rattle.cwr_advice.specs.declared.rules.AdviceRule.{AdviceRule}
-use Rattle.cwr_advice.specs.declared.rules.AdviceRule.TheVariants.{A1a, A1b, A2a, A2b, A2c, A2d, A3a, A3b, A4a, A4b, A4c, A4d, A6a, A6b, A6c, A7a, A8a, A8b, A8c, A8d, A9a}
+use Rattle.cwr_advice.specs.declared.rules.AdviceRule.TheVariants.{A1a, A1b, A2a, A2b, A2c, A2d, A3a, A3b, A4a, A4b, A4c, A4d, A5a, A6a, A6b, A6c, A7a, A8a, A8b, A8c, A8d, A8e, A9a}
 use Rattle.cwr_advice.specs.declared.rules.Asked.{Asked}
 use Rattle.cwr_advice.specs.declared.rules.Advice.{Advice}
-use Rattle.cwr_advice.specs.declared.characters.Characters.{Characters}
+use Rattle.cwr_advice.specs.declared.said.Said.{Said}
 use Rattle.cwr_advice.specs.Format.Characters.{is_unlike}
+use Rattle.cwr_advice.specs.Format.Days.{is_to_come}
 use Rattle.cwr_advice.specs.Format.Numbers.{is_ean, is_ipi_base, is_ipi_name, is_isrc, is_language, is_society, is_territory_number, is_zero}
 use Rattle.cwr_advice.specs.Format.Shifts.{begins_with_letter, ends_with_letter, has_gap}
 
@@ -184,8 +185,8 @@ is_wrong rule cell = not (is_spaces cell) && not (is_right rule cell)
 
 -- ---- all rules
 
--- Record r breaks the rule by itself, at field j where that judges a cell. So much is said of characters.
-abbrev pub breaks_alone : Characters → AdviceRule → RecordValue → ℕ → Bool
+-- Record r breaks the rule by itself, at field j where that judges a cell. So much is said of the transmission.
+abbrev pub breaks_alone : Said → AdviceRule → RecordValue → ℕ → Bool
 breaks_alone said A3a r j = owns_over_half r
 breaks_alone said A4a r j = is_wrong A4a (cell_at r j)
 breaks_alone said A4b r j = is_wrong A4b (cell_at r j)
@@ -196,11 +197,12 @@ breaks_alone said A8a r j = is_wrong A8a (cell_at r j)
 breaks_alone said A8b r j = is_wrong A8b (cell_at r j)
 breaks_alone said A8c r j = is_wrong A8c (cell_at r j)
 breaks_alone said A8d r j = is_wrong A8d (cell_at r j)
-breaks_alone said A9a r j = is_unlike said (cell_at r j)
+breaks_alone said A8e r j = is_to_come said.sent (cell_at r j)
+breaks_alone said A9a r j = is_unlike said.characters (cell_at r j)
 breaks_alone said rule r j = false
 
 -- Record r of the transaction t, after k others, breaks the rule, at field j where that judges a cell.
-abbrev pub breaks : Characters → AdviceRule → List RecordValue → ℕ → RecordValue → ℕ → Bool
+abbrev pub breaks : Said → AdviceRule → List RecordValue → ℕ → RecordValue → ℕ → Bool
 breaks said A1a t k r j = goes_over t k r
 breaks said A1b t k r j = stands_twice t k r
 breaks said A2a t k r j = begins_with_agent t k r
@@ -219,8 +221,8 @@ at rule j = record { rule = rule; field = j }
 
 -- What is asked of a record of the kind, in this order: the rule, and the number of the field.
 abbrev pub asked_of : Kind → List Asked
-asked_of kinds.Nwr = at A2b 1 ∷ at A3b 1 ∷ at A6a 14 ∷ at A6c 15 ∷ at A7a 4 ∷ at A7a 19 ∷ at A8c 5 ∷ at A8d 11 ∷ at A9a 4 ∷ at A9a 19 ∷ []
-asked_of kinds.Rev = at A2b 1 ∷ at A3b 1 ∷ at A6a 14 ∷ at A6c 15 ∷ at A7a 4 ∷ at A7a 19 ∷ at A8c 5 ∷ at A8d 11 ∷ at A9a 4 ∷ at A9a 19 ∷ []
+asked_of kinds.Nwr = at A2b 1 ∷ at A3b 1 ∷ at A6a 14 ∷ at A6c 15 ∷ at A7a 4 ∷ at A7a 19 ∷ at A8c 5 ∷ at A8d 11 ∷ at A8e 8 ∷ at A9a 4 ∷ at A9a 19 ∷ []
+asked_of kinds.Rev = at A2b 1 ∷ at A3b 1 ∷ at A6a 14 ∷ at A6c 15 ∷ at A7a 4 ∷ at A7a 19 ∷ at A8c 5 ∷ at A8d 11 ∷ at A8e 8 ∷ at A9a 4 ∷ at A9a 19 ∷ []
 asked_of kinds.Spu = at A2a 8 ∷ at A3a 13 ∷ at A4a 10 ∷ at A4b 21 ∷ at A7a 5 ∷ at A8a 12 ∷ at A8a 14 ∷ at A8a 16 ∷ at A9a 6 ∷ []
 asked_of kinds.Opu = at A2a 8 ∷ at A3a 13 ∷ at A4a 10 ∷ at A4b 21 ∷ at A7a 5 ∷ at A8a 12 ∷ at A8a 14 ∷ at A8a 16 ∷ at A9a 6 ∷ []
 asked_of kinds.Swr = at A2c 1 ∷ at A2d 1 ∷ at A4a 10 ∷ at A4b 21 ∷ at A7a 4 ∷ at A7a 5 ∷ at A8a 11 ∷ at A8a 13 ∷ at A8a 15 ∷ at A9a 5 ∷ at A9a 6 ∷ []
@@ -236,10 +238,11 @@ asked_of kinds.Per = at A4a 6 ∷ at A4b 7 ∷ at A7a 4 ∷ at A7a 5 ∷ at A9a 
 asked_of kinds.Rec = at A4c 12 ∷ at A4d 11 ∷ at A7a 8 ∷ at A7a 9 ∷ at A8d 6 ∷ at A9a 8 ∷ at A9a 9 ∷ []
 asked_of kinds.Com = at A4a 10 ∷ at A4a 13 ∷ at A4b 14 ∷ at A4b 15 ∷ at A6b 1 ∷ at A7a 4 ∷ at A7a 8 ∷ at A7a 9 ∷ at A7a 11 ∷ at A7a 12 ∷ at A8d 7 ∷ at A9a 4 ∷ at A9a 8 ∷ at A9a 9 ∷ at A9a 11 ∷ at A9a 12 ∷ []
 asked_of kinds.Pwr = at A7a 4 ∷ at A7a 5 ∷ at A9a 5 ∷ []
+asked_of kinds.Agr = at A8e 14 ∷ []
 asked_of kinds.Orn = at A7a 5 ∷ at A7a 8 ∷ at A7a 12 ∷ at A9a 5 ∷ at A9a 8 ∷ at A9a 12 ∷ []
 asked_of this_kind = []
 
--- what is usually rejected where the rule is broken
+-- What is usually rejected where the rule is broken. A5a is asked of works among those of a transmission, and of no record of a transaction.
 abbrev pub level_of_rule : AdviceRule → Level
 level_of_rule A1a = T
 level_of_rule A1b = R
@@ -249,6 +252,7 @@ level_of_rule A2c = T
 level_of_rule A2d = T
 level_of_rule A3a = T
 level_of_rule A3b = T
+level_of_rule A5a = T
 level_of_rule A6a = T
 level_of_rule A6b = R
 level_of_rule A6c = R
@@ -260,7 +264,7 @@ abbrev pub advice_of_asked : ℕ → Asked → Advice
 advice_of_asked k asked = record { rec = k; field = asked.field; rule = asked.rule }
 
 -- the advice at a record
-abbrev pub advice_at : Characters → List RecordValue → ℕ → RecordValue → List Advice
+abbrev pub advice_at : Said → List RecordValue → ℕ → RecordValue → List Advice
 advice_at said t k r = map (advice_of_asked k) (filter (λ asked. breaks said asked.rule t k r asked.field) (asked_of r.kind))
 
 -- an acknowledgement: it comes from a society
@@ -268,5 +272,5 @@ abbrev pub is_acknowledgement : List RecordValue → Bool
 is_acknowledgement t = list_any (is_a kinds.Ack) (take 1 t)
 
 -- the advice on the records of a transaction, whole or only begun: by record, and then as asked; an acknowledgement has none
-unfoldable pub advice_of : Characters → List RecordValue → List Advice
+unfoldable pub advice_of : Said → List RecordValue → List Advice
 advice_of said t = if is_acknowledgement t then [] else flat_map (λ p. advice_at said t p.0 p.1) (enumerate_from 0 t)

@@ -1,6 +1,7 @@
 -- What is kept of the records of a transaction in place of them, and what that says of them.
 use Rattle.std.specs.Prelude.{◌≡◌, ◌⊎◌, ℕ, ◌+◌, Bool, true, false, not, ◌&&◌, if◌then◌else◌, List, filter, drop, take, slice_get, Option, Some}
 use Rattle.std.specs.List.{list_any, sum_by, after_last}
+use Rattle.std.specs.Option.{is_some}
 use Rattle.std.specs.Str.{bytes_eq}
 use Rattle.cwr_layouts.specs.declared.kinds.Kind.TheVariants as kinds
 use Rattle.cwr_lines.specs.Format.Records.{RecordValue, cell_named}
@@ -11,10 +12,11 @@ use Rattle.cwr_advice.specs.declared.kept_headers.Headers.{Headers}
 use Rattle.cwr_advice.specs.declared.owing.Owing.{Owing}
 use Rattle.cwr_advice.specs.declared.owners.Owned.{Owned}
 use Rattle.cwr_advice.specs.declared.rules.AdviceRule.{AdviceRule}
-use Rattle.cwr_advice.specs.declared.rules.AdviceRule.TheVariants.{A9a}
-use Rattle.cwr_advice.specs.declared.characters.Characters.TheVariants.{Other}
+use Rattle.cwr_advice.specs.declared.rules.AdviceRule.TheVariants.{A8e, A9a}
 use Rattle.cwr_advice.specs.Format.Characters.{is_ascii}
+use Rattle.cwr_advice.specs.Format.Days.{day_in}
 use Rattle.cwr_advice.specs.Format.Rules.{asked_of, begins_with_agent, breaks_alone, cell_at, has_composite_type, has_no_composite_type, in_chain, is_acknowledgement, is_territory, is_territory_of, is_version, is_writer, owns_shares, records_of_writer}
+use Rattle.cwr_advice.specs.Format.Said.{nothing_said}
 use Rattle.cwr_advice.specs.Steps.Facts.{AreFacts}
 
 -- ---- headers
@@ -69,10 +71,11 @@ stands_again before r = is_territory r && not (is_blank "tis code" r) && list_an
 abbrev pub IsBegun : List RecordValue → Option (List ℕ) → Type 0
 IsBegun t chain = (sequence : List ℕ) → chain ≡ Some sequence → list_any (in_chain sequence) t ≡ true
 
--- the record may break the rule by itself, whatever is said of characters
+-- the record may break the rule by itself, whatever is said of the transmission
 abbrev pub may_break_alone : AdviceRule → RecordValue → ℕ → Bool
+may_break_alone A8e r j = is_some (day_in (cell_at r j))
 may_break_alone A9a r j = not (is_ascii (cell_at r j))
-may_break_alone rule r j = breaks_alone Other rule r j
+may_break_alone rule r j = breaks_alone nothing_said rule r j
 
 -- it may break some rule so
 abbrev pub may_break_some : RecordValue → Bool

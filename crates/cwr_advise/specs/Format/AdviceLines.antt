@@ -1,76 +1,71 @@
--- The lines of advice, and what is written of items with it.
-use Rattle.std.specs.Prelude.{ℕ, ◌+◌, Bool, false, nat_lt, List, [], ◌∷◌, ◌++◌, codes, decimal, length, map, take, count_by, flat_map, None, slice_get, unwrap_or}
+-- What is written of items with advice.
+use Rattle.std.specs.Prelude.{ℕ, ◌+◌, Bool, true, false, ◌||◌, nat_lt, List, [], ◌∷◌, ◌++◌, length, map, take, count_by, flat_map, None, unwrap_or}
 use Rattle.std.specs.List.{after_last, enumerate_from, last_or}
-use Rattle.std.specs.Option.{option_to_list}
-use Rattle.cwr_lines.specs.Format.Carried.{carried_at, record_cell}
 use Rattle.cwr_lines.specs.Format.Records.{RecordValue}
-use Rattle.cwr_shape.specs.Format.ReasonTexts.{level_text}
 use Rattle.cwr_values.specs.declared.items.Item.{Item}
 use Rattle.cwr_values.specs.declared.items.Item.TheVariants.{Opened, Transaction}
 use Rattle.cwr_judge.specs.Format.Items.{is_transaction, opens_group, records_in}
 use Rattle.cwr_levels.specs.Format.Findings.{findings}
-use Rattle.cwr_notes.specs.Format.FindingNotes.{explained_in, noted_line, where_line}
-use Rattle.cwr_tools.specs.Format.Reports.{ItemLines}
+use Rattle.cwr_tools.specs.declared.verdicts.Verdict.{Verdict}
+use Rattle.cwr_tools.specs.Format.Reports.{ItemLines, transaction_lines, unrefused_line}
 use Rattle.cwr_tools.specs.Format.Texts.{verdict_line}
-use Rattle.cwr_advice.specs.declared.rules.Advice.{Advice}
-use Rattle.cwr_advice.specs.declared.characters.Characters.{Characters}
 use Rattle.cwr_advice.specs.declared.characters.Characters.TheVariants.{Unsaid, Utf8, Other}
-use Rattle.cwr_advice.specs.Format.Characters.{characters_in}
-use Rattle.cwr_advice.specs.Format.Rules.{advice_of, cell_at, level_of_rule}
-use Rattle.cwr_advice.specs.Format.Words.{advice_words, rule_text}
+use Rattle.cwr_advice.specs.declared.said.Said.{Said}
+use Rattle.cwr_advice.specs.Format.Rules.{advice_of}
+use Rattle.cwr_advice.specs.Format.Said.{before_all_days, nothing_said, said_by}
+use Rattle.cwr_advise.specs.Format.AdviceTexts.{noted_advice}
+use Rattle.cwr_advise.specs.Format.RepeatedWorks.{keeps_number, repeated_in}
 
--- the group's number is its ID, from 1, and the transaction's its sequence, from 0
-abbrev pub advice_line : ℕ → ℕ → Advice → List ℕ
-advice_line group transaction a = codes "ADVICE group " ++ decimal group ++ codes " transaction " ++ decimal transaction
-    ++ codes " record " ++ decimal a.rec ++ codes " field " ++ decimal a.field ++ codes " level " ++ level_text (level_of_rule a.rule)
-    ++ codes " rule " ++ rule_text a.rule ++ 10 ∷ []
-
--- the cell of field j of a record on line n of the file, where it carries one
-unfoldable pub cell_line : ℕ → RecordValue → ℕ → List ℕ
-cell_line n r j = noted_line n r.kind (carried_at r.kind j) (record_cell r j)
-
--- the advice in words
-abbrev pub words_line : Advice → List ℕ
-words_line a = codes "  advice    " ++ advice_words a.rule ++ 10 ∷ []
-
--- the lines of advice at a record on line n of the file: what it is, where the record stands, its cell, and the advice in words
-abbrev pub lines_at_record : ℕ → ℕ → ℕ → Advice → RecordValue → List ℕ
-lines_at_record group sequence n a r = advice_line group sequence a ++ where_line n r.kind ++ cell_line n r a.field ++ words_line a
-
--- the same in the transaction t, whose first record is on line n of the file
-unfoldable pub noted_advice : ℕ → ℕ → ℕ → List RecordValue → Advice → List ℕ
-noted_advice group sequence n t a = flat_map (lines_at_record group sequence (n + a.rec) a) (option_to_list (slice_get t a.rec))
-
--- ---- of items
-
--- the header of the transmission, in field 9 of which its character set stands
+-- the header of the transmission
 abbrev pub header_in : Item → List RecordValue
 header_in (Opened h) = h ∷ []
 header_in item = []
 
--- what the items so far say of characters: what the last header says, and nothing before one
-abbrev pub said_in : List Item → Characters
-said_in items = unwrap_or (last_or None (map (λ h. characters_in (cell_at h 9)) (flat_map header_in items))) Unsaid
+-- what the items so far say of the transmission: what the last header says, and nothing before one
+abbrev pub said_in : List Item → Said
+said_in items = unwrap_or (last_or None (map said_by (flat_map header_in items))) nothing_said
 
--- The findings of an item with what explains them, and then the advice, where it is the transaction of that sequence in the group of
--- that ID, and begins on line n. So much is said of characters.
-abbrev pub advised_in : Characters → ℕ → ℕ → ℕ → Item → List ℕ
-advised_in said group sequence n (Transaction t) = explained_in group sequence n (Transaction t) ++ flat_map (noted_advice group sequence n t) (advice_of said t)
-advised_in said group sequence n item = []
+-- The findings of a transaction, explained or not, and then the advice on it, where it is of that sequence in the group of that ID, and
+-- begins on line n. So much is said of the transmission.
+abbrev pub advised_transaction : Bool → Said → ℕ → ℕ → ℕ → List RecordValue → List ℕ
+advised_transaction explained said group sequence n t = transaction_lines explained group sequence n t ++ flat_map (noted_advice group sequence n t) (advice_of said t)
 
--- the same, by the items before it
-abbrev pub advised_item : List Item → Item → List ℕ
-advised_item before item = advised_in (said_in before) (count_by opens_group before) (count_by is_transaction (after_last opens_group before)) (length (records_in before) + 1) item
+-- the same of an item that is a transaction
+abbrev pub advised_in : Bool → Said → ℕ → ℕ → ℕ → Item → List ℕ
+advised_in explained said group sequence n (Transaction t) = advised_transaction explained said group sequence n t
+advised_in explained said group sequence n item = []
+
+-- The same, by the items before it, and then what is told of it among the works before. The numbers of so many works are kept.
+abbrev pub advised_item : Bool → ℕ → List Item → Item → List ℕ
+advised_item explained limit before item =
+    advised_in explained (said_in before) (count_by opens_group before) (count_by is_transaction (after_last opens_group before)) (length (records_in before) + 1) item ++ repeated_in limit before item
 
 -- what is written of items
-unfoldable pub advised_lines : List Item → List ℕ
-advised_lines items = flat_map (λ p. advised_item (take p.0 items) p.1) (enumerate_from 0 items)
+unfoldable pub advised_lines : Bool → ℕ → List Item → List ℕ
+advised_lines explained limit items = flat_map (λ p. advised_item explained limit (take p.0 items) p.1) (enumerate_from 0 items)
 
--- the item is a transaction that has findings, or on which there is advice where some of the three is said of characters
-abbrev pub has_advice : Item → Bool
-has_advice (Transaction t) = nat_lt 0 (length (findings t) + (length (advice_of Unsaid t) + length (advice_of Utf8 t) + length (advice_of Other t)))
-has_advice item = false
+-- the transaction has findings, or there is advice on it where some of the three is said of characters, and all days are to come
+abbrev pub has_advice : List RecordValue → Bool
+has_advice t = nat_lt 0 (length (findings t) + (length (advice_of (before_all_days Unsaid) t) + length (advice_of (before_all_days Utf8) t) + length (advice_of (before_all_days Other) t)))
 
--- the findings and the advice in each transaction, and then the verdict's line
-abbrev pub lines_of_advice : ItemLines
-lines_of_advice = record { lines = advised_lines; last = verdict_line; take_memory = has_advice }
+-- the item is such a transaction
+abbrev pub has_advised : Item → Bool
+has_advised (Transaction t) = has_advice t
+has_advised item = false
+
+-- it is one, or a work whose number is kept
+abbrev pub takes_memory : ℕ → Item → Bool
+takes_memory limit item = has_advised item || keeps_number limit item
+
+-- the verdict's line, or, up to a fault, no line of a refusal
+abbrev pub last_line : Bool → Verdict → List ℕ
+last_line false verdict = verdict_line verdict
+last_line true verdict = unrefused_line verdict
+
+-- the findings, explained or not, and the advice in each transaction, and then the verdict's line, or, up to a fault, no line of a refusal
+abbrev pub lines_advised : Bool → Bool → ℕ → ItemLines
+lines_advised explained up_to_fault limit = record { lines = advised_lines explained limit; last = last_line up_to_fault; take_memory = takes_memory limit }
+
+-- the findings, explained, and the advice in each transaction, where the numbers of so many works are kept, and then the verdict's line
+abbrev pub lines_of_advice : ℕ → ItemLines
+lines_of_advice limit = lines_advised true false limit

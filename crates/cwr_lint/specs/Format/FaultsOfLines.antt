@@ -1,26 +1,34 @@
 -- The faults that a lint tells of one line.
-use Rattle.std.specs.Prelude.{◌≡◌, ℕ, zero, suc, ◌+◌, ◌-◌, ◌<◌, ◌≤◌, Bool, false, ◌&&◌, nat_le, List, [], ◌∷◌, ◌++◌, length, Option, Some, None}
+use Rattle.std.specs.Prelude.{◌≡◌, ℕ, zero, suc, ◌+◌, ◌<◌, ◌≤◌, Bool, false, ◌&&◌, nat_le, if◌then◌else◌, List, [], ◌∷◌, ◌++◌, flat_map, length, Option, Some, None}
 use Rattle.cwr_lines.specs.Format.Records.{RecordValue}
 use Rattle.cwr_shape.specs.declared.reasons.Reason.{Reason}
 use Rattle.cwr_judge.specs.declared.refusals.Refusal.{Refusal}
 use Rattle.cwr_levels.specs.Format.ReportLines.{fault_line}
 use Rattle.cwr_tools.specs.Format.Reports.{transaction_lines}
+use Rattle.cwr_advice.specs.declared.said.Said.{Said}
+use Rattle.cwr_advice.specs.Format.Rules.{advice_of}
+use Rattle.cwr_advise.specs.Format.AdviceTexts.{noted_advice}
 use Rattle.cwr_lint_lines.specs.Format.FaultsAtFields.{JudgedLine, IsToldAt, fault_in, fields_end, one_more_line}
 
+-- what is asked for beside the lines of faults and findings: words under each, and advice, where this is said of the transmission
+pub record Asking : Type 0 where
+  pub explained : Bool
+  pub said : Option Said
+
 -- the line of a fault, under which words stand where they are asked for
-abbrev pub IsFaultText : Bool → Refusal → List ℕ → Type 0
-IsFaultText explained fault text = (words : List ℕ) × (explained ≡ false → words ≡ []) × (text ≡ fault_line fault ++ words)
+abbrev pub IsFaultText : Asking → Refusal → List ℕ → Type 0
+IsFaultText asked fault text = (words : List ℕ) × (asked.explained ≡ false → words ≡ []) × (text ≡ fault_line fault ++ words)
 
 -- the faults and their lines with one more
-abbrev pub TellsMore : Bool → Option Refusal → List Refusal → List ℕ → List Refusal → List ℕ → Type 0
-TellsMore explained None before earlier told text = (told ≡ before) × (text ≡ earlier)
-TellsMore explained (Some fault) before earlier told text = (told ≡ before ++ fault ∷ []) × (line : List ℕ) × IsFaultText explained fault line × (text ≡ earlier ++ line)
+abbrev pub TellsMore : Asking → Option Refusal → List Refusal → List ℕ → List Refusal → List ℕ → Type 0
+TellsMore asked None before earlier told text = (told ≡ before) × (text ≡ earlier)
+TellsMore asked (Some fault) before earlier told text = (told ≡ before ++ fault ∷ []) × (line : List ℕ) × IsFaultText asked fault line × (text ≡ earlier ++ line)
 
 -- the faults at the fields from one on that are below j, in order, and their lines
-abbrev pub Tells : Bool → JudgedLine → ℕ → ℕ → List Refusal → List ℕ → Type 0
-Tells explained l from zero told text = (told ≡ []) × (text ≡ [])
-Tells explained l from (suc j) told text = (reason : Option Reason) × (from ≤ j → IsToldAt l j reason) × (j < from → reason ≡ None)
-    × (before : List Refusal) × (earlier : List ℕ) × Tells explained l from j before earlier × TellsMore explained (fault_in l j reason) before earlier told text
+abbrev pub Tells : Asking → JudgedLine → ℕ → ℕ → List Refusal → List ℕ → Type 0
+Tells asked l from zero told text = (told ≡ []) × (text ≡ [])
+Tells asked l from (suc j) told text = (reason : Option Reason) × (from ≤ j → IsToldAt l j reason) × (j < from → reason ≡ None)
+    × (before : List Refusal) × (earlier : List ℕ) × Tells asked l from j before earlier × TellsMore asked (fault_in l j reason) before earlier told text
 
 -- a transaction that ended: its group and its number as they are reported, the number of its first line, and its records
 pub record EndedTransaction : Type 0 where
@@ -29,16 +37,29 @@ pub record EndedTransaction : Type 0 where
   pub first : ℕ
   pub records : List RecordValue
 
--- The lines of its findings. Words stand under each where they are asked for, and where its lines have numbers that these can name.
-abbrev pub ended_lines : Bool → Option EndedTransaction → List ℕ
-ended_lines explained None = []
-ended_lines explained (Some t) = transaction_lines (explained && nat_le (t.first + length t.records) 100000000) t.group t.sequence t.first t.records
+-- the advice on a transaction, where so much is said of the transmission, and where nothing is, none
+abbrev pub advice_if : Option Said → ℕ → ℕ → ℕ → List RecordValue → List ℕ
+advice_if None group sequence first t = []
+advice_if (Some said) group sequence first t = flat_map (noted_advice group sequence first t) (advice_of said t)
+
+-- what is said, where advice is asked for, and lines have numbers that words can name
+abbrev pub said_if : Bool → Option Said → Option Said
+said_if numbered said = if numbered then said else None
+
+-- The lines of findings in a transaction, and then the advice on it. Words stand under each finding where they are asked for.
+abbrev pub told_lines : Asking → Bool → ℕ → ℕ → ℕ → List RecordValue → List ℕ
+told_lines asked numbered group sequence first t = transaction_lines (asked.explained && numbered) group sequence first t ++ advice_if (said_if numbered asked.said) group sequence first t
+
+-- what is told of a transaction that ended
+abbrev pub ended_lines : Asking → Option EndedTransaction → List ℕ
+ended_lines asked None = []
+ended_lines asked (Some t) = told_lines asked (nat_le (t.first + length t.records) 100000000) t.group t.sequence t.first t.records
 
 -- What is told of a line that was judged: the findings of the transaction that it ends, and then its faults at the fields from one on.
-pub record TellsLine (explained : Bool) (judged : JudgedLine) (ended : Option EndedTransaction) (from : ℕ) (told : List Refusal) (text : List ℕ) : Type 0 where
+pub record TellsLine (asked : Asking) (judged : JudgedLine) (ended : Option EndedTransaction) (from : ℕ) (told : List Refusal) (text : List ℕ) : Type 0 where
   pub lines : List ℕ
-  pub tells : Tells explained judged from (fields_end judged.cut.kind) told lines
-  pub whole : text ≡ ended_lines explained ended ++ lines
+  pub tells : Tells asked judged from (fields_end judged.cut.kind) told lines
+  pub whole : text ≡ ended_lines asked ended ++ lines
 
 -- the count of lines after these
 abbrev pub count_after : ℕ → List (List ℕ) → ℕ

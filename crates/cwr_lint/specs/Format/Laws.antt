@@ -1,5 +1,5 @@
 -- What is so of the faults that are told of a line.
-use Rattle.std.specs.Prelude.{◌≡◌, ◌↔◌, ℕ, ◌+◌, ◌-◌, ◌≤◌, Bool, true, List, length, Some, slice_get}
+use Rattle.std.specs.Prelude.{◌≡◌, ◌↔◌, ℕ, ◌+◌, ◌-◌, ◌≤◌, true, List, length, Some, slice_get}
 use Rattle.std.specs.List.{Contains}
 use Rattle.cwr_fields.specs.declared.cell_types.CellFault.{CellFault}
 use Rattle.cwr_fields.specs.Format.Cells.{HasFault}
@@ -9,7 +9,7 @@ use Rattle.cwr_shape.specs.declared.reasons.Reason.{Reason}
 use Rattle.cwr_shape.specs.declared.reasons.Reason.TheVariants.{Misplaced, Cell, Excess}
 use Rattle.cwr_judge.specs.declared.refusals.Refusal.{Refusal}
 use Rattle.cwr_lint_lines.specs.Format.FaultsAtFields.{JudgedLine, fields_end, tells_cells}
-use Rattle.cwr_lint.specs.Format.FaultsOfLines.{Tells}
+use Rattle.cwr_lint.specs.Format.FaultsOfLines.{Asking, Tells}
 
 -- a fault with that reason is told at field k
 abbrev pub IsToldWith : List Refusal → ℕ → Reason → Type 0
@@ -24,4 +24,4 @@ pub record TellsCells (l : JudgedLine) (kind : Kind) (told : List Refusal) : Typ
 
 -- so it is of the faults that are told of a whole line
 abbrev pub CellsAreTold : Type 0
-CellsAreTold = (explained : Bool) (l : JudgedLine) (kind : Kind) (told : List Refusal) (text : List ℕ) → l.cut.kind ≡ Some kind → Tells explained l 1 (fields_end l.cut.kind) told text → TellsCells l kind told
+CellsAreTold = (asked : Asking) (l : JudgedLine) (kind : Kind) (told : List Refusal) (text : List ℕ) → l.cut.kind ≡ Some kind → Tells asked l 1 (fields_end l.cut.kind) told text → TellsCells l kind told

@@ -17,21 +17,22 @@ use Rattle.cwr_tools.specs.declared.verdicts.Verdict.{Verdict}
 use Rattle.cwr_tools.specs.declared.verdicts.Verdict.TheVariants.{Refused}
 use Rattle.cwr_tools.specs.declared.verdicts.ToolFault.{ToolFault}
 use Rattle.cwr_tools.specs.declared.verdicts.ToolFault.TheVariants.{Writer}
-use Rattle.cwr_tools.specs.Format.Reports.{lines_checked, lines_up_to_fault}
+use Rattle.cwr_advise.specs.Format.AdviceLines.{said_in}
 use Rattle.cwr_tools.specs.Steps.Reports.{Reports}
 use Rattle.cwr_tools.specs.Steps.Verdicts.{StopsAfter}
 use Rattle.cwr_lint_lines.specs.Steps.Fronts.{state_at}
+use Rattle.cwr_lint.specs.Format.Wanted.{Wanted, asking_for, lines_linted, lines_up_to}
 use Rattle.cwr_lint.specs.Steps.LinesRead.{IsTextOf}
 use Rattle.cwr_lint.specs.Steps.Runs.{EndsAtTrl}
 use Rattle.cwr_lint.specs.Steps.Walks.{IsTold}
 
 -- First a check is made, and what it writes is written, but no line of a refusal: with all that is said of a check of these bytes. Then
 -- words follow it; after a fault of the check there are none. More bytes may be taken from the reader.
-pub record Lints {W : Type 0} (explained : Bool) (limits : Limits) (before after : Option (List ℕ)) (contents : W → Option (List ℕ)) (old new : W) (result : Result Verdict ToolFault) : Type 0 where
+pub record Lints {W : Type 0} (wanted : Wanted) (limits : Limits) (before after : Option (List ℕ)) (contents : W → Option (List ℕ)) (old new : W) (result : Result Verdict ToolFault) : Type 0 where
   pub between : W
   pub left : Option (List ℕ)
   pub checked : Result Verdict ToolFault
-  pub reported : Reports (lines_up_to_fault explained) limits before left contents old between checked
+  pub reported : Reports (lines_up_to wanted) limits before left contents old between checked
   pub words : List ℕ
   pub written : Appends (contents between) (contents new) words
   pub more : List ℕ
@@ -51,8 +52,8 @@ pub record AreLinesRead (refusal : Refusal) (tally : TallyValue) (last : Bool) (
   pub text : IsTextOf last bytes (front ++ refused ∷ lines)
 
 -- The text was refused so, after these items, and their lines were written and then what is told of the line that is refused and of those after
--- it, from what was counted of the records before. Where the text's bytes are known these are its lines, up to a TRL or to its end.
-pub record TellsFaults {W : Type 0} (explained : Bool) (limits : Limits) (before after : Option (List ℕ)) (contents : W → Option (List ℕ)) (old new : W) (refusal : Refusal) : Type 0 where
+-- it, from what was counted of the records before, and with advice by what was heard before the same stop. Where the text's bytes are known these are its lines, up to a TRL or to its end.
+pub record TellsFaults {W : Type 0} (wanted : Wanted) (limits : Limits) (before after : Option (List ℕ)) (contents : W → Option (List ℕ)) (old new : W) (refusal : Refusal) : Type 0 where
   pub given : List Item
   pub left : Option (List ℕ)
   pub stopped : StopsAfter limits (read_faults.Refused refusal) before left given
@@ -64,8 +65,10 @@ pub record TellsFaults {W : Type 0} (explained : Bool) (limits : Limits) (before
   pub text : List ℕ
   pub last : Bool
   pub tally : TallyValue
-  pub told : IsTold explained (state_at tally.stage tally.counts (refusal.rec - 1)) refusal refused lines over text
-  pub written : Appends (contents old) (contents new) ((lines_checked explained).lines given ++ text)
+  pub heard : List Item
+  pub heard_before : StopsAfter limits (read_faults.Refused refusal) before left heard
+  pub told : IsTold (asking_for wanted (said_in heard)) (state_at tally.stage tally.counts (refusal.rec - 1)) refusal refused lines over text
+  pub written : Appends (contents old) (contents new) ((lines_linted wanted).lines given ++ text)
   pub read : IfSome before (λ known. (bytes : List ℕ) × Consumes before after bytes × AreLinesRead refusal tally last bytes refused lines)
   pub cut : last ≡ false → IfSome before (λ known. IsAtEnd after ⊎ (2 ^ 64 - 1 ≤ length known))
   pub ends : over ≡ true → EndsAtTrl (refused ∷ lines)
@@ -73,9 +76,9 @@ pub record TellsFaults {W : Type 0} (explained : Bool) (limits : Limits) (before
 
 -- Of a text that is refused the faults are told, and the refusal first. Of any other what a check writes is written, and nothing else: the
 -- findings of the items, and the line of the verdict.
-abbrev pub Tells : {W : Type 0} → Bool → Limits → Option (List ℕ) → Option (List ℕ) → (W → Option (List ℕ)) → W → W → Verdict → Type 0
-Tells explained limits before after contents old new (Refused refusal) = TellsFaults explained limits before after contents old new refusal
-Tells explained limits before after contents old new verdict = Reports (lines_checked explained) limits before after contents old new (Ok verdict)
+abbrev pub Tells : {W : Type 0} → Wanted → Limits → Option (List ℕ) → Option (List ℕ) → (W → Option (List ℕ)) → W → W → Verdict → Type 0
+Tells wanted limits before after contents old new (Refused refusal) = TellsFaults wanted limits before after contents old new refusal
+Tells wanted limits before after contents old new verdict = Reports (lines_linted wanted) limits before after contents old new (Ok verdict)
 
 -- A run that goes on after the refusal ends so: its fault is answered, and nothing more is done; or else the writer hands on what it has, and
 -- the refusal is answered, or the fault of the writer, which then counts one more failure.

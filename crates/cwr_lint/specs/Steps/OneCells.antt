@@ -1,6 +1,7 @@
 -- What is told of a text that differs from a good one in one derived cell.
 use Rattle.std.specs.Prelude.{◌≡◌, ◌⊎◌, ℕ, ◌+◌, ◌-◌, ◌^◌, ◌<◌, ◌≤◌, Bool, false, List, [], length, Option, Some}
 use Rattle.std.specs.Io.KnownBytes.{Consumes, IsAtEnd}
+use Rattle.cwr_lint.specs.Format.FaultsOfLines.{Asking}
 use Rattle.cwr_layouts.specs.declared.kinds.Kind.{Kind}
 use Rattle.cwr_shape.specs.declared.limits.Limits.{Limits}
 use Rattle.cwr_shape.specs.Steps.Tallies.{TallyValue}
@@ -14,8 +15,8 @@ use Rattle.cwr_lint.specs.Steps.Walks.{IsTold}
 -- Where a text shorter than 2^64-1 bytes differs from a good one in one derived cell, it is refused at that cell, and what is told of it tells no
 -- other fault.
 abbrev pub OneCellIsTold : Type 0
-OneCellIsTold = (explained : Bool) (limits : Limits) (text : List ℕ) (left : Option (List ℕ)) (refusal : Refusal) (tally : TallyValue) (refused : List ℕ) (lines : List (List ℕ)) (last over : Bool) (bytes written : List ℕ)
+OneCellIsTold = (asked : Asking) (limits : Limits) (text : List ℕ) (left : Option (List ℕ)) (refusal : Refusal) (tally : TallyValue) (refused : List ℕ) (lines : List (List ℕ)) (last over : Bool) (bytes written : List ℕ)
     → (before : List (List ℕ)) (wrong : List ℕ) (kind : Kind) (k : ℕ) → DiffersInOneCell limits text before wrong kind k → length text < 2 ^ 64 - 1 → IsRefused limits text refusal
     → Consumes (Some text) left bytes → AreLinesRead refusal tally last bytes refused lines → (last ≡ false → IsAtEnd left ⊎ (2 ^ 64 - 1 ≤ length text))
-    → (told : IsTold explained (state_at tally.stage tally.counts (refusal.rec - 1)) refusal refused lines over written)
+    → (told : IsTold asked (state_at tally.stage tally.counts (refusal.rec - 1)) refusal refused lines over written)
     → (refusal.rec ≡ length before + 1) × (refusal.field ≡ k) × (told.others ≡ []) × (told.later ≡ [])

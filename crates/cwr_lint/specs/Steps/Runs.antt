@@ -1,6 +1,7 @@
 -- What the steps of a lint tell, and what they count.
 use Rattle.std.specs.Prelude.{◌≡◌, ◌⊎◌, ℕ, ◌+◌, ◌-◌, ◌^◌, ◌≤◌, min, Bool, true, false, IsFalse, List, [], ◌∷◌, ◌++◌, length, Option, Some, None, IfSome}
 use Rattle.std.specs.List.{AllByRecursion, list_any}
+use Rattle.std.specs.Option.{is_some}
 use Rattle.std.specs.Io.KnownBytes.{Consumes, IsAtEnd}
 use Rattle.cwr_lines.specs.Format.Lines.{is_lf}
 use Rattle.cwr_layouts.specs.declared.kinds.Kind.TheVariants.{Trl}
@@ -8,27 +9,32 @@ use Rattle.cwr_lines.specs.Format.Lines.{line_kind}
 use Rattle.cwr_judge.specs.declared.refusals.Refusal.{Refusal}
 use Rattle.cwr_levels.specs.Format.ReportLines.{faults_line}
 use Rattle.cwr_lint.specs.declared.linting.LintRun.{LintRun}
+use Rattle.cwr_lint.specs.declared.puts.Asked.{Asked}
 use Rattle.cwr_lint.specs.declared.raw_lines.RawLine.{RawLine}
 use Rattle.cwr_lint_lines.specs.declared.states.LintState.{LintState}
 use Rattle.cwr_lint_lines.specs.Format.FaultsAtFields.{JudgedLine, LineCut, cut_of, one_more_line}
-use Rattle.cwr_lint.specs.Format.FaultsOfLines.{EndedTransaction, IsFaultText, Tells, TellsLine, count_after}
+use Rattle.cwr_lint.specs.Format.FaultsOfLines.{Asking, EndedTransaction, IsFaultText, Tells, TellsLine, count_after}
 use Rattle.cwr_lint.specs.Format.Told.{truncated_unless}
 use Rattle.cwr_lint.specs.Steps.Walks.{IsTold, Walk, WalksLine, WalksLines}
 use Rattle.cwr_lint_lines.specs.Steps.Cells.{held_cut}
 use Rattle.cwr_lint.specs.Steps.LinesRead.{GoesOn, HoldsRaw, IsAllRead, IsOfLine, ReadsLast, ReadsLine, held_raw}
 use Rattle.cwr_decode.specs.declared.last_bytes.LastBytes.{LastBytes}
 
+-- what is asked for
+abbrev pub asking_of : Asked → Asking
+asking_of asked = record { explained = is_some asked.name; said = asked.said }
+
 -- words are put only where they are asked for
 abbrev pub AreWords : Bool → List ℕ → Type 0
 AreWords explained text = explained ≡ false → text ≡ []
 
 -- so many faults were told at the fields of a line
-abbrev pub TellsSoMany : Bool → JudgedLine → ℕ → ℕ → ℕ → List ℕ → Type 0
-TellsSoMany explained l from upto count text = (told : List Refusal) × Tells explained l from upto told text × (count ≡ length told)
+abbrev pub TellsSoMany : Asking → JudgedLine → ℕ → ℕ → ℕ → List ℕ → Type 0
+TellsSoMany asked l from upto count text = (told : List Refusal) × Tells asked l from upto told text × (count ≡ length told)
 
 -- so many faults were told of a line, and before them the findings of the transaction that it ends
-abbrev pub TellsOfLine : Bool → JudgedLine → Option EndedTransaction → ℕ → ℕ → List ℕ → Type 0
-TellsOfLine explained judged ended from count text = (told : List Refusal) × TellsLine explained judged ended from told text × (count ≡ length told)
+abbrev pub TellsOfLine : Asking → JudgedLine → Option EndedTransaction → ℕ → ℕ → List ℕ → Type 0
+TellsOfLine asked judged ended from count text = (told : List Refusal) × TellsLine asked judged ended from told text × (count ≡ length told)
 
 -- what a run holds between two lines
 abbrev pub walk_of : LintRun → Walk
@@ -39,24 +45,24 @@ abbrev pub more_faults : ℕ → ℕ → ℕ
 more_faults n more = min (n + more) (2 ^ 64 - 1)
 
 -- what is wrong with one line was told and counted; only a TRL ends a transmission
-pub record TakesLine (explained : Bool) (cut : LineCut) (from : ℕ) (old new : LintRun) (text : List ℕ) : Type 0 where
+pub record TakesLine (asked : Asking) (cut : LineCut) (from : ℕ) (old new : LintRun) (text : List ℕ) : Type 0 where
   pub told : List Refusal
-  pub walks : WalksLine explained (walk_of old) cut from told text (walk_of new)
+  pub walks : WalksLine asked (walk_of old) cut from told text (walk_of new)
   pub lines : new.state.lines ≡ one_more_line old.state.lines
   pub faults : new.faults ≡ more_faults old.faults (length told)
   pub over : new.state.over ≡ true → cut.kind ≡ Some Trl
 
 -- the same of a line that was read, where there is always one
-abbrev pub TakesRead : Bool → LineCut → LintRun → LintRun → Bool → List ℕ → Type 0
-TakesRead explained cut old new true text = TakesLine explained cut 1 old new text
-TakesRead explained cut old new false text = ⊥
+abbrev pub TakesRead : Asking → LineCut → LintRun → LintRun → Bool → List ℕ → Type 0
+TakesRead asked cut old new true text = TakesLine asked cut 1 old new text
+TakesRead asked cut old new false text = ⊥
 
 -- a line was read after another one that has ended, and what is wrong with it was told
-pub record TakesNext (explained : Bool) (left after : Option (List ℕ)) (before raw : RawLine) (old new : LintRun) (text : List ℕ) : Type 0 where
+pub record TakesNext (asked : Asking) (left after : Option (List ℕ)) (before raw : RawLine) (old new : LintRun) (text : List ℕ) : Type 0 where
   pub on : old.state.over ≡ false
   pub goes : before.ended ≡ true
   pub read : ReadsLine left after raw
-  pub takes : TakesLine explained (cut_of read.line) 1 old new text
+  pub takes : TakesLine asked (cut_of read.line) 1 old new text
 
 -- no line was read: the transmission or the input is over
 pub record TakesNone (left after : Option (List ℕ)) (before : RawLine) (old new : LintRun) (text : List ℕ) : Type 0 where
@@ -65,49 +71,49 @@ pub record TakesNone (left after : Option (List ℕ)) (before : RawLine) (old ne
   pub kept : Consumes left after []
   pub why : (old.state.over ≡ true) ⊎ (before.ended ≡ false) ⊎ IfSome left (λ known. IsAtEnd after)
 
-abbrev pub TakesNextIf : Bool → Option (List ℕ) → Option (List ℕ) → RawLine → RawLine → LintRun → LintRun → Bool → List ℕ → Type 0
-TakesNextIf explained left after before raw old new true text = TakesNext explained left after before raw old new text
-TakesNextIf explained left after before raw old new false text = TakesNone left after before old new text
+abbrev pub TakesNextIf : Asking → Option (List ℕ) → Option (List ℕ) → RawLine → RawLine → LintRun → LintRun → Bool → List ℕ → Type 0
+TakesNextIf asked left after before raw old new true text = TakesNext asked left after before raw old new text
+TakesNextIf asked left after before raw old new false text = TakesNone left after before old new text
 
 -- the last of the lines is a TRL, or there is none
 abbrev pub EndsAtTrl : List (List ℕ) → Type 0
 EndsAtTrl lines = (front : List (List ℕ)) × (line : List ℕ) × (lines ≡ front ++ line ∷ []) × (line_kind line ≡ Some Trl)
 
 -- Lines were read after one that has ended or not, and what is wrong with each was told and counted. The last one ended so.
-pub record TakesLines (explained : Bool) (left after : Option (List ℕ)) (ended last : Bool) (old new : LintRun) (text : List ℕ) : Type 0 where
+pub record TakesLines (asked : Asking) (left after : Option (List ℕ)) (ended last : Bool) (old new : LintRun) (text : List ℕ) : Type 0 where
   pub bytes : List ℕ
   pub taken : Consumes left after bytes
   pub lines : List (List ℕ)
   pub goes : GoesOn ended bytes lines last
   pub no_lf : AllByRecursion (λ line. IsFalse (list_any is_lf line)) lines
   pub told : List Refusal
-  pub walks : WalksLines explained (walk_of old) lines told text (walk_of new)
+  pub walks : WalksLines asked (walk_of old) lines told text (walk_of new)
   pub counted : new.state.lines ≡ count_after old.state.lines lines
   pub faults : old.faults ≤ 2 ^ 64 - 1 → new.faults ≡ more_faults old.faults (length told)
   pub over : new.state.over ≡ true → ((lines ≡ []) × (old.state.over ≡ true)) ⊎ EndsAtTrl lines
 
 -- up to the end
-pub record TakesAll (explained : Bool) (left after : Option (List ℕ)) (ended : Bool) (old new : LintRun) (text : List ℕ) : Type 0 where
+pub record TakesAll (asked : Asking) (left after : Option (List ℕ)) (ended : Bool) (old new : LintRun) (text : List ℕ) : Type 0 where
   pub last : Bool
-  pub takes : TakesLines explained left after ended last old new text
+  pub takes : TakesLines asked left after ended last old new text
   pub cut : last ≡ false → (ended ≡ false) ⊎ IsAllRead left after takes.bytes
   pub all : new.state.over ≡ false → (ended ≡ false) ⊎ IsAllRead left after takes.bytes
 
 -- The line of the refusal, and what else is wrong with the line that is refused.
-pub record TakesFirst (explained : Bool) (refusal : Refusal) (cut : LineCut) (old new : LintRun) (text : List ℕ) : Type 0 where
+pub record TakesFirst (asked : Asking) (refusal : Refusal) (cut : LineCut) (old new : LintRun) (text : List ℕ) : Type 0 where
   pub line : List ℕ
-  pub first : IsFaultText explained refusal line
+  pub first : IsFaultText asked refusal line
   pub beside : List ℕ
-  pub takes : TakesLine explained cut (min (refusal.field + 1) (2 ^ 8 - 1)) old new beside
+  pub takes : TakesLine asked cut (min (refusal.field + 1) (2 ^ 8 - 1)) old new beside
   pub whole : text ≡ line ++ beside
 
 -- and of the lines after it
-pub record TakesFrom (explained : Bool) (refusal : Refusal) (left after : Option (List ℕ)) (raw : RawLine) (old new : LintRun) (text : List ℕ) : Type 0 where
+pub record TakesFrom (asked : Asking) (refusal : Refusal) (left after : Option (List ℕ)) (raw : RawLine) (old new : LintRun) (text : List ℕ) : Type 0 where
   pub between : LintRun
   pub beside : List ℕ
-  pub first : TakesFirst explained refusal (held_cut (held_raw raw)) old between beside
+  pub first : TakesFirst asked refusal (held_cut (held_raw raw)) old between beside
   pub later : List ℕ
-  pub rest : TakesAll explained left after raw.ended between new later
+  pub rest : TakesAll asked left after raw.ended between new later
   pub whole : text ≡ beside ++ later
 
 -- the first fault is counted, and the lines before its own; of no transaction the records are known
@@ -118,7 +124,7 @@ pub record BeginsAt (refusal : Refusal) (run : LintRun) : Type 0 where
   pub over : run.state.over ≡ false
 
 -- All that is told, of the line that is held as it was refused, where that state was held, and of those after it.
-pub record TellsToEnd (explained : Bool) (begins : LintState) (refusal : Refusal) (left after : Option (List ℕ)) (raw : RawLine) (text : List ℕ) : Type 0 where
+pub record TellsToEnd (asked : Asking) (begins : LintState) (refusal : Refusal) (left after : Option (List ℕ)) (raw : RawLine) (text : List ℕ) : Type 0 where
   pub bytes : List ℕ
   pub taken : Consumes left after bytes
   pub lines : List (List ℕ)
@@ -127,17 +133,17 @@ pub record TellsToEnd (explained : Bool) (begins : LintState) (refusal : Refusal
   pub no_lf : AllByRecursion (λ line. IsFalse (list_any is_lf line)) lines
   pub cut : last ≡ false → (raw.ended ≡ false) ⊎ IsAllRead left after bytes
   pub over : Bool
-  pub told : (refused : List ℕ) → HoldsRaw refused raw → IsTold explained begins refusal refused lines over text
+  pub told : (refused : List ℕ) → HoldsRaw refused raw → IsTold asked begins refusal refused lines over text
   pub ends : over ≡ true → (refused : List ℕ) → HoldsRaw refused raw → EndsAtTrl (refused ∷ lines)
   pub all : over ≡ false → (raw.ended ≡ false) ⊎ IsAllRead left after bytes
 
 -- the line that was refused is the one that was read last
-pub record TellsRun (explained : Bool) (begins : LintState) (refusal : Refusal) (last : LastBytes) (left after : Option (List ℕ)) (text : List ℕ) : Type 0 where
+pub record TellsRun (asked : Asking) (begins : LintState) (refusal : Refusal) (last : LastBytes) (left after : Option (List ℕ)) (text : List ℕ) : Type 0 where
   pub between : Option (List ℕ)
   pub raw : RawLine
   pub held : IsOfLine raw
   pub read : ReadsLast left between last raw
-  pub tells : TellsToEnd explained begins refusal between after raw text
+  pub tells : TellsToEnd asked begins refusal between after raw text
 
 -- how it ended, and how many faults there are, in how many lines
 abbrev pub IsEndText : Bool → ℕ → ℕ → ℕ → List ℕ → Type 0

@@ -13,7 +13,7 @@ use Rattle.cwr_lint_lines.specs.declared.states.LintState.{LintState}
 use Rattle.cwr_lint_lines.specs.declared.takings.Taking.{Taking}
 use Rattle.cwr_lint_lines.specs.declared.takings.Taking.TheVariants as takings
 use Rattle.cwr_lint_lines.specs.Format.FaultsAtFields.{JudgedLine, LineCut, cut_of, one_more_line, report_number}
-use Rattle.cwr_lint.specs.Format.FaultsOfLines.{EndedTransaction, IsFaultText, TellsLine, count_after}
+use Rattle.cwr_lint.specs.Format.FaultsOfLines.{Asking, EndedTransaction, IsFaultText, TellsLine, count_after}
 use Rattle.cwr_lint_lines.specs.Steps.JudgedLines.{judged_as, judged_cut, scope_by}
 use Rattle.cwr_lint_lines.specs.Steps.NextStates.{state_with, state_with_unknown}
 use Rattle.cwr_lint_lines.specs.Steps.States.{is_whole, open_transaction}
@@ -93,30 +93,30 @@ pub record Walk : Type 0 where
   pub begun : Option (List RecordValue)
 
 -- What is told of one more line, at its fields from one on, and what is held after it.
-pub record WalksLine (explained : Bool) (old : Walk) (l : LineCut) (from : ℕ) (told : List Refusal) (text : List ℕ) (new : Walk) : Type 0 where
-  pub tells : TellsLine explained (judged_line old.state l) (ended_at old.state old.begun l) from told text
+pub record WalksLine (asked : Asking) (old : Walk) (l : LineCut) (from : ℕ) (told : List Refusal) (text : List ℕ) (new : Walk) : Type 0 where
+  pub tells : TellsLine asked (judged_line old.state l) (ended_at old.state old.begun l) from told text
   pub state : new.state ≡ next_state old.state l
   pub begun : AfterJudged (is_quiet told && (from == 1)) (judged_as old.state l) (is_some new.state.stage) old.begun l new.begun
 
 -- what is told of lines, and what is held after them
-abbrev pub WalksLines : Bool → Walk → List (List ℕ) → List Refusal → List ℕ → Walk → Type 0
-WalksLines explained old [] told text new = (told ≡ []) × (text ≡ []) × (new ≡ old)
-WalksLines explained old (line ∷ lines) told text new = (old.state.over ≡ false) × (between : Walk) × (here : List Refusal) × (first : List ℕ) × (later : List Refusal) × (rest : List ℕ)
-    × WalksLine explained old (cut_of line) 1 here first between × WalksLines explained between lines later rest new × (told ≡ here ++ later) × (text ≡ first ++ rest)
+abbrev pub WalksLines : Asking → Walk → List (List ℕ) → List Refusal → List ℕ → Walk → Type 0
+WalksLines asked old [] told text new = (told ≡ []) × (text ≡ []) × (new ≡ old)
+WalksLines asked old (line ∷ lines) told text new = (old.state.over ≡ false) × (between : Walk) × (here : List Refusal) × (first : List ℕ) × (later : List Refusal) × (rest : List ℕ)
+    × WalksLine asked old (cut_of line) 1 here first between × WalksLines asked between lines later rest new × (told ≡ here ++ later) × (text ≡ first ++ rest)
 
 -- The line of the refusal; the other faults of the line that is refused, which is this one; those of the lines after it; and how many
 -- faults and findings there are, in how many lines. Words stand under a fault where they are asked for. At the line that is refused that state is held.
-pub record IsTold (explained : Bool) (begins : LintState) (refusal : Refusal) (refused : List ℕ) (lines : List (List ℕ)) (over : Bool) (text : List ℕ) : Type 0 where
+pub record IsTold (asked : Asking) (begins : LintState) (refusal : Refusal) (refused : List ℕ) (lines : List (List ℕ)) (over : Bool) (text : List ℕ) : Type 0 where
   pub line : List ℕ
-  pub first : IsFaultText explained refusal line
+  pub first : IsFaultText asked refusal line
   pub others : List Refusal
   pub beside : List ℕ
   pub between : Walk
-  pub tells_others : WalksLine explained (record { state = begins; begun = None }) (cut_of refused) (min (refusal.field + 1) (2 ^ 8 - 1)) others beside between
+  pub tells_others : WalksLine asked (record { state = begins; begun = None }) (cut_of refused) (min (refusal.field + 1) (2 ^ 8 - 1)) others beside between
   pub later : List Refusal
   pub after : List ℕ
   pub last : Walk
-  pub tells_later : WalksLines explained between lines later after last
+  pub tells_later : WalksLines asked between lines later after last
   pub over_is : over ≡ last.state.over
   pub findings : ℕ
   pub whole : let n = count_after (one_more_line (refusal.rec - 1)) lines in

@@ -93,16 +93,16 @@ IsOfInput (Json file numbers utf8) = is_standard (option_map (λ name. name.now)
 IsOfInput (Csv rows file) = is_standard (option_map (λ name. name.now) file) ≡ true
 IsOfInput (Acks file None as_json) = is_standard (option_map (λ name. name.now) file) ≡ true
 IsOfInput (Acks file (Some sent) as_json) = ⊥
-IsOfInput (Lint files quiet explained) = are_standard (map (λ name. name.now) files.items) ≡ true
-IsOfInput (Advise files) = are_standard (map (λ name. name.now) files.items) ≡ true
+IsOfInput (Lint files quiet explained advised) = are_standard (map (λ name. name.now) files.items) ≡ true
+IsOfInput (Advise files repeated) = are_standard (map (λ name. name.now) files.items) ≡ true
 IsOfInput work = ⊥
 
 -- what is wanted of the transmission: the options of a judgement say which findings end it
 abbrev pub wanted_in : Bool → Work → Wanted
 wanted_in whole (Check judging) = record { whole = whole; fail_on = judging.fail_on }
 wanted_in whole (Explain judging) = record { whole = whole; fail_on = judging.fail_on }
-wanted_in whole (Lint files quiet explained) = record { whole = whole; fail_on = None }
-wanted_in whole (Advise files) = record { whole = whole; fail_on = None }
+wanted_in whole (Lint files quiet explained advised) = record { whole = whole; fail_on = None }
+wanted_in whole (Advise files repeated) = record { whole = whole; fail_on = None }
 wanted_in whole work = record { whole = whole; fail_on = None }
 
 -- the status of a fault: what was to be written may not be, or what was to be read can't be, or a file, a device or memory failed

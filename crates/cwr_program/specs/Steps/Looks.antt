@@ -67,12 +67,12 @@ look_of (Some trailing) = looks.Found trailing
 abbrev pub tells_findings : Telling → Bool
 tells_findings tellings.Findings = true
 tells_findings (tellings.Explained name) = true
-tells_findings (tellings.Faults name) = false
+tells_findings (tellings.Faults name advised) = false
 tells_findings tellings.Records = false
 tells_findings (tellings.Data encoding numbers) = false
 tells_findings (tellings.Rows table) = false
 tells_findings (tellings.Answers form) = false
-tells_findings tellings.Advice = false
+tells_findings (tellings.Advice repeated) = false
 
 -- an input whose bytes are known has the status on them, or a device or memory failed
 abbrev pub JudgesOn : Limits → Wanted → Option (List ℕ) → Result Judgement ToolFault → Type 0

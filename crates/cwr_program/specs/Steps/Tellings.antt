@@ -12,6 +12,7 @@ use Rattle.cwr_acks.specs.Format.AckLines.{lines_of_acks}
 use Rattle.cwr_advise.specs.Format.AdviceLines.{lines_of_advice}
 use Rattle.cwr_csv.specs.Format.TableLines.{lines_of_table}
 use Rattle.cwr_explain.specs.Steps.Explained.{Explains}
+use Rattle.cwr_lint.specs.Format.Wanted.{wanting}
 use Rattle.cwr_lint.specs.Steps.Lints.{Lints, Tells}
 use Rattle.cwr_program.specs.declared.endings.Look.{Look}
 use Rattle.cwr_program.specs.declared.endings.Look.TheVariants.{Failed}
@@ -23,13 +24,13 @@ use Rattle.cwr_program.specs.declared.reports.Telling.TheVariants as tellings
 abbrev pub TellsUpTo : {W : Type 0} → Telling → Limits → Option (List ℕ) → Option (List ℕ) → (W → Option (List ℕ)) → W → W → Result Verdict ToolFault → Type 0
 TellsUpTo tellings.Findings limits before after contents old new outcome = Reports lines_of_findings limits before after contents old new outcome
 TellsUpTo (tellings.Explained name) limits before after contents old new outcome = Explains limits before after contents old new outcome
-TellsUpTo (tellings.Faults name) limits before after contents old new outcome =
-    Lints (is_some name) limits before after contents old new outcome × IfOk outcome (Tells (is_some name) limits before after contents old new)
+TellsUpTo (tellings.Faults name advised) limits before after contents old new outcome =
+    Lints (wanting (is_some name) advised) limits before after contents old new outcome × IfOk outcome (Tells (wanting (is_some name) advised) limits before after contents old new)
 TellsUpTo tellings.Records limits before after contents old new outcome = Reports lines_of_records limits before after contents old new outcome
 TellsUpTo (tellings.Data encoding numbers) limits before after contents old new outcome = Reports (lines_of_data encoding numbers) limits before after contents old new outcome
 TellsUpTo (tellings.Rows table) limits before after contents old new outcome = Reports (lines_of_table table) limits before after contents old new outcome
 TellsUpTo (tellings.Answers form) limits before after contents old new outcome = Reports (lines_of_acks form None) limits before after contents old new outcome
-TellsUpTo tellings.Advice limits before after contents old new outcome = Reports lines_of_advice limits before after contents old new outcome
+TellsUpTo (tellings.Advice repeated) limits before after contents old new outcome = Reports (lines_of_advice repeated) limits before after contents old new outcome
 
 -- so it was, before what follows the transmission was looked at
 abbrev pub TellsText : {W : Type 0} → Telling → Limits → Option (List ℕ) → (W → Option (List ℕ)) → W → W → Result Verdict ToolFault → Type 0

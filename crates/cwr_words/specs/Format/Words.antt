@@ -57,8 +57,8 @@ abbrev pub IsSplitOf : Found → Work → Type 0
 IsSplitOf found (Check judging) = ⊥
 IsSplitOf found (Show file) = ⊥
 IsSplitOf found (Explain judging) = ⊥
-IsSplitOf found (Lint files quiet explained) = ⊥
-IsSplitOf found (Advise files) = ⊥
+IsSplitOf found (Lint files quiet explained advised) = ⊥
+IsSplitOf found (Advise files repeated) = ⊥
 IsSplitOf found (Json file numbers utf8) = ⊥
 IsSplitOf found (Csv rows file) = ⊥
 IsSplitOf found (Acks file sent as_json) = ⊥
@@ -70,14 +70,16 @@ IsSplitOf found (Join out files only_new) = ⊥
 IsSplitOf found (Renumber file out only_new) = ⊥
 IsSplitOf found Manual = ⊥
 
--- every fault of the file FILE, explained where that flag is given
+-- every fault of the files FILE, explained where that flag is given, and with advice where that one is
 abbrev pub IsLintOf : Found → Work → Type 0
-IsLintOf found (Lint files quiet explained) = AreNamesOf found (map (λ name. name.now) files.items) × IsFlagOf found (codes "quiet") quiet × IsFlagOf found (codes "explain") explained
+IsLintOf found (Lint files quiet explained advised) =
+    AreNamesOf found (map (λ name. name.now) files.items) × IsFlagOf found (codes "quiet") quiet × IsFlagOf found (codes "explain") explained × IsFlagOf found (codes "advice") advised
 IsLintOf found work = ⊥
 
--- advice on the transmissions of the files FILE
+-- advice on the transmissions of the files FILE, where the numbers of so many works are kept as that option says
 abbrev pub IsAdviceOf : Found → Work → Type 0
-IsAdviceOf found (Advise files) = AreNamesOf found (map (λ name. name.now) files.items)
+IsAdviceOf found (Advise files repeated) =
+    AreNamesOf found (map (λ name. name.now) files.items) × ((text : List ℕ) → one_text found (codes "repeated") ≡ Some text → repeated ≡ digits_value 10 (without_leading_plus text))
 IsAdviceOf found work = ⊥
 
 -- the data of the file FILE, with numbers where that flag is given, and in UTF-8 where that one is
@@ -128,8 +130,8 @@ abbrev pub IsWorkOf : List ℕ → Found → Work → Type 0
 IsWorkOf name found (Check judging) = (bytes_eq name (codes "show") ≡ false) × (bytes_eq name (codes "explain") ≡ false) × IsJudgingOf found judging
 IsWorkOf name found (Show file) = (bytes_eq name (codes "show") ≡ true) × (option_map (λ f. f.now) file ≡ first_value found (codes "FILE"))
 IsWorkOf name found (Explain judging) = (bytes_eq name (codes "explain") ≡ true) × IsJudgingOf found judging
-IsWorkOf name found (Lint files quiet explained) = (bytes_eq name (codes "lint") ≡ true) × IsLintOf found (Lint files quiet explained)
-IsWorkOf name found (Advise files) = (bytes_eq name (codes "advise") ≡ true) × IsAdviceOf found (Advise files)
+IsWorkOf name found (Lint files quiet explained advised) = (bytes_eq name (codes "lint") ≡ true) × IsLintOf found (Lint files quiet explained advised)
+IsWorkOf name found (Advise files repeated) = (bytes_eq name (codes "advise") ≡ true) × IsAdviceOf found (Advise files repeated)
 IsWorkOf name found (Json file numbers utf8) = (bytes_eq name (codes "json") ≡ true) × IsExportOf found (Json file numbers utf8)
 IsWorkOf name found (Csv rows file) = (bytes_eq name (codes "csv") ≡ true) × IsTableOf found (Csv rows file)
 IsWorkOf name found (Acks file sent as_json) = (bytes_eq name (codes "acks") ≡ true) × IsAcksOf found (Acks file sent as_json)

@@ -1,7 +1,7 @@
 use Rattle.std.proofs.Common.{◌≡◌, length, Some, refl, sym, ◌∙◌, arith}
 use Rattle.std.specs.Prelude.{slice_get}
 use Rattle.std.proofs.lemmas.Option.{slice_get_read}
-use Rattle.cwr_advise.specs.Format.AdviceLines.{noted_advice}
+use Rattle.cwr_advise.specs.Format.AdviceTexts.{noted_advice}
 use Rattle.cwr_advise.proofs.TextsPut.{line_more, lines_refused}
 use Rattle.cwr_advise.proofs.item_advice.put_all.Goals as goal
 

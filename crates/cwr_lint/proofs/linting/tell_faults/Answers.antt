@@ -1,10 +1,9 @@
 use Rattle.std.proofs.Common.{[], ◌-◌, subst}
 use Rattle.std.specs.Prelude.{IfOk}
 use Rattle.cwr_lint_lines.specs.declared.states.LintState.{LintState}
-use Rattle.std.specs.Option.{is_some}
 use Rattle.cwr_tools.specs.Format.Reports.{CountsWriterFault}
 use Rattle.cwr_lint_lines.specs.Steps.Fronts.{state_at}
-use Rattle.cwr_lint.specs.Steps.Runs.{TellsRun}
+use Rattle.cwr_lint.specs.Steps.Runs.{asking_of, TellsRun}
 use Rattle.cwr_lint.proofs.TextsTold.{ends_answer, ends_reader, ends_told, ends_words, ends_writer}
 use Rattle.cwr_lint.proofs.linting.tell_faults.Goals as goal
 
@@ -13,8 +12,8 @@ run-told-requires-clause-unfailed g c = c.new-sink.ensures.unfailed
 
 pub returns-clause-told : goal.returns-clause-told
 returns-clause-told g c = let told = c.run-told.ensures in
-    ends_told (TellsRun (is_some c.args.asked.now.name) (state_at c.args.last.now.stage c.args.last.now.counts (c.args.refusal.rec - 1)) c.args.refusal c.args.last.now.bytes (g.R.Source.remaining c.args.reader.now) (g.R.Source.remaining c.run-told.new.reader)) g.W.Target.contents (g.W.Target.contents c.args.writer) c.finish.result.0 c.args.refusal told.0 c.run-told.new.sink c.run-told.result _ _ c.finish.result.1
-    (subst (λ (s : LintState). IfOk c.run-told.result (λ (u : Unit {0}). TellsRun (is_some c.args.asked.now.name) s c.args.refusal c.args.last.now.bytes (g.R.Source.remaining c.args.reader.now) (g.R.Source.remaining c.run-told.new.reader) told.0)) c.state_before-begins.ensures.is told.2)
+    ends_told (TellsRun (asking_of c.args.asked.now) (state_at c.args.last.now.stage c.args.last.now.counts (c.args.refusal.rec - 1)) c.args.refusal c.args.last.now.bytes (g.R.Source.remaining c.args.reader.now) (g.R.Source.remaining c.run-told.new.reader)) g.W.Target.contents (g.W.Target.contents c.args.writer) c.finish.result.0 c.args.refusal told.0 c.run-told.new.sink c.run-told.result _ _ c.finish.result.1
+    (subst (λ (s : LintState). IfOk c.run-told.result (λ (u : Unit {0}). TellsRun (asking_of c.args.asked.now) s c.args.refusal c.args.last.now.bytes (g.R.Source.remaining c.args.reader.now) (g.R.Source.remaining c.run-told.new.reader) told.0)) c.state_before-begins.ensures.is told.2)
     told.1.unfailed c.finish.ensures.kept
     (told.1.written (g.W.Target.contents c.args.writer) [] c.new-sink.ensures.empty) c.finish.ensures.answer
 

@@ -1,7 +1,8 @@
 use Rattle.std.proofs.Common.{sym, ap, subst}
 use Rattle.std.specs.Prelude.{None, OnOk}
 use Rattle.std.specs.Option.{is_some}
-use Rattle.cwr_tools.specs.Format.Reports.{lines_checked, lines_of_data, lines_of_findings, lines_of_records}
+use Rattle.cwr_lint.specs.Format.Wanted.{lines_linted, wanting}
+use Rattle.cwr_tools.specs.Format.Reports.{lines_of_data, lines_of_findings, lines_of_records}
 use Rattle.cwr_acks.specs.Format.AckLines.{lines_of_acks}
 use Rattle.cwr_advise.specs.Format.AdviceLines.{lines_of_advice}
 use Rattle.cwr_csv.specs.Format.TableLines.{lines_of_table}
@@ -50,7 +51,7 @@ returns-in-Faults-clause-seen g c = sees_nothing c.args.limits (g.R.Source.remai
 
 pub returns-in-Faults-clause-looks : goal.returns-in-Faults-clause-looks
 returns-in-Faults-clause-looks g c =
-    looks_after (lines_checked (is_some c.in-Faults.name)) c.args.limits (g.R.Source.remaining c.args.reader.now) (g.R.Source.remaining c.lint-writer.new.reader) (g.R.Source.remaining c.look_after-look-in-Faults.new.reader) g.W.Target.contents
+    looks_after (lines_linted (wanting (is_some c.in-Faults.name) c.in-Faults.advised)) c.args.limits (g.R.Source.remaining c.args.reader.now) (g.R.Source.remaining c.lint-writer.new.reader) (g.R.Source.remaining c.look_after-look-in-Faults.new.reader) g.W.Target.contents
     c.args.writer c.lint-writer.result.0 c.lint-writer.result.1 c.look_after-look-in-Faults.result c.lint-writer.ensures.accepted c.look_after-look-in-Faults.ensures.looks
 
 pub returns-in-Findings-clause-told : goal.returns-in-Findings-clause-told
@@ -123,7 +124,7 @@ returns-in-Advice-clause-seen g c = sees_nothing c.args.limits (g.R.Source.remai
 
 pub returns-in-Advice-clause-looks : goal.returns-in-Advice-clause-looks
 returns-in-Advice-clause-looks g c =
-    looks_after lines_of_advice c.args.limits (g.R.Source.remaining c.args.reader.now) (g.R.Source.remaining c.advise-writer.new.reader) (g.R.Source.remaining c.look_after-look-in-Advice.new.reader) g.W.Target.contents
+    looks_after (lines_of_advice c.in-Advice.repeated) c.args.limits (g.R.Source.remaining c.args.reader.now) (g.R.Source.remaining c.advise-writer.new.reader) (g.R.Source.remaining c.look_after-look-in-Advice.new.reader) g.W.Target.contents
     c.args.writer c.advise-writer.result.0 c.advise-writer.result.1 c.look_after-look-in-Advice.result c.advise-writer.ensures.accepted c.look_after-look-in-Advice.ensures.looks
 
 pub returns-in-Advice-clause-told : goal.returns-in-Advice-clause-told

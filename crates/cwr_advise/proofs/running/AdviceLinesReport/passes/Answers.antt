@@ -1,13 +1,20 @@
-use Rattle.std.proofs.Common.{◌≡◌, ◌++◌, ◌∷◌, [], refl, subst, sym, ◌∙◌}
+use Rattle.std.proofs.Common.{◌≡◌, ℕ, ◌++◌, ◌∷◌, [], refl, subst, sym, ◌∙◌}
+use Rattle.std.proofs.lemmas.Bool.{eqb-true}
 use Rattle.cwr_values.specs.declared.items.Item.TheVariants.{Transaction}
 use Rattle.cwr_tools.specs.Format.Reports.{ItemLines}
-use Rattle.cwr_advise.specs.Format.AdviceLines.{said_in}
+use Rattle.cwr_advise.specs.Format.AdviceLines.{advised_lines, said_in}
+use Rattle.cwr_advise.specs.Format.RepeatedWorks.{works_in}
 use Rattle.cwr_advise.proofs.LinesOfAdvice.{advised_passed}
 use Rattle.cwr_advise.proofs.SaidBefore.{said_still}
+use Rattle.cwr_advise.proofs.WorksKept.{kept_nothing}
 use Rattle.cwr_advise.proofs.running.AdviceLinesReport.passes.Goals as goal
 
 pub returns : goal.returns
-returns c = λ told of given t clean here. (
-  subst (λ (lines : ItemLines). lines.lines (given ++ Transaction t ∷ []) ≡ lines.lines given) (sym here.0) (advised_passed given t clean.0 (clean.1 (said_in given))),
-  (here.0, here.1 ∙ said_still given (Transaction t) refl),
-)
+returns c = λ told of given t clean here.
+    let self = c.args.self.now in
+    let zero : self.repeats.limit ≡ 0 = sym c.limit.ensures ∙ eqb-true c.limit.result 0 told in
+    let same : advised_lines self.explained self.repeats.limit (given ++ Transaction t ∷ []) ≡ advised_lines self.explained self.repeats.limit given
+    = subst (λ (n : ℕ). advised_lines self.explained n (given ++ Transaction t ∷ []) ≡ advised_lines self.explained n given) (sym zero) (advised_passed self.explained given t clean.0 (clean.1 (said_in given))) in (
+      subst (λ (lines : ItemLines). lines.lines (given ++ Transaction t ∷ []) ≡ lines.lines given) (sym here.0) same,
+      (here.0, here.1 ∙ said_still given (Transaction t) refl, kept_nothing self.repeats (works_in given) (works_in (given ++ Transaction t ∷ [])) zero here.2),
+    )

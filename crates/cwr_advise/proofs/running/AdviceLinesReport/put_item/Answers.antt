@@ -1,25 +1,45 @@
-use Rattle.std.proofs.Common.{[], ◌∷◌, ◌++◌, subst, sym}
+use Rattle.std.proofs.Common.{ℕ, ◌++◌, refl, subst, sym}
 use Rattle.std.specs.Prelude.{Result, Err, Ok}
-use Rattle.cwr_advise.specs.Format.AdviceLines.{lines_of_advice}
-use Rattle.cwr_advise.specs.Steps.AdvisedItems.{advised_at}
-use Rattle.cwr_advise.proofs.LinesOfAdvice.{advised_more}
+use Rattle.std.proofs.lemmas.Bool.{or_left, or_right}
 use Rattle.cwr_tools.specs.declared.verdicts.ToolFault.{ToolFault}
-use Rattle.cwr_tools.specs.Steps.Reports.{PutsNext}
+use Rattle.cwr_tools.specs.declared.verdicts.ToolFault.TheVariants.{Memory}
+use Rattle.cwr_tools.specs.Steps.Reports.{PutsLines, PutsNext}
 use Rattle.cwr_tools.proofs.ReportsOn.{same_fault}
 use Rattle.cwr_tools.proofs.ReportSteps.{next_lines}
+use Rattle.cwr_advise.specs.Format.AdviceLines.{advised_item, has_advised, lines_advised, takes_memory}
+use Rattle.cwr_advise.specs.Format.RepeatedWorks.{keeps_number}
+use Rattle.cwr_advise.specs.Steps.AdvisedItems.{advised_at}
+use Rattle.cwr_advise.specs.Steps.KeptWorks.{repeated_at}
+use Rattle.cwr_advise.proofs.AdvicePut.{more_memory}
+use Rattle.cwr_advise.proofs.LinesOfAdvice.{advised_more, advised_next}
 use Rattle.cwr_advise.proofs.running.AdviceLinesReport.put_item.Goals as goal
+
+pub returns-in_default-clause-puts : goal.returns-in_default-clause-puts
+returns-in_default-clause-puts g c = λ of given counted here.
+    let self = c.args.self.now in
+    next_lines g.W.Target.contents g.W.Target.failures of (lines_advised self.explained self.up_to_fault self.repeats.limit) given c.args.item.now (advised_item self.explained self.repeats.limit given c.args.item.now) (Err Memory) c.args.sink.now c.args.sink.now here.0
+    (advised_next self.explained self.repeats.limit given c.args.item.now)
+    (or_right (has_advised c.args.item.now) (keeps_number self.repeats.limit c.args.item.now) c.in_default.ensures.err, refl)
 
 pub returns-in_err-put_item-clause-puts : goal.returns-in_err-put_item-clause-puts
 returns-in_err-put_item-clause-puts g c = λ of given counted here.
-    subst (λ (r : Result (Unit {0}) ToolFault). PutsNext g.W.Target.contents g.W.Target.failures of given c.args.item.now r c.args.sink.now c.put_item.new.sink)
+    let self = c.args.self.now in
+    let item = c.args.item.now in
+    let text = advised_at self.explained c.said.result c.args.counts.now item ++ repeated_at self.repeats.limit c.args.counts.now item c.in-Ok.repeated in
+    subst (λ (r : Result (Unit {0}) ToolFault). PutsNext g.W.Target.contents g.W.Target.failures of given item r c.args.sink.now c.put_item.new.sink)
     (sym (same_fault c.from_residual.result c.in_err-put_item.field-0.0 c.from_residual.ensures.1))
-    (next_lines g.W.Target.contents g.W.Target.failures of lines_of_advice given c.args.item.now (advised_at c.characters-said.result c.args.counts.now c.args.item.now) (Err c.in_err-put_item.field-0.0) c.args.sink.now c.put_item.new.sink here.0
-    (advised_more c.args.counts.now c.characters-said.result given c.args.item.now counted (c.characters-said.ensures given here.1)) c.in_err-put_item.ensures)
+    (next_lines g.W.Target.contents g.W.Target.failures of (lines_advised self.explained self.up_to_fault self.repeats.limit) given item text (Err c.in_err-put_item.field-0.0) c.args.sink.now c.put_item.new.sink here.0
+    (advised_more self.explained self.repeats.limit c.args.counts.now c.said.result c.in-Ok.repeated given item counted (c.said.ensures given here.1) (c.in-Ok.ensures.told given counted here.2))
+    (more_memory g.W.Target.contents g.W.Target.failures (has_advised item) (takes_memory self.repeats.limit item) text (Err c.in_err-put_item.field-0.0) c.args.sink.now c.put_item.new.sink (or_left (has_advised item) (keeps_number self.repeats.limit item))
+    (subst (λ (limit : ℕ). PutsLines g.W.Target.contents g.W.Target.failures (has_advised item) (advised_at self.explained c.said.result c.args.counts.now item ++ repeated_at limit c.args.counts.now item c.in-Ok.repeated) (Err c.in_err-put_item.field-0.0) c.args.sink.now c.put_item.new.sink)
+    c.limit-limit.ensures c.in_err-put_item.ensures)))
 
 pub returns-clause-puts : goal.returns-clause-puts
 returns-clause-puts g c = λ of given counted here.
-    next_lines g.W.Target.contents g.W.Target.failures of lines_of_advice given c.args.item.now (advised_at c.characters-said.result c.args.counts.now c.args.item.now) (Ok tt) c.args.sink.now c.put_item.new.sink here.0
-    (advised_more c.args.counts.now c.characters-said.result given c.args.item.now counted (c.characters-said.ensures given here.1)) c.in_ok-put_item.ensures
-
-pub returns-clause-stands : goal.returns-clause-stands
-returns-clause-stands g c = λ of given counted here. (here.0, c.with-self.ensures given here.1)
+    let self = c.args.self.now in
+    let item = c.args.item.now in
+    let text = advised_at self.explained c.said.result c.args.counts.now item ++ repeated_at self.repeats.limit c.args.counts.now item c.in-Ok.repeated in
+    next_lines g.W.Target.contents g.W.Target.failures of (lines_advised self.explained self.up_to_fault self.repeats.limit) given item text (Ok tt) c.args.sink.now c.put_item.new.sink here.0
+    (advised_more self.explained self.repeats.limit c.args.counts.now c.said.result c.in-Ok.repeated given item counted (c.said.ensures given here.1) (c.in-Ok.ensures.told given counted here.2))
+    (subst (λ (limit : ℕ). PutsLines g.W.Target.contents g.W.Target.failures (has_advised item) (advised_at self.explained c.said.result c.args.counts.now item ++ repeated_at limit c.args.counts.now item c.in-Ok.repeated) (Ok tt) c.args.sink.now c.put_item.new.sink)
+    c.limit-limit.ensures c.in_ok-put_item.ensures)

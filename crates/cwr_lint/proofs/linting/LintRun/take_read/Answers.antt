@@ -1,16 +1,15 @@
 use Rattle.std.proofs.Common.{subst, ◌∙◌}
 use Rattle.std.specs.Prelude.{true}
-use Rattle.std.specs.Option.{is_some}
 use Rattle.cwr_lines.specs.Steps.Held.{HeldLine}
 use Rattle.cwr_lint_lines.specs.Steps.Cells.{held_cut}
 use Rattle.cwr_lint.specs.Steps.LinesRead.{held_raw}
-use Rattle.cwr_lint.specs.Steps.Runs.{TakesLine, TakesRead}
+use Rattle.cwr_lint.specs.Steps.Runs.{asking_of, TakesLine, TakesRead}
 use Rattle.cwr_lint.proofs.Telling.{with_err, with_other}
 use Rattle.cwr_lint.proofs.linting.LintRun.take_read.Goals as goal
 
 pub returns-in-Ok : goal.returns-in-Ok
-returns-in-Ok g c = with_other (λ u. TakesLine (is_some c.args.asked.now.name) (held_cut c.cut.result) 1 c.args.self.now c.take.new.self) (TakesRead (is_some c.args.asked.now.name) (held_cut (held_raw c.args.raw.now)) c.args.self.now c.take.new.self) g.W.Target.contents g.W.Target.failures c.in-Ok.field-0 true c.args.sink.now c.take.new.sink
-    (λ text t. subst (λ (h : HeldLine). TakesLine (is_some c.args.asked.now.name) (held_cut h) 1 c.args.self.now c.take.new.self text) (c.cut.ensures ∙ c.cut_into.ensures) t) c.in-Ok.ensures
+returns-in-Ok g c = with_other (λ u. TakesLine (asking_of c.args.asked.now) (held_cut c.cut.result) 1 c.args.self.now c.take.new.self) (TakesRead (asking_of c.args.asked.now) (held_cut (held_raw c.args.raw.now)) c.args.self.now c.take.new.self) g.W.Target.contents g.W.Target.failures c.in-Ok.field-0 true c.args.sink.now c.take.new.sink
+    (λ text t. subst (λ (h : HeldLine). TakesLine (asking_of c.args.asked.now) (held_cut h) 1 c.args.self.now c.take.new.self text) (c.cut.ensures ∙ c.cut_into.ensures) t) c.in-Ok.ensures
 
 pub returns-in-Err : goal.returns-in-Err
-returns-in-Err g c = with_err (λ u. TakesLine (is_some c.args.asked.now.name) (held_cut c.cut.result) 1 c.args.self.now c.take.new.self) (TakesRead (is_some c.args.asked.now.name) (held_cut (held_raw c.args.raw.now)) c.args.self.now c.take.new.self) g.W.Target.contents g.W.Target.failures c.in-Err.fault c.args.sink.now c.take.new.sink c.in-Err.ensures
+returns-in-Err g c = with_err (λ u. TakesLine (asking_of c.args.asked.now) (held_cut c.cut.result) 1 c.args.self.now c.take.new.self) (TakesRead (asking_of c.args.asked.now) (held_cut (held_raw c.args.raw.now)) c.args.self.now c.take.new.self) g.W.Target.contents g.W.Target.failures c.in-Err.fault c.args.sink.now c.take.new.sink c.in-Err.ensures

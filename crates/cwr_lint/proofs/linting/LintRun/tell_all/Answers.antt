@@ -1,13 +1,10 @@
-use Rattle.std.proofs.Common.{◌≡◌, ℕ, List, Bool, subst}
-use Rattle.std.specs.Prelude.{Ok}
-use Rattle.std.specs.Option.{is_some}
+use Rattle.std.proofs.Common.{◌≡◌, ℕ, List}
 use Rattle.cwr_lines.specs.Steps.Held.{held_kind}
 use Rattle.cwr_lint_lines.specs.Format.FaultsAtFields.{fields_end}
 use Rattle.cwr_lint.specs.Format.FaultsOfLines.{ended_lines}
 use Rattle.cwr_lint.specs.Steps.Walks.{ended_by}
 use Rattle.cwr_lint_lines.specs.Steps.JudgedLines.{judged_at, scope_by}
-use Rattle.cwr_lint.specs.Steps.Puts.{PutsWith}
-use Rattle.cwr_lint.specs.Steps.Runs.{TellsOfLine, TellsSoMany}
+use Rattle.cwr_lint.specs.Steps.Runs.{asking_of, TellsOfLine, TellsSoMany}
 use Rattle.cwr_lint.proofs.Telling.{findings_then, with_after, with_err}
 use Rattle.cwr_lint.proofs.linting.LintRun.tell_all.Goals as goal
 
@@ -16,10 +13,10 @@ tell-requires-clause-unfailed g c = c.in-Ok.ensures.1.unfailed
 
 pub returns-in-Ok-clause-puts : goal.returns-in-Ok-clause-puts
 returns-in-Ok-clause-puts g c =
-    with_after (λ (u : _) (it : List ℕ). it ≡ ended_lines (is_some c.args.asked.now.name) (ended_by c.args.judged.now c.args.self.now.state c.args.self.now.begun)) (TellsSoMany (is_some c.args.asked.now.name) (judged_at c.args.self.now.state.lines (scope_by c.args.self.now.state.group) c.args.line.now c.args.judged.now) c.args.from (fields_end (held_kind c.args.line.now)))
-    (TellsOfLine (is_some c.args.asked.now.name) (judged_at c.args.self.now.state.lines (scope_by c.args.self.now.state.group) c.args.line.now c.args.judged.now) (ended_by c.args.judged.now c.args.self.now.state c.args.self.now.begun) c.args.from) g.W.Target.contents g.W.Target.failures c.in-Ok.field-0 c.tell.result c.args.sink.now c.put_ended.new.sink c.tell.new.sink
-    (λ found lines count p q. findings_then (is_some c.args.asked.now.name) c.args.self.now.state.lines (scope_by c.args.self.now.state.group) c.args.line.now c.args.judged.now (ended_by c.args.judged.now c.args.self.now.state c.args.self.now.begun) c.args.from found lines count p q)
-    (subst (λ (b : Bool). PutsWith {A = Unit {0}} (λ (u : _) (it : List ℕ). it ≡ ended_lines b (ended_by c.args.judged.now c.args.self.now.state c.args.self.now.begun)) g.W.Target.contents g.W.Target.failures (Ok c.in-Ok.field-0) c.args.sink.now c.put_ended.new.sink) c.is_some.ensures c.in-Ok.ensures) c.tell.ensures
+    with_after (λ (u : _) (it : List ℕ). it ≡ ended_lines (asking_of c.args.asked.now) (ended_by c.args.judged.now c.args.self.now.state c.args.self.now.begun)) (TellsSoMany (asking_of c.args.asked.now) (judged_at c.args.self.now.state.lines (scope_by c.args.self.now.state.group) c.args.line.now c.args.judged.now) c.args.from (fields_end (held_kind c.args.line.now)))
+    (TellsOfLine (asking_of c.args.asked.now) (judged_at c.args.self.now.state.lines (scope_by c.args.self.now.state.group) c.args.line.now c.args.judged.now) (ended_by c.args.judged.now c.args.self.now.state c.args.self.now.begun) c.args.from) g.W.Target.contents g.W.Target.failures c.in-Ok.field-0 c.tell.result c.args.sink.now c.put_ended.new.sink c.tell.new.sink
+    (λ found lines count p q. findings_then (asking_of c.args.asked.now) c.args.self.now.state.lines (scope_by c.args.self.now.state.group) c.args.line.now c.args.judged.now (ended_by c.args.judged.now c.args.self.now.state c.args.self.now.begun) c.args.from found lines count p q)
+    c.in-Ok.ensures c.tell.ensures
 
 pub returns-in-Err-clause-puts : goal.returns-in-Err-clause-puts
-returns-in-Err-clause-puts g c = with_err (λ (u : _) (it : List ℕ). it ≡ ended_lines c.is_some.result (ended_by c.args.judged.now c.args.self.now.state c.args.self.now.begun)) (TellsOfLine (is_some c.args.asked.now.name) (judged_at c.args.self.now.state.lines (scope_by c.args.self.now.state.group) c.args.line.now c.args.judged.now) (ended_by c.args.judged.now c.args.self.now.state c.args.self.now.begun) c.args.from) g.W.Target.contents g.W.Target.failures c.in-Err.fault c.args.sink.now c.put_ended.new.sink c.in-Err.ensures
+returns-in-Err-clause-puts g c = with_err (λ (u : _) (it : List ℕ). it ≡ ended_lines (asking_of c.args.asked.now) (ended_by c.args.judged.now c.args.self.now.state c.args.self.now.begun)) (TellsOfLine (asking_of c.args.asked.now) (judged_at c.args.self.now.state.lines (scope_by c.args.self.now.state.group) c.args.line.now c.args.judged.now) (ended_by c.args.judged.now c.args.self.now.state c.args.self.now.begun) c.args.from) g.W.Target.contents g.W.Target.failures c.in-Err.fault c.args.sink.now c.put_ended.new.sink c.in-Err.ensures

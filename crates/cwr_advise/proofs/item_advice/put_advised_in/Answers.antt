@@ -1,0 +1,44 @@
+use Rattle.std.proofs.Common.{◌+◌, ◌++◌, List, length, refl, sym, subst, ◌∙◌}
+use Rattle.std.specs.Prelude.{Result}
+use Rattle.std.specs.List.{flat_map}
+use Rattle.cwr_levels.specs.Format.Findings.{findings}
+use Rattle.cwr_values.specs.declared.items.Item.TheVariants.{Transaction}
+use Rattle.cwr_tools.specs.declared.verdicts.ToolFault.{ToolFault}
+use Rattle.cwr_tools.specs.Format.Reports.{has_findings, transaction_lines}
+use Rattle.cwr_tools.specs.Steps.Reports.{PutsLines}
+use Rattle.cwr_tools.proofs.ReportsOn.{same_fault}
+use Rattle.cwr_advice.specs.declared.characters.Characters.TheVariants.{Unsaid, Utf8, Other}
+use Rattle.cwr_advice.specs.declared.rules.Advice.{Advice}
+use Rattle.cwr_advice.specs.Format.Rules.{advice_of}
+use Rattle.cwr_advice.specs.Format.Said.{before_all_days}
+use Rattle.cwr_advise.specs.Format.AdviceLines.{advised_transaction, has_advice}
+use Rattle.cwr_advise.specs.Format.AdviceTexts.{noted_advice}
+use Rattle.cwr_advise.proofs.AdvicePut.{first_fault, found_first, found_second, some_there, then_put}
+use Rattle.cwr_advise.proofs.SaidBefore.{said_some}
+use Rattle.cwr_advise.proofs.item_advice.put_advised_in.Goals as goal
+
+pub returns-in_err-put_transaction_findings : goal.returns-in_err-put_transaction_findings
+returns-in_err-put_transaction_findings g c =
+    let t = c.args.transaction.now in
+    subst (λ (r : Result (Unit {0}) ToolFault). PutsLines g.W.Target.contents g.W.Target.failures (has_advice t) (advised_transaction c.args.explained c.args.said c.args.group c.args.sequence c.args.first t) r c.args.sink.now c.put_transaction_findings.new.sink)
+    (sym (same_fault c.from_residual.result c.in_err-put_transaction_findings.field-0.0 c.from_residual.ensures.1))
+    (first_fault g.W.Target.contents g.W.Target.failures (has_findings (Transaction t)) (has_advice t) (transaction_lines c.args.explained c.args.group c.args.sequence c.args.first t)
+    (flat_map (noted_advice c.args.group c.args.sequence c.args.first t) (advice_of c.args.said t)) c.args.sink.now c.put_transaction_findings.new.sink c.in_err-put_transaction_findings.field-0.0
+    (found_first (length (findings t)) (length (advice_of (before_all_days Unsaid) t) + length (advice_of (before_all_days Utf8) t) + length (advice_of (before_all_days Other) t))) c.in_err-put_transaction_findings.ensures)
+
+pub returns-in_default : goal.returns-in_default
+returns-in_default g c =
+    let t = c.args.transaction.now in (
+      found_second (length (findings t)) (length (advice_of (before_all_days Unsaid) t) + length (advice_of (before_all_days Utf8) t) + length (advice_of (before_all_days Other) t))
+          (said_some c.args.said t (some_there (advice_of c.args.said t) c.in_default.ensures.err)),
+      refl,
+    )
+
+pub returns : goal.returns
+returns g c =
+    let t = c.args.transaction.now in
+    subst (λ (found : List Advice). PutsLines g.W.Target.contents g.W.Target.failures (has_advice t) (transaction_lines c.args.explained c.args.group c.args.sequence c.args.first t ++ flat_map (noted_advice c.args.group c.args.sequence c.args.first t) found) c.put_advice.result c.args.sink.now c.put_advice.new.sink)
+    (c.as_slice.ensures.value ∙ c.in-Ok.ensures.ok)
+    (then_put g.W.Target.contents g.W.Target.failures (has_findings (Transaction t)) (has_advice t) (transaction_lines c.args.explained c.args.group c.args.sequence c.args.first t)
+    (flat_map (noted_advice c.args.group c.args.sequence c.args.first t) c.as_slice.result.now) c.args.sink.now c.put_transaction_findings.new.sink c.put_advice.new.sink tt c.put_advice.result
+    c.in_ok-put_transaction_findings.ensures c.put_advice.ensures)

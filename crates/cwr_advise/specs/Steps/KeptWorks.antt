@@ -1,0 +1,24 @@
+-- What is kept of the works of a transmission, and what is told of an item by that.
+use Rattle.std.specs.Prelude.{◌≡◌, ℕ, ◌+◌, ◌≤◌, min, List, flat_map, length, take}
+use Rattle.std.specs.BTreeMap.{get}
+use Rattle.std.specs.Cmp.Lexicographic.{slice_cmp}
+use Rattle.std.specs.Ordering.{nat_cmp}
+use Rattle.cwr_values.specs.declared.items.Item.{Item}
+use Rattle.cwr_tools.specs.declared.totals.Totals.{Totals}
+use Rattle.cwr_advise.specs.declared.repeats.Place.{Place}
+use Rattle.cwr_advise.specs.declared.repeats.Repeated.{Repeated}
+use Rattle.cwr_advise.specs.declared.repeats.Repeats.{Repeats}
+use Rattle.cwr_advise.specs.Format.RepeatedWorks.{place_of, repeated_text, work_header}
+
+-- the places of the first of these works are kept by their numbers, and where some are to be kept all are counted, up to one more
+pub record AreKeptOf (s : Repeats) (works : List (List ℕ × Place)) : Type 0 where
+  pub known : (number : List ℕ) → get (slice_cmp nat_cmp) s.kept number ≡ place_of number (take s.limit works)
+  pub counted : 1 ≤ s.limit → s.works ≡ min (length works) (s.limit + 1)
+
+-- where a transaction stands that comes after items with these numbers
+abbrev pub place_at : Totals → Place
+place_at counts = record { group = counts.groups; sequence = counts.in_group; line = counts.records + 1 }
+
+-- the lines on the item, which comes after items with these numbers, where this is to be told
+abbrev pub repeated_at : ℕ → Totals → Item → Repeated → List ℕ
+repeated_at limit counts item told = flat_map (λ h. repeated_text limit (place_at counts) h told.first told.is_beyond) (work_header item)
