@@ -161,7 +161,7 @@ fn report_file<'a, R: Files, I: Read + Drop, P: Pace, O: Write + Drop, E: Write>
     error: &mut E,
 ) -> Result<Status, Fault<'a>>
     requires { tells_findings telling ≡ false → asked.now.wanted.fail_on ≡ None }
-    ensures { is_standard (option_map (λ n. n.now) name) ≡ true → EndsOnInput asked.now.limits asked.now.wanted (I.remaining standard) result }
+    ensures { is_standard (option_map (λ n. n.now) name.entry) ≡ true → EndsOnInput asked.now.limits asked.now.wanted (I.remaining standard) result }
 {
     let input = open_input(rt, name, &mut Some(standard), pace)?;
     report_input(asked, telling, input, output, error)
