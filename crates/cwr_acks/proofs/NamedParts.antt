@@ -8,8 +8,8 @@ use Rattle.std.proofs.lemmas.List.Folds.{list_any-append}
 use Rattle.cwr_fields.specs.Format.Bytes.{trimmed}
 use Rattle.cwr_lines.specs.Format.Records.{RecordValue, IsRecord, cell_named}
 use Rattle.cwr_lines.specs.Format.Carried.{carried_before, record_cell}
-use Rattle.cwr_layouts.specs.Format.Layouts.{FieldLayout, field_at, field_with_start}
-use Rattle.cwr_layouts.proofs.FieldStarts.{field_at-start}
+use Rattle.cwr_fields.specs.Format.Layouts.{FieldLayout, field_at, field_with_start}
+use Rattle.cwr_fields.proofs.FieldStarts.{field_at-start}
 use Rattle.cwr_encode.proofs.Numbered.{numbered}
 use Rattle.cwr_levels.specs.Format.Fields.{IsField}
 use Rattle.cwr_levels.proofs.NamedCells.{cell_width, named_cell}

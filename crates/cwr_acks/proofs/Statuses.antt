@@ -13,9 +13,9 @@ use Rattle.cwr_fields.specs.Format.Bytes.{filled}
 use Rattle.cwr_fields.specs.Format.Cells.{Allows}
 use Rattle.cwr_fields.specs.Format.Members.{member_with}
 use Rattle.cwr_fields.specs.Format.MessageCodes.{status_code, transaction_statuses}
-use Rattle.cwr_layouts.specs.declared.kinds.Kind.{Kind}
-use Rattle.cwr_layouts.specs.declared.kinds.Kind.TheVariants as kinds
-use Rattle.cwr_layouts.specs.Format.Layouts.{FieldLayout}
+use Rattle.cwr_fields.specs.declared.kinds.Kind.{Kind}
+use Rattle.cwr_fields.specs.declared.kinds.Kind.TheVariants as kinds
+use Rattle.cwr_fields.specs.Format.Layouts.{FieldLayout}
 use Rattle.cwr_lines.specs.Format.Records.{RecordValue, IsCellOf, IsRecord, carried_fields}
 use Rattle.cwr_lines.specs.Format.Carried.{carried_at, carried_before, record_cell}
 use Rattle.cwr_values.specs.declared.items.Item.{Item}

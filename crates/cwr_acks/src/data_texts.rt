@@ -18,8 +18,7 @@ use crate::line_texts::{
     LONGEST, LONGEST_MEMBER, LineText, Text, push, push_number, push_number_part, words_of,
 };
 use crate::matching::Notes;
-use cwr_fields::{Coded, MessageLevel, TransactionStatus, is_spaces, trimmed};
-use cwr_layouts::{Kind, letters};
+use cwr_fields::{Coded, Kind, MessageLevel, TransactionStatus, is_spaces, letters, trimmed};
 use cwr_levels::cell;
 use cwr_lines::RecordRef;
 

@@ -8,8 +8,7 @@ ghost use Rattle.cwr_values.specs.declared.items.Item.TheVariants as items;
 ghost use Rattle.cwr_acks.specs.Format.Acknowledgements.{has_status, is_ack, is_ack_of, is_answer, is_message, is_message_of, status_in, worst_level};
 ghost use Rattle.cwr_acks.specs.Format.SentAnswers.{group_of, named_check, sequence_of};
 
-use cwr_fields::{Cell, Coded, MessageLevel, TransactionStatus, trimmed};
-use cwr_layouts::Kind;
+use cwr_fields::{Cell, Coded, Kind, MessageLevel, TransactionStatus, trimmed};
 use cwr_levels::{cell, is_of, number_of};
 use cwr_lines::RecordRef;
 use cwr_sent::title_check;

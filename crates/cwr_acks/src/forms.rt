@@ -8,8 +8,7 @@ ghost use Rattle.cwr_acks.specs.Steps.AckSteps.{counts_in, message_as, opening_i
 use crate::counts::Answers;
 use crate::line_texts::LineText;
 use crate::matching::Notes;
-use cwr_fields::MessageLevel;
-use cwr_layouts::Kind;
+use cwr_fields::{Kind, MessageLevel};
 use cwr_lines::RecordRef;
 
 /// How it is told what acknowledgements say.

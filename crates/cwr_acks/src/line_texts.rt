@@ -12,8 +12,7 @@ use crate::facts::{
     SEQUENCE, STATUS, SUBMITTER_NUMBER, TITLE, VALIDATION, status_of,
 };
 use arrayvec::ArrayVec;
-use cwr_fields::{Coded, MessageLevel, TransactionStatus, is_spaces, trimmed};
-use cwr_layouts::{Kind, letters};
+use cwr_fields::{Coded, Kind, MessageLevel, TransactionStatus, is_spaces, letters, trimmed};
 use cwr_levels::{cell, number_of};
 use cwr_lines::RecordRef;
 use itoa::Buffer;

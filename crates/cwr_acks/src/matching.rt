@@ -7,7 +7,7 @@ ghost use Rattle.cwr_acks.specs.Format.SentAnswers.{are_different, wants_answer}
 ghost use Rattle.cwr_acks.specs.Steps.AckSteps.{entry_for, marked_by, marked_with, notes_by, notes_in, rows_if};
 
 use crate::facts::{group_of, is_ack, named_check, sequence_of};
-use cwr_layouts::Kind;
+use cwr_fields::Kind;
 use cwr_lines::RecordRef;
 use cwr_sent::{Entry, Sent, SentFacts};
 use cwr_values::{Item, Transaction};

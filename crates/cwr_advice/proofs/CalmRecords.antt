@@ -8,7 +8,7 @@ use Rattle.std.proofs.lemmas.List.{take-append-le, take_all}
 use Rattle.std.proofs.lemmas.List.Folds.{list_any-append}
 use Rattle.std.proofs.lemmas.Slice.Eq.{bytes_eq-Decides}
 use Rattle.cwr_lines.specs.Format.Records.{RecordValue, IsRecord, cell_named}
-use Rattle.cwr_layouts.specs.declared.kinds.Kind.TheVariants as kinds
+use Rattle.cwr_fields.specs.declared.kinds.Kind.TheVariants as kinds
 use Rattle.cwr_levels.specs.Format.Findings.{is_a, is_owner}
 use Rattle.cwr_levels.proofs.RuleTests.{cell_of_field, or_none}
 use Rattle.cwr_advice.specs.Format.Rules.{begins_with_agent, in_chain, is_agent, is_publisher, is_territory, is_territory_of, is_writer, owns_shares}

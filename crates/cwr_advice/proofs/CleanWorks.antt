@@ -7,7 +7,7 @@ use Rattle.std.proofs.lemmas.Bool.{and_cases, and_left, and_parts, and_right, ca
 use Rattle.std.proofs.lemmas.List.Sums.{sum_by-cons}
 use Rattle.std.proofs.lemmas.Option.{slice_get_within}
 use Rattle.std.proofs.lemmas.List.{take_all}
-use Rattle.cwr_layouts.specs.declared.kinds.Kind.TheVariants as kinds
+use Rattle.cwr_fields.specs.declared.kinds.Kind.TheVariants as kinds
 use Rattle.cwr_lines.specs.Format.Records.{RecordValue, cell_named}
 use Rattle.cwr_levels.specs.Format.Findings.{is_a, is_blank, share_of}
 use Rattle.cwr_levels.specs.Steps.Walks.{capped}

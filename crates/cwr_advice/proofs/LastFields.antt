@@ -5,7 +5,7 @@ use Rattle.std.specs.Option.{option_and_then}
 use Rattle.std.proofs.lemmas.Bool.{and_left, and_right}
 use Rattle.std.proofs.lemmas.Option.{slice_get_past}
 use Rattle.cwr_lines.specs.Format.Carried.{carried_at, carried_before}
-use Rattle.cwr_layouts.specs.Format.Layouts.{FieldLayout, layout}
+use Rattle.cwr_fields.specs.Format.Layouts.{FieldLayout, layout}
 use Rattle.cwr_lines.specs.Format.Records.{RecordValue}
 use Rattle.cwr_advice.specs.Format.Rules.{cell_at, is_shifted}
 use Rattle.cwr_advice.specs.Format.Shifts.{begins_with_letter, ends_with_letter}

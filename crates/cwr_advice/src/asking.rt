@@ -4,7 +4,7 @@ ghost use Rattle.std.specs.Prelude.{◌≡◌};
 ghost use Rattle.cwr_advice.specs.Format.Rules.{asked_of};
 
 use crate::rules::{AdviceRule, Asked};
-use cwr_layouts::Kind;
+use cwr_fields::Kind;
 
 /// NWR, REV: what is asked of them, in this order.
 static WORK: [Asked; 11] = [

@@ -7,7 +7,7 @@ ghost use Rattle.cwr_advice.specs.Steps.Facts.{AreFacts, AreOwnedBy};
 
 use crate::owners::{Owned, is_writer, owned_by};
 use crate::territory_cells::count_of_territory;
-use cwr_layouts::Kind;
+use cwr_fields::Kind;
 use cwr_levels::is_of;
 use cwr_lines::RecordRef;
 use cwr_values::Transaction;

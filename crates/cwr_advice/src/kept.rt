@@ -18,8 +18,7 @@ use crate::rules::AdviceRule;
 use crate::said::Said;
 use crate::territory_cells::{code_of, collection_of, is_territory};
 use arrayvec::ArrayVec;
-use cwr_fields::is_spaces;
-use cwr_layouts::Kind;
+use cwr_fields::{Kind, is_spaces};
 use cwr_levels::{cell, is_of, is_owner};
 use cwr_lines::RecordRef;
 

@@ -6,7 +6,7 @@ ghost use Rattle.cwr_levels.specs.Format.Findings.{is_owner};
 ghost use Rattle.cwr_advice.specs.Format.Rules.{is_publisher, is_writer, owns_over_half, owns_shares};
 ghost use Rattle.cwr_advice.specs.Steps.Facts.{AreOwnedBy, AreSharesOf, AreSmall};
 
-use cwr_layouts::Kind;
+use cwr_fields::Kind;
 use cwr_levels::{PUBLISHER_SHARES, WRITER_SHARES, cell, is_of, is_owner, number_of};
 use cwr_lines::RecordRef;
 

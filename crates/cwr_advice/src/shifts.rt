@@ -5,7 +5,7 @@ ghost use Rattle.cwr_advice.specs.Format.Rules.{is_shifted};
 ghost use Rattle.cwr_advice.specs.Format.Shifts.{begins_with_letter, ends_with_letter, has_gap};
 
 use crate::numbers::is_letter;
-use cwr_layouts::fields;
+use cwr_fields::fields;
 use cwr_levels::cell;
 use cwr_lines::RecordRef;
 

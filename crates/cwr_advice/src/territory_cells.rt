@@ -6,7 +6,7 @@ ghost use Rattle.cwr_advice.specs.Format.Rules.{collects_in, is_territory, is_te
 ghost use Rattle.cwr_advice.specs.Steps.Facts.{AreCollectedBy, AreCollectedIf, HasCollectionFrom};
 
 use crate::owners::Owned;
-use cwr_layouts::Kind;
+use cwr_fields::Kind;
 use cwr_levels::{cell, is_of, number_of};
 use cwr_lines::RecordRef;
 

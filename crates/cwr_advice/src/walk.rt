@@ -9,7 +9,7 @@ use crate::facts::Facts;
 use crate::judging::breaks;
 use crate::rules::Advice;
 use crate::said::Said;
-use cwr_layouts::Kind;
+use cwr_fields::Kind;
 use cwr_lines::RecordRef;
 use cwr_values::Transaction;
 use std::alloc::{AllocError, Global};

@@ -8,7 +8,7 @@ ghost use Rattle.cwr_advice.specs.Steps.Facts.{AreFacts};
 
 use crate::facts::Facts;
 use crate::owners::{is_writer, owns_shares};
-use cwr_layouts::Kind;
+use cwr_fields::Kind;
 use cwr_levels::is_of;
 use cwr_lines::RecordRef;
 use cwr_values::Transaction;

@@ -1,7 +1,7 @@
 //! The lines of advice at a record.
 
 ghost use Rattle.std.specs.Prelude.{◌≡◌, ◌+◌, ◌≤◌, [], ◌++◌, ◌∷◌, Some, codes, decimal, flat_map, length};
-ghost use Rattle.cwr_layouts.specs.Steps.Views.{field_view};
+ghost use Rattle.cwr_fields.specs.Steps.Views.{field_view};
 ghost use Rattle.cwr_notes.specs.Format.FindingNotes.{noted_line, value_words, where_line};
 ghost use Rattle.std.specs.Option.{option_to_list};
 ghost use Rattle.cwr_advise.specs.Format.AdviceTexts.{advice_line, cell_line, lines_at_record, words_line};
@@ -10,8 +10,7 @@ ghost use Rattle.cwr_advise.specs.Format.RepeatedWorks.{first_line, limit_line, 
 use crate::repeats::{Place, Repeated, WORK_NUMBER};
 use arrayvec::ArrayVec;
 use cwr_advice::{Advice, AdviceRule};
-use cwr_fields::{is_spaces, trimmed};
-use cwr_layouts::{Field, Kind, field, letters};
+use cwr_fields::{Field, Kind, field, is_spaces, letters, trimmed};
 use cwr_lines::RecordRef;
 use itoa::Buffer;
 use std::marker::Model;

@@ -10,7 +10,7 @@ ghost use Rattle.cwr_advise.specs.Format.RepeatedWorks.{keeps_number, place_of, 
 ghost use Rattle.cwr_advise.specs.Steps.KeptWorks.{AreKeptOf, place_at, repeated_at};
 ghost use Rattle.cwr_advice.specs.Format.Rules.{is_header};
 
-use cwr_layouts::Kind;
+use cwr_fields::Kind;
 use cwr_levels::{cell, is_of};
 use cwr_lines::RecordRef;
 use cwr_tools::Totals;

@@ -1,6 +1,6 @@
 -- What a line that was taken carries and a record that it holds.
 use Rattle.std.proofs.Common.{◌≡◌, ◌≢◌, ℕ, true, false, List, Option, Some, None, refl, sym, ap, ap₂, ◌∙◌, true≢false}
-use Rattle.cwr_layouts.specs.declared.kinds.Kind.{Kind}
+use Rattle.cwr_fields.specs.declared.kinds.Kind.{Kind}
 use Rattle.cwr_lines.specs.declared.lines.LineEnd.{LineEnd}
 use Rattle.cwr_lines.specs.declared.lines.LineEnd.TheVariants.{Open, Line, Over}
 use Rattle.cwr_lines.specs.Format.Lines.{body_kind, excess_as, without_cr}

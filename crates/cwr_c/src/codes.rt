@@ -10,12 +10,12 @@ ghost use Rattle.cwr_c.specs.Format.FieldNumbers.{PutsCode, blank_line};
 use crate::reports::copy_out;
 use arrayvec::ArrayVec;
 use cwr_fields::{
-    AgreementType, Cell, CellType, Coded, CompositeType, DistributionCategory, ExcerptType,
-    InclusionExclusion, MessageLevel, PostTermCollectionStatus, PriorRoyaltyStatus, PublisherType,
-    RecordingFormat, RecordingTechnique, Role, SalesManufactureClause, SenderType, Table,
-    TitleType, TransactionStatus, TransactionType, VersionType, Word, WriterDesignation,
+    AgreementType, Cell, CellType, Coded, CompositeType, DistributionCategory, ExcerptType, Field,
+    InclusionExclusion, Kind, MessageLevel, PostTermCollectionStatus, PriorRoyaltyStatus,
+    PublisherType, RecordingFormat, RecordingTechnique, Role, SalesManufactureClause, SenderType,
+    Table, TitleType, TransactionStatus, TransactionType, VersionType, Word, WriterDesignation,
+    field, fields, letters,
 };
-use cwr_layouts::{Field, Kind, field, fields, letters};
 use cwr_lines::{Draft, LONGEST_LINE};
 
 /// Code number `i` of a table, from 0.

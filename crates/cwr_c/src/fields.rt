@@ -1,13 +1,12 @@
 //! The kinds of records and their layouts.
 
 ghost use Rattle.std.specs.Prelude.{◌≡◌, ◌++◌, [], length, take, slice_get, option_and_then, option_map};
-ghost use Rattle.cwr_layouts.specs.Format.Kinds.{all_kinds, kind_of, letters as letters_of};
-ghost use Rattle.cwr_layouts.specs.Format.Layouts.{FieldLayout, field_with_start};
-ghost use Rattle.cwr_layouts.specs.Steps.Views.{field_view};
+ghost use Rattle.cwr_fields.specs.Format.Kinds.{all_kinds, kind_of, letters as letters_of};
+ghost use Rattle.cwr_fields.specs.Format.Layouts.{FieldLayout, field_with_start};
+ghost use Rattle.cwr_fields.specs.Steps.Views.{field_view};
 ghost use Rattle.cwr_c.specs.Format.FieldNumbers.{field_named, field_in_c, type_number};
 
-use cwr_fields::CellType;
-use cwr_layouts::{Field, Kind, field};
+use cwr_fields::{CellType, Field, Kind, field};
 
 /// Where a field stands in the lines of its kind, and what its cells hold.
 #[repr(C)]

@@ -11,8 +11,7 @@ ghost use Rattle.cwr_c.specs.Steps.Writings.{EndsWriting, GoesOn, HasCanonical, 
 use crate::verdicts::limit_number;
 use cwr_decode::first_line;
 use cwr_encode::{EncodeFault, Encoder};
-use cwr_fields::{Counted, Target};
-use cwr_layouts::Kind;
+use cwr_fields::{Counted, Kind, Target};
 use cwr_lines::{CutLine, LineBuf, Record, RecordRef};
 use cwr_shape::Limits;
 use cwr_values::{PushFault, Transaction};

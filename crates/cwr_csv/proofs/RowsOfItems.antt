@@ -1,6 +1,6 @@
 -- The rows of items are those of all but the last, and then those of the last.
 use Rattle.std.proofs.Common.{◌≡◌, ℕ, ◌+◌, cond, List, [], ◌∷◌, ◌++◌, sym, ap, ap₂, ◌∙◌, append_assoc, append-nil}
-use Rattle.cwr_layouts.specs.declared.kinds.Kind.{Kind}
+use Rattle.cwr_fields.specs.declared.kinds.Kind.{Kind}
 use Rattle.cwr_values.specs.declared.items.Item.{Item}
 use Rattle.cwr_judge.specs.Format.Items.{opens_group}
 use Rattle.cwr_tools.specs.declared.totals.Totals.{Totals}

@@ -1,6 +1,6 @@
 //! What tables there are.
 
-use cwr_layouts::Kind;
+use cwr_fields::Kind;
 
 /// What a table has rows of.
 #[derive(Clone, Copy, Debug, PartialEq, Eq)]

@@ -3,8 +3,7 @@
 ghost use Rattle.std.specs.Prelude.{Some};
 
 use cwr_csv::{Table, csv};
-use cwr_fields::Counted;
-use cwr_layouts::Kind;
+use cwr_fields::{Counted, Kind};
 use cwr_shape::Limits;
 use cwr_tools::{ToolFault, Verdict};
 use cwr_worked::texts::{ONE_ACKNOWLEDGEMENT, TWO_GROUPS, canonical};

@@ -18,7 +18,7 @@ use Rattle.cwr_decode.specs.declared.outcomes.Outcome.{Outcome}
 use Rattle.cwr_judge.specs.declared.judging.LineFault.{LineFault}
 use Rattle.cwr_decode.specs.declared.machine.State.{State}
 use Rattle.cwr_decode.specs.declared.machine.State.TheVariants as states
-use Rattle.cwr_layouts.specs.Format.Kinds.{is_in_transaction}
+use Rattle.cwr_fields.specs.Format.Kinds.{is_in_transaction}
 use Rattle.cwr_judge.specs.Steps.Judged.{IsOfNone, IsFirstFault}
 use Rattle.cwr_decode.specs.Steps.Machines.{Standing, Empties, Refuses, ReportsFault, Judges, EntersHeld, stopped, held_list}
 use Rattle.cwr_judge.specs.Steps.Open.{item_of}

@@ -2,8 +2,8 @@
 use Rattle.std.proofs.Common.{◌≡◌, ℕ, Bool, true, false, ◌&&◌, List, [], ◌∷◌, ◌++◌, Option, Some, None, refl, sym, ap, ap₂, subst, ◌∙◌, inl, inr}
 use Rattle.std.specs.Prelude.{◌==◌, Result, Ok, Err, MatchResult, IsSomeAnd}
 use Rattle.std.proofs.lemmas.Bool.{eq-eqb, ne_eqb}
-use Rattle.cwr_layouts.specs.declared.kinds.Kind.{Kind}
-use Rattle.cwr_layouts.specs.declared.kinds.Kind.TheVariants.{Hdr, Grh, Grt, Trl}
+use Rattle.cwr_fields.specs.declared.kinds.Kind.{Kind}
+use Rattle.cwr_fields.specs.declared.kinds.Kind.TheVariants.{Hdr, Grh, Grt, Trl}
 use Rattle.cwr_lines.specs.Format.Growth.{AsksMemory}
 use Rattle.cwr_lines.specs.Format.Records.{RecordValue, IsRecord}
 use Rattle.cwr_lines.specs.Steps.Held.{HeldLine, carried_by, held_cells, held_excess, held_kind, held_record}
@@ -20,7 +20,7 @@ use Rattle.cwr_judge.specs.declared.judging.LineFault.{LineFault}
 use Rattle.cwr_judge.specs.Steps.Judged.{IsNext, IsOfNone, IsFirstFault}
 use Rattle.cwr_decode.specs.declared.outcomes.Outcome.TheVariants as outcomes
 use Rattle.cwr_decode.specs.declared.machine.State.TheVariants as states
-use Rattle.cwr_layouts.specs.Format.Kinds.{is_in_transaction as inside_kind}
+use Rattle.cwr_fields.specs.Format.Kinds.{is_in_transaction as inside_kind}
 use Rattle.cwr_judge.specs.Steps.Open.{continues_open}
 use Rattle.cwr_decode.specs.Steps.Machines.{Standing, Adds, FinishesRecord, Enters, EntersTransaction, Follows, HandsOut, Judges, ReportsFault, with_tally, held_list, reading, stopped}
 

@@ -7,7 +7,7 @@ use Rattle.std.specs.Io.KnownBytes.{Consumes}
 use Rattle.std.proofs.lemmas.List.{length-append, length-drop, map-append}
 use Rattle.std.proofs.lemmas.List.Sums.{sum_by-append, sum_by-cons}
 use Rattle.cwr_lines.specs.declared.lines.LineEnd.TheVariants.{Open}
-use Rattle.cwr_layouts.specs.Format.Kinds.{is_in_transaction}
+use Rattle.cwr_fields.specs.Format.Kinds.{is_in_transaction}
 use Rattle.cwr_lines.specs.Format.Records.{RecordValue}
 use Rattle.cwr_lines.specs.Steps.Held.{HeldLine, IsHeld, Takes, empty_line, held_record}
 use Rattle.cwr_shape.specs.Steps.Tallies.{TallyValue}

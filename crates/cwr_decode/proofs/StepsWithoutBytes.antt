@@ -1,8 +1,8 @@
 -- The steps of a decoder: what is left after each, and what its answer says.
 use Rattle.std.proofs.Common.{◌≡◌, Bool, true, false, List, [], ◌∷◌, ◌++◌, Option, Some, None, refl, sym, ap, subst, ◌∙◌, append-nil}
 use Rattle.std.specs.Prelude.{◌≢◌, IfSome, IfNone, IsSomeAnd}
-use Rattle.cwr_layouts.specs.declared.kinds.Kind.{Kind}
-use Rattle.cwr_layouts.specs.declared.kinds.Kind.TheVariants.{Hdr, Grh, Grt, Trl}
+use Rattle.cwr_fields.specs.declared.kinds.Kind.{Kind}
+use Rattle.cwr_fields.specs.declared.kinds.Kind.TheVariants.{Hdr, Grh, Grt, Trl}
 use Rattle.cwr_lines.specs.declared.lines.LineEnd.TheVariants.{Open}
 use Rattle.cwr_lines.specs.Format.Records.{RecordValue, IsRecord}
 use Rattle.cwr_lines.specs.Steps.Held.{held_record}

@@ -3,7 +3,7 @@ use Rattle.std.proofs.Common.{◌≡◌, ◌≢◌, ℕ, zero, suc, ◌+◌, ◌
 use Rattle.std.specs.Prelude.{◌⊎◌, None, slice_index}
 use Rattle.std.proofs.Math.Seq.{take-add, take-length}
 use Rattle.std.proofs.lemmas.List.{length-drop, length-map, length-take-le, take_all, drop-drop, drop_all, map-append, take-append-drop}
-use Rattle.cwr_layouts.specs.declared.kinds.Kind.TheVariants.{Trl}
+use Rattle.cwr_fields.specs.declared.kinds.Kind.TheVariants.{Trl}
 use Rattle.cwr_lines.specs.declared.lines.LineEnd.{LineEnd}
 use Rattle.cwr_lines.specs.declared.lines.LineEnd.TheVariants.{Open, Line, Over}
 use Rattle.cwr_lines.specs.Format.Records.{RecordValue}

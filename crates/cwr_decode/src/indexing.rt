@@ -1,7 +1,7 @@
 //! An index of the records of a text in memory. It takes no memory: what is found is put where the caller says.
 
 ghost use Rattle.std.specs.Prelude.{◌≡◌, ◌≢◌, ◌↔◌, ◌≤◌, ◌++◌, [], ◌∷◌, List, length, take, IsNone, IsTrue, IfSome, IfOk, IfErr, IsOk, IsOkAnd, Some};
-ghost use Rattle.cwr_layouts.specs.Format.Kinds.{kind_of};
+ghost use Rattle.cwr_fields.specs.Format.Kinds.{kind_of};
 ghost use Rattle.cwr_lines.specs.declared.lines.LineEnd.TheVariants.{Open};
 ghost use Rattle.cwr_lines.specs.Steps.Held.{empty_line};
 ghost use Rattle.cwr_shape.specs.declared.symbols.Symbol.{Symbol};
@@ -12,9 +12,8 @@ ghost use Rattle.cwr_decode.specs.Steps.TakenLines.{BeginsWithLine, PutsAt, Refu
 
 use crate::endings::End;
 use crate::lines::{first_line, length_without_return};
-use cwr_fields::SpelledPair;
+use cwr_fields::{Kind, SpelledPair};
 use cwr_judge::{Refusal, count_quickly, judge};
-use cwr_layouts::Kind;
 use cwr_lines::{CutLine, LineBuf};
 use cwr_shape::{Limits, Symbol, Tally, level};
 use cwr_values::symbol_of;

@@ -1,8 +1,8 @@
 //! Kinds as types: in code that is made for one of these, the kind is constant, and so is each width and place.
 
-ghost use Rattle.cwr_layouts.specs.declared.kinds.Kind.{Kind};
+ghost use Rattle.cwr_fields.specs.declared.kinds.Kind.{Kind};
 
-use cwr_layouts::Kind;
+use cwr_fields::Kind;
 
 /// A type that stands for a kind.
 pub(crate) trait OfKind {

@@ -3,7 +3,7 @@
 ghost use Rattle.std.specs.Prelude.{List, ◌∷◌, ◌++◌, [], ◌≡◌, ◌≢◌, ◌↔◌, ◌<◌, ◌≤◌, length, take, true, false, None, Some, Err, IsOk, IsTrue, IsFalse, IsSome, IsSomeAnd, IsNone, IfSome, OnOk, OnErr};
 ghost use Rattle.cwr_lines.specs.Steps.Held.{IsHeld, Takes, held_kind, held_record};
 ghost use Rattle.cwr_lines.specs.Format.Growth.{AsksMemory};
-ghost use Rattle.cwr_layouts.specs.Format.Kinds.{kind_of};
+ghost use Rattle.cwr_fields.specs.Format.Kinds.{kind_of};
 ghost use Rattle.cwr_shape.specs.Format.Ranges.{AreInRange};
 ghost use Rattle.cwr_shape.specs.Steps.Stages.{stage_after};
 ghost use Rattle.cwr_shape.specs.Steps.Tallies.{IsAdmitted, IsTallyOf};
@@ -15,9 +15,8 @@ ghost use Rattle.cwr_decode.specs.Steps.Calls.{Advances, Fed, TakesEnd, Feeds, F
 ghost use Rattle.cwr_values.specs.Format.Begun.{BeginsWithOneMore};
 
 use crate::outcomes::{Answer, Outcome};
-use cwr_fields::SpelledPair;
+use cwr_fields::{Kind, SpelledPair, is_in_transaction};
 use cwr_judge::{LineFault, Refusal, count_quickly, judge};
-use cwr_layouts::{Kind, is_in_transaction};
 use cwr_lines::{CutLine, LineBuf, LineEnd, RecordRef, Taken};
 use cwr_shape::{Counts, Limits, Scope, Stage, Symbol, Tally, level};
 use cwr_values::{Item, PushFault, Transaction};

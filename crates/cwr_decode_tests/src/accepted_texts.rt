@@ -4,7 +4,7 @@
 use crate::checks::check_equal;
 use crate::decoders::{LARGEST, Numbers, decoder_within, feed, text_of};
 use cwr_decode::{Decoder, Outcome};
-use cwr_layouts::Kind::{
+use cwr_fields::Kind::{
     self, Ack, Agr, Alt, Ari, Com, Ind, Ipa, Msg, Npa, Nwr, Opu, Orn, Owr, Per, Pwr, Rec, Rev, Spt,
     Spu, Swr, Swt, Ter, Ver,
 };

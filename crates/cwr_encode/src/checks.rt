@@ -1,7 +1,7 @@
 //! What an encoder asks of a transaction before it takes it, and how it counts its records.
 
 ghost use Rattle.std.specs.Prelude.{◌≡◌, ◌↔◌, ◌≤◌, List, [], ◌∷◌, ◌++◌, map, length, IsTrue};
-ghost use Rattle.cwr_layouts.specs.declared.kinds.Kind.TheVariants.{Grt};
+ghost use Rattle.cwr_fields.specs.declared.kinds.Kind.TheVariants.{Grt};
 ghost use Rattle.cwr_shape.specs.declared.symbols.Symbol.{Symbol};
 ghost use Rattle.cwr_shape.specs.declared.symbols.Symbol.TheVariants.{Plain};
 ghost use Rattle.cwr_shape.specs.Format.AnyTransmission.{Any};
@@ -11,7 +11,7 @@ ghost use Rattle.cwr_shape.specs.Steps.Tallies.{KeepsTally, IsTallyOf};
 ghost use Rattle.cwr_values.specs.Format.Values.{symbol_of as symbol_by_cells};
 ghost use Rattle.cwr_encode.specs.Steps.Encoders.{passed_with};
 
-use cwr_layouts::Kind;
+use cwr_fields::Kind;
 use cwr_shape::{LimitKind, Stage, Symbol, Tally};
 use cwr_values::{Transaction, symbol_of};
 

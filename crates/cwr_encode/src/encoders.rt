@@ -18,8 +18,7 @@ ghost use Rattle.cwr_encode.specs.Steps.Finishing.{FinishesWriting};
 
 use crate::checks::{count_all, group_may_end, limit_passed};
 use crate::rows::{put_row, put_transaction};
-use cwr_fields::{Target, TransactionType};
-use cwr_layouts::Kind;
+use cwr_fields::{Kind, Target, TransactionType};
 use cwr_lines::{CanonicalLine, Draft, Record, RecordRef};
 use cwr_shape::{Bar, LimitKind, Limits, Stage, Symbol, Tally, TransactionStep};
 use cwr_sinks::Sink;

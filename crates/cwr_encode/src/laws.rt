@@ -15,7 +15,7 @@ ghost use Rattle.cwr_encode.specs.declared.encoders.EncodeFault.{EncodeFault};
 ghost use Rattle.cwr_encode.specs.Format.Encoders.{IsNoMistake, JudgesFoot, JudgesGroup, JudgesOpening, JudgesTransaction, part_of};
 ghost use Rattle.cwr_encode.specs.Format.Written.{IsPart};
 
-use cwr_layouts::Kind;
+use cwr_fields::Kind;
 
 /// Records in order, with whose symbols a transmission within the limits begins, begin such a transmission, and what
 /// is written of them is the canonical text of its rows so far.

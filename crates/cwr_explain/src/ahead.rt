@@ -4,8 +4,7 @@ ghost use Rattle.std.specs.Prelude.{OnErr, OnOk};
 ghost use Rattle.cwr_explain.specs.Format.Explained.{ReadsOnly, TakesMore};
 
 use crate::sequences::{RECORD_SEQUENCE, TRANSACTION_SEQUENCE, sequence_in};
-use cwr_fields::Source;
-use cwr_layouts::Kind;
+use cwr_fields::{Kind, Source};
 use cwr_tools::ToolFault;
 
 /// The byte that ends a line.

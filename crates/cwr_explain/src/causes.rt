@@ -11,8 +11,9 @@ use crate::trailing::Trailing;
 use crate::versions::add_version;
 use crate::wrong_numbers::{WrongNumber, is_header};
 use cwr_decode::{LastRead, Refusal};
-use cwr_fields::{CellFault, TransactionType, first_control};
-use cwr_layouts::{Field, Kind, field, is_carried, width};
+use cwr_fields::{
+    CellFault, Field, Kind, TransactionType, field, first_control, is_carried, width,
+};
 use cwr_lines::{CutLine, LONGEST_LINE};
 use cwr_notes::level_words;
 use cwr_shape::{LimitKind, Limits, Reason, Stage, Symbol, TransactionStep};

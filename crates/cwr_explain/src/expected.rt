@@ -1,12 +1,11 @@
 //! What may stand in a cell, in words.
 
 use cwr_fields::{
-    AgreementType, CellType, Coded, CompositeType, DistributionCategory, ExcerptType,
-    InclusionExclusion, MessageLevel, PostTermCollectionStatus, PriorRoyaltyStatus, PublisherType,
-    RecordingFormat, RecordingTechnique, Role, SalesManufactureClause, SenderType, Table,
-    TitleType, TransactionStatus, TransactionType, VersionType, WriterDesignation,
+    AgreementType, CellType, Coded, CompositeType, DistributionCategory, ExcerptType, Field,
+    InclusionExclusion, Kind, MessageLevel, PostTermCollectionStatus, PriorRoyaltyStatus,
+    PublisherType, RecordingFormat, RecordingTechnique, Role, SalesManufactureClause, SenderType,
+    Table, TitleType, TransactionStatus, TransactionType, VersionType, WriterDesignation,
 };
-use cwr_layouts::{Field, Kind};
 use std::alloc::AllocError;
 use std::fmt::Write;
 
@@ -112,5 +111,5 @@ pub(crate) fn number_rule(kind: Kind, j: u8) -> &'static str {
 
 /// The letters of a kind.
 pub(crate) fn letters_of(kind: Kind) -> &'static str {
-    str_of(cwr_layouts::letters(kind))
+    str_of(cwr_fields::letters(kind))
 }

@@ -7,8 +7,7 @@ ghost use Rattle.cwr_shape.specs.Format.AnyTransmission.{Any};
 ghost use Rattle.cwr_shape.specs.Steps.Left.{StandsAt};
 ghost use Rattle.cwr_explain.specs.Steps.Coming.{AreComing, AsksOne, ComesAt};
 
-use cwr_fields::{Role, TransactionType};
-use cwr_layouts::Kind;
+use cwr_fields::{Kind, Role, TransactionType};
 use cwr_shape::{Stage, Symbol};
 use std::alloc::{AllocError, Global};
 

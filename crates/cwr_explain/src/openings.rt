@@ -1,6 +1,6 @@
 //! What a line that names no record looks like.
 
-use cwr_layouts::Kind;
+use cwr_fields::Kind;
 
 /// What a line that names no record looks like.
 #[derive(Clone, Copy, Debug, PartialEq, Eq)]

@@ -2,7 +2,7 @@
 
 use crate::expected::letters_of;
 use crate::texts::add_label;
-use cwr_layouts::{Field, Kind, field, fields, width};
+use cwr_fields::{Field, Kind, field, fields, width};
 use std::alloc::AllocError;
 use std::fmt::Write;
 

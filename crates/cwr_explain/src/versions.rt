@@ -1,7 +1,7 @@
 //! Which other version of CWR a line names.
 
 use crate::texts::add_label;
-use cwr_layouts::Kind;
+use cwr_fields::Kind;
 use std::alloc::AllocError;
 use std::fmt::Write;
 

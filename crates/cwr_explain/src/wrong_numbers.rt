@@ -3,7 +3,7 @@
 use crate::ahead::Ahead;
 use crate::sequences::{Sequences, sequences_of, start_of_sequence};
 use crate::texts::add_label;
-use cwr_layouts::Kind;
+use cwr_fields::Kind;
 use std::alloc::AllocError;
 use std::fmt::Write;
 

@@ -11,6 +11,8 @@ pub mod FaultTexts
 pub mod Flags
 pub mod Growth
 pub mod Iswc
+pub mod Kinds
+pub mod Layouts
 pub mod MemberLaws
 pub mod Members
 pub mod MessageCodes

@@ -3,3 +3,4 @@ pub mod Counted
 pub mod Failures
 pub mod Growth
 pub mod Members
+pub mod Views

@@ -1,5 +1,6 @@
-//! The cells of CWR 2.1 records: what the cell of a field may hold, the tables of codes, and cells as typed values.
-//! Beside them the check digit of work codes, and the readers and writers that count their failures.
+//! The fields of CWR 2.1 records: the kinds of records and their layouts, what the cell of a field may hold, the tables
+//! of codes, and cells as typed values. Beside them the check digit of work codes, and the readers and writers that
+//! count their failures.
 #![tactic(auto)]
 
 mod agreement_codes;
@@ -18,7 +19,10 @@ mod faults;
 mod flags;
 mod growth;
 mod iswc;
+mod kinds;
 mod lanes;
+mod layouts;
+mod lookups;
 mod message_codes;
 mod numbers;
 mod party_codes;
@@ -47,6 +51,9 @@ pub use durations::{DurationCell, PlayingTime};
 pub use flags::Flag;
 pub use growth::make_room;
 pub use iswc::iswc_ok;
+pub use kinds::{Kind, is_carried, is_in_transaction, letters};
+pub use layouts::{Field, layout};
+pub use lookups::{field, fields, width};
 pub use message_codes::{MessageLevel, TransactionStatus};
 pub use numbers::{Number, Share};
 pub use party_codes::{PublisherType, WriterDesignation};

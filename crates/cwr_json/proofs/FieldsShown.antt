@@ -6,13 +6,13 @@ use Rattle.std.specs.Option.{option_and_then}
 use Rattle.std.proofs.lemmas.Bool.{and_parts}
 use Rattle.std.proofs.lemmas.List.{length-append}
 use Rattle.cwr_fields.specs.Format.Bytes.{trimmed}
-use Rattle.cwr_layouts.specs.declared.kinds.Kind.{Kind}
-use Rattle.cwr_layouts.specs.declared.kinds.Kind.TheVariants.{Hdr}
-use Rattle.cwr_layouts.specs.Format.Layouts.{FieldLayout, layout, field_at, field_with_start}
+use Rattle.cwr_fields.specs.declared.kinds.Kind.{Kind}
+use Rattle.cwr_fields.specs.declared.kinds.Kind.TheVariants.{Hdr}
+use Rattle.cwr_fields.specs.Format.Layouts.{FieldLayout, layout, field_at, field_with_start}
 use Rattle.cwr_lines.specs.Format.Records.{RecordValue, IsRecord}
 use Rattle.cwr_lines.specs.Format.Carried.{carried_at, record_cell}
-use Rattle.cwr_layouts.proofs.TrimmedTexts.{spaces_after}
-use Rattle.cwr_layouts.proofs.FieldStarts.{field_at-start}
+use Rattle.cwr_fields.proofs.TrimmedTexts.{spaces_after}
+use Rattle.cwr_fields.proofs.FieldStarts.{field_at-start}
 use Rattle.cwr_lines.proofs.CarriedCells.{open_some, record_cell-at}
 
 -- ---- no line is too long

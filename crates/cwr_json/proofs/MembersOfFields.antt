@@ -4,11 +4,11 @@ use Rattle.std.specs.Prelude.{option_map, slice_get}
 use Rattle.std.specs.Option.{option_and_then}
 use Rattle.std.proofs.lemmas.List.{take_all}
 use Rattle.std.proofs.lemmas.Option.{slice_get-get_or}
-use Rattle.cwr_layouts.specs.declared.kinds.Kind.{Kind}
-use Rattle.cwr_layouts.specs.Format.Layouts.{FieldLayout, layout, record_type, field_at, field_with_start}
+use Rattle.cwr_fields.specs.declared.kinds.Kind.{Kind}
+use Rattle.cwr_fields.specs.Format.Layouts.{FieldLayout, layout, record_type, field_at, field_with_start}
 use Rattle.cwr_lines.specs.Format.Records.{RecordValue, IsRecord}
 use Rattle.cwr_lines.specs.Format.Carried.{carried_at, record_cell}
-use Rattle.cwr_layouts.proofs.FieldStarts.{field_at-start}
+use Rattle.cwr_fields.proofs.FieldStarts.{field_at-start}
 use Rattle.cwr_lines.proofs.CarriedCells.{carried_count, record_cell-at}
 use Rattle.cwr_json.specs.declared.encodings.Encoding.{Encoding}
 use Rattle.cwr_json.proofs.FieldsShown.{carried_field}

@@ -15,10 +15,10 @@ use Rattle.cwr_fields.specs.declared.cell_types.Word.TheVariants as words
 use Rattle.cwr_fields.specs.Format.Bytes.{filled, is_spaces, trimmed}
 use Rattle.cwr_fields.specs.Format.Codes.{word_text}
 use Rattle.cwr_fields.specs.Format.Cells.{Allows}
-use Rattle.cwr_layouts.specs.Format.Kinds.{letters}
-use Rattle.cwr_layouts.specs.Format.Layouts.{FieldLayout}
+use Rattle.cwr_fields.specs.Format.Kinds.{letters}
+use Rattle.cwr_fields.specs.Format.Layouts.{FieldLayout}
 use Rattle.cwr_lines.specs.Format.Records.{RecordValue, IsCellOf, IsRecord, blank_cell, carried_fields}
-use Rattle.cwr_layouts.proofs.TrimmedTexts.{spaces_after}
+use Rattle.cwr_fields.proofs.TrimmedTexts.{spaces_after}
 use Rattle.cwr_json.specs.declared.encodings.Encoding.{Encoding}
 use Rattle.cwr_json.specs.Format.Encodings.{characters}
 use Rattle.cwr_json.specs.Format.Forms.{key_of, kind_key, with_cell, cell_members, record_members, is_note, told, first_of, is_known, are_distinct, IsCellFrom, IsDataOf}

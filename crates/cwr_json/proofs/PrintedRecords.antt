@@ -9,10 +9,10 @@ use Rattle.json.specs.Tree.{json_tokens, members_tokens, items_tokens, depth, me
 use Rattle.json.specs.Print.{escape, escape_byte, print_from}
 use Rattle.json.proofs.Printed.Strings.{escape_byte_plain}
 use Rattle.cwr_fields.specs.Format.Bytes.{is_spaces, trimmed}
-use Rattle.cwr_layouts.specs.declared.kinds.Kind.{Kind}
-use Rattle.cwr_layouts.specs.declared.kinds.Kind.TheVariants.{Hdr}
-use Rattle.cwr_layouts.specs.Format.Kinds.{letters}
-use Rattle.cwr_layouts.specs.Format.Layouts.{FieldLayout, layout}
+use Rattle.cwr_fields.specs.declared.kinds.Kind.{Kind}
+use Rattle.cwr_fields.specs.declared.kinds.Kind.TheVariants.{Hdr}
+use Rattle.cwr_fields.specs.Format.Kinds.{letters}
+use Rattle.cwr_fields.specs.Format.Layouts.{FieldLayout, layout}
 use Rattle.cwr_lines.specs.Format.Records.{RecordValue, carried_fields}
 use Rattle.cwr_json.specs.declared.encodings.Encoding.{Encoding}
 use Rattle.cwr_json.specs.Format.Encodings.{characters}

@@ -1,7 +1,7 @@
 //! The text of a record.
 
 ghost use Rattle.std.specs.Prelude.{◌≡◌, ◌+◌, ◌*◌, ◌≤◌, [], ◌∷◌, ◌++◌, decimal, length};
-ghost use Rattle.cwr_layouts.specs.Steps.Views.{field_view};
+ghost use Rattle.cwr_fields.specs.Steps.Views.{field_view};
 ghost use Rattle.cwr_json.specs.Steps.FormTexts.{NoLow, field_member, head_text, member_text, member_texts, group_notes_text, note_text, notes_text, opening_text, listed_text, listed_texts};
 ghost use Rattle.cwr_values.specs.Format.Rows.{trailer};
 ghost use Rattle.cwr_json.specs.declared.encodings.Encoding.{Encoding};
@@ -10,8 +10,7 @@ use crate::encodings::Encoding;
 use crate::notes::Notes;
 use crate::spelling::{LONGEST, LONGEST_HEAD, LONGEST_MEMBER, Text, push, push_key, push_spelled};
 use arrayvec::ArrayVec;
-use cwr_fields::{is_spaces, trimmed};
-use cwr_layouts::{Field, Kind, field, fields, letters};
+use cwr_fields::{Field, Kind, field, fields, is_spaces, letters, trimmed};
 use cwr_lines::RecordRef;
 use cwr_values::Item;
 use itoa::Buffer;

@@ -7,13 +7,13 @@ use Rattle.std.proofs.lemmas.Bool.{or_from}
 use Rattle.cwr_fields.proofs.LineFeeds.{NoLf}
 use Rattle.cwr_fields.specs.Format.Bytes.{digits}
 use Rattle.cwr_fields.specs.Format.Cells.{Allows, fault_of}
-use Rattle.cwr_layouts.specs.declared.kinds.Kind.{Kind}
+use Rattle.cwr_fields.specs.declared.kinds.Kind.{Kind}
 use Rattle.cwr_lines.specs.declared.lines.LineEnd.TheVariants.{Line, Over}
-use Rattle.cwr_layouts.specs.Format.Layouts.{FieldLayout, layout, fields_after_type, field_at, field_with_start}
+use Rattle.cwr_fields.specs.Format.Layouts.{FieldLayout, layout, fields_after_type, field_at, field_with_start}
 use Rattle.cwr_lines.specs.Format.Lines.{IsLineOf, closed, raw_lines, is_lf, line_kind, longest_line}
 use Rattle.cwr_lines.specs.Format.Records.{RecordValue, Row, IsRecord}
 use Rattle.cwr_lines.specs.Steps.Held.{HeldLine, HoldsLine, IsCutAs, IsHeld, held_kind, held_cell}
-use Rattle.cwr_layouts.proofs.FieldStarts.{field_at-start}
+use Rattle.cwr_fields.proofs.FieldStarts.{field_at-start}
 use Rattle.cwr_lines.proofs.HeldLaws.{held_cell_there, held_line_is_cut}
 use Rattle.cwr_shape.specs.declared.symbols.Symbol.{Symbol}
 use Rattle.cwr_shape.specs.declared.limits.Limits.{Limits}

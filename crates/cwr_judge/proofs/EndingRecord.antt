@@ -3,8 +3,8 @@ use Rattle.std.proofs.Common.{◌≡◌, ℕ, ◌+◌, ◌-◌, ◌^◌, ◌<◌
 use Rattle.std.specs.Prelude.{Option, Some, None, ◌==◌}
 use Rattle.std.specs.List.{AllByRecursion, last_or, after_last, suffix_len}
 use Rattle.std.proofs.lemmas.List.{length-append, length-map, length-drop, drop-map}
-use Rattle.cwr_layouts.specs.declared.kinds.Kind.{Kind}
-use Rattle.cwr_layouts.specs.declared.kinds.Kind.TheVariants as kinds
+use Rattle.cwr_fields.specs.declared.kinds.Kind.{Kind}
+use Rattle.cwr_fields.specs.declared.kinds.Kind.TheVariants as kinds
 use Rattle.cwr_lines.specs.Format.Records.{RecordValue, IsRecord, Row, record_of}
 use Rattle.cwr_lines.proofs.RowLaws.{record_of-row_of}
 use Rattle.cwr_shape.specs.declared.symbols.Symbol.{Symbol}
@@ -17,7 +17,7 @@ use Rattle.cwr_values.specs.declared.items.Item.TheVariants.{Opened, GroupOpened
 use Rattle.cwr_values.specs.Format.Values.{symbol_of}
 use Rattle.cwr_values.specs.Format.Begins.{row_after, rows_after, rows_so_far}
 use Rattle.cwr_values.proofs.RowAt.{rows_so_far-snoc, length-rows_so_far}
-use Rattle.cwr_layouts.specs.Format.Kinds.{is_in_transaction}
+use Rattle.cwr_fields.specs.Format.Kinds.{is_in_transaction}
 use Rattle.cwr_judge.specs.Format.Items.{record_sequence, continues_transaction, ends_transaction, transaction_at_end, own_item, items_at, items_after, items}
 use Rattle.cwr_judge.specs.Steps.Open.{items_so_far, open_of, continues_open, ended_transaction, item_of, Closes}
 use Rattle.cwr_judge.proofs.ItemsOfTransactions.{items-append, last-snoc, idle, snoc_of, all_last}

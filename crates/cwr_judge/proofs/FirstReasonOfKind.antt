@@ -3,8 +3,8 @@ use Rattle.std.proofs.Common.{◌≡◌, ℕ, ◌≤◌, List, [], ◌∷◌, �
 use Rattle.std.specs.Prelude.{Option, Some, None, slice_index_or, option_and_then}
 use Rattle.std.specs.List.{AllZip, AllByRecursion}
 use Rattle.cwr_fields.specs.declared.cell_types.CellFault.{CellFault}
-use Rattle.cwr_layouts.specs.declared.kinds.Kind.{Kind}
-use Rattle.cwr_layouts.specs.Format.Layouts.{FieldLayout, field_at}
+use Rattle.cwr_fields.specs.declared.kinds.Kind.{Kind}
+use Rattle.cwr_fields.specs.Format.Layouts.{FieldLayout, field_at}
 use Rattle.cwr_lines.specs.Format.Records.{RecordValue, IsRecord}
 use Rattle.cwr_lines.specs.Format.Lines.{IsLineOf, line_kind}
 use Rattle.cwr_lines.specs.Steps.Held.{HeldLine, IsCutAs, held_kind, held_cells}

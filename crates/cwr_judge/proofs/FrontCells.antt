@@ -7,15 +7,15 @@ use Rattle.cwr_fields.specs.declared.codes.Role.TheVariants.{Assignor, Acquirer}
 use Rattle.cwr_fields.specs.declared.codes.TransactionType.{TransactionType}
 use Rattle.cwr_fields.specs.declared.codes.TransactionType.TheVariants.{Agreement, NewWork, RevisedWork, Acknowledgement}
 use Rattle.cwr_fields.specs.Format.Bytes.{filled}
-use Rattle.cwr_layouts.specs.declared.kinds.Kind.{Kind}
-use Rattle.cwr_layouts.specs.declared.kinds.Kind.TheVariants as kinds
-use Rattle.cwr_layouts.specs.Format.Kinds.{letters, kind_of}
-use Rattle.cwr_layouts.specs.Format.Layouts.{FieldLayout, fields_after_type}
+use Rattle.cwr_fields.specs.declared.kinds.Kind.{Kind}
+use Rattle.cwr_fields.specs.declared.kinds.Kind.TheVariants as kinds
+use Rattle.cwr_fields.specs.Format.Kinds.{letters, kind_of}
+use Rattle.cwr_fields.specs.Format.Layouts.{FieldLayout, fields_after_type}
 use Rattle.cwr_lines.specs.Format.Records.{RecordValue, IsRecord, rest_if, row_cells, row_of}
 use Rattle.cwr_lines.specs.Format.GoodCells.{AreGood}
 use Rattle.cwr_lines.specs.Format.Lines.{line_kind, line_cells, line_body, cells_as}
-use Rattle.cwr_layouts.proofs.AllKinds.{kind_of-letters}
-use Rattle.cwr_layouts.proofs.AllKinds.{letters-injective}
+use Rattle.cwr_fields.proofs.AllKinds.{kind_of-letters}
+use Rattle.cwr_fields.proofs.AllKinds.{letters-injective}
 use Rattle.cwr_lines.proofs.GoodLinesAreRows.{good_cells}
 use Rattle.cwr_shape.specs.declared.symbols.Symbol.{Symbol}
 use Rattle.cwr_shape.specs.declared.symbols.Symbol.TheVariants.{Plain, Ipa, Grh}

@@ -12,10 +12,10 @@ use Rattle.cwr_fields.specs.declared.codes.TransactionType.TheVariants.{Agreemen
 use Rattle.cwr_fields.specs.Format.Bytes.{filled}
 use Rattle.cwr_fields.specs.Format.Codes.{role_code, type_code}
 use Rattle.cwr_fields.specs.Format.Cells.{Allows}
-use Rattle.cwr_layouts.specs.declared.kinds.Kind.{Kind}
-use Rattle.cwr_layouts.specs.declared.kinds.Kind.TheVariants as kinds
-use Rattle.cwr_layouts.specs.Format.Kinds.{letters}
-use Rattle.cwr_layouts.specs.Format.Layouts.{FieldLayout, layout, fields_after_type}
+use Rattle.cwr_fields.specs.declared.kinds.Kind.{Kind}
+use Rattle.cwr_fields.specs.declared.kinds.Kind.TheVariants as kinds
+use Rattle.cwr_fields.specs.Format.Kinds.{letters}
+use Rattle.cwr_fields.specs.Format.Layouts.{FieldLayout, layout, fields_after_type}
 use Rattle.cwr_lines.specs.Format.Records.{RecordValue, Row, IsRecord, row_cells, row_of}
 use Rattle.cwr_lines.specs.Format.Lines.{IsLineOf, line_kind, line_cells, has_bad_excess}
 use Rattle.cwr_lines.proofs.RowLaws.{row_fits}

@@ -10,9 +10,9 @@ use Rattle.cwr_fields.specs.declared.codes.Role.TheVariants.{Assignor, Acquirer}
 use Rattle.cwr_fields.specs.declared.codes.TransactionType.{TransactionType}
 use Rattle.cwr_fields.specs.declared.codes.TransactionType.TheVariants.{Agreement, NewWork, RevisedWork, Acknowledgement}
 use Rattle.cwr_fields.specs.Format.Cells.{Allows}
-use Rattle.cwr_layouts.specs.declared.kinds.Kind.{Kind}
-use Rattle.cwr_layouts.specs.declared.kinds.Kind.TheVariants as kinds
-use Rattle.cwr_layouts.specs.Format.Layouts.{FieldLayout, layout, field_at, record_type}
+use Rattle.cwr_fields.specs.declared.kinds.Kind.{Kind}
+use Rattle.cwr_fields.specs.declared.kinds.Kind.TheVariants as kinds
+use Rattle.cwr_fields.specs.Format.Layouts.{FieldLayout, layout, field_at, record_type}
 use Rattle.cwr_lines.specs.Format.Records.{RecordValue, IsCellOf, IsRecord}
 use Rattle.cwr_lines.specs.Steps.Held.{HeldLine, held_kind, held_cell, held_cells, held_excess, carried_by}
 use Rattle.cwr_lines.proofs.CarriedCells.{carried_in-at}

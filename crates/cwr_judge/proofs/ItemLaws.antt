@@ -5,8 +5,8 @@ use Rattle.std.specs.List.{AllByRecursion, flat_map}
 use Rattle.std.proofs.lemmas.List.{length-map}
 use Rattle.std.proofs.lemmas.List.Sums.{sum_by-cons}
 use Rattle.cwr_fields.specs.declared.codes.TransactionType.{TransactionType}
-use Rattle.cwr_layouts.specs.declared.kinds.Kind.{Kind}
-use Rattle.cwr_layouts.specs.declared.kinds.Kind.TheVariants as kinds
+use Rattle.cwr_fields.specs.declared.kinds.Kind.{Kind}
+use Rattle.cwr_fields.specs.declared.kinds.Kind.TheVariants as kinds
 use Rattle.cwr_lines.specs.Format.Records.{RecordValue, IsRecord, Row, row_of, record_of}
 use Rattle.cwr_lines.proofs.RowLaws.{record_of-row_of}
 use Rattle.cwr_shape.specs.declared.limits.Limits.{Limits}
@@ -21,7 +21,7 @@ use Rattle.cwr_values.proofs.RowsByParts.{rows_of_transactions, rows_of_group, r
 use Rattle.cwr_values.proofs.OneSpelling.{parts_of, symbols-outline}
 use Rattle.cwr_values.specs.declared.items.Item.{Item}
 use Rattle.cwr_values.specs.declared.items.Item.TheVariants.{Opened, GroupOpened, Transaction, GroupClosed, Ended}
-use Rattle.cwr_layouts.specs.Format.Kinds.{is_in_transaction}
+use Rattle.cwr_fields.specs.Format.Kinds.{is_in_transaction}
 use Rattle.cwr_judge.specs.Format.Items.{record_sequence, continues_transaction, own_item, items_at, items_after, items, group_items, value_items}
 use Rattle.cwr_judge.proofs.ItemsOfTransactions.{items-append, inside_kind, Ready, idle, start, IsInsideRow, items_given, transactions_walked}
 

@@ -9,9 +9,9 @@ use Rattle.std.proofs.Math.Seq.{drop-append_seam}
 use Rattle.cwr_fields.specs.Format.Bytes.{digits, number_of}
 use Rattle.cwr_fields.proofs.Digits.{number_of-digits}
 use Rattle.cwr_fields.specs.declared.codes.TransactionType.{TransactionType}
-use Rattle.cwr_layouts.specs.declared.kinds.Kind.{Kind}
-use Rattle.cwr_layouts.specs.declared.kinds.Kind.TheVariants as kinds
-use Rattle.cwr_layouts.specs.Format.Layouts.{fields_after_type}
+use Rattle.cwr_fields.specs.declared.kinds.Kind.{Kind}
+use Rattle.cwr_fields.specs.declared.kinds.Kind.TheVariants as kinds
+use Rattle.cwr_fields.specs.Format.Layouts.{fields_after_type}
 use Rattle.cwr_lines.specs.Format.Records.{RecordValue, IsRecord, Row, row_cells, row_of, record_of}
 use Rattle.cwr_lines.proofs.RowLaws.{record_of-row_of}
 use Rattle.cwr_shape.proofs.HeadFirst.{part_class}
@@ -19,7 +19,7 @@ use Rattle.cwr_values.specs.Format.Values.{symbol_by}
 use Rattle.cwr_values.proofs.RowsByParts.{rows_inside, rows_of_transactions}
 use Rattle.cwr_values.specs.declared.items.Item.{Item}
 use Rattle.cwr_values.specs.declared.items.Item.TheVariants.{Transaction}
-use Rattle.cwr_layouts.specs.Format.Kinds.{is_in_transaction, is_in_transaction}
+use Rattle.cwr_fields.specs.Format.Kinds.{is_in_transaction, is_in_transaction}
 use Rattle.cwr_judge.specs.Format.Items.{record_sequence, continues_transaction, ends_transaction, transaction_at_end, own_item, items_at, items_after}
 use Rattle.cwr_judge.specs.Format.Items.{record_sequence, continues_transaction, ends_transaction, transaction_at_end, own_item, items_at, items_after}
 

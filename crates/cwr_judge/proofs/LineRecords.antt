@@ -4,9 +4,9 @@ use Rattle.std.specs.Prelude.{Option, Some}
 use Rattle.std.specs.List.{AllZip, IsAmong}
 use Rattle.std.proofs.lemmas.List.{take_all}
 use Rattle.cwr_fields.proofs.LineFeeds.{NoLf}
-use Rattle.cwr_layouts.specs.declared.kinds.Kind.{Kind}
-use Rattle.cwr_layouts.specs.declared.kinds.Kind.TheVariants as kinds
-use Rattle.cwr_layouts.specs.Format.Layouts.{FieldLayout, layout, fields_after_type}
+use Rattle.cwr_fields.specs.declared.kinds.Kind.{Kind}
+use Rattle.cwr_fields.specs.declared.kinds.Kind.TheVariants as kinds
+use Rattle.cwr_fields.specs.Format.Layouts.{FieldLayout, layout, fields_after_type}
 use Rattle.cwr_lines.specs.Format.Records.{RecordValue, Row, IsRecord, row_of}
 use Rattle.cwr_lines.specs.Format.GoodCells.{AreGood}
 use Rattle.cwr_lines.specs.Format.Lines.{IsLineOf, line_kind, line_cells}

@@ -4,9 +4,9 @@ use Rattle.std.specs.Prelude.{Option, Some, None, slice_get}
 use Rattle.std.specs.List.{AllZip}
 use Rattle.std.proofs.lemmas.List.{length-append, length-replicate, length-drop, replicate-append-replicate, take-append-le}
 use Rattle.cwr_fields.specs.Format.Bytes.{filled}
-use Rattle.cwr_layouts.specs.declared.kinds.Kind.{Kind}
-use Rattle.cwr_layouts.specs.Format.Kinds.{letters}
-use Rattle.cwr_layouts.specs.Format.Layouts.{FieldLayout, fields_after_type, total_width, line_width, record_type}
+use Rattle.cwr_fields.specs.declared.kinds.Kind.{Kind}
+use Rattle.cwr_fields.specs.Format.Kinds.{letters}
+use Rattle.cwr_fields.specs.Format.Layouts.{FieldLayout, fields_after_type, total_width, line_width, record_type}
 use Rattle.cwr_lines.specs.Format.Records.{RecordValue, IsRecord, rest_if, row_of}
 use Rattle.cwr_lines.specs.Format.Lines.{line_kind, line_cells, line_body, cells_as, pieces}
 use Rattle.cwr_lines.proofs.RowLaws.{Fits}

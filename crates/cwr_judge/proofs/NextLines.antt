@@ -7,9 +7,9 @@ use Rattle.std.proofs.lemmas.List.{length-drop}
 use Rattle.cwr_fields.specs.declared.codes.TransactionType.{TransactionType}
 use Rattle.cwr_fields.specs.Format.Bytes.{digits}
 use Rattle.cwr_fields.proofs.LineFeeds.{NoLf}
-use Rattle.cwr_layouts.specs.declared.kinds.Kind.{Kind}
-use Rattle.cwr_layouts.specs.declared.kinds.Kind.TheVariants as kinds
-use Rattle.cwr_layouts.specs.Format.Layouts.{FieldLayout, fields_after_type, field_at}
+use Rattle.cwr_fields.specs.declared.kinds.Kind.{Kind}
+use Rattle.cwr_fields.specs.declared.kinds.Kind.TheVariants as kinds
+use Rattle.cwr_fields.specs.Format.Layouts.{FieldLayout, fields_after_type, field_at}
 use Rattle.cwr_lines.specs.Format.Records.{RecordValue, IsRecord, IsCellOf, IsGoodCell, carried_fields, rest_if, record_of, row_of}
 use Rattle.cwr_lines.specs.Format.Lines.{IsLineOf}
 use Rattle.cwr_lines.specs.Steps.Held.{HeldLine, IsHeld, HoldsLine, held_kind, held_cells, held_cell, held_record, carried_by}

@@ -6,17 +6,17 @@ use Rattle.std.proofs.lemmas.Bool.{or_parts}
 use Rattle.std.proofs.lemmas.List.{length-drop, length-take-le}
 use Rattle.cwr_fields.specs.Format.Bytes.{digits}
 use Rattle.cwr_fields.specs.Format.Cells.{type_width}
-use Rattle.cwr_layouts.specs.declared.kinds.Kind.{Kind}
-use Rattle.cwr_layouts.specs.declared.kinds.Kind.TheVariants as kinds
-use Rattle.cwr_layouts.specs.declared.layouts.Field.{Field}
-use Rattle.cwr_layouts.specs.Format.Kinds.{is_in_transaction}
-use Rattle.cwr_layouts.specs.Format.Layouts.{FieldLayout, layout, field_at, field_with_start}
-use Rattle.cwr_layouts.specs.Steps.Views.{field_view}
+use Rattle.cwr_fields.specs.declared.kinds.Kind.{Kind}
+use Rattle.cwr_fields.specs.declared.kinds.Kind.TheVariants as kinds
+use Rattle.cwr_fields.specs.declared.layouts.Field.{Field}
+use Rattle.cwr_fields.specs.Format.Kinds.{is_in_transaction}
+use Rattle.cwr_fields.specs.Format.Layouts.{FieldLayout, layout, field_at, field_with_start}
+use Rattle.cwr_fields.specs.Steps.Views.{field_view}
 use Rattle.cwr_lines.specs.Format.Records.{RecordValue}
 use Rattle.cwr_lines.specs.Steps.Held.{HeldLine, held_kind, held_cell, held_cells, held_record, carried_by}
-use Rattle.cwr_layouts.proofs.FieldStarts.{field_at-start}
+use Rattle.cwr_fields.proofs.FieldStarts.{field_at-start}
 use Rattle.cwr_lines.proofs.HeldLaws.{length-held_cell}
-use Rattle.cwr_layouts.proofs.TypeWidths.{type_width-field}
+use Rattle.cwr_fields.proofs.TypeWidths.{type_width-field}
 use Rattle.cwr_shape.specs.declared.symbols.Symbol.{Symbol}
 use Rattle.cwr_shape.specs.declared.tallies.Bar.{Bar}
 use Rattle.cwr_shape.specs.Format.Ranges.{LimitValues}

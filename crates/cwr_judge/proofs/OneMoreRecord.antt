@@ -5,8 +5,8 @@ use Rattle.std.proofs.lemmas.Bool.{ne_eqb, eq-eqb}
 use Rattle.std.proofs.lemmas.List.{length-append, length-drop, drop-append-le, drop_all, drop_at, map-append}
 use Rattle.cwr_fields.specs.declared.codes.TransactionType.{TransactionType}
 use Rattle.cwr_fields.specs.declared.codes.TransactionType.TheVariants.{Agreement, NewWork, RevisedWork, Acknowledgement}
-use Rattle.cwr_layouts.specs.declared.kinds.Kind.{Kind}
-use Rattle.cwr_layouts.specs.declared.kinds.Kind.TheVariants as kinds
+use Rattle.cwr_fields.specs.declared.kinds.Kind.{Kind}
+use Rattle.cwr_fields.specs.declared.kinds.Kind.TheVariants as kinds
 use Rattle.cwr_lines.specs.Format.Records.{RecordValue, row_of}
 use Rattle.cwr_shape.specs.declared.symbols.Symbol.{Symbol}
 use Rattle.cwr_shape.specs.declared.symbols.Symbol.TheVariants.{Plain, Grh}
@@ -19,7 +19,7 @@ use Rattle.cwr_shape.specs.Steps.Counting.{counts_with, counts_with_header, coun
 use Rattle.cwr_shape.proofs.OneMore.{last_or-snoc, counts-snoc}
 use Rattle.cwr_values.specs.Format.Values.{symbol_of, symbol_by}
 use Rattle.cwr_values.specs.Format.Begins.{row_after}
-use Rattle.cwr_layouts.specs.Format.Kinds.{is_in_transaction}
+use Rattle.cwr_fields.specs.Format.Kinds.{is_in_transaction}
 use Rattle.cwr_judge.specs.Format.Items.{record_sequence}
 use Rattle.cwr_judge.specs.Steps.Open.{open_of, continues_open}
 use Rattle.cwr_judge.proofs.ItemsOfTransactions.{sequence_of}

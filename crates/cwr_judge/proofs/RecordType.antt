@@ -7,10 +7,10 @@ use Rattle.cwr_fields.specs.declared.cell_types.CellType.TheVariants as types
 use Rattle.cwr_fields.specs.Format.Bytes.{filled}
 use Rattle.cwr_fields.specs.Format.Cells.{Allows}
 use Rattle.cwr_fields.proofs.CellTests.{holds_test, holds_sound}
-use Rattle.cwr_layouts.specs.declared.kinds.Kind.{Kind}
-use Rattle.cwr_layouts.specs.declared.kinds.Kind.TheVariants as kinds
-use Rattle.cwr_layouts.specs.Format.Kinds.{letters}
-use Rattle.cwr_layouts.specs.Format.Layouts.{FieldLayout, field_at, record_type, line_width}
+use Rattle.cwr_fields.specs.declared.kinds.Kind.{Kind}
+use Rattle.cwr_fields.specs.declared.kinds.Kind.TheVariants as kinds
+use Rattle.cwr_fields.specs.Format.Kinds.{letters}
+use Rattle.cwr_fields.specs.Format.Layouts.{FieldLayout, field_at, record_type, line_width}
 use Rattle.cwr_lines.specs.Format.Lines.{cells_as, line_body, line_kind}
 use Rattle.cwr_lines.proofs.GoodLinesAreRows.{letters-of, three-filled}
 use Rattle.cwr_shape.specs.Format.Numbers.{number_fields, number_in}

@@ -2,7 +2,7 @@
 use Rattle.std.proofs.Common.{◌≡◌, ℕ, suc, List, [], ◌∷◌, ◌++◌, length, map, take, sym, ap, subst, ◌∙◌, arith, append_assoc}
 use Rattle.std.specs.List.{AllZip, AllByRecursion}
 use Rattle.std.proofs.lemmas.List.{map-append}
-use Rattle.cwr_layouts.specs.Format.Layouts.{layout}
+use Rattle.cwr_fields.specs.Format.Layouts.{layout}
 use Rattle.cwr_lines.specs.Format.Records.{RecordValue, Row, IsRecord}
 use Rattle.cwr_lines.specs.Format.Lines.{IsLineOf, line_cells}
 use Rattle.cwr_lines.proofs.RowLaws.{row_fits}

@@ -4,15 +4,16 @@ ghost use Rattle.std.specs.Prelude.{◌≡◌, ◌≤◌, ◌++◌, ◌∷◌, [
 ghost use Rattle.std.specs.Option.{ForSome};
 ghost use Rattle.cwr_fields.specs.Format.Bytes.{digits};
 ghost use Rattle.cwr_fields.specs.Format.Cells.{type_width};
-ghost use Rattle.cwr_layouts.specs.Format.Layouts.{layout as layout_of};
+ghost use Rattle.cwr_fields.specs.Format.Layouts.{layout as layout_of};
 ghost use Rattle.cwr_lines.specs.Steps.Held.{held_excess, held_kind, held_record};
 ghost use Rattle.cwr_lines.specs.Format.Records.{IsRecord};
 ghost use Rattle.cwr_shape.specs.declared.symbols.Symbol.{Symbol};
 ghost use Rattle.cwr_shape.specs.Steps.Tallies.{IsAdmitted, IsTallyOf};
 ghost use Rattle.cwr_judge.specs.Steps.Judged.{HasNumberAt, HasNumbers, IsCounted, IsNext, IsOfNone, Lacks, named_symbol, bar_reason, IsGoodText, IsTextFault, IsNumberFault, IsGoodAt, HasReasonAt, MayComeOf, IsFirstFault};
 
-use cwr_fields::{Cell, CellType, Role, SpelledPair, TransactionType, fits, spells};
-use cwr_layouts::{Kind, field, fields};
+use cwr_fields::{
+    Cell, CellType, Kind, Role, SpelledPair, TransactionType, field, fields, fits, spells,
+};
 use cwr_lines::{CutLine, RecordRef};
 use cwr_shape::{Bar, Reason, Symbol, Tally};
 use cwr_values::symbol_of;

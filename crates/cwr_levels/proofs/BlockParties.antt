@@ -5,7 +5,7 @@ use Rattle.std.specs.List.{prefix_len, last_or}
 use Rattle.std.proofs.lemmas.Bool.{or_left, or_right, or_from}
 use Rattle.std.proofs.lemmas.List.{append-nil, drop_all}
 use Rattle.std.proofs.lemmas.List.Sums.{take_while-cons}
-use Rattle.cwr_layouts.specs.declared.kinds.Kind.TheVariants as kinds
+use Rattle.cwr_fields.specs.declared.kinds.Kind.TheVariants as kinds
 use Rattle.cwr_lines.specs.Format.Records.{RecordValue}
 use Rattle.cwr_levels.specs.declared.rules.Rule.TheVariants.{V11}
 use Rattle.cwr_levels.specs.Format.Findings.{breaks, begins_block, have_side_over_whole, is_a, is_agreement, is_party, is_territory, in_blocks, parties_after}

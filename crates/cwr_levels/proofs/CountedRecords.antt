@@ -6,7 +6,7 @@ use mir.Val.{bool_byte}
 use Rattle.std.proofs.lemmas.List.Sums.{sum_by_push}
 use Rattle.std.proofs.lemmas.List.Folds.{list_any-append}
 use Rattle.std.proofs.lemmas.Option.{slice_get_within}
-use Rattle.cwr_layouts.specs.declared.kinds.Kind.TheVariants as kinds
+use Rattle.cwr_fields.specs.declared.kinds.Kind.TheVariants as kinds
 use Rattle.cwr_lines.specs.Format.Records.{RecordValue, cell_named}
 use Rattle.cwr_levels.specs.declared.totals.TransactionTotals.{TransactionTotals}
 use Rattle.cwr_levels.specs.Format.Findings.{is_a, is_author, is_owner, names_author}

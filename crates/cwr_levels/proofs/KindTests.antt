@@ -1,10 +1,10 @@
 -- What the test of a record's kind says.
 use Rattle.std.proofs.Common.{◌≡◌, Bool, true, false, ap, refl}
 use Rattle.std.proofs.lemmas.Slice.Eq.{bytes_eq-Decides}
-use Rattle.cwr_layouts.specs.declared.kinds.Kind.{Kind}
-use Rattle.cwr_layouts.specs.Format.Kinds.{letters}
+use Rattle.cwr_fields.specs.declared.kinds.Kind.{Kind}
+use Rattle.cwr_fields.specs.Format.Kinds.{letters}
 use Rattle.cwr_lines.specs.Format.Records.{RecordValue}
-use Rattle.cwr_layouts.proofs.AllKinds.{letters-injective}
+use Rattle.cwr_fields.proofs.AllKinds.{letters-injective}
 use Rattle.cwr_levels.specs.Format.Findings.{is_a}
 
 pub kind_of : (kind : Kind) (r : RecordValue) → is_a kind r ≡ true → r.kind ≡ kind

@@ -5,8 +5,8 @@ use Rattle.std.specs.List.{AllZip}
 use Rattle.std.specs.Option.{option_and_then}
 use Rattle.std.specs.Str.{bytes_eq}
 use Prim.Native.String.{String}
-use Rattle.cwr_layouts.specs.declared.kinds.Kind.{Kind}
-use Rattle.cwr_layouts.specs.Format.Layouts.{FieldLayout}
+use Rattle.cwr_fields.specs.declared.kinds.Kind.{Kind}
+use Rattle.cwr_fields.specs.Format.Layouts.{FieldLayout}
 use Rattle.cwr_lines.specs.Format.Carried.{carried_at, carried_before, record_cell}
 use Rattle.cwr_lines.specs.Format.Records.{RecordValue, IsRecord, IsCellOf, cell_named, carried_fields}
 use Rattle.cwr_levels.specs.Format.Fields.{IsField, index_of_name}

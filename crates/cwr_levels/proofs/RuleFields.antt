@@ -1,6 +1,6 @@
 -- The fields that the rules read, in the kinds that carry them.
 use Rattle.std.proofs.Common.{refl}
-use Rattle.cwr_layouts.specs.declared.kinds.Kind.TheVariants as kinds
+use Rattle.cwr_fields.specs.declared.kinds.Kind.TheVariants as kinds
 use Rattle.cwr_levels.specs.Format.Fields.{IsField, HasSharesFrom}
 
 pub iswc_of_nwr : IsField "iswc" kinds.Nwr 7 11

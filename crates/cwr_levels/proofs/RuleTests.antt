@@ -6,8 +6,8 @@ use Rattle.std.proofs.lemmas.Bool.{or_cases, and_parts}
 use Rattle.std.specs.Str.{bytes_eq}
 use Rattle.cwr_fields.specs.Format.Bytes.{is_spaces}
 use Rattle.cwr_fields.specs.Format.Iswc.{is_iswc}
-use Rattle.cwr_layouts.specs.declared.kinds.Kind.{Kind}
-use Rattle.cwr_layouts.specs.declared.kinds.Kind.TheVariants as kinds
+use Rattle.cwr_fields.specs.declared.kinds.Kind.{Kind}
+use Rattle.cwr_fields.specs.declared.kinds.Kind.TheVariants as kinds
 use Rattle.cwr_lines.specs.Format.Carried.{record_cell}
 use Rattle.cwr_lines.specs.Format.Records.{RecordValue, IsRecord, cell_named}
 use Rattle.cwr_levels.specs.declared.rules.Rule.TheVariants.{V1, V2, V7}

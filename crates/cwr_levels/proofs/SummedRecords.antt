@@ -8,8 +8,8 @@ use Rattle.std.proofs.lemmas.Bool.{and_parts, eqb-true, or_from, or_left, or_rig
 use Rattle.std.proofs.lemmas.List.{drop-append-le, drop_all, length-append, take-append-le, take_all}
 use Rattle.std.proofs.Math.Seq.{drop-append_seam}
 use Rattle.std.proofs.lemmas.List.Folds.{list_any-append}
-use Rattle.cwr_layouts.specs.declared.kinds.Kind.{Kind}
-use Rattle.cwr_layouts.specs.declared.kinds.Kind.TheVariants as kinds
+use Rattle.cwr_fields.specs.declared.kinds.Kind.{Kind}
+use Rattle.cwr_fields.specs.declared.kinds.Kind.TheVariants as kinds
 use Rattle.cwr_fields.specs.Format.Bytes.{is_spaces}
 use Rattle.cwr_lines.specs.Format.Records.{RecordValue, IsRecord, cell_named}
 use Rattle.cwr_levels.specs.declared.rules.Rule.{Rule}

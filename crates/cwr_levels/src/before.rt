@@ -5,7 +5,7 @@ ghost use Rattle.cwr_lines.specs.Format.Records.{RecordValue};
 ghost use Rattle.cwr_levels.specs.Steps.Walks.{IsBefore};
 
 use crate::named_cells::{PUBLISHER_NUMBER, WRITER_NUMBER, cell};
-use cwr_layouts::Kind;
+use cwr_fields::Kind;
 use cwr_lines::RecordRef;
 
 /// What the records before one leave behind.

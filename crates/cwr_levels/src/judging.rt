@@ -19,8 +19,7 @@ use crate::registered::Registered;
 use crate::rules::Rule;
 use crate::shares::{Sides, is_off};
 use crate::totals::TransactionTotals;
-use cwr_fields::{is_spaces, iswc_ok};
-use cwr_layouts::Kind;
+use cwr_fields::{Kind, is_spaces, iswc_ok};
 use cwr_lines::RecordRef;
 
 /// Whether the records begin with the header of a work.

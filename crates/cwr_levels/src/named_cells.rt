@@ -6,7 +6,7 @@ ghost use Rattle.cwr_lines.specs.Format.Records.{IsRecord};
 ghost use Rattle.cwr_lines.specs.Format.Carried.{record_cell};
 ghost use Rattle.cwr_levels.specs.Format.Findings.{is_a, is_owner};
 
-use cwr_layouts::Kind;
+use cwr_fields::Kind;
 use cwr_lines::RecordRef;
 
 /// AGR: agreement start date.

@@ -6,7 +6,7 @@ ghost use Rattle.cwr_levels.specs.Steps.Walks.{HasNumbersOf, KnowsNumbersOf, is_
 
 use crate::named_cells::{PUBLISHER_NUMBER, cell, is_of};
 use crate::registered::Registered;
-use cwr_layouts::Kind;
+use cwr_fields::Kind;
 use cwr_lines::RecordRef;
 use std::alloc::{AllocFailed, Global};
 use std::collections::BTreeSet;

@@ -4,7 +4,7 @@ ghost use Rattle.std.specs.Prelude.{◌≡◌, ◌+◌, ◌^◌, ◌<◌, ◌≤
 ghost use Rattle.cwr_levels.specs.Format.Findings.{before_copy, stands_before_copy};
 
 use crate::named_cells::is_of;
-use cwr_layouts::Kind;
+use cwr_fields::Kind;
 use cwr_lines::RecordRef;
 use cwr_values::Transaction;
 use std::marker::Model;

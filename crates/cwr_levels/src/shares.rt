@@ -8,7 +8,7 @@ ghost use Rattle.cwr_levels.specs.Steps.Walks.{AddUpTo, SidesAddUpTo, capped, ha
 
 use crate::named_cells::{PUBLISHER_SHARES, ROLE, WRITER_SHARES, cell, is_of, number_of};
 use crate::registered::Registered;
-use cwr_layouts::Kind;
+use cwr_fields::Kind;
 use cwr_lines::RecordRef;
 
 /// Shares in the three rights, in hundredths of a percent, as far as 64 bits go.

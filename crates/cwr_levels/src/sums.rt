@@ -20,8 +20,7 @@ use crate::registered::stands_before_copy;
 use crate::shares::is_off;
 use crate::totals::TransactionTotals;
 use arrayvec::ArrayVec;
-use cwr_fields::is_spaces;
-use cwr_layouts::Kind;
+use cwr_fields::{Kind, is_spaces};
 use cwr_lines::RecordRef;
 
 /// The bytes of an interested party's number.

@@ -8,7 +8,7 @@ ghost use Rattle.cwr_levels.specs.Steps.Walks.{AreTotals};
 use crate::named_cells::{DESIGNATION, cell, is_of, is_owner};
 use crate::registered::Registered;
 use crate::shares::Shares;
-use cwr_layouts::Kind;
+use cwr_fields::Kind;
 use cwr_lines::RecordRef;
 
 /// Whether the designation is that of someone who has written words or music.

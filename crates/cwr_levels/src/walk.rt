@@ -10,7 +10,7 @@ use crate::publishers::Publishers;
 use crate::registered::Registered;
 use crate::rules::{Finding, Rule};
 use crate::totals::TransactionTotals;
-use cwr_layouts::Kind;
+use cwr_fields::Kind;
 use cwr_lines::RecordRef;
 use cwr_shape::Level;
 use cwr_values::Transaction;

@@ -4,7 +4,7 @@ ghost use Rattle.std.specs.Prelude.{◌≢◌};
 ghost use Rattle.cwr_lines.specs.declared.lines.LineEnd.TheVariants.{Open};
 
 use crate::checks::check_equal;
-use cwr_layouts::fields;
+use cwr_fields::fields;
 use cwr_levels::{Finding, Rule, findings};
 use cwr_lines::{Draft, LineBuf, LineEnd, Record, RecordRef};
 use cwr_shape::Level;

@@ -13,21 +13,21 @@ use Rattle.cwr_fields.specs.declared.cell_types.Word.{Word}
 use Rattle.cwr_fields.specs.declared.cell_types.Word.TheVariants.{Edi, Group}
 use Rattle.cwr_fields.specs.Format.Cells.{type_width}
 use Rattle.cwr_fields.specs.Format.Codes.{word_text}
-use Rattle.cwr_layouts.specs.declared.kinds.Kind.{Kind}
-use Rattle.cwr_layouts.specs.declared.layouts.Field.{Field}
-use Rattle.cwr_layouts.specs.Format.Layouts.{FieldLayout, layout, fields_with_starts, total_width}
+use Rattle.cwr_fields.specs.declared.kinds.Kind.{Kind}
+use Rattle.cwr_fields.specs.declared.layouts.Field.{Field}
+use Rattle.cwr_fields.specs.Format.Layouts.{FieldLayout, layout, fields_with_starts, total_width}
 use Rattle.cwr_lines.specs.Format.Lines.{pieces}
 use Rattle.cwr_lines.specs.Format.Records.{blank_cell, blank_record}
 use Rattle.cwr_lines.specs.Steps.Carried.{carried_cells, record_in}
-use Rattle.cwr_layouts.specs.Steps.Views.{field_view}
-use Rattle.cwr_layouts.proofs.AllKinds.{line_width_widest}
+use Rattle.cwr_fields.specs.Steps.Views.{field_view}
+use Rattle.cwr_fields.proofs.AllKinds.{line_width_widest}
 use Rattle.cwr_lines.proofs.CarriedCells.{widths}
 use Rattle.cwr_lines.proofs.CellParts.{field_part_within}
-use Rattle.cwr_layouts.proofs.FieldStarts.{without_starts}
+use Rattle.cwr_fields.proofs.FieldStarts.{without_starts}
 use Rattle.cwr_lines.proofs.CutLaws.{pieces_of}
 use Rattle.cwr_lines.proofs.GoodLinesAreRows.{carried_in}
 use Rattle.cwr_lines.proofs.RowLaws.{length-concat}
-use Rattle.cwr_layouts.proofs.TypeWidths.{is_wide, all_wide, type_width-field}
+use Rattle.cwr_fields.proofs.TypeWidths.{is_wide, all_wide, type_width-field}
 
 -- a field's cell in which nothing was set
 abbrev pub blank_of : FieldLayout → List ℕ

@@ -3,8 +3,8 @@ use Rattle.std.proofs.Common.{◌≡◌, ℕ, zero, suc, ◌+◌, ◌-◌, ◌�
 use Rattle.std.specs.Prelude.{Option, Some, None}
 use Rattle.std.specs.List.{AllZip, zip}
 use Rattle.std.specs.Option.{option_and_then}
-use Rattle.cwr_layouts.specs.declared.kinds.Kind.{Kind}
-use Rattle.cwr_layouts.specs.Format.Layouts.{FieldLayout, layout, fields_with_starts, field_with_start, field_at, line_width}
+use Rattle.cwr_fields.specs.declared.kinds.Kind.{Kind}
+use Rattle.cwr_fields.specs.Format.Layouts.{FieldLayout, layout, fields_with_starts, field_with_start, field_at, line_width}
 use Rattle.cwr_lines.specs.Format.Lines.{pieces}
 use Rattle.cwr_lines.specs.Format.Records.{RecordValue, IsCellOf, IsRecord, carried_fields}
 use Rattle.cwr_lines.specs.Format.Carried.{carried_at, carried_with_start, carried_before, record_cell}
@@ -13,7 +13,7 @@ use Rattle.std.proofs.lemmas.List.{length-map}
 use Rattle.cwr_lines.proofs.HeldLaws.{length-pieces}
 use Rattle.cwr_lines.proofs.GoodLinesAreRows.{carried_in}
 use Rattle.cwr_lines.proofs.CellParts.{part, piece_is_part, field_within}
-use Rattle.cwr_layouts.proofs.FieldStarts.{field_at-start}
+use Rattle.cwr_fields.proofs.FieldStarts.{field_at-start}
 
 -- how many of the fields are carried
 abbrev pub carried_count : List FieldLayout → ℕ

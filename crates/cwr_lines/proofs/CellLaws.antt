@@ -4,8 +4,8 @@ use Rattle.std.specs.Prelude.{Option, Some, None, IsSome, OnSome, slice_index, u
 use Rattle.std.specs.Option.{option_and_then}
 use Rattle.std.specs.List.{AllZip}
 use Rattle.cwr_fields.specs.Format.Bytes.{digits}
-use Rattle.cwr_layouts.specs.declared.kinds.Kind.{Kind}
-use Rattle.cwr_layouts.specs.Format.Layouts.{FieldLayout, record_type, layout, fields_after_type}
+use Rattle.cwr_fields.specs.declared.kinds.Kind.{Kind}
+use Rattle.cwr_fields.specs.Format.Layouts.{FieldLayout, record_type, layout, fields_after_type}
 use Rattle.cwr_lines.specs.Format.Records.{RecordValue, IsCellOf, IsRecord, carried_fields, rest_if, row_cells, row_of}
 use Rattle.cwr_lines.specs.Format.Carried.{carried_at, carried_before, record_cell, ShowsSet}
 use Rattle.cwr_lines.proofs.CarriedCells.{carried_count, open_some, carried_field-at}

@@ -5,10 +5,10 @@ use Rattle.std.proofs.lemmas.List.{drop-drop}
 use Rattle.std.proofs.lemmas.List.Sums.{sum_by-cons}
 use Rattle.std.proofs.lemmas.Bool.{and_parts}
 use Rattle.cwr_fields.specs.Format.Bytes.{filled, is_control, is_plain}
-use Rattle.cwr_layouts.specs.declared.kinds.Kind.{Kind}
+use Rattle.cwr_fields.specs.declared.kinds.Kind.{Kind}
 use Rattle.cwr_lines.specs.declared.lines.LineEnd.{LineEnd}
 use Rattle.cwr_lines.specs.declared.lines.LineEnd.TheVariants.{Open, Line, Over}
-use Rattle.cwr_layouts.specs.Format.Layouts.{FieldLayout, layout, fields_with_starts, field_with_start, total_width, line_width}
+use Rattle.cwr_fields.specs.Format.Layouts.{FieldLayout, layout, fields_with_starts, field_with_start, total_width, line_width}
 use Rattle.cwr_lines.specs.Format.Lines.{pieces, cells_as}
 use Rattle.cwr_lines.specs.Steps.Held.{HeldLine, held_body, held_kind, held_cell, cell_as, IsFilled, IsKept, IsClosed, line_kept}
 use Rattle.cwr_lines.proofs.FilledTexts.{length-filled}

@@ -8,12 +8,12 @@ use Rattle.cwr_fields.specs.declared.cell_types.CellFault.{CellFault}
 use Rattle.cwr_fields.specs.declared.cell_types.CellType.TheVariants.{Text}
 use Rattle.cwr_fields.specs.Format.Bytes.{is_plain}
 use Rattle.cwr_fields.specs.Format.Cells.{Allows, type_width}
-use Rattle.cwr_layouts.specs.declared.kinds.Kind.{Kind}
-use Rattle.cwr_layouts.specs.declared.layouts.Field.{Field}
-use Rattle.cwr_layouts.specs.Format.Layouts.{FieldLayout, layout, line_width, fields_with_starts, field_with_start}
+use Rattle.cwr_fields.specs.declared.kinds.Kind.{Kind}
+use Rattle.cwr_fields.specs.declared.layouts.Field.{Field}
+use Rattle.cwr_fields.specs.Format.Layouts.{FieldLayout, layout, line_width, fields_with_starts, field_with_start}
 use Rattle.cwr_lines.specs.Format.Carried.{carried_with_start, FitsAt}
 use Rattle.cwr_lines.specs.Steps.Carried.{record_in}
-use Rattle.cwr_layouts.specs.Steps.Views.{field_view}
+use Rattle.cwr_fields.specs.Steps.Views.{field_view}
 use Rattle.cwr_lines.proofs.BlankCells.{IsFieldAt, length-with_starts}
 use Rattle.cwr_lines.proofs.CellParts.{part, plain_part, field_part_within}
 use Rattle.cwr_lines.proofs.FitCells.{wide_cell, fits_found, fits_none}

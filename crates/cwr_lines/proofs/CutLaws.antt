@@ -1,18 +1,18 @@
 -- The line of a row is cut into the row's cells.
 use Rattle.std.proofs.Common.{◌≡◌, ℕ, zero, suc, ◌+◌, ◌-◌, ◌≤◌, Bool, true, false, not, cond, ◌||◌, List, [], ◌∷◌, ◌++◌, length, map, take, drop, replicate, refl, sym, ap, ap₂, ◌∙◌, append_assoc, arith}
 use Rattle.std.specs.Prelude.{Option, Some}
-use Rattle.cwr_layouts.specs.declared.kinds.Kind.{Kind}
+use Rattle.cwr_fields.specs.declared.kinds.Kind.{Kind}
 use Rattle.std.specs.List.{AllZip, concat}
 use Rattle.std.proofs.lemmas.Bool.{le-ltb}
 use Rattle.std.proofs.lemmas.List.{length-append, length-replicate, replicate-append-replicate}
 use Rattle.std.proofs.Math.Seq.{take-append_seam, drop-append_seam, drop-append-add}
 use Rattle.cwr_fields.specs.Format.Bytes.{is_spaces, trimmed, filled}
-use Rattle.cwr_layouts.specs.Format.Kinds.{letters, kind_of}
-use Rattle.cwr_layouts.specs.Format.Layouts.{FieldLayout, layout, line_width}
+use Rattle.cwr_fields.specs.Format.Kinds.{letters, kind_of}
+use Rattle.cwr_fields.specs.Format.Layouts.{FieldLayout, layout, line_width}
 use Rattle.cwr_lines.specs.Format.Records.{Row, IsRow, full_line}
 use Rattle.cwr_lines.specs.Format.Lines.{IsLineOf, longest_line, without_cr, is_too_long, line_body, pieces, line_kind, line_cells, cells_as, excess_as, has_bad_excess}
-use Rattle.cwr_layouts.proofs.TrimmedTexts.{spaces_after}
-use Rattle.cwr_layouts.proofs.AllKinds.{kind_of-letters, length-letters, trimmed-letters}
+use Rattle.cwr_fields.proofs.TrimmedTexts.{spaces_after}
+use Rattle.cwr_fields.proofs.AllKinds.{kind_of-letters, length-letters, trimmed-letters}
 use Rattle.cwr_lines.proofs.RowLaws.{length-concat, begins_with}
 
 pub pieces_of : (fields : List FieldLayout) (cells : List (List ℕ)) (rest : List ℕ) → AllZip (λ f text. length text ≡ f.width) fields cells → pieces (map (λ f. f.width) fields) (concat cells ++ rest) ≡ cells

@@ -6,8 +6,8 @@ use Rattle.std.proofs.lemmas.Bool.{false≢true}
 use Rattle.std.proofs.lemmas.List.{length-append, length-replicate, replicate-append-replicate, take-replicate}
 use Rattle.std.proofs.lemmas.List.Sums.{sum_by-cons}
 use Rattle.cwr_fields.specs.Format.Bytes.{filled}
-use Rattle.cwr_layouts.specs.declared.kinds.Kind.{Kind}
-use Rattle.cwr_layouts.specs.Format.Layouts.{FieldLayout, record_type, fields_after_type, line_width}
+use Rattle.cwr_fields.specs.declared.kinds.Kind.{Kind}
+use Rattle.cwr_fields.specs.Format.Layouts.{FieldLayout, record_type, fields_after_type, line_width}
 
 pub length-filled : (width : ℕ) (text : List ℕ) → length (filled width text) ≡ length text + (width - length text)
 length-filled width text = length-append text (replicate (width - length text) 32) ∙ ap (λ (n : ℕ). length text + n) (length-replicate (width - length text) 32)

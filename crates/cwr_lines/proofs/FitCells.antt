@@ -6,15 +6,15 @@ use Rattle.std.specs.List.{AllZip, zip}
 use Rattle.std.proofs.lemmas.Result.{on_ok_weaker, IfErr-weaker}
 use Rattle.cwr_fields.specs.declared.cell_types.CellFault.{CellFault}
 use Rattle.cwr_fields.specs.Format.Cells.{Allows, HasFault, type_width}
-use Rattle.cwr_layouts.specs.declared.kinds.Kind.{Kind}
-use Rattle.cwr_layouts.specs.Format.Layouts.{FieldLayout, layout, line_width}
+use Rattle.cwr_fields.specs.declared.kinds.Kind.{Kind}
+use Rattle.cwr_fields.specs.Format.Layouts.{FieldLayout, layout, line_width}
 use Rattle.cwr_lines.specs.Format.Lines.{pieces}
 use Rattle.cwr_lines.specs.Format.Records.{RecordValue, IsCellOf, IsRecord}
 use Rattle.cwr_lines.specs.Format.Carried.{carried_at, carried_with_start, record_cell, FitsAt, HasCellFault}
 use Rattle.cwr_lines.specs.Steps.Carried.{carried_cells, record_in}
 use Rattle.cwr_lines.proofs.CellParts.{part}
 use Rattle.cwr_lines.proofs.HeldLaws.{length-part}
-use Rattle.cwr_layouts.proofs.TypeWidths.{type_width-field}
+use Rattle.cwr_fields.proofs.TypeWidths.{type_width-field}
 use Rattle.cwr_lines.proofs.CarriedCells.{record_cell-at, record_cell-part, record_cell-piece, carried_at-placed, carried_at-field, carried_within, field_at-carried, widths}
 use Rattle.cwr_lines.proofs.GoodLinesAreRows.{carried_in, pieces_wide}
 

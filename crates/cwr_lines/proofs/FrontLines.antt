@@ -5,13 +5,13 @@ use Rattle.std.specs.List.{list_any}
 use Rattle.std.proofs.lemmas.List.{take_more, take_all, length-take-le, take-take}
 use Rattle.cwr_fields.specs.Format.Bytes.{is_plain, filled}
 use Rattle.cwr_fields.proofs.LineFeeds.{NoLf, NoLf-append, NoLf-plain}
-use Rattle.cwr_layouts.specs.declared.kinds.Kind.{Kind}
+use Rattle.cwr_fields.specs.declared.kinds.Kind.{Kind}
 use Rattle.cwr_lines.specs.declared.lines.LineEnd.TheVariants.{Line}
-use Rattle.cwr_layouts.specs.Format.Kinds.{kind_of}
-use Rattle.cwr_layouts.specs.Format.Layouts.{line_width}
+use Rattle.cwr_fields.specs.Format.Kinds.{kind_of}
+use Rattle.cwr_fields.specs.Format.Layouts.{line_width}
 use Rattle.cwr_lines.specs.Format.Lines.{is_lf}
 use Rattle.cwr_lines.specs.Steps.Held.{HeldLine, Takes, IsHeld, IsKept, IsClosed, IsFilled, empty_line, held_body, line_kept}
-use Rattle.cwr_layouts.proofs.AllKinds.{line_width_most}
+use Rattle.cwr_fields.proofs.AllKinds.{line_width_most}
 use Rattle.cwr_lines.proofs.FilledTexts.{filled_already, line_width_least}
 use Rattle.cwr_lines.proofs.RowLaws.{without_cr-added}
 

@@ -12,9 +12,9 @@ use Rattle.std.proofs.lemmas.List.{take_all}
 use Rattle.std.proofs.lemmas.Slice.Eq.{bytes_eq-Decides}
 use Rattle.cwr_fields.specs.Format.Bytes.{digits, trimmed, before_trimmed, filled, is_spaces}
 use Rattle.cwr_fields.proofs.LineFeeds.{NoLf}
-use Rattle.cwr_layouts.specs.declared.kinds.Kind.{Kind}
-use Rattle.cwr_layouts.specs.Format.Kinds.{all_kinds, letters, kind_of}
-use Rattle.cwr_layouts.specs.Format.Layouts.{FieldLayout, layout, fields_after_type, total_width, line_width, record_type}
+use Rattle.cwr_fields.specs.declared.kinds.Kind.{Kind}
+use Rattle.cwr_fields.specs.Format.Kinds.{all_kinds, letters, kind_of}
+use Rattle.cwr_fields.specs.Format.Layouts.{FieldLayout, layout, fields_after_type, total_width, line_width, record_type}
 use Rattle.cwr_lines.specs.Format.Records.{RecordValue, IsCellOf, IsRecord, rest_if, row_cells, row_of, IsGoodCell}
 use Rattle.cwr_lines.specs.Format.GoodCells.{AreGood}
 use Rattle.cwr_lines.proofs.RowLaws.{IsRow-row_of}

@@ -3,10 +3,10 @@ use Rattle.std.proofs.Common.{◌≡◌, ℕ, zero, suc, ◌-◌, Bool, false, n
 use Rattle.std.specs.Prelude.{Option, Some}
 use Rattle.std.proofs.lemmas.List.{drop_all, length-replicate}
 use Rattle.cwr_fields.specs.Format.Bytes.{filled, is_spaces}
-use Rattle.cwr_layouts.specs.declared.kinds.Kind.{Kind}
+use Rattle.cwr_fields.specs.declared.kinds.Kind.{Kind}
 use Rattle.cwr_lines.specs.declared.lines.LineEnd.{LineEnd}
 use Rattle.cwr_lines.specs.declared.lines.LineEnd.TheVariants.{Open, Line, Over}
-use Rattle.cwr_layouts.specs.Format.Layouts.{line_width}
+use Rattle.cwr_fields.specs.Format.Layouts.{line_width}
 use Rattle.cwr_lines.specs.Format.Lines.{excess_as}
 use Rattle.cwr_lines.specs.Steps.Held.{HeldLine, IsFilled, ended_too_long, held_body, held_excess}
 

@@ -4,15 +4,15 @@ use Rattle.std.specs.Prelude.{Option, Some, None}
 use Rattle.std.proofs.lemmas.Bool.{lt-ltb}
 use Rattle.std.proofs.lemmas.List.{length-take, length-drop, length-map}
 use Rattle.cwr_fields.specs.Format.Bytes.{filled}
-use Rattle.cwr_layouts.specs.declared.kinds.Kind.{Kind}
+use Rattle.cwr_fields.specs.declared.kinds.Kind.{Kind}
 use Rattle.cwr_lines.specs.declared.lines.LineEnd.{LineEnd}
 use Rattle.cwr_lines.specs.declared.lines.LineEnd.TheVariants.{Open, Line, Over}
-use Rattle.cwr_layouts.specs.Format.Layouts.{FieldLayout, layout, field_with_start, field_at, line_width}
+use Rattle.cwr_fields.specs.Format.Layouts.{FieldLayout, layout, field_with_start, field_at, line_width}
 use Rattle.cwr_lines.specs.Format.Lines.{longest_line, is_too_long, line_body, body_kind, pieces, cells_as, excess_as}
 use Rattle.cwr_lines.specs.Steps.Held.{HeldLine, IsHeld, HoldsBy, HoldsLine, IsCutAs, held_body, held_kind, held_cells, held_cell, cell_as, ended_too_long}
 use Rattle.cwr_lines.proofs.CutLaws.{not_too_long, body_of}
 use Rattle.cwr_lines.proofs.FilledTexts.{length-filled}
-use Rattle.cwr_layouts.proofs.FieldStarts.{field_at-start}
+use Rattle.cwr_fields.proofs.FieldStarts.{field_at-start}
 use Rattle.cwr_lines.proofs.CellParts.{part, field_within, held_cell-by_kind}
 
 -- one body, too long or not, is cut in one way

@@ -3,8 +3,8 @@ use Rattle.std.proofs.Common.{◌≡◌, ℕ, Bool, ◌+◌, ◌-◌, ◌≤◌,
 use Rattle.std.specs.Prelude.{◌↔◌, Option, Some, None, IsSome, IfSome, IsSomeAnd}
 use Rattle.std.proofs.lemmas.List.{length-take, drop-take, take-take}
 use Rattle.std.proofs.lemmas.List.Sums.{sum_by-cons}
-use Rattle.cwr_layouts.specs.declared.kinds.Kind.{Kind}
-use Rattle.cwr_layouts.specs.Format.Layouts.{FieldLayout, layout, total_width, line_width}
+use Rattle.cwr_fields.specs.declared.kinds.Kind.{Kind}
+use Rattle.cwr_fields.specs.Format.Layouts.{FieldLayout, layout, total_width, line_width}
 use Rattle.cwr_lines.specs.Format.Lines.{pieces, cells_as}
 use Rattle.cwr_lines.specs.Format.Records.{RecordValue, IsRecord, record_of}
 use Rattle.cwr_lines.specs.Steps.Carried.{carried_cells, record_in}

@@ -6,8 +6,8 @@ use Rattle.cwr_fields.specs.declared.cell_types.CellType.{CellType}
 use Rattle.cwr_fields.specs.declared.cell_types.CellType.TheVariants.{Text}
 use Rattle.cwr_fields.specs.Format.Bytes.{is_plain}
 use Rattle.cwr_fields.specs.Format.Cells.{Allows}
-use Rattle.cwr_layouts.specs.declared.kinds.Kind.{Kind}
-use Rattle.cwr_layouts.specs.Format.Layouts.{FieldLayout, layout, line_width}
+use Rattle.cwr_fields.specs.declared.kinds.Kind.{Kind}
+use Rattle.cwr_fields.specs.Format.Layouts.{FieldLayout, layout, line_width}
 use Rattle.cwr_lines.specs.Format.Records.{IsRecord}
 use Rattle.cwr_lines.specs.Format.Carried.{carried_with_start, FitsAt}
 use Rattle.cwr_lines.specs.Steps.Carried.{record_in}

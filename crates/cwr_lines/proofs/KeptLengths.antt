@@ -5,12 +5,12 @@ use Rattle.std.specs.Result.{IsOk, OnOk}
 use Rattle.std.proofs.lemmas.Bool.{false≢true}
 use Rattle.std.specs.Prelude.{if◌then◌else◌}
 use Rattle.std.proofs.lemmas.List.{length-take-le}
-use Rattle.cwr_layouts.specs.declared.kinds.Kind.{Kind}
+use Rattle.cwr_fields.specs.declared.kinds.Kind.{Kind}
 use Rattle.cwr_lines.specs.declared.lines.LineEnd.{LineEnd}
 use Rattle.cwr_lines.specs.declared.lines.LineEnd.TheVariants.{Open, Line, Over}
-use Rattle.cwr_layouts.specs.Format.Layouts.{line_width}
+use Rattle.cwr_fields.specs.Format.Layouts.{line_width}
 use Rattle.cwr_lines.specs.Steps.Held.{HeldLine, IsClosed, IsFilled, body_by, filled_as, held_body, line_kept}
-use Rattle.cwr_layouts.proofs.AllKinds.{line_width_most}
+use Rattle.cwr_fields.proofs.AllKinds.{line_width_most}
 use Rattle.cwr_lines.proofs.FilledTexts.{length-filled}
 
 cut_short : (b : Bool) (line : List ℕ) → length (if b then (take (length line - 1) line) else line) ≤ length line

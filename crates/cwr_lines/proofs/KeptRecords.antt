@@ -6,10 +6,10 @@ use Rattle.std.proofs.lemmas.List.{map-append, length-map, length-append, length
 use Rattle.std.proofs.lemmas.List.Sums.{sum_by-append}
 use Rattle.std.proofs.Math.Seq.{drop-append_seam, take-length}
 use Rattle.cwr_fields.specs.Format.Growth.{Outgrows}
-use Rattle.cwr_layouts.specs.declared.kinds.Kind.{Kind}
+use Rattle.cwr_fields.specs.declared.kinds.Kind.{Kind}
 use Rattle.cwr_lines.specs.declared.record_lists.LineStart.{LineStart}
 use Rattle.cwr_lines.specs.Format.Growth.{lines_width, AsksMemory}
-use Rattle.cwr_layouts.specs.Format.Layouts.{line_width}
+use Rattle.cwr_fields.specs.Format.Layouts.{line_width}
 use Rattle.cwr_lines.specs.Format.Records.{RecordValue, IsRecord}
 use Rattle.cwr_lines.specs.Steps.Carried.{record_in}
 use Rattle.cwr_lines.specs.Steps.KeptLines.{IsKeptLine, KeepsLines, kept_records, line_at, record_at}

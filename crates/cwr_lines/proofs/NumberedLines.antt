@@ -8,10 +8,10 @@ use Rattle.std.proofs.lemmas.List.{length-append, length-drop, length-take-le, t
 use Rattle.std.proofs.lemmas.List.Sums.{sum_by-cons}
 use Rattle.cwr_fields.specs.Format.Bytes.{digits}
 use Rattle.cwr_fields.proofs.Digits.{length-digits}
-use Rattle.cwr_layouts.specs.declared.kinds.Kind.{Kind}
-use Rattle.cwr_layouts.specs.declared.kinds.Kind.TheVariants.{Hdr, Grh, Grt, Trl}
-use Rattle.cwr_layouts.specs.Format.Kinds.{letters}
-use Rattle.cwr_layouts.specs.Format.Layouts.{FieldLayout, fields_after_type, in_transaction, number, total_width, line_width}
+use Rattle.cwr_fields.specs.declared.kinds.Kind.{Kind}
+use Rattle.cwr_fields.specs.declared.kinds.Kind.TheVariants.{Hdr, Grh, Grt, Trl}
+use Rattle.cwr_fields.specs.Format.Kinds.{letters}
+use Rattle.cwr_fields.specs.Format.Layouts.{FieldLayout, fields_after_type, in_transaction, number, total_width, line_width}
 use Rattle.cwr_lines.specs.Format.Lines.{pieces}
 use Rattle.cwr_lines.specs.Format.Records.{RecordValue, rest_if, row_cells, row_of, full_line}
 use Rattle.cwr_lines.specs.Steps.Carried.{carried_cells, record_in}

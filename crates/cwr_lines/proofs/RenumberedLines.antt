@@ -4,14 +4,14 @@ use Rattle.std.specs.Prelude.{Option, Some, None, slice_index, IfSome, if◌then
 use Rattle.std.proofs.lemmas.List.{drop-drop, drop-take, length-append, length-drop, length-set, length-take-le, take-append-drop, take-take, take_more_set}
 use Rattle.std.proofs.Math.Seq.{take-append_seam}
 use Rattle.cwr_fields.specs.Format.Bytes.{digits}
-use Rattle.cwr_layouts.specs.declared.kinds.Kind.{Kind}
-use Rattle.cwr_layouts.specs.declared.kinds.Kind.TheVariants.{Hdr, Grh, Grt, Trl}
+use Rattle.cwr_fields.specs.declared.kinds.Kind.{Kind}
+use Rattle.cwr_fields.specs.declared.kinds.Kind.TheVariants.{Hdr, Grh, Grt, Trl}
 use Rattle.cwr_lines.specs.declared.lines.LineEnd.{LineEnd}
 use Rattle.cwr_lines.specs.declared.lines.LineEnd.TheVariants.{Open, Line, Over}
-use Rattle.cwr_layouts.specs.Format.Layouts.{line_width}
+use Rattle.cwr_fields.specs.Format.Layouts.{line_width}
 use Rattle.cwr_lines.specs.Steps.Held.{HeldLine, IsHeld, body_by, filled_as, held_body}
 use Rattle.cwr_lines.specs.Steps.Numbered.{numbered_part}
-use Rattle.cwr_layouts.proofs.AllKinds.{line_width_widest}
+use Rattle.cwr_fields.proofs.AllKinds.{line_width_widest}
 use Rattle.cwr_lines.proofs.FilledTexts.{length-filled}
 
 -- ---- what stands behind a place of the front, and behind the front

@@ -9,13 +9,13 @@ use Rattle.std.proofs.lemmas.List.Sums.{sum_by-cons}
 use Rattle.cwr_fields.specs.Format.Bytes.{digits, trimmed}
 use Rattle.cwr_fields.proofs.Digits.{length-digits}
 use Rattle.cwr_fields.proofs.LineFeeds.{NoLf, NoLf-append, NoLf-digits, NoLf-Allows}
-use Rattle.cwr_layouts.specs.declared.kinds.Kind.{Kind}
-use Rattle.cwr_layouts.specs.Format.Kinds.{letters, kind_of}
-use Rattle.cwr_layouts.specs.Format.Layouts.{FieldLayout, layout, fields_after_type, total_width, line_width}
+use Rattle.cwr_fields.specs.declared.kinds.Kind.{Kind}
+use Rattle.cwr_fields.specs.Format.Kinds.{letters, kind_of}
+use Rattle.cwr_fields.specs.Format.Layouts.{FieldLayout, layout, fields_after_type, total_width, line_width}
 use Rattle.cwr_lines.specs.Format.Records.{RecordValue, IsCellOf, IsRecord, Row, IsRow, rest_if, row_cells, row_of, full_line, record_of}
 use Rattle.cwr_lines.specs.Format.Lines.{without_cr, IsLineOf}
-use Rattle.cwr_layouts.proofs.TrimmedTexts.{same_from_trimmed}
-use Rattle.cwr_layouts.proofs.AllKinds.{kind_of-letters, length-letters, NoLf-letters, line_width_most, trimmed-letters, letters-injective}
+use Rattle.cwr_fields.proofs.TrimmedTexts.{same_from_trimmed}
+use Rattle.cwr_fields.proofs.AllKinds.{kind_of-letters, length-letters, NoLf-letters, line_width_most, trimmed-letters, letters-injective}
 
 -- a text in a field, in its width and without line feed
 abbrev pub Fits : FieldLayout → List ℕ → Type 0

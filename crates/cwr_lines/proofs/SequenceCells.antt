@@ -2,10 +2,10 @@
 use Rattle.std.proofs.Common.{◌≡◌, ℕ, true, List, ◌∷◌, take, drop, option_map, slice_get, refl, sym, ap, ◌∙◌, lit≤}
 use Rattle.std.specs.Prelude.{Some}
 use Rattle.std.proofs.lemmas.List.{take-take, drop-take, drop-drop}
-use Rattle.cwr_layouts.specs.declared.kinds.Kind.{Kind}
-use Rattle.cwr_layouts.specs.declared.kinds.Kind.TheVariants.{Hdr, Grh, Grt, Trl}
-use Rattle.cwr_layouts.specs.Format.Kinds.{is_in_transaction}
-use Rattle.cwr_layouts.specs.Format.Layouts.{FieldLayout, field_with_start, fields_after_type, in_transaction, layout, number, fields_with_starts, record_type}
+use Rattle.cwr_fields.specs.declared.kinds.Kind.{Kind}
+use Rattle.cwr_fields.specs.declared.kinds.Kind.TheVariants.{Hdr, Grh, Grt, Trl}
+use Rattle.cwr_fields.specs.Format.Kinds.{is_in_transaction}
+use Rattle.cwr_fields.specs.Format.Layouts.{FieldLayout, field_with_start, fields_after_type, in_transaction, layout, number, fields_with_starts, record_type}
 use Rattle.cwr_lines.specs.Steps.Held.{HeldLine, IsFilled, held_cell}
 use Rattle.cwr_lines.proofs.CellParts.{part, held_cell-part}
 

@@ -7,18 +7,18 @@ use Rattle.std.proofs.lemmas.List.{take-append-le, drop-append-le, take-take, dr
 use Rattle.std.proofs.Math.Seq.{take-append_seam, drop-append_seam}
 use Rattle.cwr_fields.specs.Format.Bytes.{filled}
 use Rattle.cwr_fields.specs.Format.Cells.{Allows, type_width}
-use Rattle.cwr_layouts.specs.declared.kinds.Kind.{Kind}
-use Rattle.cwr_layouts.specs.Format.Layouts.{FieldLayout, layout, fields_with_starts, field_with_start, field_at, line_width}
+use Rattle.cwr_fields.specs.declared.kinds.Kind.{Kind}
+use Rattle.cwr_fields.specs.Format.Layouts.{FieldLayout, layout, fields_with_starts, field_with_start, field_at, line_width}
 use Rattle.cwr_lines.specs.Format.Lines.{pieces}
 use Rattle.cwr_lines.specs.Format.Records.{RecordValue}
 use Rattle.cwr_lines.specs.Format.Carried.{carried_at, carried_with_start, carried_before, set_cell, Sets}
 use Rattle.cwr_lines.specs.Steps.Carried.{carried_cells, record_in}
 use Rattle.cwr_lines.proofs.CarriedCells.{carried_count, widths, is_carried, carried_at-placed, carried_in-set, carried_within}
-use Rattle.cwr_layouts.proofs.AllKinds.{line_width_widest}
+use Rattle.cwr_fields.proofs.AllKinds.{line_width_widest}
 use Rattle.cwr_lines.proofs.CellParts.{field_within}
 use Rattle.cwr_lines.proofs.FilledTexts.{length-filled}
-use Rattle.cwr_layouts.proofs.FieldStarts.{field_at-start}
-use Rattle.cwr_layouts.proofs.TypeWidths.{type_width-field}
+use Rattle.cwr_fields.proofs.FieldStarts.{field_at-start}
+use Rattle.cwr_fields.proofs.TypeWidths.{type_width-field}
 use Rattle.cwr_lines.proofs.GoodLinesAreRows.{carried_in}
 
 -- what stands before the part that is written

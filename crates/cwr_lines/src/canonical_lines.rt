@@ -2,12 +2,12 @@
 
 ghost use Rattle.std.specs.Prelude.{◌≡◌, ◌+◌, ◌≤◌, ◌++◌, ◌∷◌, [], length, replicate, slice_index, take};
 ghost use Rattle.cwr_fields.specs.Format.Bytes.{digits};
-ghost use Rattle.cwr_layouts.specs.Format.Layouts.{line_width};
+ghost use Rattle.cwr_fields.specs.Format.Layouts.{line_width};
 ghost use Rattle.cwr_lines.specs.Format.Records.{full_line, row_of};
 ghost use Rattle.cwr_lines.specs.Steps.Numbered.{numbered_part, with_part};
 
 use crate::records::{RecordRef, WIDEST_LINE};
-use cwr_layouts::{Kind, letters};
+use cwr_fields::{Kind, letters};
 use std::marker::Model;
 
 /// The most bytes of a canonical line: those of the widest line, and CR and LF.

@@ -5,7 +5,7 @@ ghost use Rattle.std.specs.List.{splice};
 ghost use Rattle.std.specs.Option.{ForSome};
 ghost use Rattle.cwr_fields.specs.Format.Bytes.{filled, is_plain};
 ghost use Rattle.cwr_fields.specs.Format.Cells.{Allows, HasFault, type_width};
-ghost use Rattle.cwr_layouts.specs.Format.Layouts.{line_width};
+ghost use Rattle.cwr_fields.specs.Format.Layouts.{line_width};
 ghost use Rattle.cwr_lines.specs.Format.Records.{IsRecord, blank_cell, blank_record, carried_fields};
 ghost use Rattle.cwr_lines.specs.Format.Carried.{Sets, IsSetFault, FitsAt, HasCellFault, IsFirstUnfit};
 ghost use Rattle.cwr_lines.specs.Steps.Carried.{record_in};
@@ -15,8 +15,9 @@ use crate::kind_cells::surely_carries;
 use crate::lines::{fill_up, part};
 use crate::records::{LineText, Record, WIDEST_LINE, copy_bytes, show_cells};
 use arrayvec::ArrayVec;
-use cwr_fields::{CellFault, CellType, fits, fits_plain, is_plain};
-use cwr_layouts::{Field, Kind, field, fields, layout};
+use cwr_fields::{
+    CellFault, CellType, Field, Kind, field, fields, fits, fits_plain, is_plain, layout,
+};
 use std::error::Error;
 use std::fmt::{self, Debug, Display};
 use std::marker::Model;
@@ -154,7 +155,7 @@ pub struct Draft {
 
 impl Model for Draft {
     ghost use Rattle.std.specs.Prelude.{◌≡◌, length};
-    ghost use Rattle.cwr_layouts.specs.Format.Layouts.{line_width};
+    ghost use Rattle.cwr_fields.specs.Format.Layouts.{line_width};
     ghost use Rattle.cwr_lines.specs.Format.Records.{RecordValue};
     ghost use Rattle.cwr_lines.specs.Steps.Carried.{record_in};
 

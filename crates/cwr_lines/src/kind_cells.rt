@@ -4,14 +4,13 @@
 
 ghost use Rattle.std.specs.Prelude.{◌≡◌, ◌+◌, ◌<◌, IsTrue, length};
 ghost use Rattle.cwr_fields.specs.Format.Bytes.{is_plain};
-ghost use Rattle.cwr_layouts.specs.Format.Layouts.{layout as layout_of, line_width};
+ghost use Rattle.cwr_fields.specs.Format.Layouts.{layout as layout_of, line_width};
 ghost use Rattle.cwr_lines.specs.Format.Records.{IsRecord};
 ghost use Rattle.cwr_lines.specs.Format.Carried.{FitsAt};
 ghost use Rattle.cwr_lines.specs.Steps.Carried.{record_in};
 
 use crate::lines::part;
-use cwr_fields::surely_fits;
-use cwr_layouts::{Kind, layout};
+use cwr_fields::{Kind, layout, surely_fits};
 
 /// Whether a quick test finds the cell of the kind's field at that place of its table, from 0, to be one of its type. A
 /// derived cell isn't judged.

@@ -6,14 +6,13 @@ ghost use Rattle.std.specs.Prelude.{◌≡◌, ◌≢◌, ◌≤◌, ◌<◌, �
 ghost use Rattle.std.specs.List.{list_any};
 ghost use Rattle.cwr_fields.specs.Format.Bytes.{filled, is_plain};
 ghost use Rattle.cwr_lines.specs.Format.Lines.{is_lf, without_cr, body_kind};
-ghost use Rattle.cwr_layouts.specs.Format.Kinds.{is_in_transaction, kind_of};
+ghost use Rattle.cwr_fields.specs.Format.Kinds.{is_in_transaction, kind_of};
 ghost use Rattle.cwr_lines.specs.Format.Records.{IsRecord};
 ghost use Rattle.cwr_lines.specs.Steps.Held.{held_record, HeldLine, Takes, IsHeld, empty_line, ended_too_long, held_body, held_kind, held_cell, held_excess, filled_as, return_if};
 
 use crate::records::RecordRef;
 use arrayvec::ArrayVec;
-use cwr_fields::{is_plain, is_spaces};
-use cwr_layouts::{Field, Kind, field, is_in_transaction, width};
+use cwr_fields::{Field, Kind, field, is_in_transaction, is_plain, is_spaces, width};
 use memchr::memchr;
 use std::marker::Model;
 

@@ -5,13 +5,12 @@ ghost use Rattle.std.specs.List.{AllByRecursion};
 ghost use Rattle.cwr_fields.specs.Format.Growth.{Outgrows};
 ghost use Rattle.cwr_fields.specs.Steps.Growth.{IsRoom};
 ghost use Rattle.cwr_lines.specs.Format.Growth.{AsksMemory};
-ghost use Rattle.cwr_layouts.specs.Format.Layouts.{line_width};
+ghost use Rattle.cwr_fields.specs.Format.Layouts.{line_width};
 ghost use Rattle.cwr_lines.specs.Format.Records.{IsRecord};
 ghost use Rattle.cwr_lines.specs.Steps.KeptLines.{line_at};
 
 use crate::records::RecordRef;
-use cwr_fields::make_room;
-use cwr_layouts::{Kind, width};
+use cwr_fields::{Kind, make_room, width};
 use std::alloc::{AllocError, Global};
 use std::fmt::{self, Debug};
 use std::marker::Model;

@@ -2,7 +2,7 @@
 
 ghost use Rattle.std.specs.Prelude.{◌≡◌, ◌↔◌, ◌<◌, ◌≤◌, length, option_map, Some, IsSome, IsTrue, IfSome};
 ghost use Rattle.cwr_fields.specs.Format.Bytes.{is_plain};
-ghost use Rattle.cwr_layouts.specs.Format.Layouts.{line_width};
+ghost use Rattle.cwr_fields.specs.Format.Layouts.{line_width};
 ghost use Rattle.cwr_lines.specs.Format.Records.{IsRecord};
 ghost use Rattle.cwr_lines.specs.Format.Carried.{HasCellOf, record_cell};
 ghost use Rattle.cwr_lines.specs.Steps.Carried.{record_in};
@@ -11,8 +11,7 @@ use crate::carried_fields::carried_field;
 use crate::drafts::carries;
 use crate::lines::part;
 use arrayvec::ArrayVec;
-use cwr_fields::Cell;
-use cwr_layouts::{Kind, fields};
+use cwr_fields::{Cell, Kind, fields};
 use std::fmt::{self, Debug};
 use std::marker::Model;
 

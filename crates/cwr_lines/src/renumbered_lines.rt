@@ -1,13 +1,13 @@
 //! Lines with other numbers in the place of their own.
 
 ghost use Rattle.std.specs.Prelude.{◌≡◌, ◌≤◌, [], ◌∷◌, length, IfSome};
-ghost use Rattle.cwr_layouts.specs.Format.Layouts.{line_width};
+ghost use Rattle.cwr_fields.specs.Format.Layouts.{line_width};
 ghost use Rattle.cwr_lines.specs.Steps.Held.{held_kind};
 ghost use Rattle.cwr_lines.specs.Steps.Numbered.{line_end, numbered_as, renumbered, set_text};
 
 use crate::canonical_lines::set_numbers;
 use crate::lines::{CutLine, LONGEST_LINE};
-use cwr_layouts::{Kind, width};
+use cwr_fields::{Kind, width};
 use std::marker::Model;
 
 /// Sets the numbers in a line that is filled up to the width of its kind, each in its cell. What stands after the last field

@@ -1,8 +1,7 @@
 //! Tests of kinds and layouts: that the calls answer as the written tables of CWR 2.1 have it.
 
 use crate::checks::check_equal;
-use cwr_fields::{CellType, Table, Word};
-use cwr_layouts::{Kind, field, fields, width};
+use cwr_fields::{CellType, Kind, Table, Word, field, fields, width};
 use std::process::Abort;
 
 /// Texts, and the kinds whose letters they are.

@@ -3,7 +3,7 @@
 ghost use Rattle.std.specs.Prelude.{◌≢◌};
 
 use crate::checks::check_equal;
-use cwr_layouts::Kind;
+use cwr_fields::Kind;
 use cwr_lines::{CutLine, LineBuf, LineEnd};
 use std::process::Abort;
 

@@ -7,10 +7,9 @@ ghost use Rattle.cwr_fields.specs.Format.Codes.{word_text};
 
 use crate::checks::check_equal;
 use cwr_fields::{
-    Cell, CellFault, CellType, CivilDate, DateCell, Flag, Number, TimeOfDay, TransactionStatus,
-    TransactionType, Word,
+    Cell, CellFault, CellType, CivilDate, DateCell, Flag, Kind, Number, TimeOfDay,
+    TransactionStatus, TransactionType, Word,
 };
-use cwr_layouts::Kind;
 use cwr_lines::{Draft, DraftFault, Record, SetFault};
 use std::alloc::AllocError;
 use std::fmt::{Debug, Display};

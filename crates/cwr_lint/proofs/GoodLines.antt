@@ -10,10 +10,10 @@ use Rattle.cwr_fields.specs.Format.Cells.{Allows}
 use Rattle.cwr_fields.specs.Format.Bytes.{are_digits, digits, number_of}
 use Rattle.cwr_fields.proofs.Digits.{length-digits, number_of-digits}
 use Rattle.cwr_fields.proofs.Spellings.{are_digits-digits}
-use Rattle.cwr_layouts.specs.declared.kinds.Kind.{Kind}
-use Rattle.cwr_layouts.specs.declared.kinds.Kind.TheVariants as kinds
+use Rattle.cwr_fields.specs.declared.kinds.Kind.{Kind}
+use Rattle.cwr_fields.specs.declared.kinds.Kind.TheVariants as kinds
 use Rattle.cwr_lines.specs.declared.lines.LineEnd.TheVariants.{Line}
-use Rattle.cwr_layouts.specs.Format.Layouts.{FieldLayout, field_at, layout}
+use Rattle.cwr_fields.specs.Format.Layouts.{FieldLayout, field_at, layout}
 use Rattle.cwr_lines.specs.Format.Lines.{IsLineOf, has_bad_excess, line_cells, line_kind}
 use Rattle.cwr_lines.specs.Format.Records.{RecordValue, IsRecord, row_of}
 use Rattle.cwr_lines.specs.Steps.Held.{HeldLine, IsHeld, cell_as}

@@ -6,10 +6,10 @@ use Rattle.std.specs.Str.{bytes_eq}
 use Rattle.std.specs.Io.KnownBytes.{Consumes, IsAtEnd}
 use Rattle.std.proofs.lemmas.List.{length-append, length-map, map-append}
 use Rattle.std.proofs.lemmas.Bool.{and_parts}
-use Rattle.cwr_layouts.specs.declared.kinds.Kind.{Kind}
-use Rattle.cwr_layouts.specs.declared.kinds.Kind.TheVariants as kinds
+use Rattle.cwr_fields.specs.declared.kinds.Kind.{Kind}
+use Rattle.cwr_fields.specs.declared.kinds.Kind.TheVariants as kinds
 use Rattle.cwr_fields.specs.Format.Bytes.{filled}
-use Rattle.cwr_layouts.specs.Format.Layouts.{FieldLayout, field_at, fields_after_type, layout, line_width}
+use Rattle.cwr_fields.specs.Format.Layouts.{FieldLayout, field_at, fields_after_type, layout, line_width}
 use Rattle.cwr_lines.specs.Format.Lines.{IsLineOf, cells_as, closed, is_lf, line_body, line_cells, line_kind, pieces, raw_lines}
 use Rattle.cwr_lines.specs.Format.Records.{IsRecord, RecordValue, Row}
 use Rattle.cwr_lines.proofs.GoodLinesAreRows.{line_is_good}
@@ -37,7 +37,7 @@ use Rattle.cwr_values.proofs.OneSpelling.{outline_whole, symbols-outline}
 use Rattle.cwr_judge.proofs.Accepted.{one_place}
 use Rattle.cwr_judge.proofs.LineRecords.{as_many}
 use Rattle.cwr_judge.proofs.RecordsBefore.{one_list}
-use Rattle.cwr_layouts.proofs.AllKinds.{few_fields}
+use Rattle.cwr_fields.proofs.AllKinds.{few_fields}
 use Rattle.cwr_decode.proofs.ClosedTexts.{closed_more}
 use Rattle.cwr_decode.proofs.RawLines.{raw_begins}
 use Rattle.cwr_decode.specs.Steps.Represents.{text_of}

@@ -3,9 +3,9 @@ use Rattle.std.proofs.Common.{◌≡◌, ◌≢◌, ℕ, zero, suc, ◌+◌, ◌
 use Rattle.std.specs.Prelude.{◌⊎◌, IsFalse, slice_index}
 use Rattle.std.specs.List.{AllByRecursion, AllZip, list_any}
 use Rattle.std.proofs.lemmas.List.{map-append}
-use Rattle.cwr_layouts.specs.declared.kinds.Kind.{Kind}
+use Rattle.cwr_fields.specs.declared.kinds.Kind.{Kind}
 use Rattle.cwr_lines.specs.Format.GoodCells.{AreGood}
-use Rattle.cwr_layouts.specs.Format.Layouts.{FieldLayout, field_at, fields_after_type, layout}
+use Rattle.cwr_fields.specs.Format.Layouts.{FieldLayout, field_at, fields_after_type, layout}
 use Rattle.cwr_lines.specs.Format.Lines.{IsLineOf, closed, is_lf, line_cells, line_kind, raw_lines}
 use Rattle.cwr_lines.specs.Format.Records.{IsGoodCell, RecordValue, Row, rest_if}
 use Rattle.cwr_lines.proofs.CutLaws.{IsCutInto, line_is_cut}

@@ -10,10 +10,10 @@ use Rattle.cwr_fields.specs.Format.Cells.{Allows}
 use Rattle.cwr_fields.proofs.Spellings.{number_spelled}
 use Rattle.cwr_fields.proofs.Digits.{length-digits}
 use Rattle.cwr_fields.proofs.Spellings.{are_digits-digits}
-use Rattle.cwr_layouts.specs.declared.kinds.Kind.{Kind}
-use Rattle.cwr_layouts.specs.declared.kinds.Kind.TheVariants as kinds
+use Rattle.cwr_fields.specs.declared.kinds.Kind.{Kind}
+use Rattle.cwr_fields.specs.declared.kinds.Kind.TheVariants as kinds
 use Rattle.cwr_lines.specs.Format.GoodCells.{AreGood}
-use Rattle.cwr_layouts.specs.Format.Layouts.{FieldLayout, field_at, fields_after_type, layout}
+use Rattle.cwr_fields.specs.Format.Layouts.{FieldLayout, field_at, fields_after_type, layout}
 use Rattle.cwr_lines.specs.Format.Records.{IsGoodCell, rest_if}
 use Rattle.cwr_shape.specs.declared.reasons.Reason.{Reason}
 use Rattle.cwr_shape.specs.declared.reasons.Reason.TheVariants.{Misplaced, Excess}

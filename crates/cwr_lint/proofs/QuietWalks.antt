@@ -4,7 +4,7 @@ use Rattle.std.specs.Prelude.{◌⊎◌, ◌==◌, is_some}
 use Rattle.std.specs.List.{AllByRecursion, AllZip}
 use Rattle.std.proofs.lemmas.List.{map-append}
 use Rattle.cwr_lint.specs.Format.FaultsOfLines.{Asking}
-use Rattle.cwr_layouts.specs.declared.kinds.Kind.{Kind}
+use Rattle.cwr_fields.specs.declared.kinds.Kind.{Kind}
 use Rattle.cwr_lines.specs.Format.Lines.{IsLineOf}
 use Rattle.cwr_lines.specs.Format.Records.{RecordValue, IsRecord, row_of}
 use Rattle.cwr_lines.proofs.GoodLinesAreRows.{line_is_good}
@@ -12,7 +12,7 @@ use Rattle.cwr_shape.specs.declared.symbols.Symbol.{Symbol}
 use Rattle.cwr_shape.specs.declared.stages.Stage.{Stage}
 use Rattle.cwr_shape.specs.declared.stages.Stage.TheVariants.{Start, Opened, Within, Closed}
 use Rattle.cwr_shape.specs.declared.symbols.Symbol.TheVariants.{Plain, Grh}
-use Rattle.cwr_layouts.specs.declared.kinds.Kind.TheVariants as kinds
+use Rattle.cwr_fields.specs.declared.kinds.Kind.TheVariants as kinds
 use Rattle.cwr_shape.specs.declared.tallies.Counts.{Counts}
 use Rattle.cwr_shape.specs.Format.NextSymbols.{MayCome, counts_of, is_header_of}
 use Rattle.cwr_shape.specs.Format.Outlines.{Continues, IsWithin}

@@ -2,12 +2,12 @@
 use Rattle.std.proofs.Common.{◌≡◌, ◌≢◌, ℕ, ◌+◌, ◌-◌, ◌<◌, ◌≤◌, Bool, true, false, true≢false, Some, refl, sym, ap, subst, ◌∙◌, arith}
 use Rattle.std.specs.Prelude.{◌^◌}
 use Prim.Native.String.{String}
-use Rattle.cwr_layouts.specs.Format.Layouts.{FieldLayout, field_at, number}
+use Rattle.cwr_fields.specs.Format.Layouts.{FieldLayout, field_at, number}
 use Rattle.cwr_shape.specs.Steps.Needs.{needs_at}
 use Rattle.cwr_fields.specs.declared.codes.TransactionType.{TransactionType}
 use Rattle.cwr_fields.specs.declared.codes.TransactionType.TheVariants.{Agreement, NewWork, RevisedWork, Acknowledgement}
-use Rattle.cwr_layouts.specs.declared.kinds.Kind.{Kind}
-use Rattle.cwr_layouts.specs.declared.kinds.Kind.TheVariants as kinds
+use Rattle.cwr_fields.specs.declared.kinds.Kind.{Kind}
+use Rattle.cwr_fields.specs.declared.kinds.Kind.TheVariants as kinds
 use Rattle.cwr_shape.specs.declared.symbols.Symbol.{Symbol}
 use Rattle.cwr_shape.specs.declared.symbols.Symbol.TheVariants.{Plain, Ipa, Grh}
 use Rattle.cwr_shape.specs.declared.stages.Stage.{Stage}

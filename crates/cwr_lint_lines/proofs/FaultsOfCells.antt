@@ -1,12 +1,12 @@
 -- The fault that was found of a cell is that of the definition.
 use Rattle.std.proofs.Common.{◌≡◌, ℕ, List, Option, Some, None, sym, ap, subst, option_map, ◌∙◌}
 use Rattle.cwr_fields.specs.declared.cell_types.CellFault.{CellFault}
-use Rattle.cwr_layouts.specs.declared.kinds.Kind.{Kind}
-use Rattle.cwr_layouts.specs.declared.layouts.Field.{Field}
-use Rattle.cwr_layouts.specs.Format.Layouts.{FieldLayout, field_at, field_with_start}
+use Rattle.cwr_fields.specs.declared.kinds.Kind.{Kind}
+use Rattle.cwr_fields.specs.declared.layouts.Field.{Field}
+use Rattle.cwr_fields.specs.Format.Layouts.{FieldLayout, field_at, field_with_start}
 use Rattle.cwr_lines.specs.Steps.Held.{HeldLine, held_cell, held_kind}
-use Rattle.cwr_layouts.specs.Steps.Views.{field_view}
-use Rattle.cwr_layouts.proofs.FieldStarts.{field_at-start}
+use Rattle.cwr_fields.specs.Steps.Views.{field_view}
+use Rattle.cwr_fields.proofs.FieldStarts.{field_at-start}
 use Rattle.cwr_judge.proofs.NumberCells.{found_in_layout}
 use Rattle.cwr_lint_lines.specs.Steps.CellFaults.{IsFaultAt, IsFaultOf}
 

@@ -2,10 +2,10 @@
 use Rattle.std.proofs.Common.{◌≡◌, ◌≢◌, ℕ, zero, suc, ◌+◌, ◌-◌, ◌<◌, ◌≤◌, min, Bool, true, false, List, length, Option, Some, None, refl, sym, ap, subst, ◌∙◌, arith, inl, inr, slice_get}
 use Rattle.std.specs.Prelude.{◌^◌, not, ◌||◌}
 use Rattle.std.proofs.lemmas.Option.{slice_get_past}
-use Rattle.cwr_layouts.specs.declared.kinds.Kind.{Kind}
-use Rattle.cwr_layouts.specs.Format.Layouts.{FieldLayout, field_at, layout}
+use Rattle.cwr_fields.specs.declared.kinds.Kind.{Kind}
+use Rattle.cwr_fields.specs.Format.Layouts.{FieldLayout, field_at, layout}
 use Rattle.cwr_lines.specs.Steps.Held.{HeldLine, held_cell, held_cells, held_excess, held_kind}
-use Rattle.cwr_layouts.proofs.AllKinds.{few_fields}
+use Rattle.cwr_fields.proofs.AllKinds.{few_fields}
 use Rattle.cwr_lines.proofs.HeldLaws.{held_cell-at}
 use Rattle.cwr_shape.specs.declared.tallies.Scope.{Scope}
 use Rattle.cwr_shape.specs.declared.reasons.Reason.{Reason}

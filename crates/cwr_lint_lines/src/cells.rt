@@ -6,8 +6,7 @@ ghost use Rattle.cwr_shape.specs.Format.Candidates.{role_in as role_spelled, typ
 ghost use Rattle.cwr_lint_lines.specs.Steps.CellFaults.{IsFaultAt};
 ghost use Rattle.cwr_lint_lines.specs.Steps.Cells.{has_version, held_cut, number_at, number_in_cell, role_in, role_or_assignor, symbol_in, type_in, type_of_header};
 
-use cwr_fields::{Cell, CellFault, Role, TransactionType, Word, fits};
-use cwr_layouts::{Kind, field};
+use cwr_fields::{Cell, CellFault, Kind, Role, TransactionType, Word, field, fits};
 use cwr_lines::CutLine;
 use cwr_shape::Symbol;
 

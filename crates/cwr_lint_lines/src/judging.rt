@@ -11,7 +11,7 @@ use crate::cells::cell_fault;
 use crate::numbers::WrongNumbers;
 use crate::states::LintState;
 use crate::takings::{Taking, is_misplaced};
-use cwr_layouts::{Kind, fields};
+use cwr_fields::{Kind, fields};
 use cwr_lines::CutLine;
 use cwr_shape::Reason;
 

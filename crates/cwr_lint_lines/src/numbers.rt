@@ -9,7 +9,7 @@ use crate::cells::{number_at, type_of_header};
 use crate::following::{Awaiting, is_number};
 use crate::states::{LintState, OpenGroup, OpenTransaction, number_or};
 use crate::takings::Taking;
-use cwr_layouts::Kind;
+use cwr_fields::Kind;
 use cwr_lines::CutLine;
 
 /// A count: that of the lines that are there, and that by the numbers, where it is known. Of a transmission they are counted from the

@@ -13,8 +13,7 @@ use crate::following::Awaiting;
 use crate::numbers::{Belonging, Count};
 use crate::states::{LintState, OpenGroup, OpenTransaction, number_or, sum_known};
 use crate::takings::Taking;
-use cwr_fields::{Role, TransactionType};
-use cwr_layouts::Kind;
+use cwr_fields::{Kind, Role, TransactionType};
 use cwr_lines::CutLine;
 use cwr_shape::{Stage, Symbol, TransactionStep};
 

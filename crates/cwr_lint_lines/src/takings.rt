@@ -9,8 +9,7 @@ use crate::cells::{has_version, number_at, symbol_in, type_in, type_of_header};
 use crate::following::is_number;
 use crate::numbers::Count;
 use crate::states::{LintState, OpenGroup, OpenTransaction};
-use cwr_fields::TransactionType;
-use cwr_layouts::Kind;
+use cwr_fields::{Kind, TransactionType};
 use cwr_lines::CutLine;
 use cwr_shape::Symbol;
 

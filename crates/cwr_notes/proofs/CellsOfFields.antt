@@ -7,13 +7,13 @@ use Rattle.std.proofs.lemmas.Bool.{and_parts}
 use Rattle.std.proofs.lemmas.List.{length-append, take_all}
 use Rattle.std.proofs.lemmas.Option.{slice_get-get_or}
 use Rattle.cwr_fields.specs.Format.Bytes.{trimmed}
-use Rattle.cwr_layouts.specs.declared.kinds.Kind.{Kind}
-use Rattle.cwr_layouts.specs.declared.kinds.Kind.TheVariants.{Hdr}
-use Rattle.cwr_layouts.specs.Format.Layouts.{FieldLayout, layout, record_type, field_at, field_with_start}
+use Rattle.cwr_fields.specs.declared.kinds.Kind.{Kind}
+use Rattle.cwr_fields.specs.declared.kinds.Kind.TheVariants.{Hdr}
+use Rattle.cwr_fields.specs.Format.Layouts.{FieldLayout, layout, record_type, field_at, field_with_start}
 use Rattle.cwr_lines.specs.Format.Records.{RecordValue, IsRecord}
 use Rattle.cwr_lines.specs.Format.Carried.{carried_at, record_cell}
-use Rattle.cwr_layouts.proofs.TrimmedTexts.{spaces_after}
-use Rattle.cwr_layouts.proofs.FieldStarts.{field_at-start}
+use Rattle.cwr_fields.proofs.TrimmedTexts.{spaces_after}
+use Rattle.cwr_fields.proofs.FieldStarts.{field_at-start}
 use Rattle.cwr_lines.proofs.CarriedCells.{carried_count, open_some, record_cell-at}
 use Rattle.cwr_notes.specs.Format.RecordTexts.{cell_line, cell_lines}
 use Rattle.cwr_notes.specs.Steps.FieldLines.{line_of, field_line}

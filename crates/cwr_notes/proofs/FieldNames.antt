@@ -5,11 +5,11 @@ use Rattle.std.specs.List.{prefix_len}
 use Rattle.std.specs.Option.{option_and_then}
 use Rattle.std.specs.Str.{bytes_eq}
 use Rattle.std.proofs.lemmas.Option.{slice_get-get_or}
-use Rattle.cwr_layouts.specs.declared.kinds.Kind.{Kind}
-use Rattle.cwr_layouts.specs.Format.Layouts.{FieldLayout, layout, record_type, field_at, field_with_start}
+use Rattle.cwr_fields.specs.declared.kinds.Kind.{Kind}
+use Rattle.cwr_fields.specs.Format.Layouts.{FieldLayout, layout, record_type, field_at, field_with_start}
 use Rattle.cwr_lines.specs.Format.Records.{RecordValue}
 use Rattle.cwr_lines.specs.Format.Carried.{carried_at, record_cell}
-use Rattle.cwr_layouts.proofs.FieldStarts.{field_at-start}
+use Rattle.cwr_fields.proofs.FieldStarts.{field_at-start}
 use Rattle.cwr_levels.specs.Format.Fields.{index_of_name}
 use Rattle.cwr_notes.specs.Format.FindingNotes.{named_line, noted_line, number_of_field}
 use Rattle.cwr_notes.proofs.CellsOfFields.{carried_field}

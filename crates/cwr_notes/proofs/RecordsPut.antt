@@ -1,7 +1,7 @@
 -- What is put of records, one after another.
 use Rattle.std.proofs.Common.{◌≡◌, ℕ, false, List, [], ◌∷◌, ◌++◌, Option, sym, append-nil}
 use Rattle.std.specs.Prelude.{Result, is_err}
-use Rattle.cwr_layouts.specs.declared.kinds.Kind.TheVariants as kinds
+use Rattle.cwr_fields.specs.declared.kinds.Kind.TheVariants as kinds
 use Rattle.cwr_lines.specs.Format.Records.{RecordValue}
 use Rattle.cwr_values.specs.Format.Rows.{trailer}
 use Rattle.cwr_sinks.specs.declared.sinks.Sink.{Sink}

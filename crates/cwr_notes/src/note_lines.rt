@@ -2,13 +2,12 @@
 
 ghost use Rattle.std.specs.Prelude.{◌≡◌, ◌+◌, ◌*◌, ◌≤◌, [], ◌++◌, ◌∷◌, Some, length, codes, decimal};
 ghost use Rattle.std.specs.Str.{bytes_eq};
-ghost use Rattle.cwr_layouts.specs.Steps.Views.{field_view};
+ghost use Rattle.cwr_fields.specs.Steps.Views.{field_view};
 ghost use Rattle.cwr_notes.specs.Format.FindingNotes.{head_lines, level_words, more_line, named_line, noted_cells, noted_line, number_of_field, rule_words, value_words, where_line};
 
 use crate::record_lines::{LONGEST, Text, push, push_number};
 use arrayvec::ArrayVec;
-use cwr_fields::{is_spaces, trimmed};
-use cwr_layouts::{Field, Kind, field, fields, letters};
+use cwr_fields::{Field, Kind, field, fields, is_spaces, letters, trimmed};
 use cwr_levels::{Finding, Rule};
 use cwr_lines::RecordRef;
 use cwr_shape::Level;

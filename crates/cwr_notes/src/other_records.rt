@@ -8,7 +8,7 @@ ghost use Rattle.cwr_notes.specs.Format.FindingNotes.{parties_from, positions, r
 ghost use Rattle.cwr_notes.specs.Steps.OtherRecords.{AreListed, is_other};
 
 use arrayvec::ArrayVec;
-use cwr_layouts::Kind;
+use cwr_fields::Kind;
 use cwr_levels::{PUBLISHER_SHARES, Rule, WRITER_SHARES, cell, is_of, is_owner, number_of};
 use cwr_lines::RecordRef;
 use cwr_values::Transaction;

@@ -5,7 +5,7 @@ ghost use Rattle.cwr_lines.specs.Format.Records.{RecordValue};
 ghost use Rattle.cwr_notes.specs.Steps.OtherRecords.{HasPassed};
 
 use crate::other_records::OtherRecords;
-use cwr_layouts::Kind;
+use cwr_fields::Kind;
 use cwr_lines::RecordRef;
 use cwr_values::Transaction;
 

@@ -1,13 +1,12 @@
 //! The lines of a record: its number and kind, and the cells that aren't blank.
 
 ghost use Rattle.std.specs.Prelude.{◌≡◌, ◌+◌, ◌≤◌, [], ◌++◌, length, decimal};
-ghost use Rattle.cwr_layouts.specs.Steps.Views.{field_view};
+ghost use Rattle.cwr_fields.specs.Steps.Views.{field_view};
 ghost use Rattle.cwr_notes.specs.Format.RecordTexts.{cell_line, cell_lines, head_line, record_lines};
 ghost use Rattle.cwr_notes.specs.Steps.FieldLines.{field_line};
 
 use arrayvec::ArrayVec;
-use cwr_fields::{is_spaces, trimmed};
-use cwr_layouts::{Field, Kind, field, fields, letters};
+use cwr_fields::{Field, Kind, field, fields, is_spaces, letters, trimmed};
 use cwr_lines::RecordRef;
 use itoa::Buffer;
 use std::marker::Model;

@@ -5,8 +5,7 @@ ghost use Rattle.cwr_lines.specs.declared.lines.LineEnd.TheVariants.{Open};
 ghost use Rattle.cwr_lines.specs.Steps.Held.{held_kind};
 ghost use Rattle.cwr_renumber.specs.Steps.Renumbered.{counted_as, line_by, numbering_after, numbers_by, type_named};
 
-use cwr_fields::{Cell, TransactionType};
-use cwr_layouts::Kind;
+use cwr_fields::{Cell, Kind, TransactionType};
 use cwr_lines::{CutLine, RenumberedLine};
 use cwr_shape::{Numbering, Symbol};
 

@@ -4,8 +4,7 @@ ghost use Rattle.std.specs.Prelude.{◌≡◌, ◌<◌, ◌^◌, option_map, sli
 ghost use Rattle.cwr_fields.specs.Format.Bytes.{trimmed};
 ghost use Rattle.cwr_sent.specs.Format.SentFacts.{facts_of, header_check, is_work_header, title_check, title_of};
 
-use cwr_fields::trimmed;
-use cwr_layouts::Kind;
+use cwr_fields::{Kind, trimmed};
 use cwr_levels::{cell, is_of};
 use cwr_lines::RecordRef;
 use cwr_values::Transaction;

@@ -1,14 +1,13 @@
 //! How much each refusal rejects.
 
 ghost use Rattle.std.specs.Prelude.{◌≡◌};
-ghost use Rattle.cwr_layouts.specs.Format.Layouts.{field_at};
+ghost use Rattle.cwr_fields.specs.Format.Layouts.{field_at};
 ghost use Rattle.cwr_shape.specs.Format.Levels.{level_in, level_inside, level_of, level_of_scope, level_of_type, must_be_filled};
 
 use crate::limits::LimitKind;
 use crate::reasons::{Level, Reason};
 use crate::tallies::Scope;
-use cwr_fields::CellType;
-use cwr_layouts::{Kind, field};
+use cwr_fields::{CellType, Kind, field};
 
 /// The level of a refusal at field `j` of a line of the kind (`None` where its first three bytes name none), where
 /// that scope was open before the line.

@@ -6,8 +6,7 @@ ghost use Rattle.cwr_shape.specs.Steps.Numberings.{no_records, numbering_with, t
 
 use crate::symbols::Symbol;
 use crate::tallies::{Counts, is_header};
-use cwr_fields::TransactionType;
-use cwr_layouts::Kind;
+use cwr_fields::{Kind, TransactionType};
 use std::marker::Model;
 
 /// So many records are counted at most, more than any transmission has. After that all counts stay.

@@ -11,8 +11,7 @@ ghost use Rattle.cwr_shape.specs.Steps.Needs.{needs_at, AreNeeds};
 ghost use Rattle.cwr_shape.specs.Steps.NextStages.{header_step, party_step, tail_step, party_of_work, after_writer, ordered_step, carried_step, step_on, may_end, next_stage};
 
 use crate::symbols::Symbol;
-use cwr_fields::{Role, TransactionType};
-use cwr_layouts::Kind;
+use cwr_fields::{Kind, Role, TransactionType};
 
 /// How far a transmission has come.
 #[derive(Clone, Copy, Debug, PartialEq, Eq)]

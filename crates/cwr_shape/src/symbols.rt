@@ -3,8 +3,7 @@
 ghost use Rattle.std.specs.Prelude.{◌≡◌};
 ghost use Rattle.cwr_shape.specs.Format.Shapes.{is_carried_symbol};
 
-use cwr_fields::{Role, TransactionType};
-use cwr_layouts::{Kind, is_carried};
+use cwr_fields::{Kind, Role, TransactionType, is_carried};
 
 /// What the order of records sees of a record: its kind, and of IPA and GRH the role or the type too.
 #[derive(Clone, Copy, Debug, PartialEq, Eq)]

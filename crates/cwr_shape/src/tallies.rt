@@ -15,8 +15,7 @@ ghost use Rattle.cwr_shape.specs.Steps.Tallies.{IsTallyOf, IsAdmitted, KeepsTall
 use crate::limits::{LimitKind, Limits};
 use crate::stages::{Stage, TransactionStep};
 use crate::symbols::Symbol;
-use cwr_fields::{Role, TransactionType};
-use cwr_layouts::Kind;
+use cwr_fields::{Kind, Role, TransactionType};
 use std::marker::Model;
 
 /// What is open.

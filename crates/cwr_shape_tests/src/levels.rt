@@ -1,7 +1,6 @@
 //! Tests of the levels of worked refusals.
 
-use cwr_fields::CellFault;
-use cwr_layouts::Kind;
+use cwr_fields::{CellFault, Kind};
 use cwr_shape::Reason::{self, Cell, Limit, Misplaced, Number, UnknownKind};
 use cwr_shape::{Level, LimitKind, Scope, level};
 

@@ -1,8 +1,7 @@
 //! Tests of stages, on the orders of records of this profile.
 
 use crate::checks::check_equal;
-use cwr_fields::{Role, TransactionType};
-use cwr_layouts::Kind;
+use cwr_fields::{Kind, Role, TransactionType};
 use cwr_shape::Symbol::{Grh, Ipa, Plain};
 use cwr_shape::{Stage, Symbol, TransactionStep};
 use std::process::Abort;

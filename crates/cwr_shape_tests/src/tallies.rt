@@ -1,8 +1,7 @@
 //! Tests of tallies, on worked orders of records.
 
 use crate::checks::check_equal;
-use cwr_fields::{Role, TransactionType};
-use cwr_layouts::Kind;
+use cwr_fields::{Kind, Role, TransactionType};
 use cwr_shape::{Bar, LimitKind, Limits, Scope, Stage, Symbol, Tally, TransactionStep};
 use std::process::Abort;
 

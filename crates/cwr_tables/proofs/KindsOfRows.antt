@@ -1,6 +1,6 @@
 -- The row of a record, by the test of its kind.
 use Rattle.std.proofs.Common.{◌≡◌, Bool, true, false, cond, [], sym, ap}
-use Rattle.cwr_layouts.specs.declared.kinds.Kind.{Kind}
+use Rattle.cwr_fields.specs.declared.kinds.Kind.{Kind}
 use Rattle.cwr_lines.specs.Format.Records.{RecordValue}
 use Rattle.cwr_levels.specs.Format.Findings.{is_a}
 use Rattle.cwr_tables.specs.declared.places.RowNumbers.{RowNumbers}

@@ -8,8 +8,7 @@ ghost use Rattle.cwr_tables.specs.Format.RecordTables.{heading, item_rows, row_o
 
 use crate::places::{Place, RowNumbers};
 use crate::rows::RowText;
-use cwr_fields::Target;
-use cwr_layouts::Kind;
+use cwr_fields::{Kind, Target};
 use cwr_levels::is_of;
 use cwr_lines::RecordRef;
 use cwr_sinks::{Sink, SinkFault};

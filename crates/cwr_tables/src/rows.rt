@@ -13,8 +13,7 @@ ghost use Rattle.cwr_tables.specs.Steps.RowTexts.{column_of, field_cell, named_c
 use crate::cells::{LONGEST, LONGEST_CELL, Text, push, push_cell};
 use crate::places::RowNumbers;
 use arrayvec::ArrayVec;
-use cwr_fields::trimmed;
-use cwr_layouts::{Kind, field, fields};
+use cwr_fields::{Kind, field, fields, trimmed};
 use cwr_lines::RecordRef;
 use itoa::Buffer;
 use std::marker::Model;

@@ -10,7 +10,7 @@ use crate::places::Place;
 use crate::rows::{RowText, push_first_number, push_next, push_next_number, push_shown};
 use crate::works::{Side, Sums, name_of_owner};
 use arrayvec::ArrayVec;
-use cwr_layouts::letters;
+use cwr_fields::letters;
 use cwr_levels::cell;
 use cwr_lines::RecordRef;
 use itoa::Buffer;

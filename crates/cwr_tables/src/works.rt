@@ -8,8 +8,7 @@ ghost use Rattle.cwr_tables.specs.Steps.WorkTexts.{AddsShares, AreSharesOf, name
 
 use crate::cells::needs_quotes;
 use crate::rows::{Characters, characters, push_characters};
-use cwr_fields::{is_spaces, trimmed};
-use cwr_layouts::Kind;
+use cwr_fields::{Kind, is_spaces, trimmed};
 use cwr_levels::{PUBLISHER_SHARES, WRITER_SHARES, cell, is_of, number_of};
 use cwr_lines::RecordRef;
 use cwr_values::Transaction;

@@ -9,10 +9,10 @@ use Rattle.cwr_fields.specs.Format.Bytes.{digits}
 use Rattle.cwr_fields.specs.Format.Cells.{Allows}
 use Rattle.cwr_fields.proofs.NumbersInParts.{day_of_parts}
 use Rattle.cwr_fields.proofs.LineFeeds.{NoLf}
-use Rattle.cwr_layouts.specs.declared.kinds.Kind.{Kind}
-use Rattle.cwr_layouts.specs.declared.kinds.Kind.TheVariants as kinds
-use Rattle.cwr_layouts.specs.Format.Kinds.{letters}
-use Rattle.cwr_layouts.specs.Format.Layouts.{cell, fields_after_type}
+use Rattle.cwr_fields.specs.declared.kinds.Kind.{Kind}
+use Rattle.cwr_fields.specs.declared.kinds.Kind.TheVariants as kinds
+use Rattle.cwr_fields.specs.Format.Kinds.{letters}
+use Rattle.cwr_fields.specs.Format.Layouts.{cell, fields_after_type}
 use Rattle.cwr_lines.specs.Format.Records.{RecordValue, IsRecord, IsCellOf, Row, row_of, row_cells, carried_fields}
 use Rattle.cwr_lines.specs.Format.Lines.{IsLineOf, line_cells}
 use Rattle.cwr_lines.proofs.RowLaws.{IsRow-row_of}

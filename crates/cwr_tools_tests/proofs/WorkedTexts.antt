@@ -4,9 +4,9 @@ use Rattle.std.specs.Prelude.{codes, slice_index_or}
 use Rattle.std.specs.List.{flat_map}
 use Rattle.std.specs.Fmt.{digits as plain_digits}
 use Rattle.cwr_fields.specs.Format.Bytes.{digits, filled, trimmed}
-use Rattle.cwr_layouts.specs.declared.kinds.Kind.TheVariants as kinds
-use Rattle.cwr_layouts.specs.Format.Kinds.{all_kinds}
-use Rattle.cwr_layouts.specs.Format.Layouts.{line_width, layout}
+use Rattle.cwr_fields.specs.declared.kinds.Kind.TheVariants as kinds
+use Rattle.cwr_fields.specs.Format.Kinds.{all_kinds}
+use Rattle.cwr_fields.specs.Format.Layouts.{line_width, layout}
 use Rattle.cwr_lines.specs.Format.Records.{full_line, record_of, field_number}
 use Rattle.cwr_lines.specs.Format.Lines.{raw_lines, closed, line_kind, line_cells, has_bad_excess}
 use Rattle.cwr_shape.specs.declared.limits.Limits.{Limits}

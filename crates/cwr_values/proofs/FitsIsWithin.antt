@@ -9,7 +9,7 @@ use Rattle.std.proofs.lemmas.List.Folds.{find-append}
 use Rattle.std.proofs.lemmas.List.Sums.{sum_by-cons}
 use Rattle.std.proofs.lemmas.Option.{none-some}
 use Rattle.std.proofs.lemmas.Iterator.Adapters.{position_from-zero}
-use Rattle.cwr_layouts.specs.declared.kinds.Kind.TheVariants as kinds
+use Rattle.cwr_fields.specs.declared.kinds.Kind.TheVariants as kinds
 use Rattle.cwr_lines.specs.Format.Records.{RecordValue}
 use Rattle.cwr_shape.specs.declared.symbols.Symbol.TheVariants.{Plain}
 use Rattle.cwr_shape.specs.declared.limits.Limits.{Limits}

@@ -13,8 +13,8 @@ use Rattle.cwr_fields.specs.declared.codes.TransactionType.TheVariants.{Agreemen
 use Rattle.cwr_fields.specs.Format.Bytes.{filled, digits}
 use Rattle.cwr_fields.proofs.CellTests.{holds_test, number_test, day_test, time_test}
 use Rattle.cwr_fields.specs.Format.Codes.{codes_of, code_width, word_text, role_code, type_code}
-use Rattle.cwr_layouts.specs.declared.kinds.Kind.{Kind}
-use Rattle.cwr_layouts.specs.declared.kinds.Kind.TheVariants as kinds
+use Rattle.cwr_fields.specs.declared.kinds.Kind.{Kind}
+use Rattle.cwr_fields.specs.declared.kinds.Kind.TheVariants as kinds
 use Rattle.cwr_lines.specs.Format.Records.{RecordValue, IsRecord, carried_fields}
 use Rattle.cwr_lines.proofs.RecordTest.{record_test, record_sound}
 use Rattle.cwr_shape.specs.declared.symbols.Symbol.{Symbol}

@@ -10,8 +10,7 @@ ghost use Rattle.cwr_values.specs.Format.Begun.{HasHeaderOf, IsBegunGroup, IsWho
 
 use crate::symbols::symbol_of;
 use crate::transactions::Transaction;
-use cwr_fields::{TransactionType, make_room};
-use cwr_layouts::Kind;
+use cwr_fields::{Kind, TransactionType, make_room};
 use cwr_lines::{Draft, Record};
 use cwr_shape::Symbol;
 use std::alloc::Global;

@@ -2,7 +2,7 @@
 
 ghost use Rattle.std.specs.Prelude.{Contains, List, None, filter, length, map, take, ℕ, ◌++◌, ◌≡◌, ◌↔◌, ◌<◌, ◌≤◌, ◌^◌};
 ghost use Rattle.std.specs.List.{AllByRecursion, AllZip};
-ghost use Rattle.cwr_layouts.specs.Format.Layouts.{fields_after_type};
+ghost use Rattle.cwr_fields.specs.Format.Layouts.{fields_after_type};
 ghost use Rattle.cwr_lines.specs.Format.Lines.{IsLineOf};
 ghost use Rattle.cwr_lines.specs.Format.Records.{IsRecord, RecordValue, Row};
 ghost use Rattle.cwr_shape.specs.Format.Numbers.{numbers_of};

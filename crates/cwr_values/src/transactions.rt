@@ -8,8 +8,7 @@ ghost use Rattle.cwr_values.specs.Format.Values.{symbol_of};
 ghost use Rattle.cwr_values.specs.Format.Begun.{HasHeaderOf, IsBegun, IsWholeTransaction, BeginsWithOneMore};
 
 use crate::symbols::symbol_of;
-use cwr_fields::TransactionType;
-use cwr_layouts::Kind;
+use cwr_fields::{Kind, TransactionType};
 use cwr_lines::{RecordList, RecordRef};
 use cwr_shape::{Symbol, TransactionStep};
 use std::alloc::Global;

@@ -9,8 +9,7 @@ ghost use Rattle.cwr_values.specs.Format.Rows.{rows};
 ghost use Rattle.cwr_values.specs.Format.Fits.{first_too_long, value_fault};
 
 use crate::groups::Group;
-use cwr_fields::make_room;
-use cwr_layouts::Kind;
+use cwr_fields::{Kind, make_room};
 use cwr_lines::Record;
 use cwr_shape::Limits;
 use std::alloc::Global;

@@ -4,7 +4,7 @@ use crate::checks::check_equal;
 use crate::worked_records::{
     begun_with, group_head, opening, push, record_with, revision, short_work, work, writer,
 };
-use cwr_layouts::Kind;
+use cwr_fields::Kind;
 use cwr_lines::Record;
 use cwr_shape::Limits;
 use cwr_values::{Group, GroupFault, Transaction, Transmission, TransmissionFault, ValueFault};

@@ -2,7 +2,7 @@
 
 use crate::checks::check_equal;
 use crate::worked_records::{begun_with, publisher, push, record_with, short_work, work, writer};
-use cwr_layouts::Kind;
+use cwr_fields::Kind;
 use cwr_lines::Record;
 use cwr_values::{PushFault, Transaction};
 use std::process::Abort;

@@ -1,7 +1,7 @@
 //! The records of the worked transactions.
 
 use crate::checks::check_equal;
-use cwr_layouts::Kind;
+use cwr_fields::Kind;
 use cwr_lines::{Draft, Record};
 use cwr_values::{PushFault, Transaction};
 use std::process::Abort;

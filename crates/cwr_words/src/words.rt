@@ -9,13 +9,13 @@ ghost use Rattle.cwr_words.specs.Format.Words.{AreNamesOf, IsAcksOf, IsAdviceOf,
 
 use clap::error::ErrorKind;
 use clap::{ArgMatches, Error};
+use cwr_fields::Kind;
 use cwr_grammar::{
     ACKS, ADVICE, ADVISE, AS_JSON, CSV, EXPLAIN, EXPLAINED, FAIL_ON, FILE, GROUPS, JOIN, JSON,
     KIND, LINE, LINT, MANUAL, NEW, NO_PROGRESS, NUMBER, NUMBERS, OUT, PREFIX, PROGRESS, QUIET,
     RECORDS, RENUMBER, REPEATED, SENT, SHOW, SPLIT, TRANSACTION, UTF8, WHOLE, WORKS, WRITE,
     command,
 };
-use cwr_layouts::Kind;
 use cwr_shape::{Level, Limits};
 use std::alloc::{AllocError, Global};
 use std::convert::AsStr;

@@ -1,7 +1,7 @@
 //! Worked transmissions, as lists of lines, and their texts.
 
 use crate::lines::*;
-use cwr_layouts::{Kind, width};
+use cwr_fields::{Kind, width};
 use std::alloc::{AllocError, Global};
 
 /// One group of one acknowledgement: 359 bytes.

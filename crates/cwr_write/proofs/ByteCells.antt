@@ -13,9 +13,9 @@ use Rattle.cwr_fields.specs.declared.cell_types.Word.TheVariants as words
 use Rattle.cwr_fields.specs.Format.Bytes.{digits, filled, is_plain, is_spaces}
 use Rattle.cwr_fields.specs.Format.Codes.{codes_of, code_width, word_text}
 use Rattle.cwr_fields.specs.Format.Cells.{Allows, SpellsDay, SpellsTime, SpellsCode, IsCodeOf, flag_texts}
-use Rattle.cwr_layouts.specs.declared.kinds.Kind.{Kind}
-use Rattle.cwr_layouts.specs.declared.kinds.Kind.TheVariants.{Hdr}
-use Rattle.cwr_layouts.specs.Format.Layouts.{FieldLayout, layout, field_at}
+use Rattle.cwr_fields.specs.declared.kinds.Kind.{Kind}
+use Rattle.cwr_fields.specs.declared.kinds.Kind.TheVariants.{Hdr}
+use Rattle.cwr_fields.specs.Format.Layouts.{FieldLayout, layout, field_at}
 use Rattle.cwr_lines.specs.Format.Carried.{carried_at}
 use Rattle.cwr_lines.proofs.CarriedCells.{open_some}
 use Rattle.cwr_write.specs.Format.Faults.{AreBytes}

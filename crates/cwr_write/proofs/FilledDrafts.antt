@@ -10,13 +10,13 @@ use Rattle.json.specs.Json.{Json, string, Members, no_members, member}
 use Rattle.json.specs.Strict.{keys}
 use Rattle.cwr_fields.specs.Format.Bytes.{filled}
 use Rattle.cwr_fields.specs.Format.Cells.{Allows}
-use Rattle.cwr_layouts.specs.declared.kinds.Kind.{Kind}
-use Rattle.cwr_layouts.specs.Format.Kinds.{letters}
-use Rattle.cwr_layouts.specs.Format.Layouts.{FieldLayout, layout, field_at, record_type}
+use Rattle.cwr_fields.specs.declared.kinds.Kind.{Kind}
+use Rattle.cwr_fields.specs.Format.Kinds.{letters}
+use Rattle.cwr_fields.specs.Format.Layouts.{FieldLayout, layout, field_at, record_type}
 use Rattle.cwr_lines.specs.Format.Records.{RecordValue, IsRecord, blank_cell, blank_record, carried_fields}
 use Rattle.cwr_lines.specs.Format.Carried.{Sets, carried_at, carried_before, set_cell}
 use Rattle.cwr_lines.proofs.CarriedCells.{carried_count, carried_field-at, open_some}
-use Rattle.cwr_layouts.proofs.AllKinds.{letters-injective}
+use Rattle.cwr_fields.proofs.AllKinds.{letters-injective}
 use Rattle.cwr_json.specs.declared.encodings.Encoding.{Encoding}
 use Rattle.cwr_json.specs.Format.Forms.{IsCellFrom, IsDataOf, are_distinct, first_of, is_known, key_of, kind_key}
 use Rattle.cwr_json.proofs.GoodKeys.{keys_of, is_known_of, good_keys}

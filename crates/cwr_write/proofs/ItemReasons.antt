@@ -12,8 +12,8 @@ use Rattle.json.specs.declared.value.Value.{Value}
 use Rattle.json.specs.Value.{items_of, items_view, members_view, value_view}
 use Rattle.json.specs.Find.{as_array}
 use Rattle.json.specs.Strict.{keys}
-use Rattle.cwr_layouts.specs.declared.kinds.Kind.{Kind}
-use Rattle.cwr_layouts.specs.Format.Layouts.{FieldLayout, field_at}
+use Rattle.cwr_fields.specs.declared.kinds.Kind.{Kind}
+use Rattle.cwr_fields.specs.Format.Layouts.{FieldLayout, field_at}
 use Rattle.cwr_lines.specs.Format.Records.{RecordValue}
 use Rattle.cwr_values.specs.Format.Begun.{IsBegun}
 use Rattle.cwr_json.specs.declared.encodings.Encoding.{Encoding}

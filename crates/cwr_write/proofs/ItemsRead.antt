@@ -7,8 +7,8 @@ use Rattle.std.proofs.lemmas.List.{drop_all, get_or_default, map-append, take_al
 use Rattle.json.specs.Json.{Json, null, boolean, number, string, array, object, Members, no_members, member}
 use Rattle.json.specs.declared.value.Value.{Value}
 use Rattle.json.specs.Value.{items_of, items_view, members_view, value_view}
-use Rattle.cwr_layouts.specs.declared.kinds.Kind.{Kind}
-use Rattle.cwr_layouts.specs.declared.kinds.Kind.TheVariants.{Hdr, Grh, Grt, Trl}
+use Rattle.cwr_fields.specs.declared.kinds.Kind.{Kind}
+use Rattle.cwr_fields.specs.declared.kinds.Kind.TheVariants.{Hdr, Grh, Grt, Trl}
 use Rattle.cwr_lines.specs.Format.Records.{RecordValue, IsRecord}
 use Rattle.cwr_values.specs.Format.Rows.{trailer}
 use Rattle.cwr_values.proofs.OneTransmissionOfRecords.{is_trailer}

@@ -7,11 +7,11 @@ use Rattle.std.specs.Str.{bytes_eq}
 use Rattle.cwr_lines.specs.Format.Carried.{carried_at}
 use Rattle.std.proofs.lemmas.Grind.{same_number_lists}
 use Rattle.std.proofs.lemmas.List.{get_or-map}
-use Rattle.cwr_layouts.specs.declared.kinds.Kind.{Kind}
-use Rattle.cwr_layouts.specs.declared.layouts.Field.{Field}
-use Rattle.cwr_layouts.specs.Format.Layouts.{FieldLayout, field_at, field_with_start, layout}
-use Rattle.cwr_layouts.specs.Steps.Views.{field_view}
-use Rattle.cwr_layouts.proofs.FieldStarts.{field_at-start}
+use Rattle.cwr_fields.specs.declared.kinds.Kind.{Kind}
+use Rattle.cwr_fields.specs.declared.layouts.Field.{Field}
+use Rattle.cwr_fields.specs.Format.Layouts.{FieldLayout, field_at, field_with_start, layout}
+use Rattle.cwr_fields.specs.Steps.Views.{field_view}
+use Rattle.cwr_fields.proofs.FieldStarts.{field_at-start}
 use Rattle.cwr_json.specs.Format.Forms.{key_byte, key_of}
 use Rattle.cwr_json.proofs.OwnData.{bytes_same, same_bytes}
 use Rattle.cwr_write.specs.Steps.Filling.{names_field}

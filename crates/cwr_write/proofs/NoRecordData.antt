@@ -13,10 +13,10 @@ use Rattle.json.specs.Value.{members_of, members_view, value_view}
 use Rattle.json.specs.declared.value.Value.{Value}
 use Rattle.cwr_fields.specs.Format.Bytes.{filled}
 use Rattle.cwr_fields.specs.Format.Cells.{Allows}
-use Rattle.cwr_layouts.specs.declared.kinds.Kind.{Kind}
+use Rattle.cwr_fields.specs.declared.kinds.Kind.{Kind}
 use Rattle.cwr_lines.specs.declared.drafts.SetFault.{SetFault}
 use Rattle.cwr_lines.specs.declared.drafts.SetFault.TheVariants as set_faults
-use Rattle.cwr_layouts.specs.Format.Layouts.{FieldLayout, field_at, layout, record_type}
+use Rattle.cwr_fields.specs.Format.Layouts.{FieldLayout, field_at, layout, record_type}
 use Rattle.cwr_lines.specs.Format.Records.{RecordValue, IsCellOf, carried_fields}
 use Rattle.cwr_lines.specs.Format.Carried.{IsSetFault, carried_at, carried_before}
 use Rattle.cwr_lines.proofs.CarriedCells.{open_some}

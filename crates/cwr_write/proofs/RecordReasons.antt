@@ -9,11 +9,11 @@ use Rattle.std.proofs.lemmas.List.Folds.{list_any-append}
 use Rattle.std.proofs.lemmas.List.Sums.{sum_by-append, sum_by-cons}
 use Rattle.json.specs.Json.{Json, Members, string}
 use Rattle.json.specs.Strict.{keys}
-use Rattle.cwr_layouts.specs.declared.kinds.Kind.{Kind}
+use Rattle.cwr_fields.specs.declared.kinds.Kind.{Kind}
 use Rattle.cwr_fields.specs.Format.Bytes.{filled}
 use Rattle.cwr_fields.specs.Format.Cells.{HasFault}
 use Rattle.cwr_lines.specs.Format.Carried.{Sets, carried_at, carried_before}
-use Rattle.cwr_layouts.specs.Format.Layouts.{FieldLayout, field_at, layout}
+use Rattle.cwr_fields.specs.Format.Layouts.{FieldLayout, field_at, layout}
 use Rattle.cwr_lines.specs.Format.Records.{RecordValue, carried_fields}
 use Rattle.cwr_lines.proofs.CarriedCells.{open_some}
 use Rattle.cwr_json.specs.declared.encodings.Encoding.{Encoding}

@@ -24,7 +24,7 @@ use Rattle.cwr_encode.specs.Format.Encoders.{IsUnlimited, reached, reached_by}
 use Rattle.cwr_encode.specs.Format.Finishing.{IsBeforeTrailer, JudgesEnd}
 use Rattle.cwr_encode.specs.Steps.Finishing.{FinishesWriting}
 use Rattle.cwr_encode.proofs.Comes.{trailer_last}
-use Rattle.cwr_layouts.specs.declared.kinds.Kind.TheVariants as kinds
+use Rattle.cwr_fields.specs.declared.kinds.Kind.TheVariants as kinds
 use Rattle.cwr_shape.specs.declared.symbols.Symbol.{Symbol}
 use Rattle.cwr_shape.specs.declared.symbols.Symbol.TheVariants.{Plain}
 use Rattle.cwr_shape.specs.Format.NextSymbols.{MayCome}

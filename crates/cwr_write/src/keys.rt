@@ -2,11 +2,11 @@
 
 ghost use Rattle.std.specs.Prelude.{◌≡◌, ◌≤◌, ◌<◌, ℕ, length, MatchOption, IsSomeAnd, true, false, if◌then◌else◌};
 ghost use Rattle.std.specs.Str.{bytes_eq};
-ghost use Rattle.cwr_layouts.specs.Format.Layouts.{field_at, layout};
+ghost use Rattle.cwr_fields.specs.Format.Layouts.{field_at, layout};
 ghost use Rattle.cwr_json.specs.Format.Forms.{key_byte, key_of};
 ghost use Rattle.cwr_write.specs.Steps.Filling.{names_field};
 
-use cwr_layouts::{Kind, field, fields};
+use cwr_fields::{Kind, field, fields};
 
 /// A byte of a key, by that of a field's name.
 #[inline(always)]

@@ -4,8 +4,8 @@ ghost use Rattle.std.specs.Prelude.{◌≡◌, ◌&&◌, ◌++◌, ℕ, ◌<◌,
 ghost use Rattle.std.specs.Str.{bytes_eq};
 ghost use Rattle.json.specs.Json.{Members, no_members, string};
 ghost use Rattle.json.specs.Value.{members_view, value_view};
-ghost use Rattle.cwr_layouts.specs.Format.Kinds.{letters};
-ghost use Rattle.cwr_layouts.specs.Format.Layouts.{FieldLayout, field_at};
+ghost use Rattle.cwr_fields.specs.Format.Kinds.{letters};
+ghost use Rattle.cwr_fields.specs.Format.Layouts.{FieldLayout, field_at};
 ghost use Rattle.cwr_lines.specs.Format.Records.{IsRecord, RecordValue};
 ghost use Rattle.cwr_lines.specs.Format.Carried.{Sets, carried_at};
 ghost use Rattle.cwr_json.specs.declared.encodings.Encoding.{Encoding};
@@ -17,8 +17,8 @@ ghost use Rattle.cwr_write.specs.Steps.Filling.{FitsField, IsBytesReason, IsDraf
 use crate::keys::field_of_key;
 use crate::refusals::{Key, LineFault, Why, text_key};
 use arrayvec::ArrayVec;
+use cwr_fields::{Kind, field};
 use cwr_json::{Encoding, has_escape};
-use cwr_layouts::{Kind, field};
 use cwr_lines::{Draft, DraftFault, Record, SetFault};
 use json::Value;
 

@@ -5,8 +5,7 @@ ghost use Rattle.cwr_write.specs.Format.Faults.{IsOfLine, TellsKey};
 
 use crate::hints::Lack;
 use arrayvec::ArrayVec;
-use cwr_fields::{CellFault, Target};
-use cwr_layouts::{Kind, field, letters};
+use cwr_fields::{CellFault, Kind, Target, field, letters};
 use cwr_shape::LimitKind;
 use cwr_sinks::{Sink, SinkFault};
 use itoa::Buffer;

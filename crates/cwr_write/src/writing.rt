@@ -2,7 +2,7 @@
 
 ghost use Rattle.std.specs.Prelude.{◌≡◌, ◌≢◌, ◌<◌, ◌^◌, ◌-◌, IfOk, IfSome, OnErr, OnOk, ℕ, List, [], length, map, Option, true, false};
 ghost use Rattle.cwr_lines.specs.Format.Records.{RecordValue};
-ghost use Rattle.cwr_layouts.specs.declared.kinds.Kind.TheVariants.{Trl};
+ghost use Rattle.cwr_fields.specs.declared.kinds.Kind.TheVariants.{Trl};
 ghost use Rattle.cwr_shape.specs.declared.symbols.Symbol.TheVariants.{Plain};
 ghost use Rattle.cwr_shape.specs.Format.NextSymbols.{MayCome};
 ghost use Rattle.cwr_values.specs.Format.Values.{FitsIn, IsTransmission, TransmissionValue, symbol_of};

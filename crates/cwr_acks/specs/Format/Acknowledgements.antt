@@ -6,7 +6,7 @@ use Rattle.cwr_fields.specs.declared.message_codes.TransactionStatus.{Transactio
 use Rattle.cwr_fields.specs.declared.message_codes.MessageLevel.{MessageLevel}
 use Rattle.cwr_fields.specs.Format.MessageCodes.{level_code, message_levels, status_code, transaction_statuses}
 use Rattle.cwr_fields.specs.Format.Members.{member_with}
-use Rattle.cwr_layouts.specs.declared.kinds.Kind.TheVariants as kinds
+use Rattle.cwr_fields.specs.declared.kinds.Kind.TheVariants as kinds
 use Rattle.cwr_lines.specs.Format.Records.{RecordValue, cell_named}
 use Rattle.cwr_values.specs.declared.items.Item.{Item}
 use Rattle.cwr_values.specs.declared.items.Item.TheVariants.{Transaction}

@@ -4,8 +4,8 @@ use Rattle.std.specs.Prelude.{ℕ, ◌+◌, Bool, true, false, not, ◌&&◌, �
 use Rattle.std.specs.List.{list_any, sum_by, enumerate_from, after_last}
 use Rattle.std.specs.Str.{bytes_eq}
 use Rattle.cwr_fields.specs.Format.Bytes.{is_spaces}
-use Rattle.cwr_layouts.specs.declared.kinds.Kind.{Kind}
-use Rattle.cwr_layouts.specs.declared.kinds.Kind.TheVariants as kinds
+use Rattle.cwr_fields.specs.declared.kinds.Kind.{Kind}
+use Rattle.cwr_fields.specs.declared.kinds.Kind.TheVariants as kinds
 use Rattle.cwr_lines.specs.Format.Carried.{record_cell}
 use Rattle.cwr_lines.specs.Format.Records.{RecordValue, cell_named}
 use Rattle.cwr_shape.specs.declared.reasons.Level.{Level}

@@ -1,8 +1,8 @@
 -- What a walk over the records of a transaction keeps for the rules of advice.
 use Rattle.std.specs.Prelude.{◌≡◌, ℕ, ◌+◌, ◌^◌, ◌<◌, if◌then◌else◌, List, filter, count_by}
 use Rattle.std.specs.List.{list_any, sum_by}
-use Rattle.cwr_layouts.specs.declared.kinds.Kind.{Kind}
-use Rattle.cwr_layouts.specs.declared.kinds.Kind.TheVariants as kinds
+use Rattle.cwr_fields.specs.declared.kinds.Kind.{Kind}
+use Rattle.cwr_fields.specs.declared.kinds.Kind.TheVariants as kinds
 use Rattle.cwr_lines.specs.Format.Records.{RecordValue}
 use Rattle.cwr_levels.specs.Format.Fields.{IsField}
 use Rattle.cwr_levels.specs.Format.Findings.{is_a, is_owner, share_of}

@@ -5,9 +5,9 @@ use Rattle.cwr_fields.specs.declared.cell_types.CellType.{CellType}
 use Rattle.cwr_fields.specs.declared.cell_types.CellType.TheVariants as types
 use Rattle.cwr_fields.specs.Format.Bytes.{filled}
 use Rattle.cwr_fields.specs.Format.Cells.{Allows}
-use Rattle.cwr_layouts.specs.declared.kinds.Kind.{Kind}
-use Rattle.cwr_layouts.specs.Format.Kinds.{all_kinds, kind_of, letters}
-use Rattle.cwr_layouts.specs.Format.Layouts.{FieldLayout, field_with_start, fields_after_type}
+use Rattle.cwr_fields.specs.declared.kinds.Kind.{Kind}
+use Rattle.cwr_fields.specs.Format.Kinds.{all_kinds, kind_of, letters}
+use Rattle.cwr_fields.specs.Format.Layouts.{FieldLayout, field_with_start, fields_after_type}
 use Rattle.cwr_lines.specs.Format.Carried.{carried_at}
 use Rattle.cwr_lines.specs.Format.Records.{blank_cell}
 use Rattle.cwr_c.specs.declared.fields.CwrField.{CwrField}

@@ -1,7 +1,7 @@
 -- The records that the lines of a text carry, whatever their numbers.
 use Rattle.std.specs.Prelude.{◌≡◌, ◌⊎◌, ℕ, false, List, [], ◌∷◌, ◌++◌, Some}
 use Rattle.std.specs.List.{AllZip, flat_map}
-use Rattle.cwr_layouts.specs.declared.kinds.Kind.TheVariants.{Trl}
+use Rattle.cwr_fields.specs.declared.kinds.Kind.TheVariants.{Trl}
 use Rattle.cwr_lines.specs.Format.Lines.{body_kind, closed, excess_as, without_cr}
 use Rattle.cwr_lines.specs.Format.Records.{RecordValue, IsRecord}
 use Rattle.cwr_decode.specs.Format.Entries.{carried}

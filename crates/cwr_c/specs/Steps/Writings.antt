@@ -1,7 +1,7 @@
 -- What writing does, line by line.
 use Rattle.std.specs.Prelude.{◌≡◌, ℕ, false, List, [], ◌∷◌, ◌++◌, Option, Some, unwrap_or}
 use Rattle.std.specs.Io.KnownBytes.{Appends}
-use Rattle.cwr_layouts.specs.declared.kinds.Kind.TheVariants.{Trl}
+use Rattle.cwr_fields.specs.declared.kinds.Kind.TheVariants.{Trl}
 use Rattle.cwr_lines.specs.Format.Records.{RecordValue, IsRecord}
 use Rattle.cwr_lines.specs.Steps.Held.{HeldLine, held_excess, held_kind, held_record}
 use Rattle.cwr_shape.specs.Format.Ranges.{LimitValues}

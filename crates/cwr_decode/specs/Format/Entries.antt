@@ -1,7 +1,7 @@
 -- What an index says of a text: entry by entry the lines are those of the records.
 use Rattle.std.specs.Prelude.{◌≡◌, ℕ, ◌+◌, ◌≤◌, List, [], ◌∷◌, ◌++◌, count_by, length, take, drop, Option, Some, None}
 use Rattle.cwr_fields.specs.declared.codes.TransactionType.TheVariants.{Acknowledgement}
-use Rattle.cwr_layouts.specs.declared.kinds.Kind.{Kind}
+use Rattle.cwr_fields.specs.declared.kinds.Kind.{Kind}
 use Rattle.cwr_lines.specs.Format.Records.{RecordValue, record_of}
 use Rattle.cwr_lines.specs.Format.Lines.{body_kind, cells_as}
 use Rattle.cwr_shape.specs.declared.symbols.Symbol.{Symbol}

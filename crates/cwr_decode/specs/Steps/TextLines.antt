@@ -1,6 +1,6 @@
 -- The first line of a text, and what a line does to the records before it.
 use Rattle.std.specs.Prelude.{◌≡◌, ◌≢◌, ◌⊎◌, ℕ, ◌+◌, ◌<◌, ◌≤◌, Bool, IsTrue, ◌↔◌, List, [], ◌∷◌, ◌++◌, length, take}
-use Rattle.cwr_layouts.specs.declared.kinds.Kind.TheVariants.{Trl}
+use Rattle.cwr_fields.specs.declared.kinds.Kind.TheVariants.{Trl}
 use Rattle.cwr_lines.specs.declared.lines.LineEnd.TheVariants.{Open, Line}
 use Rattle.cwr_lines.specs.Format.Records.{RecordValue}
 use Rattle.cwr_lines.specs.Steps.Held.{HeldLine, IsHeld, Stops, held_kind, held_text}

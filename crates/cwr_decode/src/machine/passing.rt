@@ -1,7 +1,7 @@
 //! The steps of a decoder that passes over whole transactions.
 
 ghost use Rattle.std.specs.Prelude.{◌≡◌, ◌≢◌, ◌≤◌, List, length, take, false, None, Some, IsTrue};
-ghost use Rattle.cwr_layouts.specs.Format.Kinds.{kind_of};
+ghost use Rattle.cwr_fields.specs.Format.Kinds.{kind_of};
 ghost use Rattle.cwr_lines.specs.Format.Records.{RecordValue};
 ghost use Rattle.cwr_decode.specs.Steps.Machines.{HasRecord, IsReady, with_line};
 ghost use Rattle.cwr_decode.specs.Steps.Passing.{BeginsHeld, BeginsWaiting, KeepsCut, KeepsFront, KeepsLine, Passes, waiting};
@@ -11,9 +11,8 @@ use crate::keepers::Keeper;
 use crate::kind_types::{
     Alt, Com, Ewt, Nwr, OfKind, Opu, Orn, Owr, Per, Pwr, Rec, Rev, Spt, Spu, Swr, Swt, Ver,
 };
-use cwr_fields::SpelledPair;
+use cwr_fields::{Kind, SpelledPair, is_in_transaction};
 use cwr_judge::count_quickly;
-use cwr_layouts::{Kind, is_in_transaction};
 use cwr_lines::{CutLine, LineBuf};
 use cwr_shape::Tally;
 

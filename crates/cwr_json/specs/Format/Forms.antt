@@ -8,9 +8,9 @@ use Rattle.json.specs.Tree.{json_tokens}
 use Rattle.json.specs.Print.{print}
 use Rattle.json.specs.Strict.{keys}
 use Rattle.cwr_fields.specs.Format.Bytes.{is_spaces, trimmed, filled}
-use Rattle.cwr_layouts.specs.declared.kinds.Kind.{Kind}
-use Rattle.cwr_layouts.specs.Format.Kinds.{letters}
-use Rattle.cwr_layouts.specs.Format.Layouts.{FieldLayout}
+use Rattle.cwr_fields.specs.declared.kinds.Kind.{Kind}
+use Rattle.cwr_fields.specs.Format.Kinds.{letters}
+use Rattle.cwr_fields.specs.Format.Layouts.{FieldLayout}
 use Rattle.cwr_lines.specs.Format.Records.{RecordValue, IsRecord, blank_cell, carried_fields}
 use Rattle.cwr_values.specs.declared.items.Item.{Item}
 use Rattle.cwr_values.specs.declared.items.Item.TheVariants.{Opened, GroupOpened, Transaction, GroupClosed, Ended}

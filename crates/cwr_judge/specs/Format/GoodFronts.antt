@@ -1,8 +1,8 @@
 -- When some transmission within the limits continues from a line's first cells, by these cells and the symbols so far.
 use Rattle.std.specs.Prelude.{◌≡◌, ℕ, suc, ◌<◌, IsFalse, List, ◌∷◌, [], ◌++◌, length, map, take, drop, Some}
 use Rattle.std.specs.List.{AllZip, AllByRecursion, IsAmong}
-use Rattle.cwr_layouts.specs.declared.kinds.Kind.{Kind}
-use Rattle.cwr_layouts.specs.Format.Layouts.{layout, fields_after_type}
+use Rattle.cwr_fields.specs.declared.kinds.Kind.{Kind}
+use Rattle.cwr_fields.specs.Format.Layouts.{layout, fields_after_type}
 use Rattle.cwr_lines.specs.Format.Records.{RecordValue, IsRecord}
 use Rattle.cwr_lines.specs.Format.GoodCells.{AreGood}
 use Rattle.cwr_lines.specs.Format.Lines.{IsLineOf, line_kind, line_cells, has_bad_excess}

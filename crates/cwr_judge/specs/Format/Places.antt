@@ -1,8 +1,8 @@
 -- Which fronts of a text a transmission within the limits continues from, and where a text first leaves them.
 use Rattle.std.specs.Prelude.{◌≡◌, ℕ, ◌+◌, ◌<◌, ◌≤◌, ◌⊎◌, IsFalse, List, ◌∷◌, ◌++◌, length, take, Option, Some, None}
 use Rattle.std.specs.List.{AllZip}
-use Rattle.cwr_layouts.specs.declared.kinds.Kind.{Kind}
-use Rattle.cwr_layouts.specs.Format.Layouts.{layout}
+use Rattle.cwr_fields.specs.declared.kinds.Kind.{Kind}
+use Rattle.cwr_fields.specs.Format.Layouts.{layout}
 use Rattle.cwr_lines.specs.Format.Records.{Row}
 use Rattle.cwr_lines.specs.Format.Lines.{IsLineOf, closed, raw_lines, line_kind, line_cells, has_bad_excess}
 use Rattle.cwr_shape.specs.declared.limits.Limits.{Limits}

@@ -2,8 +2,8 @@
 use Rattle.std.specs.Prelude.{◌≡◌, ◌≢◌, ℕ, ◌-◌, ◌≤◌, IsTrue, List, [], ◌∷◌, ◌++◌, length, map, take, Option, Some, None, slice_index_or, option_and_then}
 use Rattle.cwr_fields.specs.Format.Bytes.{digits}
 use Rattle.cwr_fields.specs.Format.Cells.{HasFault}
-use Rattle.cwr_layouts.specs.declared.kinds.Kind.{Kind}
-use Rattle.cwr_layouts.specs.Format.Layouts.{FieldLayout, field_at}
+use Rattle.cwr_fields.specs.declared.kinds.Kind.{Kind}
+use Rattle.cwr_fields.specs.Format.Layouts.{FieldLayout, field_at}
 use Rattle.cwr_lines.specs.Format.Lines.{line_kind, line_cells, has_bad_excess}
 use Rattle.cwr_shape.specs.declared.symbols.Symbol.{Symbol}
 use Rattle.cwr_shape.specs.declared.limits.Limits.{Limits}

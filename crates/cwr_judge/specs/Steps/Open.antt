@@ -1,8 +1,8 @@
 -- The records of the transaction that is open after some records, and what one more record does to it and to the items.
 use Rattle.std.specs.Prelude.{◌≡◌, ◌-◌, ◌<◌, Bool, true, ◌&&◌, ◌==◌, List, [], ◌∷◌, ◌++◌, length, map, drop, if◌then◌else◌}
 use Rattle.cwr_fields.specs.declared.codes.TransactionType.TheVariants.{Acknowledgement}
-use Rattle.cwr_layouts.specs.declared.kinds.Kind.{Kind}
-use Rattle.cwr_layouts.specs.declared.kinds.Kind.TheVariants.{Hdr, Grh, Grt, Trl}
+use Rattle.cwr_fields.specs.declared.kinds.Kind.{Kind}
+use Rattle.cwr_fields.specs.declared.kinds.Kind.TheVariants.{Hdr, Grh, Grt, Trl}
 use Rattle.cwr_lines.specs.Format.Records.{RecordValue}
 use Rattle.cwr_shape.specs.declared.symbols.Symbol.{Symbol}
 use Rattle.cwr_shape.specs.Format.NextSymbols as tallies_there
@@ -11,7 +11,7 @@ use Rattle.cwr_values.specs.declared.items.Item.{Item}
 use Rattle.cwr_values.specs.declared.items.Item.TheVariants.{Opened, GroupOpened, Transaction, GroupClosed, Ended}
 use Rattle.cwr_values.specs.Format.Values.{symbol_of}
 use Rattle.cwr_values.specs.Format.Begins.{rows_so_far}
-use Rattle.cwr_layouts.specs.Format.Kinds.{is_in_transaction}
+use Rattle.cwr_fields.specs.Format.Kinds.{is_in_transaction}
 use Rattle.cwr_judge.specs.Format.Items.{items}
 
 -- the items that the rows of these records give

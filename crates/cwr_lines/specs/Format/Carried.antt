@@ -5,11 +5,11 @@ use Rattle.cwr_fields.specs.declared.cell_types.CellFault.{CellFault}
 use Rattle.cwr_fields.specs.declared.cell_types.CellType.{CellType}
 use Rattle.cwr_fields.specs.Format.Bytes.{filled}
 use Rattle.cwr_fields.specs.Format.Cells.{Allows, HasFault}
-use Rattle.cwr_layouts.specs.declared.kinds.Kind.{Kind}
+use Rattle.cwr_fields.specs.declared.kinds.Kind.{Kind}
 use Rattle.cwr_lines.specs.declared.drafts.SetFault.{SetFault}
 use Rattle.cwr_lines.specs.declared.drafts.SetFault.TheVariants.{NoSuchField, Derived, TooWide, Cell}
 use Rattle.cwr_lines.specs.declared.drafts.DraftFault.{DraftFault}
-use Rattle.cwr_layouts.specs.Format.Layouts.{FieldLayout, layout, field_at, field_with_start}
+use Rattle.cwr_fields.specs.Format.Layouts.{FieldLayout, layout, field_at, field_with_start}
 use Rattle.cwr_lines.specs.Format.Records.{RecordValue}
 
 -- field j of a kind, from 1, where the kind has it and it isn't derived

@@ -1,6 +1,6 @@
 -- Cells of which each is good, by its field and the numbers that are left.
 use Rattle.std.specs.Prelude.{ℕ, List, [], ◌∷◌, slice_index}
-use Rattle.cwr_layouts.specs.Format.Layouts.{FieldLayout}
+use Rattle.cwr_fields.specs.Format.Layouts.{FieldLayout}
 use Rattle.cwr_lines.specs.Format.Records.{IsGoodCell, rest_if}
 
 -- each cell is the next number, or one of its field's type

@@ -1,7 +1,7 @@
 -- When a list of records asks for memory.
 use Rattle.std.specs.Prelude.{◌⊎◌, ℕ, ◌+◌, List, length, sum_by}
 use Rattle.cwr_fields.specs.Format.Growth.{Outgrows}
-use Rattle.cwr_layouts.specs.Format.Layouts.{line_width}
+use Rattle.cwr_fields.specs.Format.Layouts.{line_width}
 use Rattle.cwr_lines.specs.Format.Records.{RecordValue}
 
 -- the bytes of their lines

@@ -3,9 +3,9 @@ use Rattle.std.specs.Prelude.{◌≡◌, ℕ, ◌-◌, ◌≤◌, Bool, false, n
 use Rattle.std.specs.List.{list_any, slice_split}
 use Rattle.std.specs.Str.{bytes_eq}
 use Rattle.cwr_fields.specs.Format.Bytes.{is_spaces, trimmed, filled}
-use Rattle.cwr_layouts.specs.declared.kinds.Kind.{Kind}
-use Rattle.cwr_layouts.specs.Format.Kinds.{kind_of}
-use Rattle.cwr_layouts.specs.Format.Layouts.{layout, line_width}
+use Rattle.cwr_fields.specs.declared.kinds.Kind.{Kind}
+use Rattle.cwr_fields.specs.Format.Kinds.{kind_of}
+use Rattle.cwr_fields.specs.Format.Layouts.{layout, line_width}
 use Rattle.cwr_lines.specs.Format.Records.{Row, full_line}
 
 -- a line feed is 10, and a carriage return 13

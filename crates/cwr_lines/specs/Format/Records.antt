@@ -9,9 +9,9 @@ use Rattle.cwr_fields.specs.declared.cell_types.CellType.TheVariants.{Constant}
 use Rattle.cwr_fields.specs.Format.Bytes.{digits}
 use Rattle.cwr_fields.specs.Format.Codes.{word_text}
 use Rattle.cwr_fields.specs.Format.Cells.{Allows}
-use Rattle.cwr_layouts.specs.declared.kinds.Kind.{Kind}
-use Rattle.cwr_layouts.specs.Format.Kinds.{letters}
-use Rattle.cwr_layouts.specs.Format.Layouts.{FieldLayout, layout, fields_after_type}
+use Rattle.cwr_fields.specs.declared.kinds.Kind.{Kind}
+use Rattle.cwr_fields.specs.Format.Kinds.{letters}
+use Rattle.cwr_fields.specs.Format.Layouts.{FieldLayout, layout, fields_after_type}
 
 -- a record: its kind and the cells that it carries, in order, each in full width
 pub record RecordValue : Type 0 where

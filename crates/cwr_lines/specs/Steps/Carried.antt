@@ -1,7 +1,7 @@
 -- The whole line in which a record is kept.
 use Rattle.std.specs.Prelude.{◌≡◌, ℕ, List, length, map}
-use Rattle.cwr_layouts.specs.declared.kinds.Kind.{Kind}
-use Rattle.cwr_layouts.specs.Format.Layouts.{layout, line_width}
+use Rattle.cwr_fields.specs.declared.kinds.Kind.{Kind}
+use Rattle.cwr_fields.specs.Format.Layouts.{layout, line_width}
 use Rattle.cwr_lines.specs.Format.Lines.{pieces}
 use Rattle.cwr_lines.specs.Format.Records.{RecordValue, IsRecord, record_of}
 

@@ -2,10 +2,10 @@
 use Rattle.std.specs.Prelude.{◌≡◌, ◌≢◌, ℕ, ◌-◌, ◌<◌, ◌≤◌, Bool, true, false, ◌==◌, IsFalse, List, [], ◌∷◌, ◌++◌, length, take, Option, Some, None, slice_get, slice_index, if◌then◌else◌}
 use Rattle.std.specs.List.{list_any}
 use Rattle.cwr_fields.specs.Format.Bytes.{filled, is_plain}
-use Rattle.cwr_layouts.specs.declared.kinds.Kind.{Kind}
+use Rattle.cwr_fields.specs.declared.kinds.Kind.{Kind}
 use Rattle.cwr_lines.specs.declared.lines.LineEnd.{LineEnd}
 use Rattle.cwr_lines.specs.declared.lines.LineEnd.TheVariants.{Open, Line, Over}
-use Rattle.cwr_layouts.specs.Format.Layouts.{line_width}
+use Rattle.cwr_fields.specs.Format.Layouts.{line_width}
 use Rattle.cwr_lines.specs.Format.Records.{RecordValue, record_of}
 use Rattle.cwr_lines.specs.Format.Lines.{is_lf, longest_line, without_cr, body_kind, cells_as, excess_as, line_kind, line_cells, has_bad_excess}
 

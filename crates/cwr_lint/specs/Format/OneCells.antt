@@ -1,8 +1,8 @@
 -- A text that differs from a good one in one derived cell.
 use Rattle.std.specs.Prelude.{◌≡◌, ◌≢◌, ℕ, ◌-◌, ◌≤◌, true, false, IsFalse, List, ◌∷◌, ◌++◌, [], Some, slice_get}
 use Rattle.std.specs.List.{AllZip, flat_map, list_any}
-use Rattle.cwr_layouts.specs.declared.kinds.Kind.{Kind}
-use Rattle.cwr_layouts.specs.Format.Layouts.{FieldLayout, field_at}
+use Rattle.cwr_fields.specs.declared.kinds.Kind.{Kind}
+use Rattle.cwr_fields.specs.Format.Layouts.{FieldLayout, field_at}
 use Rattle.cwr_lines.specs.Format.Lines.{IsLineOf, closed, has_bad_excess, is_lf, line_cells, line_kind}
 use Rattle.cwr_shape.specs.declared.limits.Limits.{Limits}
 use Rattle.cwr_shape.specs.Format.Ranges.{AreInRange}

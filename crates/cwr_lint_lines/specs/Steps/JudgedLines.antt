@@ -1,8 +1,8 @@
 -- The lines that were judged, as the code holds them.
 use Rattle.std.specs.Prelude.{◌≡◌, ℕ, ◌+◌, ◌<◌, ◌≤◌, ◌==◌, Bool, true, false, not, ◌||◌, Option, Some, None, if◌then◌else◌}
 use Rattle.cwr_fields.specs.declared.cell_types.CellFault.{CellFault}
-use Rattle.cwr_layouts.specs.declared.kinds.Kind.TheVariants.{Trl}
-use Rattle.cwr_layouts.specs.declared.kinds.Kind.{Kind}
+use Rattle.cwr_fields.specs.declared.kinds.Kind.TheVariants.{Trl}
+use Rattle.cwr_fields.specs.declared.kinds.Kind.{Kind}
 use Rattle.cwr_lines.specs.Steps.Held.{HeldLine, held_excess, held_kind}
 use Rattle.cwr_shape.specs.declared.tallies.Scope.{Scope}
 use Rattle.cwr_shape.specs.declared.tallies.Scope.TheVariants as scopes

@@ -2,9 +2,9 @@
 use Rattle.std.specs.Prelude.{ℕ, not, List, [], ◌∷◌, ◌++◌, codes, decimal, filter, zip, if◌then◌else◌, flat_map}
 use Rattle.std.specs.List.{enumerate_from}
 use Rattle.cwr_fields.specs.Format.Bytes.{is_spaces, trimmed}
-use Rattle.cwr_layouts.specs.declared.kinds.Kind.{Kind}
-use Rattle.cwr_layouts.specs.Format.Kinds.{letters}
-use Rattle.cwr_layouts.specs.Format.Layouts.{FieldLayout, layout}
+use Rattle.cwr_fields.specs.declared.kinds.Kind.{Kind}
+use Rattle.cwr_fields.specs.Format.Kinds.{letters}
+use Rattle.cwr_fields.specs.Format.Layouts.{FieldLayout, layout}
 use Rattle.cwr_lines.specs.Format.Records.{RecordValue}
 
 -- a carried cell under its field's number and name, unless it is blank

@@ -1,6 +1,6 @@
 -- The lines of a record, field by field.
 use Rattle.std.specs.Prelude.{ℕ, List, [], Option, Some}
-use Rattle.cwr_layouts.specs.Format.Layouts.{FieldLayout}
+use Rattle.cwr_fields.specs.Format.Layouts.{FieldLayout}
 use Rattle.cwr_lines.specs.Format.Records.{RecordValue}
 use Rattle.cwr_lines.specs.Format.Carried.{carried_at, record_cell}
 use Rattle.cwr_notes.specs.Format.RecordTexts.{cell_line}

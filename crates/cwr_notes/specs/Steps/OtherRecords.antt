@@ -1,6 +1,6 @@
 -- What is known of the positions of records of which a finding speaks.
 use Rattle.std.specs.Prelude.{◌≡◌, ℕ, Bool, List, length, take}
-use Rattle.cwr_layouts.specs.declared.kinds.Kind.TheVariants as kinds
+use Rattle.cwr_fields.specs.declared.kinds.Kind.TheVariants as kinds
 use Rattle.cwr_lines.specs.Format.Records.{RecordValue}
 use Rattle.cwr_levels.specs.declared.rules.Rule.{Rule}
 use Rattle.cwr_levels.specs.declared.rules.Rule.TheVariants.{V6, V9}

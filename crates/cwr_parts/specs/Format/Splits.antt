@@ -1,7 +1,7 @@
 -- Transmissions cut into runs of transactions, and joined into one.
 use Rattle.std.specs.Prelude.{ℕ, ◌+◌, ◌-◌, ◌*◌, ◌/◌, ◌==◌, nat_lt, List, ◌∷◌, length, map, filter, take, drop, flat_map}
 use Rattle.std.specs.List.{range_with_len, enumerate_from}
-use Rattle.cwr_layouts.specs.declared.kinds.Kind.TheVariants as kinds
+use Rattle.cwr_fields.specs.declared.kinds.Kind.TheVariants as kinds
 use Rattle.cwr_lines.specs.Format.Records.{RecordValue, blank_record}
 use Rattle.cwr_values.specs.Format.Values.{GroupValue, TransmissionValue}
 

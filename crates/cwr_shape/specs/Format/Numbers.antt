@@ -1,9 +1,9 @@
 -- The numbers that the records of a transmission carry, from the lengths of its transactions, group by group.
 use Rattle.std.specs.Prelude.{◌≡◌, ℕ, ◌+◌, ◌==◌, List, [], ◌∷◌, ◌++◌, length, map, filter, find, zip, sum, sum_by, slice_index_or, Option, option_map, flat_map}
 use Rattle.std.specs.List.{range_with_len, enumerate_from}
-use Rattle.cwr_layouts.specs.declared.kinds.Kind.{Kind}
-use Rattle.cwr_layouts.specs.declared.kinds.Kind.TheVariants as kinds
-use Rattle.cwr_layouts.specs.Format.Layouts.{fields_after_type}
+use Rattle.cwr_fields.specs.declared.kinds.Kind.{Kind}
+use Rattle.cwr_fields.specs.declared.kinds.Kind.TheVariants as kinds
+use Rattle.cwr_fields.specs.Format.Layouts.{fields_after_type}
 use Rattle.cwr_shape.specs.declared.symbols.Symbol.{Symbol}
 use Rattle.cwr_shape.specs.declared.symbols.Symbol.TheVariants.{Plain, Ipa, Grh}
 use Rattle.cwr_shape.specs.Format.Outlines.{GroupOutline, IsOutline, symbols_of}

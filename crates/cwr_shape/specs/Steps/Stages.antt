@@ -3,7 +3,7 @@ use Rattle.std.specs.Prelude.{Bool, true, false, not, List, Option, Some, None, 
 use Rattle.std.specs.List.{after_last, last_or, list_any}
 use Rattle.cwr_fields.specs.declared.codes.Role.{Role}
 use Rattle.cwr_fields.specs.declared.codes.Role.TheVariants.{Assignor, Acquirer}
-use Rattle.cwr_layouts.specs.declared.kinds.Kind.TheVariants as kinds
+use Rattle.cwr_fields.specs.declared.kinds.Kind.TheVariants as kinds
 use Rattle.cwr_shape.specs.declared.symbols.Symbol.{Symbol}
 use Rattle.cwr_shape.specs.declared.symbols.Symbol.TheVariants.{Plain, Ipa, Grh}
 use Rattle.cwr_shape.specs.declared.stages.Stage.{Stage}

@@ -1,8 +1,8 @@
 -- The table of works: a heading, and a row for each new or revised work.
 use Rattle.std.specs.Prelude.{ℕ, ◌+◌, ◌/◌, ◌%◌, Bool, ◌||◌, List, [], ◌∷◌, ◌++◌, codes, decimal, filter, take, if◌then◌else◌}
 use Rattle.std.specs.List.{enumerate_from, flat_map, join_by, sum_by}
-use Rattle.cwr_layouts.specs.declared.kinds.Kind.TheVariants as kinds
-use Rattle.cwr_layouts.specs.Format.Kinds.{letters}
+use Rattle.cwr_fields.specs.declared.kinds.Kind.TheVariants as kinds
+use Rattle.cwr_fields.specs.Format.Kinds.{letters}
 use Rattle.cwr_lines.specs.Format.Records.{RecordValue, cell_named}
 use Rattle.cwr_values.specs.declared.items.Item.{Item}
 use Rattle.cwr_values.specs.declared.items.Item.TheVariants.{Transaction}

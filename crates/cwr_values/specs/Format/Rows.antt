@@ -1,7 +1,7 @@
 -- The rows of a transmission, and the texts that spell it.
 use Rattle.std.specs.Prelude.{◌≡◌, ℕ, List, [], ◌∷◌, ◌++◌, length, map, zip}
 use Rattle.std.specs.List.{AllZip, flat_map}
-use Rattle.cwr_layouts.specs.declared.kinds.Kind.TheVariants as kinds
+use Rattle.cwr_fields.specs.declared.kinds.Kind.TheVariants as kinds
 use Rattle.cwr_lines.specs.Format.Records.{RecordValue, Row, row_of, full_line}
 use Rattle.cwr_lines.specs.Format.Lines.{IsLineOf}
 use Rattle.cwr_shape.specs.Format.Numbers.{numbers_of}

@@ -7,7 +7,7 @@ use Rattle.std.specs.Str.Parse.{digits_value, without_leading_plus}
 use Rattle.clap.specs.declared.parser.matches.ArgMatches.{ArgMatches}
 use Rattle.clap.specs.declared.parser.matches.Found.{Found}
 use Rattle.clap.specs.Words.{one_text, first_value, matched_of, raw_values, rows_of, subcommand_name_of, subcommand_rows_of}
-use Rattle.cwr_layouts.specs.Format.Kinds.{kind_of}
+use Rattle.cwr_fields.specs.Format.Kinds.{kind_of}
 use Rattle.cwr_shape.specs.declared.limits.Limits.{Limits}
 use Rattle.cwr_shape.specs.declared.reasons.Level.{Level}
 use Rattle.cwr_shape.specs.declared.reasons.Level.TheVariants as levels

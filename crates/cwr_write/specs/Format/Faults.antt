@@ -7,10 +7,10 @@ use Rattle.json.specs.Json.{Json, string, array, object, no_items, Members, no_m
 use Rattle.json.specs.Value.{items_of}
 use Rattle.json.specs.Strict.{keys}
 use Rattle.cwr_fields.specs.Format.Cells.{HasFault}
-use Rattle.cwr_layouts.specs.declared.kinds.Kind.{Kind}
-use Rattle.cwr_layouts.specs.declared.kinds.Kind.TheVariants.{Hdr, Grh, Grt}
-use Rattle.cwr_layouts.specs.Format.Kinds.{kind_of, letters}
-use Rattle.cwr_layouts.specs.Format.Layouts.{FieldLayout, field_at, layout}
+use Rattle.cwr_fields.specs.declared.kinds.Kind.{Kind}
+use Rattle.cwr_fields.specs.declared.kinds.Kind.TheVariants.{Hdr, Grh, Grt}
+use Rattle.cwr_fields.specs.Format.Kinds.{kind_of, letters}
+use Rattle.cwr_fields.specs.Format.Layouts.{FieldLayout, field_at, layout}
 use Rattle.cwr_lines.specs.Format.Records.{RecordValue}
 use Rattle.cwr_values.specs.declared.items.Item.{Item}
 use Rattle.cwr_values.specs.declared.items.Item.TheVariants.{Opened, GroupOpened, Transaction, GroupClosed, Ended}

@@ -6,13 +6,13 @@ use Rattle.json.specs.Json.{Json, string, Members, no_members, member}
 use Rattle.json.specs.Strict.{keys}
 use Rattle.cwr_fields.specs.Format.Bytes.{filled}
 use Rattle.cwr_fields.specs.Format.Cells.{Allows, HasFault}
-use Rattle.cwr_layouts.specs.declared.kinds.Kind.{Kind}
+use Rattle.cwr_fields.specs.declared.kinds.Kind.{Kind}
 use Rattle.cwr_lines.specs.Format.Carried.{HasCellFault, carried_at}
 use Rattle.cwr_write.specs.declared.refusals.Key.{Key}
 use Rattle.cwr_write.specs.declared.refusals.Key.TheVariants as said_of
 use Rattle.cwr_write.specs.declared.refusals.Why.{Why}
 use Rattle.cwr_write.specs.declared.refusals.Why.TheVariants.{Cell, Computed, TooWide, UnknownKey}
-use Rattle.cwr_layouts.specs.Format.Layouts.{field_at}
+use Rattle.cwr_fields.specs.Format.Layouts.{field_at}
 use Rattle.cwr_lines.specs.Format.Records.{RecordValue, carried_fields}
 use Rattle.cwr_json.specs.declared.encodings.Encoding.{Encoding}
 use Rattle.cwr_json.specs.Format.Encodings.{StandFor}

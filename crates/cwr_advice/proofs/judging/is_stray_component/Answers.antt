@@ -1,6 +1,6 @@
 use Rattle.std.proofs.Common.{sym, take, ◌∙◌}
 use Rattle.std.specs.List.{list_any}
-use Rattle.cwr_layouts.specs.declared.kinds.Kind.TheVariants as kinds
+use Rattle.cwr_fields.specs.declared.kinds.Kind.TheVariants as kinds
 use Rattle.cwr_levels.specs.Format.Findings.{is_a}
 use Rattle.cwr_advice.specs.Format.Rules.{has_no_composite_type}
 use Rattle.cwr_advice.proofs.AdvisedFields.{and_true}

@@ -1,5 +1,5 @@
 use Rattle.std.proofs.Common.{◌≤◌, length, sym, ap, arith}
-use Rattle.cwr_layouts.specs.Format.Layouts.{layout}
+use Rattle.cwr_fields.specs.Format.Layouts.{layout}
 use Rattle.cwr_advice.proofs.LastFields.{last_ends}
 use Rattle.cwr_advice.proofs.shifts.is_shifted.Goals as goal
 

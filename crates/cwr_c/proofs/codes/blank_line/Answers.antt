@@ -1,5 +1,5 @@
 use Rattle.std.proofs.Common.{ℕ, List, ◌+◌, ◌-◌, ◌++◌, refl, sym, ap₂, ◌∙◌, arith}
-use Rattle.cwr_layouts.specs.Steps.Views.{field_view}
+use Rattle.cwr_fields.specs.Steps.Views.{field_view}
 use Rattle.cwr_c.proofs.BlankTexts.{blank_begins, blank_more, blank_whole}
 use Rattle.cwr_c.proofs.codes.blank_line.Goals as goal
 

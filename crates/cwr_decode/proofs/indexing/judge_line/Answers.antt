@@ -1,5 +1,5 @@
 use Rattle.std.proofs.Common.{ℕ, ◌+◌, Option, ap, ap₂, subst, ◌∙◌}
-use Rattle.cwr_layouts.specs.declared.kinds.Kind.{Kind}
+use Rattle.cwr_fields.specs.declared.kinds.Kind.{Kind}
 use Rattle.cwr_lines.specs.Steps.Held.{HeldLine, held_kind}
 use Rattle.cwr_shape.specs.declared.tallies.Scope.{Scope}
 use Rattle.cwr_shape.specs.Format.Levels.{level_of}

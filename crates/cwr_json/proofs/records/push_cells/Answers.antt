@@ -1,7 +1,7 @@
 use Rattle.std.proofs.Common.{◌≡◌, ℕ, ◌+◌, ◌≤◌, ◌<◌, ◌++◌, List, length, ap, sym, ◌∙◌, append_assoc, arith}
-use Rattle.cwr_layouts.specs.declared.kinds.Kind.{Kind}
-use Rattle.cwr_layouts.specs.Format.Layouts.{layout}
-use Rattle.cwr_layouts.proofs.AllKinds.{few_fields}
+use Rattle.cwr_fields.specs.declared.kinds.Kind.{Kind}
+use Rattle.cwr_fields.specs.Format.Layouts.{layout}
+use Rattle.cwr_fields.proofs.AllKinds.{few_fields}
 use Rattle.cwr_json.specs.Steps.FormTexts.{field_member}
 use Rattle.cwr_json.proofs.MembersOfFields.{members_before, members_more, members_whole}
 use Rattle.cwr_json.proofs.records.push_cells.Goals as goal

@@ -1,6 +1,6 @@
 use Rattle.std.proofs.Common.{◌++◌, List, ℕ, ap, ◌∙◌, append_assoc}
 use Rattle.std.specs.Prelude.{codes}
-use Rattle.cwr_layouts.specs.Format.Kinds.{letters}
+use Rattle.cwr_fields.specs.Format.Kinds.{letters}
 use Rattle.cwr_json.proofs.records.push_head.Goals as goal
 
 pub returns-clause-value : goal.returns-clause-value

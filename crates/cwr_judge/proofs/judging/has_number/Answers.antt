@@ -1,5 +1,5 @@
 use Rattle.std.proofs.Common.{sym, ap, ◌∙◌, option_map, true≢false}
-use Rattle.cwr_layouts.specs.Steps.Views.{field_view}
+use Rattle.cwr_fields.specs.Steps.Views.{field_view}
 use Rattle.cwr_judge.proofs.NumberCells.{no_field_no_number, carried_field, none_belongs, no_cell_no_number, number_cell, other_cell}
 use Rattle.cwr_judge.proofs.judging.has_number.Goals as goal
 

@@ -1,5 +1,5 @@
 use Rattle.std.proofs.Common.{sym, ap, refl, ◌∙◌, inl, inr}
-use Rattle.cwr_layouts.specs.declared.kinds.Kind.TheVariants as kinds
+use Rattle.cwr_fields.specs.declared.kinds.Kind.TheVariants as kinds
 use Rattle.cwr_levels.specs.Format.Findings.{names_author}
 use Rattle.cwr_levels.proofs.RuleFields.{designation_of_swr, designation_of_owr}
 use Rattle.cwr_levels.proofs.RuleTests.{author_of_kind}

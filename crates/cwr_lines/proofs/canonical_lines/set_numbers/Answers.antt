@@ -1,9 +1,9 @@
 use Rattle.std.proofs.Common.{◌≡◌, ◌∙◌, ◌++◌, ap, sym, take, drop, refl, inl, inr, arith, List, ℕ}
 use Rattle.std.specs.Prelude.{◌⊎◌, slice_index}
 use Rattle.cwr_fields.specs.Format.Bytes.{digits}
-use Rattle.cwr_layouts.specs.declared.kinds.Kind.{Kind}
-use Rattle.cwr_layouts.specs.declared.kinds.Kind.TheVariants.{Grt, Trl}
-use Rattle.cwr_layouts.specs.Format.Layouts.{line_width}
+use Rattle.cwr_fields.specs.declared.kinds.Kind.{Kind}
+use Rattle.cwr_fields.specs.declared.kinds.Kind.TheVariants.{Grt, Trl}
+use Rattle.cwr_fields.specs.Format.Layouts.{line_width}
 use Rattle.cwr_lines.specs.Steps.Numbered.{numbered_part}
 use Rattle.cwr_lines.proofs.NumberedLines.{set_at_ends, set_in_group_head, set_inside}
 use Rattle.cwr_lines.proofs.NumbersOfKinds.{line_width_least}

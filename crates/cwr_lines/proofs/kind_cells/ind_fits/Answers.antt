@@ -1,4 +1,4 @@
-use Rattle.cwr_layouts.specs.declared.kinds.Kind.TheVariants.{Ind}
+use Rattle.cwr_fields.specs.declared.kinds.Kind.TheVariants.{Ind}
 use Rattle.cwr_lines.proofs.JudgedCells.{carries}
 use Rattle.cwr_lines.proofs.kind_cells.ind_fits.Goals as goal
 

@@ -1,4 +1,4 @@
-use Rattle.cwr_layouts.specs.declared.kinds.Kind.TheVariants.{Orn}
+use Rattle.cwr_fields.specs.declared.kinds.Kind.TheVariants.{Orn}
 use Rattle.cwr_lines.proofs.JudgedCells.{carries}
 use Rattle.cwr_lines.proofs.kind_cells.orn_fits.Goals as goal
 

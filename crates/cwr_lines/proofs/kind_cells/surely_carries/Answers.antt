@@ -1,6 +1,6 @@
 use Rattle.std.proofs.Common.{sym, ap, subst, ◌∙◌}
-use Rattle.cwr_layouts.specs.declared.kinds.Kind.{Kind}
-use Rattle.cwr_layouts.specs.Format.Layouts.{line_width}
+use Rattle.cwr_fields.specs.declared.kinds.Kind.{Kind}
+use Rattle.cwr_fields.specs.Format.Layouts.{line_width}
 use Rattle.cwr_lines.specs.Format.Records.{IsRecord}
 use Rattle.cwr_lines.specs.Steps.Carried.{record_in}
 use Rattle.cwr_lines.proofs.kind_cells.surely_carries.Goals as goal

@@ -1,6 +1,6 @@
 use Rattle.std.proofs.Common.{◌≡◌, true≢false, Option, Some, None, refl, sym, option_map}
 use Rattle.cwr_fields.specs.declared.codes.Role.{Role}
-use Rattle.cwr_layouts.specs.declared.kinds.Kind.TheVariants.{Ipa as IpaKind}
+use Rattle.cwr_fields.specs.declared.kinds.Kind.TheVariants.{Ipa as IpaKind}
 use Rattle.cwr_shape.specs.declared.symbols.Symbol.TheVariants.{Ipa}
 use Rattle.cwr_shape.specs.Format.Candidates.{role_in}
 use Rattle.cwr_judge.proofs.FirstFaults.{no_role}

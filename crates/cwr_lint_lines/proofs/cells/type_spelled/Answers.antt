@@ -1,6 +1,6 @@
 use Rattle.std.proofs.Common.{◌≡◌, true≢false, Option, Some, None, refl, sym, option_map}
 use Rattle.cwr_fields.specs.declared.codes.TransactionType.{TransactionType}
-use Rattle.cwr_layouts.specs.declared.kinds.Kind.TheVariants.{Grh as GrhKind}
+use Rattle.cwr_fields.specs.declared.kinds.Kind.TheVariants.{Grh as GrhKind}
 use Rattle.cwr_shape.specs.declared.symbols.Symbol.TheVariants.{Grh}
 use Rattle.cwr_shape.specs.Format.Candidates.{type_in}
 use Rattle.cwr_judge.proofs.FirstFaults.{no_type}

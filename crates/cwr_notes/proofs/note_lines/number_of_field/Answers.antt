@@ -1,7 +1,7 @@
 use Rattle.std.proofs.Common.{◌≡◌, ℕ, ◌+◌, ◌≤◌, ◌<◌, length, None, sym, ap, ◌∙◌, arith}
 use Rattle.std.specs.Prelude.{option_map}
-use Rattle.cwr_layouts.specs.Format.Layouts.{field_with_start, layout}
-use Rattle.cwr_layouts.specs.Steps.Views.{field_view}
+use Rattle.cwr_fields.specs.Format.Layouts.{field_with_start, layout}
+use Rattle.cwr_fields.specs.Steps.Views.{field_view}
 use Rattle.cwr_notes.proofs.FieldNames.{no_name, none_missing, other_name, own_name}
 use Rattle.cwr_notes.proofs.note_lines.number_of_field.Goals as goal
 

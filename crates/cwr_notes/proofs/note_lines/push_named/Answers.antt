@@ -1,9 +1,9 @@
 use Rattle.std.proofs.Common.{◌≡◌, ℕ, ◌+◌, ◌≤◌, ◌++◌, List, length, Some, None, sym, ap, ap₂, ◌∙◌, arith, append-nil}
 use Rattle.std.specs.Prelude.{option_map}
-use Rattle.cwr_layouts.specs.declared.kinds.Kind.{Kind}
-use Rattle.cwr_layouts.specs.Format.Layouts.{field_with_start}
+use Rattle.cwr_fields.specs.declared.kinds.Kind.{Kind}
+use Rattle.cwr_fields.specs.Format.Layouts.{field_with_start}
 use Rattle.cwr_lines.specs.Format.Carried.{record_cell}
-use Rattle.cwr_layouts.specs.Steps.Views.{field_view}
+use Rattle.cwr_fields.specs.Steps.Views.{field_view}
 use Rattle.cwr_notes.specs.Format.FindingNotes.{noted_line, number_of_field}
 use Rattle.cwr_notes.proofs.CellsOfFields.{short_line}
 use Rattle.cwr_notes.proofs.FieldNames.{named_line-none, named_line-some, named_line-uncarried}

@@ -1,5 +1,5 @@
 use Rattle.std.proofs.Common.{sym, ap, ◌∙◌}
-use Rattle.cwr_layouts.specs.declared.kinds.Kind.{Kind}
+use Rattle.cwr_fields.specs.declared.kinds.Kind.{Kind}
 use Rattle.cwr_shape.specs.Format.NextSymbols.{open_type, counts_of}
 use Rattle.cwr_shape.specs.Format.ExpectedNumbers.{expected_numbers}
 use Rattle.cwr_shape.proofs.NumbersAreCounted.{numbers_counted}

@@ -1,7 +1,7 @@
 use Rattle.std.proofs.Common.{◌≡◌, ℕ, ◌≤◌, ◌++◌, List, length, Some, None, sym, ap, ◌∙◌, arith, append-nil}
 use Rattle.std.specs.Prelude.{option_map}
-use Rattle.cwr_layouts.specs.Format.Layouts.{field_with_start}
-use Rattle.cwr_layouts.specs.Steps.Views.{field_view}
+use Rattle.cwr_fields.specs.Format.Layouts.{field_with_start}
+use Rattle.cwr_fields.specs.Steps.Views.{field_view}
 use Rattle.cwr_json.specs.Format.Forms.{key_of}
 use Rattle.cwr_tables.specs.Steps.RowTexts.{next_cell}
 use Rattle.cwr_tables.proofs.ColumnsOfFields.{column-derived, column-named, column-none}

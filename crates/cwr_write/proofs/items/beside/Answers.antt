@@ -1,5 +1,5 @@
 use Rattle.std.proofs.Common.{[], ◌∷◌, Some, ap, inr, refl, ◌∙◌}
-use Rattle.cwr_layouts.specs.declared.kinds.Kind.{Kind}
+use Rattle.cwr_fields.specs.declared.kinds.Kind.{Kind}
 use Rattle.cwr_lines.specs.Format.Records.{RecordValue}
 use Rattle.cwr_write.specs.declared.refusals.Why.TheVariants as whys
 use Rattle.cwr_write.proofs.ItemsRead.{data_first}

@@ -1,6 +1,6 @@
 use Rattle.std.proofs.Common.{◌+◌, List, [], ◌∷◌, sym, subst, ap, take, ◌∙◌}
 use Rattle.json.specs.Value.{items_view, value_view}
-use Rattle.cwr_layouts.specs.declared.kinds.Kind.{Kind}
+use Rattle.cwr_fields.specs.declared.kinds.Kind.{Kind}
 use Rattle.cwr_lines.specs.Format.Records.{RecordValue}
 use Rattle.cwr_json.specs.Format.Forms.{AreRecordsData, IsRecordData}
 use Rattle.std.specs.Prelude.{Err, Some}

@@ -1,7 +1,7 @@
 use Rattle.std.proofs.Common.{◌≡◌, ◌+◌, ◌≤◌, cond, length, take, sym, ap, subst, ◌∙◌, arith}
 use Rattle.json.specs.Json.{Members, no_members}
 use Rattle.json.specs.Value.{members_view, value_view}
-use Rattle.cwr_layouts.specs.declared.kinds.Kind.{Kind}
+use Rattle.cwr_fields.specs.declared.kinds.Kind.{Kind}
 use Rattle.cwr_json.specs.Format.Forms.{says, told}
 use Rattle.cwr_write.specs.Steps.Filling.{IsFilled, with_last}
 use Rattle.cwr_lines.specs.Format.Records.{RecordValue}

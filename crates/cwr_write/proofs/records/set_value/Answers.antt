@@ -2,8 +2,8 @@ use Rattle.std.proofs.Common.{Some, sym, ap, subst, ◌∙◌}
 use Rattle.std.proofs.lemmas.Result.{IfErr-weaker}
 use Rattle.json.specs.Json.{Json, string}
 use Rattle.json.specs.Value.{value_view}
-use Rattle.cwr_layouts.specs.declared.kinds.Kind.{Kind}
-use Rattle.cwr_layouts.specs.Format.Layouts.{field_at}
+use Rattle.cwr_fields.specs.declared.kinds.Kind.{Kind}
+use Rattle.cwr_fields.specs.Format.Layouts.{field_at}
 use Rattle.cwr_write.specs.Format.Faults.{IsValueReason}
 use Rattle.cwr_write.proofs.CharactersRead.{string_of}
 use Rattle.cwr_write.proofs.records.set_value.Goals as goal

@@ -1,5 +1,5 @@
 use Rattle.std.proofs.Common.{sym, ap}
-use Rattle.cwr_layouts.specs.declared.kinds.Kind.TheVariants as kinds
+use Rattle.cwr_fields.specs.declared.kinds.Kind.TheVariants as kinds
 use Rattle.cwr_levels.specs.Format.Findings.{is_a}
 use Rattle.cwr_advice.specs.Steps.Kept.{is_among, is_owning_writer}
 use Rattle.cwr_advice.proofs.kept.AdviceSums.new.Goals as goal

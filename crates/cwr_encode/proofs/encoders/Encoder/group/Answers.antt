@@ -1,6 +1,6 @@
 use Rattle.std.proofs.Common.{List, [], ◌∷◌, ◌++◌, map, sym, ap, subst, ◌∙◌}
 use Rattle.std.specs.Prelude.{Some, Err}
-use Rattle.cwr_layouts.specs.declared.kinds.Kind.TheVariants.{Grh}
+use Rattle.cwr_fields.specs.declared.kinds.Kind.TheVariants.{Grh}
 use Rattle.cwr_shape.specs.declared.symbols.Symbol.{Symbol}
 use Rattle.cwr_shape.specs.Format.Outlines.{IsWithin, Continues}
 use Rattle.cwr_shape.specs.Format.Numbers.{symbol_kind}

@@ -1,5 +1,5 @@
 use Rattle.std.proofs.Common.{List, [], ◌∷◌, ◌++◌, map, refl, sym, ap, subst}
-use Rattle.cwr_layouts.specs.declared.kinds.Kind.TheVariants.{Hdr}
+use Rattle.cwr_fields.specs.declared.kinds.Kind.TheVariants.{Hdr}
 use Rattle.cwr_shape.specs.declared.symbols.Symbol.{Symbol}
 use Rattle.cwr_shape.specs.declared.symbols.Symbol.TheVariants.{Plain}
 use Rattle.cwr_shape.specs.Format.Outlines.{IsWithin, Continues}

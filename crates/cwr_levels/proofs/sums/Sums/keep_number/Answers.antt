@@ -1,5 +1,5 @@
 use Rattle.std.proofs.Common.{◌≡◌, Some, refl, sym, ap, ◌∙◌}
-use Rattle.cwr_layouts.specs.declared.kinds.Kind.TheVariants as kinds
+use Rattle.cwr_fields.specs.declared.kinds.Kind.TheVariants as kinds
 use Rattle.cwr_levels.proofs.NamedCells.{named_cell}
 use Rattle.cwr_levels.proofs.LeftBehind.{number_more, number_same, territory_same}
 use Rattle.cwr_levels.proofs.RuleFields.{number_of_spu}

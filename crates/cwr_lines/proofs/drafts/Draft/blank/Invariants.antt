@@ -1,5 +1,5 @@
 use Rattle.std.proofs.Common.{◌≡◌, take}
-use Rattle.cwr_layouts.specs.Format.Layouts.{layout}
+use Rattle.cwr_fields.specs.Format.Layouts.{layout}
 use Rattle.cwr_lines.proofs.BlankCells.{blank_text}
 use Rattle.cwr_lines.proofs.drafts.Draft.blank.Given as goal
 

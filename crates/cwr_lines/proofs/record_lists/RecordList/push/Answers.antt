@@ -1,8 +1,8 @@
 use Rattle.std.proofs.Common.{◌∙◌, ◌∷◌, ◌++◌, [], List, arith, length, ap, sym}
 use Rattle.std.specs.Prelude.{Result, Ok, Err, OnErr}
-use Rattle.cwr_layouts.specs.declared.kinds.Kind.{Kind}
+use Rattle.cwr_fields.specs.declared.kinds.Kind.{Kind}
 use Rattle.cwr_lines.specs.declared.record_lists.LineStart.{LineStart}
-use Rattle.cwr_layouts.specs.Format.Layouts.{line_width}
+use Rattle.cwr_fields.specs.Format.Layouts.{line_width}
 use Rattle.cwr_lines.specs.Steps.Carried.{record_in}
 use Rattle.cwr_lines.proofs.KeptRecords.{asks_for_line, asks_for_place, keeps_more, shows_more}
 use Rattle.cwr_lines.proofs.record_lists.RecordList.push.Goals as goal

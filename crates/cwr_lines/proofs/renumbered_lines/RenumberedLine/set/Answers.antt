@@ -1,5 +1,5 @@
 use Rattle.std.proofs.Common.{◌≡◌, ◌∙◌, ◌++◌, ℕ, List, ap, ap₂, length, refl, sym}
-use Rattle.cwr_layouts.specs.declared.kinds.Kind.{Kind}
+use Rattle.cwr_fields.specs.declared.kinds.Kind.{Kind}
 use Rattle.std.specs.Prelude.{Option}
 use Rattle.cwr_lines.specs.Steps.Numbered.{line_end, numbered_as}
 use Rattle.cwr_lines.proofs.NumberedLines.{copied}

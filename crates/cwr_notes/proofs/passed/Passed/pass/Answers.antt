@@ -1,5 +1,5 @@
 use Rattle.std.proofs.Common.{◌≡◌, true, false, refl, sym, ◌∙◌, inl, inr}
-use Rattle.cwr_layouts.specs.declared.kinds.Kind.TheVariants as kinds
+use Rattle.cwr_fields.specs.declared.kinds.Kind.TheVariants as kinds
 use Rattle.cwr_levels.specs.Format.Findings.{is_a}
 use Rattle.cwr_levels.proofs.KindTests.{is_of_kind, is_of_no_kind}
 use Rattle.cwr_notes.specs.Format.FindingNotes.{is_header}

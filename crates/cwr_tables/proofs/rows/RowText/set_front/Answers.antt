@@ -1,6 +1,6 @@
 use Rattle.std.proofs.Common.{◌≡◌, ◌++◌, List, ℕ, ap, ap₂, ◌∙◌, arith}
 use Rattle.std.specs.Prelude.{decimal}
-use Rattle.cwr_layouts.specs.Format.Kinds.{letters}
+use Rattle.cwr_fields.specs.Format.Kinds.{letters}
 use Rattle.cwr_lines.specs.Format.Records.{cell_named}
 use Rattle.cwr_tables.specs.Format.Tables.{cell_text}
 use Rattle.cwr_tables.specs.Format.RecordTables.{shown_cell}

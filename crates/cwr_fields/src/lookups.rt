@@ -1,8 +1,8 @@
 //! What the tables of layouts say of a kind.
 
 ghost use Rattle.std.specs.Prelude.{◌≡◌, option_map, length};
-ghost use Rattle.cwr_layouts.specs.Format.Layouts.{field_with_start, layout as layout_of, line_width};
-ghost use Rattle.cwr_layouts.specs.Steps.Views.{field_view};
+ghost use Rattle.cwr_fields.specs.Format.Layouts.{field_with_start, layout as layout_of, line_width};
+ghost use Rattle.cwr_fields.specs.Steps.Views.{field_view};
 
 use crate::kinds::Kind;
 use crate::layouts::{Field, layout};

@@ -3,10 +3,10 @@ use Rattle.std.proofs.Common.{◌≡◌, ℕ, zero, suc, ◌+◌, ◌-◌, List,
 use Rattle.std.proofs.lemmas.List.{length-map}
 use Rattle.std.proofs.lemmas.List.Sums.{sum_by-cons}
 use Rattle.std.proofs.lemmas.Option.{slice_get-map}
-use Rattle.cwr_layouts.specs.declared.kinds.Kind.{Kind}
-use Rattle.cwr_layouts.specs.declared.layouts.Field.{Field}
-use Rattle.cwr_layouts.specs.Format.Layouts.{FieldLayout, layout, fields_with_starts, field_with_start, field_at, total_width, line_width}
-use Rattle.cwr_layouts.specs.Steps.Views.{field_view}
+use Rattle.cwr_fields.specs.declared.kinds.Kind.{Kind}
+use Rattle.cwr_fields.specs.declared.layouts.Field.{Field}
+use Rattle.cwr_fields.specs.Format.Layouts.{FieldLayout, layout, fields_with_starts, field_with_start, field_at, total_width, line_width}
+use Rattle.cwr_fields.specs.Steps.Views.{field_view}
 
 pub without_starts : (at : ℕ) (fields : List FieldLayout) (i : ℕ) → option_map (λ (p : ℕ × FieldLayout). p.1) (slice_get (fields_with_starts at fields) i) ≡ slice_get fields i
 without_starts at [] i = refl

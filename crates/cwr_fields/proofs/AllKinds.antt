@@ -6,11 +6,11 @@ use Rattle.std.proofs.lemmas.Bool.{false_from_ne_true}
 use Rattle.std.proofs.lemmas.Slice.Eq.{bytes_eq-Decides}
 use Rattle.cwr_fields.specs.Format.Bytes.{trimmed}
 use Rattle.cwr_fields.proofs.LineFeeds.{NoLf}
-use Rattle.cwr_layouts.specs.declared.kinds.Kind.{Kind}
-use Rattle.cwr_layouts.specs.declared.kinds.Kind.TheVariants.{Hdr}
-use Rattle.cwr_layouts.specs.Format.Kinds.{all_kinds, letters, kind_of}
-use Rattle.cwr_layouts.specs.Format.Layouts.{layout, line_width}
-use Rattle.cwr_layouts.proofs.TrimmedTexts.{trimmed_three}
+use Rattle.cwr_fields.specs.declared.kinds.Kind.{Kind}
+use Rattle.cwr_fields.specs.declared.kinds.Kind.TheVariants.{Hdr}
+use Rattle.cwr_fields.specs.Format.Kinds.{all_kinds, letters, kind_of}
+use Rattle.cwr_fields.specs.Format.Layouts.{layout, line_width}
+use Rattle.cwr_fields.proofs.TrimmedTexts.{trimmed_three}
 
 -- three letters name one kind
 pub kind_of-letters : (kind : Kind) → kind_of (letters kind) ≡ Some kind

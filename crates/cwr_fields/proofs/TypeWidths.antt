@@ -4,9 +4,9 @@ use Rattle.std.specs.Prelude.{Option, Some, option_map, unwrap_or, slice_get, â—
 use Rattle.std.specs.List.{list_all}
 use Rattle.std.proofs.lemmas.Bool.{and_parts, eqb-true}
 use Rattle.cwr_fields.specs.Format.Cells.{type_width}
-use Rattle.cwr_layouts.specs.declared.kinds.Kind.{Kind}
-use Rattle.cwr_layouts.specs.declared.kinds.Kind.TheVariants.{Hdr}
-use Rattle.cwr_layouts.specs.Format.Layouts.{FieldLayout, layout, field_at}
+use Rattle.cwr_fields.specs.declared.kinds.Kind.{Kind}
+use Rattle.cwr_fields.specs.declared.kinds.Kind.TheVariants.{Hdr}
+use Rattle.cwr_fields.specs.Format.Layouts.{FieldLayout, layout, field_at}
 
 -- the field has the width of its type
 abbrev pub is_wide : FieldLayout â†’ Bool

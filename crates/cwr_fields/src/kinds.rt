@@ -1,7 +1,7 @@
 //! The kinds of records.
 
 ghost use Rattle.std.specs.Prelude.{◌≡◌};
-ghost use Rattle.cwr_layouts.specs.Format.Kinds.{is_carried, is_in_transaction, kind_of, letters as letters_of};
+ghost use Rattle.cwr_fields.specs.Format.Kinds.{is_carried, is_in_transaction, kind_of, letters as letters_of};
 
 /// The kind of a record, by the three bytes that its line begins with.
 #[derive(Clone, Copy, Debug, PartialEq, Eq)]

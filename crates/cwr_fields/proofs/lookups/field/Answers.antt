@@ -2,8 +2,8 @@ use Rattle.std.proofs.Common.{◌≡◌, ◌-◌, false, slice_get, arith, ne_eq
 use Rattle.std.specs.Option.{option_copied}
 use Rattle.std.proofs.lemmas.Option.{slice_get-map, gets}
 use Rattle.std.proofs.lemmas.Grind.{common_steps}
-use Rattle.cwr_layouts.specs.Steps.Views.{field_view}
-use Rattle.cwr_layouts.proofs.lookups.field.Goals as goal
+use Rattle.cwr_fields.specs.Steps.Views.{field_view}
+use Rattle.cwr_fields.proofs.lookups.field.Goals as goal
 
 pub returns : goal.returns
 returns c =

@@ -1,7 +1,7 @@
 -- What the definitions see of a field of the tables.
 use Rattle.std.specs.Prelude.{ℕ}
-use Rattle.cwr_layouts.specs.declared.layouts.Field.{Field}
-use Rattle.cwr_layouts.specs.Format.Layouts.{FieldLayout}
+use Rattle.cwr_fields.specs.declared.layouts.Field.{Field}
+use Rattle.cwr_fields.specs.Format.Layouts.{FieldLayout}
 
 -- where the field starts, and the field of the definition
 abbrev pub field_view : Field → ℕ × FieldLayout

@@ -2,15 +2,16 @@
 //! and the type of its cells. Derived fields hold numbers that are computed from the order of the records.
 
 ghost use Rattle.std.specs.Prelude.{◌≡◌, map};
-ghost use Rattle.cwr_layouts.specs.Format.Layouts.{layout as layout_of, fields_with_starts};
-ghost use Rattle.cwr_layouts.specs.Steps.Views.{field_view};
+ghost use Rattle.cwr_fields.specs.Format.Layouts.{layout as layout_of, fields_with_starts};
+ghost use Rattle.cwr_fields.specs.Steps.Views.{field_view};
 
-use crate::kinds::Kind;
-use cwr_fields::CellType::{
+use crate::cell_types::CellType::{
     Code, Constant, Date, Flag, Number, OptCode, OptDate, OptDuration, OptNumber, OptTime,
     Required, Share, Text, Time,
 };
-use cwr_fields::{CellType, Table, Word};
+use crate::cell_types::{CellType, Word};
+use crate::kinds::Kind;
+use crate::tables::Table;
 
 /// A field of a layout.
 #[derive(Clone, Copy, Debug)]
